@@ -1,0 +1,31 @@
+-- A rectangle by its points.
+use Rattle.std.proofs.Common.{◌≡◌, ℤ, arith}
+use Rattle.std.proofs.lemmas.Int.{ints}
+use Rattle.leg_geom.specs.Plane.{Spot, Sides, IsRect, HasPoint, HasAllPoints}
+
+abbrev lower_left : Sides → Spot
+lower_left r = record { x = r.x1; y = r.y1 }
+
+abbrev upper_right : Sides → Spot
+upper_right r = record { x = r.x2; y = r.y2 }
+
+HasPoint-lower_left : (r : Sides) → IsRect r → HasPoint r (lower_left r)
+HasPoint-lower_left r p = record { left = omega (arith, ints); right = omega (arith, ints); bottom = omega (arith, ints); top = omega (arith, ints) }
+
+HasPoint-upper_right : (r : Sides) → IsRect r → HasPoint r (upper_right r)
+HasPoint-upper_right r p = record { left = omega (arith, ints); right = omega (arith, ints); bottom = omega (arith, ints); top = omega (arith, ints) }
+
+abbrev sides : ℤ → ℤ → ℤ → ℤ → Sides
+sides x1 y1 x2 y2 = record { x1 = x1; y1 = y1; x2 = x2; y2 = y2 }
+
+same_sides : (x1 y1 x2 y2 u1 v1 u2 v2 : ℤ) → x1 ≡ u1 → y1 ≡ v1 → x2 ≡ u2 → y2 ≡ v2 → sides x1 y1 x2 y2 ≡ sides u1 v1 u2 v2
+same_sides x1 y1 x2 y2 u1 v1 u2 v2 e f g h = cc
+
+-- rectangles with the same points have the same corners
+pub HasAllPoints-both : (a b : Sides) → IsRect a → IsRect b → HasAllPoints a b → HasAllPoints b a → a ≡ b
+HasAllPoints-both a b ra rb f g =
+    let p = f (lower_left b) (HasPoint-lower_left b rb) in
+    let q = g (lower_left a) (HasPoint-lower_left a ra) in
+    let s = f (upper_right b) (HasPoint-upper_right b rb) in
+    let t = g (upper_right a) (HasPoint-upper_right a ra) in
+    same_sides _ _ _ _ _ _ _ _ (omega (arith, ints)) (omega (arith, ints)) (omega (arith, ints)) (omega (arith, ints))

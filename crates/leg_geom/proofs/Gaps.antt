@@ -1,0 +1,34 @@
+-- What rules over pairs of rectangles need to know of cells and gaps.
+use Rattle.std.proofs.Common.{◌≡◌, ◌≤◌, ◌≤ℤ◌, arith}
+use Rattle.std.proofs.lemmas.Int.{ints}
+use Rattle.leg_geom.specs.Plane.{Sides, IsRect, ShareCell}
+use Rattle.leg_geom.specs.Gap.{x_gap, y_gap, IsXGap, IsYGap}
+use Rattle.leg_geom.proofs.Axes.{IsSpan-x_ends, IsSpan-y_ends, IsXGap-ends, IsYGap-ends}
+use Rattle.leg_geom.proofs.Intervals.{IsGap-gap_between}
+
+pub ShareCell-symmetric : (a b : Sides) → ShareCell a b → ShareCell b a
+ShareCell-symmetric a b s = record { cell = s.cell; in_a = s.in_b; in_b = s.in_a }
+
+-- rectangles that share a cell have no gap along either axis: they are within any reach
+pub ShareCell-gaps : (a b : Sides) → ShareCell a b → (x_gap a b ≤ 0) × (y_gap a b ≤ 0)
+ShareCell-gaps a b s =
+    let in_a = s.in_a in
+    let in_b = s.in_b in
+    (grind (arith, ints), grind (arith, ints))
+
+pub x_gap-symmetric : (a b : Sides) → IsRect a → IsRect b → x_gap a b ≡ x_gap b a
+x_gap-symmetric a b ra rb = grind (arith, ints)
+
+pub y_gap-symmetric : (a b : Sides) → IsRect a → IsRect b → y_gap a b ≡ y_gap b a
+y_gap-symmetric a b ra rb = grind (arith, ints)
+
+-- the gap from a rectangle grows with the left edge of the other
+pub x_gap-grows : (a b c : Sides) → IsRect b → a.x1 ≤ℤ b.x1 → b.x1 ≤ℤ c.x1 → x_gap a b ≤ x_gap a c
+x_gap-grows a b c rb h k = grind (arith, ints)
+
+-- the gaps are the least differences of the points' coordinates
+pub IsXGap-x_gap : (a b : Sides) → IsRect a → IsRect b → IsXGap a b (x_gap a b)
+IsXGap-x_gap a b ra rb = IsXGap-ends a b _ ra rb (IsGap-gap_between _ _ (IsSpan-x_ends a ra) (IsSpan-x_ends b rb))
+
+pub IsYGap-y_gap : (a b : Sides) → IsRect a → IsRect b → IsYGap a b (y_gap a b)
+IsYGap-y_gap a b ra rb = IsYGap-ends a b _ ra rb (IsGap-gap_between _ _ (IsSpan-y_ends a ra) (IsSpan-y_ends b rb))

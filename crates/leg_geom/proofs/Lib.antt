@@ -1,0 +1,4 @@
+mod Intervals
+mod Axes
+mod Corners
+pub mod Gaps

@@ -1,0 +1,14 @@
+use Rattle.std.proofs.Common.{arith}
+use Rattle.std.proofs.lemmas.Int.{ints}
+use Rattle.leg_geom.proofs.Intervals.{IsGap-before, IsGap-meet}
+use Rattle.leg_geom.proofs.span.Span.gap.Goals as goal
+
+pub returns-then-self-other-clause-least : goal.returns-then-self-other-clause-least
+returns-then-self-other-clause-least c =
+    rw (← c.self.view_is, ← c.other.view_is)
+    (IsGap-before _ _ _ c.self.invariant c.other.invariant (omega (arith, ints)) (omega (arith, ints)))
+
+pub returns-else-other-self-clause-least : goal.returns-else-other-self-clause-least
+returns-else-other-self-clause-least c =
+    rw (← c.self.view_is, ← c.other.view_is)
+    (IsGap-meet _ _ c.self.invariant c.other.invariant (omega (arith, ints)) (omega (arith, ints)))

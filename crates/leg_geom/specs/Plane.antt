@@ -1,0 +1,57 @@
+-- Points, cells and rectangles of the plane, in database units.
+use Rattle.std.specs.Prelude.{◌≤◌, ℤ, ◌≤ℤ◌, ◌<ℤ◌, unsigned_abs}
+use Rattle.leg_geom.specs.declared.limits.TheConstants.{COORDINATE_LIMIT}
+
+-- a point of the lattice
+pub record Spot : Type 0 where
+  pub x : ℤ
+  pub y : ℤ
+
+-- a rectangle by its lower left and its upper right corner
+pub record Sides : Type 0 where
+  pub x1 : ℤ
+  pub y1 : ℤ
+  pub x2 : ℤ
+  pub y2 : ℤ
+
+-- a coordinate is within the limit, whatever its sign
+abbrev pub IsCoordinate : ℤ → Type 0
+IsCoordinate z = unsigned_abs z ≤ COORDINATE_LIMIT
+
+-- both coordinates of a point are within the limit
+pub record IsSpot (p : Spot) : Type 0 where
+  pub x : IsCoordinate p.x
+  pub y : IsCoordinate p.y
+
+-- a rectangle has area, and its corners are within the limit
+pub record IsRect (r : Sides) : Type 0 where
+  pub x1 : IsCoordinate r.x1
+  pub y1 : IsCoordinate r.y1
+  pub x2 : IsCoordinate r.x2
+  pub y2 : IsCoordinate r.y2
+  pub wide : r.x1 <ℤ r.x2
+  pub high : r.y1 <ℤ r.y2
+
+-- the point lies in the rectangle, whose border belongs to it
+pub record HasPoint (r : Sides) (p : Spot) : Type 0 where
+  pub left : r.x1 ≤ℤ p.x
+  pub right : p.x ≤ℤ r.x2
+  pub bottom : r.y1 ≤ℤ p.y
+  pub top : p.y ≤ℤ r.y2
+
+-- the cell, a square of one unit whose lower left corner is the point, lies in the rectangle
+pub record HasCell (r : Sides) (p : Spot) : Type 0 where
+  pub left : r.x1 ≤ℤ p.x
+  pub right : p.x <ℤ r.x2
+  pub bottom : r.y1 ≤ℤ p.y
+  pub top : p.y <ℤ r.y2
+
+-- some cell lies in both rectangles
+pub record ShareCell (a b : Sides) : Type 0 where
+  pub cell : Spot
+  pub in_a : HasCell a cell
+  pub in_b : HasCell b cell
+
+-- each point of the second rectangle is one of the first
+abbrev pub HasAllPoints : Sides → Sides → Type 0
+HasAllPoints a b = (p : Spot) → HasPoint b p → HasPoint a p

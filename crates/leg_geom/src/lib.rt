@@ -1,0 +1,15 @@
+//! Points and rectangles of the plane, in database units.
+#![tactic(auto)]
+
+pub mod laws;
+mod limits;
+mod point;
+mod rect;
+mod span;
+
+pub use limits::COORDINATE_LIMIT;
+pub use point::Point;
+pub use rect::Rect;
+
+#[cfg(test)]
+mod tests;

@@ -1,0 +1,106 @@
+//! A rectangle of the plane.
+
+ghost use Rattle.std.specs.Prelude.{◌≡◌, ◌↔◌, ◌≤◌, ◌*◌, IsTrue, SomeIff};
+ghost use Rattle.leg_geom.specs.Plane.{IsRect, ShareCell, HasAllPoints};
+ghost use Rattle.leg_geom.specs.Gap.{x_gap, y_gap, IsXGap, IsYGap};
+
+use crate::limits::COORDINATE_LIMIT;
+use crate::span::Span;
+use std::marker::Model;
+
+/// A rectangle that has area, in database units, with its corners within `COORDINATE_LIMIT`.
+#[derive(Clone, Copy, PartialEq, Eq, Debug)]
+pub struct Rect {
+    x: Span,
+    y: Span,
+}
+
+impl Model for Rect {
+    ghost use Rattle.leg_geom.specs.Plane.{Sides, IsRect};
+
+    ghost Value = { Sides };
+
+    ghost view = { λ r. record { x1 = r.x.low; y1 = r.y.low; x2 = r.x.high; y2 = r.y.high } };
+
+    ghost invariant = { λ r. IsRect (record { x1 = r.x.low; y1 = r.y.low; x2 = r.x.high; y2 = r.y.high }) };
+
+    ghost inverse = { λ s. record { x = record { low = s.x1; high = s.x2 }; y = record { low = s.y1; high = s.y2 } } };
+}
+
+impl Rect {
+    /// The rectangle with the lower left corner `(x1, y1)` and the upper right corner `(x2, y2)`. None where a
+    /// coordinate is beyond `COORDINATE_LIMIT`, or the rectangle would have no area.
+    pub fn new(x1: i64, y1: i64, x2: i64, y2: i64) -> Option<Rect>
+        ensures { SomeIff result (IsRect (record { x1 = x1; y1 = y1; x2 = x2; y2 = y2 })) (record { x1 = x1; y1 = y1; x2 = x2; y2 = y2 }) }
+    {
+        let x = Span::new(x1, x2)?;
+        let y = Span::new(y1, y2)?;
+        Some(Rect { x, y })
+    }
+
+    /// The x coordinate of the left edge.
+    pub fn x1(&self) -> i64
+        ensures is { result ≡ self.now.x1 }
+        ensures proper { IsRect self.now }
+    {
+        self.x.low()
+    }
+
+    /// The y coordinate of the lower edge.
+    pub fn y1(&self) -> i64
+        ensures is { result ≡ self.now.y1 }
+        ensures proper { IsRect self.now }
+    {
+        self.y.low()
+    }
+
+    /// The x coordinate of the right edge.
+    pub fn x2(&self) -> i64
+        ensures is { result ≡ self.now.x2 }
+        ensures proper { IsRect self.now }
+    {
+        self.x.high()
+    }
+
+    /// The y coordinate of the upper edge.
+    pub fn y2(&self) -> i64
+        ensures is { result ≡ self.now.y2 }
+        ensures proper { IsRect self.now }
+    {
+        self.y.high()
+    }
+
+    /// Whether some cell lies in both rectangles. Rectangles that only abut do not overlap.
+    pub fn overlaps(&self, other: &Rect) -> bool
+        ensures { IsTrue result ↔ ShareCell self.now other.now }
+    {
+        self.x.shares_step(&other.x) && self.y.shares_step(&other.y)
+    }
+
+    /// Whether each point of the other rectangle is one of this.
+    pub fn contains(&self, other: &Rect) -> bool
+        ensures { IsTrue result ↔ HasAllPoints self.now other.now }
+    {
+        self.x.contains(&other.x) && self.y.contains(&other.y)
+    }
+
+    /// The least difference between the x of a point of this rectangle and that of a point of the other, in database
+    /// units: 0 where their shadows on the x axis meet.
+    pub fn x_gap(&self, other: &Rect) -> u64
+        ensures is { result ≡ x_gap self.now other.now }
+        ensures least { IsXGap self.now other.now result }
+        ensures small { result ≤ 2 * COORDINATE_LIMIT }
+    {
+        self.x.gap(&other.x)
+    }
+
+    /// The least difference between the y of a point of this rectangle and that of a point of the other, in database
+    /// units: 0 where their shadows on the y axis meet.
+    pub fn y_gap(&self, other: &Rect) -> u64
+        ensures is { result ≡ y_gap self.now other.now }
+        ensures least { IsYGap self.now other.now result }
+        ensures small { result ≤ 2 * COORDINATE_LIMIT }
+    {
+        self.y.gap(&other.y)
+    }
+}

@@ -1,0 +1,117 @@
+//! Points and rectangles by worked values.
+
+use crate::{Point, Rect};
+use std::process::Abort;
+
+// The rectangle with these corners, which the caller knows to be one.
+fn rect(rt: &impl Abort, x1: i64, y1: i64, x2: i64, y2: i64) -> Rect {
+    Rect::new(x1, y1, x2, y2).expect(rt, "a rectangle")
+}
+
+#[test]
+fn a_point_is_within_the_limit(rt: HostRuntime) {
+    let corner = Point::new(1_000_000_000, -1_000_000_000).expect(&rt, "a point");
+    assert_eq!(rt; (corner.x(), corner.y()), (1_000_000_000, -1_000_000_000));
+    assert!(rt; Point::new(1_000_000_001, 0).is_none());
+    assert!(rt; Point::new(0, -1_000_000_001).is_none());
+}
+
+#[test]
+fn a_rectangle_has_area_within_the_limit(rt: HostRuntime) {
+    for (x1, y1, x2, y2) in [
+        (5, 0, 5, 9),
+        (0, 9, 9, 9),
+        (9, 0, 5, 9),
+        (0, 9, 9, 0),
+        (0, 0, 1_000_000_001, 9),
+        (-1_000_000_001, 0, 9, 9),
+        (0, 0, 9, 1_000_000_001),
+        (0, -1_000_000_001, 9, 9),
+        (i64::MIN, i64::MIN, i64::MAX, i64::MAX),
+    ] {
+        assert!(rt;
+            Rect::new(x1, y1, x2, y2).is_none(),
+            "at {x1} {y1} {x2} {y2}"
+        );
+    }
+    let whole = rect(
+        &rt,
+        -1_000_000_000,
+        -999_999_999,
+        999_999_998,
+        1_000_000_000,
+    );
+    assert_eq!(rt; (whole.x1(), whole.y1()), (-1_000_000_000, -999_999_999));
+    assert_eq!(rt; (whole.x2(), whole.y2()), (999_999_998, 1_000_000_000));
+}
+
+#[test]
+fn rectangles_that_abut_do_not_overlap(rt: HostRuntime) {
+    let cell = rect(&rt, 0, 0, 400, 2000);
+    for (x1, y1, x2, y2, want) in [
+        (400, 0, 800, 2000, false),
+        (399, 0, 799, 2000, true),
+        (0, 2000, 400, 4000, false),
+        (0, 1999, 400, 3999, true),
+        (400, 2000, 800, 4000, false),
+        (100, 100, 101, 101, true),
+        (0, 0, 400, 2000, true),
+    ] {
+        let other = rect(&rt, x1, y1, x2, y2);
+        assert_eq!(rt; cell.overlaps(&other), want, "at {x1} {y1} {x2} {y2}");
+        assert_eq!(rt; other.overlaps(&cell), want, "at {x1} {y1} {x2} {y2}");
+    }
+}
+
+#[test]
+fn a_rectangle_contains_what_is_within_its_border(rt: HostRuntime) {
+    let cell = rect(&rt, 0, 0, 400, 2000);
+    for (x1, y1, x2, y2, want) in [
+        (0, 0, 400, 2000, true),
+        (1, 1, 399, 1999, true),
+        (0, 0, 401, 2000, false),
+        (0, 0, 400, 2001, false),
+        (-1, 0, 400, 2000, false),
+        (0, -1, 400, 2000, false),
+    ] {
+        assert_eq!(rt;
+            cell.contains(&rect(&rt, x1, y1, x2, y2)),
+            want,
+            "at {x1} {y1} {x2} {y2}"
+        );
+    }
+}
+
+#[test]
+fn gaps_lie_between_the_nearest_edges(rt: HostRuntime) {
+    let cell = rect(&rt, 0, 0, 400, 2000);
+    for (x1, y1, x2, y2, x_gap, y_gap) in [
+        (499, 0, 899, 2000, 99, 0),
+        (400, 2000, 800, 4000, 0, 0),
+        (-500, -2100, -100, -100, 100, 100),
+        (100, 2007, 300, 4007, 0, 7),
+    ] {
+        let other = rect(&rt, x1, y1, x2, y2);
+        assert_eq!(rt;
+            (cell.x_gap(&other), cell.y_gap(&other)),
+            (x_gap, y_gap),
+            "at {x1} {y1} {x2} {y2}"
+        );
+        assert_eq!(rt;
+            (other.x_gap(&cell), other.y_gap(&cell)),
+            (x_gap, y_gap),
+            "at {x1} {y1} {x2} {y2}"
+        );
+    }
+    let left = rect(&rt, -1_000_000_000, 0, -999_999_999, 1);
+    let right = rect(&rt, 999_999_999, 0, 1_000_000_000, 1);
+    assert_eq!(rt; left.x_gap(&right), 1_999_999_998);
+}
+
+#[test]
+fn rectangles_compare_by_their_corners(rt: HostRuntime) {
+    let cell = rect(&rt, 0, 0, 400, 2000);
+    let copy = cell;
+    assert_eq!(rt; copy, cell);
+    assert_ne!(rt; rect(&rt, 0, 0, 400, 2001), cell);
+}

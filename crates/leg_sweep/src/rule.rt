@@ -1,0 +1,68 @@
+//! What it means that two items meet.
+
+ghost use Rattle.std.specs.Prelude.{◌≡◌, ◌≤◌, ◌<◌, ◌+◌, ◌-◌, ◌^◌, ◌↔◌, ℕ, pos, IsTrue};
+ghost use Rattle.leg_geom.specs.Plane.{Sides, IsRect};
+ghost use Rattle.leg_geom.specs.Gap.{x_gap, y_gap};
+
+/// A rule for pairs of items that lie in the plane. Its meaning gives each item a rectangle, and says
+/// for two items whether the rule holds of them.
+///
+/// A rule counts how often it was asked: a call of `meets` is a test, a call of `gaps` a look. Nothing
+/// else of its meaning changes, which `fixed` says: it is the rule with both counts at 0.
+pub trait PairRule {
+    /// What the rule is asked about.
+    type Item;
+
+    ghost fixed: { Self → Self };
+
+    ghost Holds: { Self → Self.Item → Self.Item → Type 0 };
+
+    ghost rect_of: { Self → Self.Item → Sides };
+
+    ghost reach_of: { Self → ℕ };
+
+    ghost tests_of: { Self → ℕ };
+
+    ghost looks_of: { Self → ℕ };
+
+    /// The left edge of the item's rectangle.
+    fn left(&self, item: &Self::Item) -> i64
+        ensures is { result ≡ (rect_of (fixed self.now) item.now).x1 }
+        ensures proper { IsRect (rect_of (fixed self.now) item.now) };
+
+    /// How far apart two items can be for which the rule holds, along each axis: 0 or more.
+    fn reach(&self) -> i64
+        ensures { result ≡ pos (reach_of (fixed self.now)) };
+
+    /// The x gap and the y gap of the two items' rectangles. A look.
+    fn gaps(&mut self, a: &Self::Item, b: &Self::Item) -> (i64, i64)
+        requires { looks_of self.old < 2 ^ 64 - 1 }
+        ensures x { result.0 ≡ pos (x_gap (rect_of (fixed self.old) a.now) (rect_of (fixed self.old) b.now)) }
+        ensures y { result.1 ≡ pos (y_gap (rect_of (fixed self.old) a.now) (rect_of (fixed self.old) b.now)) }
+        ensures looks { looks_of self.new ≡ looks_of self.old + 1 }
+        ensures tests { tests_of self.new ≡ tests_of self.old }
+        ensures same { fixed self.new ≡ fixed self.old };
+
+    /// Whether the rule holds of the two items. A test.
+    fn meets(&mut self, a: &Self::Item, b: &Self::Item) -> bool
+        requires { tests_of self.old < 2 ^ 64 - 1 }
+        ensures answer { IsTrue result ↔ Holds (fixed self.old) a.now b.now }
+        ensures tests { tests_of self.new ≡ tests_of self.old + 1 }
+        ensures looks { looks_of self.new ≡ looks_of self.old }
+        ensures same { fixed self.new ≡ fixed self.old };
+
+    /// How many tests were made.
+    fn tests(&self) -> u64
+        ensures { result ≡ tests_of self.now };
+
+    /// How many looks were taken.
+    fn looks(&self) -> u64
+        ensures { result ≡ looks_of self.now };
+
+    // The rule doesn't hang on which item is named first.
+    ghost symmetric: { (r : Self) (a b : Self.Item) → Holds r a b → Holds r b a };
+
+    // Where the rule holds, both gaps are within the reach.
+    ghost near: { (r : Self) (a b : Self.Item) → Holds r a b →
+        (x_gap (rect_of r a) (rect_of r b) ≤ reach_of r) × (y_gap (rect_of r a) (rect_of r b) ≤ reach_of r) };
+}
