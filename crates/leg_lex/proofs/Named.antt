@@ -1,0 +1,135 @@
+-- Where a name stands among names.
+use Rattle.std.proofs.Common.{◌≡◌, ◌≢◌, ℕ, zero, suc, ◌+◌, ◌<◌, ◌≤◌, Bool, true, false, cond, List, [], ◌∷◌, ◌++◌, length, get_or, Option, None, Some, option_map, Bor, refl, sym, ap, ◌∙◌, subst, arith}
+use Rattle.std.specs.Str.{bytes_eq}
+use Rattle.std.specs.HashMap as hash
+use Rattle.std.specs.HashMap.{HashMap}
+use Rattle.std.proofs.lemmas.Slice.Eq.{bytes_eq-Decides}
+use Rattle.std.proofs.lemmas.Bool.{false_from_ne_true, false≢true}
+use Rattle.std.proofs.lemmas.Map.Text.{hash_map_updates_str}
+use Rattle.leg_lex.specs.Named.{place_of}
+
+-- the test of names
+pub same_name : (a b : List ℕ) → bytes_eq a b ≡ true → a ≡ b
+same_name a b same = (bytes_eq-Decides a b).0 same
+
+pub name_itself : (a : List ℕ) → bytes_eq a a ≡ true
+name_itself a = (bytes_eq-Decides a a).1 refl
+
+pub other_name : (a b : List ℕ) → (a ≡ b → ⊥) → bytes_eq a b ≡ false
+other_name a b apart = false_from_ne_true (bytes_eq a b) (λ same. apart (same_name a b same))
+
+pub names_apart : (a b : List ℕ) → bytes_eq a b ≡ false → a ≡ b → ⊥
+names_apart a b apart same = false≢true (sym apart ∙ (bytes_eq-Decides a b).1 same)
+
+pub same_other_way : (a b : List ℕ) → bytes_eq a b ≡ bytes_eq b a
+same_other_way a b = by (bytes_eq a b) refl (bytes_eq b a) refl where
+  by : (one : Bool) → bytes_eq a b ≡ one → (other : Bool) → bytes_eq b a ≡ other → bytes_eq a b ≡ bytes_eq b a
+  by true p true q = p ∙ sym q
+  by true p false q = absurd (names_apart b a q (sym (same_name a b p)))
+  by false p true q = absurd (names_apart a b p (sym (same_name b a q)))
+  by false p false q = p ∙ sym q
+
+-- where a name that isn't among the others is the first
+place_first : (name first : List ℕ) (names : List (List ℕ)) → bytes_eq name first ≡ true → place_of name (first ∷ names) ≡ Some 0
+place_first name first names same = rw same refl
+
+place_later : (name first : List ℕ) (names : List (List ℕ)) → bytes_eq name first ≡ false → place_of name (first ∷ names) ≡ option_map suc (place_of name names)
+place_later name first names apart = rw apart refl
+
+some_suc : (o : Option ℕ) → option_map suc o ≡ None → o ≡ None
+some_suc None e = refl
+some_suc (Some n) e = absurd (let f : ⊥ = cc in f)
+
+-- A name that isn't there is neither the first nor among the others.
+pub none_parts : (name first : List ℕ) (names : List (List ℕ)) → place_of name (first ∷ names) ≡ None → (bytes_eq name first ≡ false) × (place_of name names ≡ None)
+none_parts name first names none = by (bytes_eq name first) refl where
+  by : (same : Bool) → bytes_eq name first ≡ same → (bytes_eq name first ≡ false) × (place_of name names ≡ None)
+  by true same = absurd (let f : ⊥ = cc (place_first name first names same) in f)
+  by false apart = (apart, some_suc (place_of name names) (sym (place_later name first names apart) ∙ none))
+
+-- After a push of a name that isn't there, that name has the last place, and the others have theirs.
+pub place_of_push : (name : List ℕ) (names : List (List ℕ)) → place_of name names ≡ None → (other : List ℕ) → place_of other (names ++ name ∷ []) ≡ cond (bytes_eq name other) (Some (length names)) (place_of other names)
+place_of_push name [] none other = rw (same_other_way other name) refl
+place_of_push name (first ∷ names) none other =
+    by (place_of_push name names parts.1 other) (bytes_eq other first) refl (bytes_eq name other) refl where
+      parts : (bytes_eq name first ≡ false) × (place_of name names ≡ None)
+      parts = none_parts name first names none
+
+      by : place_of other (names ++ name ∷ []) ≡ cond (bytes_eq name other) (Some (length names)) (place_of other names) → (here : Bool) → bytes_eq other first ≡ here → (new : Bool) → bytes_eq name other ≡ new → place_of other (first ∷ names ++ name ∷ []) ≡ cond (bytes_eq name other) (Some (length (first ∷ names))) (place_of other (first ∷ names))
+      by rest true here true new =
+          absurd (names_apart name first parts.0 (same_name name other new ∙ same_name other first here))
+      by rest true here false new = rw (here, new) refl
+      by rest false here true new = rw (here, rest, new) refl
+      by rest false here false new = rw (here, rest, new) refl
+
+-- the name stands at the place i, and not before it
+pub record StandsAt (name : List ℕ) (names : List (List ℕ)) (i : ℕ) : Type 0 where
+  pub within : i < length names
+  pub there : (d : List ℕ) → get_or names i d ≡ name
+  pub first : (k : ℕ) (d : List ℕ) → k < i → get_or names k d ≢ name
+
+-- A place that is found is the name's.
+pub place_stands : (name : List ℕ) (names : List (List ℕ)) (i : ℕ) → place_of name names ≡ Some i → StandsAt name names i
+place_stands name [] i found = absurd (let f : ⊥ = cc in f)
+place_stands name (first ∷ names) i found = by (place_stands name names) (bytes_eq name first) refl (place_of name names) refl where
+  by : ((k : ℕ) → place_of name names ≡ Some k → StandsAt name names k) → (here : Bool) → bytes_eq name first ≡ here → (o : Option ℕ) → place_of name names ≡ o → StandsAt name (first ∷ names) i
+  by rest true here o is =
+      let zeroth : i ≡ 0 = cc (place_first name first names here) in
+      rw zeroth (record {
+        within = omega arith;
+        there = λ d. sym (same_name name first here);
+        first = λ k d less. absurd (omega arith);
+      })
+  by rest false apart None is = absurd (let f : ⊥ = cc (place_later name first names apart, ap (option_map suc) is) in f)
+  by rest false apart (Some j) is =
+      let later : i ≡ suc j = cc (place_later name first names apart, ap (option_map suc) is) in
+      let stands = rest j is in
+      rw later (record {
+        within = omega (arith, stands.within);
+        there = λ d. stands.there d;
+        first = none_before j (λ k d less. stands.first k d less);
+      }) where
+        none_before : (j : ℕ) → ((k : ℕ) (d : List ℕ) → k < j → get_or names k d ≢ name) → (k : ℕ) (d : List ℕ) → k < suc j → get_or (first ∷ names) k d ≢ name
+        none_before j rest zero d less = λ same. names_apart name first apart (sym same)
+        none_before j rest (suc k) d less = rest k d (omega arith)
+
+-- A name that isn't found stands nowhere.
+pub none_stands : (name : List ℕ) (names : List (List ℕ)) → place_of name names ≡ None → (k : ℕ) (d : List ℕ) → k < length names → get_or names k d ≢ name
+none_stands name [] none k d less = absurd (omega arith)
+none_stands name (first ∷ names) none zero d less =
+    λ same. names_apart name first (none_parts name first names none).0 (sym same)
+none_stands name (first ∷ names) none (suc k) d less =
+    none_stands name names (none_parts name first names none).1 k d (omega arith)
+
+-- A name that stands nowhere isn't found.
+pub stands_nowhere : (name : List ℕ) (names : List (List ℕ)) → ((k : ℕ) (d : List ℕ) → k < length names → get_or names k d ≢ name) → place_of name names ≡ None
+stands_nowhere name [] none = refl
+stands_nowhere name (first ∷ names) none =
+    let apart : bytes_eq name first ≡ false = other_name name first (λ same. none 0 name (omega arith) (sym same)) in
+    let rest : place_of name names ≡ None = stands_nowhere name names (λ k d less. none (suc k) d (omega arith)) in
+    rw (apart, rest) refl
+
+-- Where a name stands, and not before it, it is found.
+pub place_found : (name : List ℕ) (names : List (List ℕ)) (i : ℕ) → StandsAt name names i → place_of name names ≡ Some i
+place_found name [] i stands = absurd (omega (arith, stands.within))
+place_found name (first ∷ names) zero stands =
+    let same : first ≡ name = stands.there name in
+    let here : bytes_eq name first ≡ true = (bytes_eq-Decides name first).1 (sym same) in
+    rw here refl
+place_found name (first ∷ names) (suc i) stands =
+    let apart : bytes_eq name first ≡ false = other_name name first (λ same. stands.first 0 name (omega arith) (sym same)) in
+    let rest : place_of name names ≡ Some i = place_found name names i (record {
+      within = omega (arith, stands.within);
+      there = λ d. stands.there d;
+      first = λ k d less. stands.first (suc k) d (omega arith);
+    }) in
+    rw (apart, rest) refl
+
+-- An index that has each name's place has it after a push as well.
+pub index_push : {S : Type 0} (name : Bor (List ℕ)) (m n : HashMap (Bor (List ℕ)) ℕ S) (names after : List (List ℕ)) (place : ℕ) → place_of name.now names ≡ None → ((q : List ℕ) → hash.get_by (λ key. bytes_eq q key.now) m ≡ place_of q names) → hash.UpdatesBy (λ x y. bytes_eq x.now y.now) (λ key. bytes_eq name.now key.now) m n (Some place) → place ≡ length names → after ≡ names ++ name.now ∷ [] → (q : List ℕ) → hash.get_by (λ key. bytes_eq q key.now) n ≡ place_of q after
+index_push name m n names after place none places updates last more q =
+    hash_map_updates_str name.now m n (Some place) updates q
+    ∙ ap (λ o. cond (bytes_eq name.now q) (Some place) o) (places q)
+    ∙ ap (λ p. cond (bytes_eq name.now q) (Some p) (place_of q names)) last
+    ∙ sym (place_of_push name.now names none q)
+    ∙ ap (place_of q) (sym more)

@@ -1,0 +1,9 @@
+pub mod Word
+pub mod Cut
+pub mod Tokens
+pub mod Number
+pub mod Words
+pub mod Until
+pub mod Statements
+pub mod Past
+pub mod Named

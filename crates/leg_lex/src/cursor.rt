@@ -1,0 +1,353 @@
+//! A place in a text's words, from which forms are read.
+
+ghost use Rattle.std.specs.Prelude.{◌≡◌, ◌≢◌, ◌↔◌, IsTrue, [], ◌∷◌, ◌+◌, ◌<◌, length, take, drop, MatchOption, None, Some, is_some};
+ghost use Rattle.std.specs.Str.{bytes_eq};
+ghost use Rattle.leg_lex.specs.Word.{texts};
+ghost use Rattle.leg_lex.specs.Words.{Reads, Means, is_at, next_at, keyword_at, mark_at, name_at, word_at, whole_at, length_at, end_at, end_of, nothing_at};
+ghost use Rattle.leg_lex.specs.Statements.{up_to, statement_at, statements_at};
+
+use crate::length::Micron;
+use crate::read_fault::{FaultKind, ReadFault};
+use crate::token::Token;
+use crate::{number, word};
+use std::alloc::Allocator;
+use std::marker::Model;
+
+/// The words of a text, of a statement or of a clause that are left to read. Contracts see it as these
+/// words.
+#[derive(Drop)]
+pub struct Cursor<'t, 'a> {
+    rest: &'t [Token<'a>],
+    // For faults: the text's number, the line of the word before, and the line of the mark that ends
+    // these words, if a mark does.
+    file: u32,
+    line: u32,
+    closed_at: Option<u32>,
+}
+
+impl<'t, 'a> Model for Cursor<'t, 'a> {
+    ghost use Rattle.leg_lex.specs.Word.{texts};
+    ghost use Rattle.std.specs.Prelude.{List, ℕ};
+
+    ghost Value = { List (List ℕ) };
+
+    ghost view = { λ c. texts c.rest.now };
+}
+
+impl<'t, 'a> Cursor<'t, 'a> {
+    /// The words of the text of this number.
+    pub fn new(file: u32, tokens: &'t [Token<'a>]) -> Cursor<'t, 'a>
+        ensures { result ≡ texts tokens.now }
+    {
+        Cursor {
+            rest: tokens,
+            file,
+            line: 1,
+            closed_at: None,
+        }
+    }
+
+    /// A second cursor at the same place.
+    pub fn again(&self) -> Cursor<'t, 'a>
+        ensures { result ≡ self.now }
+    {
+        Cursor {
+            rest: self.rest,
+            file: self.file,
+            line: self.line,
+            closed_at: self.closed_at,
+        }
+    }
+
+    /// A fault at the next word; where no word is left, at the mark that ends the words, or else at the
+    /// last word.
+    pub fn fault(&self, kind: FaultKind) -> ReadFault
+        ensures { result.kind ≡ kind }
+    {
+        let line = match self.rest {
+            [next, ..] => next.line,
+            [] => self.end_line(),
+        };
+        ReadFault {
+            file: self.file,
+            line,
+            kind,
+        }
+    }
+
+    // The fault of words that end too early.
+    fn cut_short(&self) -> ReadFault {
+        let kind = match self.closed_at {
+            Some(_) => FaultKind::Unexpected,
+            None => FaultKind::UnexpectedEnd,
+        };
+        ReadFault {
+            file: self.file,
+            line: self.end_line(),
+            kind,
+        }
+    }
+
+    // The line of the mark that ends the words; without one, that of the last word.
+    fn end_line(&self) -> u32 {
+        match (self.closed_at, self.rest) {
+            (Some(line), _) => line,
+            (None, [.., last]) => last.line,
+            (None, []) => self.line,
+        }
+    }
+
+    /// Whether no word is left.
+    pub fn is_at_end(&self) -> bool
+        ensures { IsTrue result ↔ (self.now ≡ []) }
+    {
+        self.rest.is_empty()
+    }
+
+    /// Whether the next word is this keyword, in capitals or small letters.
+    pub fn is_at(&self, keyword: &[u8]) -> bool
+        ensures { result ≡ is_at keyword.now self.now }
+    {
+        match self.rest {
+            [next, ..] => word::is_keyword(keyword, next.text),
+            [] => false,
+        }
+    }
+
+    // Whether `END` and this keyword are the next words.
+    #[tactic(auto, unfolding(crate::specs::Words::end_at, crate::specs::Words::keyword_at, crate::specs::Words::next_at))]
+    pub(crate) fn is_at_end_keyword(&self, keyword: &[u8]) -> bool
+        ensures { result ≡ is_some (end_at keyword.now self.now) }
+    {
+        match self.rest {
+            [end, next, ..] => {
+                word::is_keyword(b"END", end.text) && word::is_keyword(keyword, next.text)
+            }
+            _ => false,
+        }
+    }
+
+    // Whether `END` and this name are the next words.
+    #[tactic(auto, unfolding(crate::specs::Words::end_of, crate::specs::Words::name_at, crate::specs::Words::keyword_at, crate::specs::Words::next_at))]
+    pub(crate) fn is_at_end_of(&self, name: &[u8]) -> bool
+        ensures { result ≡ is_some (end_of name.now self.now) }
+    {
+        match self.rest {
+            [end, next, ..] => {
+                word::is_keyword(b"END", end.text) && word::is_name(next.text) && next.text == name
+            }
+            _ => false,
+        }
+    }
+
+    // The next word; the cursor stays before it.
+    #[tactic(auto, unfolding(crate::specs::Words::next_at))]
+    fn next(&self) -> Result<&'a [u8], ReadFault>
+        ensures { Means (λ word. (word.now, drop 1 self.now)) result (next_at self.now) }
+    {
+        match self.rest {
+            [next, ..] => Ok(next.text),
+            [] => Err(self.cut_short()),
+        }
+    }
+
+    // Reads past the next word, if there is one.
+    fn skip(&mut self)
+        ensures { self.new ≡ drop 1 self.old }
+    {
+        if let [next, rest @ ..] = self.rest {
+            self.line = next.line;
+            self.rest = rest;
+        }
+    }
+
+    /// Reads the next word, whatever it is.
+    pub fn any(&mut self) -> Result<&'a [u8], ReadFault>
+        ensures { Reads (λ word. word.now) result self.new (next_at self.old) }
+    {
+        let word = self.next()?;
+        self.skip();
+        Ok(word)
+    }
+
+    /// Reads this keyword, in capitals or small letters. Another word is `Unexpected`.
+    #[tactic(auto, unfolding(crate::specs::Words::keyword_at))]
+    pub fn keyword(&mut self, keyword: &[u8]) -> Result<(), ReadFault>
+        ensures { Reads (λ x. x) result self.new (keyword_at keyword.now self.old) }
+    {
+        let word = self.next()?;
+        if !word::is_keyword(keyword, word) {
+            return Err(self.fault(FaultKind::Unexpected));
+        }
+        self.skip();
+        Ok(())
+    }
+
+    /// Reads this mark, of one byte. Another word is `Unexpected`.
+    #[tactic(auto, unfolding(crate::specs::Words::mark_at))]
+    pub fn mark(&mut self, mark: u8) -> Result<(), ReadFault>
+        ensures { Reads (λ x. x) result self.new (mark_at mark self.old) }
+    {
+        let word = self.next()?;
+        if word != [mark].as_slice() {
+            return Err(self.fault(FaultKind::Unexpected));
+        }
+        self.skip();
+        Ok(())
+    }
+
+    /// Reads a name: a plain word that is no mark. Another word is `Unexpected`.
+    #[tactic(auto, unfolding(crate::specs::Words::name_at))]
+    pub fn name(&mut self) -> Result<&'a [u8], ReadFault>
+        ensures { Reads (λ name. name.now) result self.new (name_at self.old) }
+    {
+        let word = self.next()?;
+        if !word::is_name(word) {
+            return Err(self.fault(FaultKind::Unexpected));
+        }
+        self.skip();
+        Ok(word)
+    }
+
+    /// Reads a name or a quoted word, which keeps its quotes. A mark is `Unexpected`.
+    #[tactic(auto, unfolding(crate::specs::Words::word_at))]
+    pub fn word(&mut self) -> Result<&'a [u8], ReadFault>
+        ensures { Reads (λ word. word.now) result self.new (word_at self.old) }
+    {
+        let word = self.next()?;
+        if word::is_mark(word) {
+            return Err(self.fault(FaultKind::Unexpected));
+        }
+        self.skip();
+        Ok(word)
+    }
+
+    /// Reads a whole number. Another word is `BadNumber`, or `TooLarge` beyond the limit.
+    #[tactic(auto, unfolding(crate::specs::Words::whole_at))]
+    pub fn whole(&mut self) -> Result<i64, ReadFault>
+        ensures { Reads (λ z. z) result self.new (whole_at self.old) }
+    {
+        let word = self.next()?;
+        match number::whole(word) {
+            Ok(whole) => {
+                self.skip();
+                Ok(whole)
+            }
+            Err(fault) => Err(self.fault(FaultKind::from(fault))),
+        }
+    }
+
+    /// Reads a length in microns. Another word is `BadNumber`, or `TooLarge` beyond the limit.
+    #[tactic(auto, unfolding(crate::specs::Words::length_at))]
+    pub fn length(&mut self) -> Result<Micron, ReadFault>
+        ensures { Reads (λ m. m) result self.new (length_at self.old) }
+    {
+        let word = self.next()?;
+        match number::micron(word) {
+            Ok(micron) => {
+                self.skip();
+                Ok(micron)
+            }
+            Err(fault) => Err(self.fault(FaultKind::from(fault))),
+        }
+    }
+
+    /// Reads `END` and this keyword. Another word is `Unexpected`.
+    #[tactic(auto, unfolding(crate::specs::Words::end_at))]
+    pub fn end(&mut self, keyword: &[u8]) -> Result<(), ReadFault>
+        ensures { Reads (λ x. x) result self.new (end_at keyword.now self.old) }
+    {
+        self.keyword(b"END")?;
+        self.keyword(keyword)
+    }
+
+    /// Reads `END` and this name. Another word is `Unexpected`.
+    #[tactic(auto, unfolding(crate::specs::Words::end_of, crate::specs::Words::name_at))]
+    pub fn end_of(&mut self, name: &[u8]) -> Result<(), ReadFault>
+        ensures { Reads (λ x. x) result self.new (end_of name.now self.old) }
+    {
+        self.keyword(b"END")?;
+        let word = self.next()?;
+        if word != name || !word::is_name(word) {
+            return Err(self.fault(FaultKind::Unexpected));
+        }
+        self.skip();
+        Ok(())
+    }
+
+    /// Sees that no word is left. A word is `Unexpected`.
+    #[tactic(auto, unfolding(crate::specs::Words::nothing_at))]
+    pub fn nothing_more(&self) -> Result<(), ReadFault>
+        ensures { Means (λ x. x) result (nothing_at self.now) }
+    {
+        if self.is_at_end() {
+            Ok(())
+        } else {
+            Err(self.fault(FaultKind::Unexpected))
+        }
+    }
+
+    /// Reads a statement: the words up to the next semicolon, and the semicolon, which isn't answered.
+    #[tactic(auto, unfolding(crate::specs::Statements::statement_at))]
+    pub fn statement(&mut self) -> Result<Cursor<'t, 'a>, ReadFault>
+        ensures { Reads (λ statement. statement) result self.new (statement_at self.old) }
+    {
+        match self.up_to(b';') {
+            Some(statement) => Ok(statement),
+            None => Err(self.cut_short()),
+        }
+    }
+
+    // Reads the words up to the next such mark, and the mark, which isn't answered. Without such a mark
+    // it reads nothing.
+    pub(crate) fn up_to(&mut self, mark: u8) -> Option<Cursor<'t, 'a>>
+        ensures { MatchOption result
+            ((up_to (λ word. bytes_eq word (mark ∷ [])) self.old ≡ None) × (self.new ≡ self.old))
+            (λ front. up_to (λ word. bytes_eq word (mark ∷ [])) self.old ≡ Some (front, self.new)) }
+    {
+        let tokens = self.rest;
+        let end = place_of_mark(mark, tokens)?;
+        let last = &tokens[end];
+        let front = Cursor {
+            rest: &tokens[..end],
+            file: self.file,
+            line: self.line,
+            closed_at: Some(last.line),
+        };
+        self.line = last.line;
+        self.rest = &tokens[end + 1..];
+        Some(front)
+    }
+
+    /// Reads the statements of a block, up to the word `END` in a statement's place.
+    #[tactic(auto, using(crate::proofs::Until::ends, crate::proofs::Until::goes_on, crate::proofs::Until::fails, crate::proofs::Statements::one_shortens, crate::proofs::Statements::statement_shorter), unfolding(crate::specs::Statements::statements_at, crate::specs::Statements::one_statement))]
+    pub fn statements<A: Allocator + Copy>(
+        &mut self,
+        alloc: A,
+    ) -> Result<Vec<Cursor<'t, 'a>, A>, ReadFault>
+        ensures { Reads (λ v. v.items) result self.new (statements_at self.old) }
+    {
+        let mut statements = Vec::new(alloc);
+        'statements: while !self.is_at(b"END") {
+            statements.push(self.statement()?)?;
+        }
+        Ok(statements)
+    }
+}
+
+// Where the first such mark stands.
+#[tactic(auto, using(crate::proofs::Marks::cut_there))]
+fn place_of_mark(mark: u8, tokens: &[Token]) -> Option<usize>
+    ensures { MatchOption result
+        (up_to (λ word. bytes_eq word (mark ∷ [])) (texts tokens.now) ≡ None)
+        (λ end. (end < length tokens.now)
+        × (up_to (λ word. bytes_eq word (mark ∷ [])) (texts tokens.now)
+        ≡ Some (texts (take end tokens.now), texts (drop (end + 1) tokens.now)))) }
+{
+    for (i, token) in tokens.iter().enumerate() {
+        if token.text == [mark].as_slice() {
+            return Some(i);
+        }
+    }
+    None
+}

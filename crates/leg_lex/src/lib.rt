@@ -1,0 +1,31 @@
+//! The words of LEF and DEF texts, the numbers that words say, and reading forms from words.
+#![tactic(auto)]
+
+mod block;
+mod cursor;
+mod fault;
+pub mod laws;
+mod length;
+mod limits;
+mod name;
+mod number;
+mod past;
+mod pieces;
+mod read_fault;
+#[cfg(test)]
+mod tests;
+mod token;
+mod word;
+mod words;
+
+pub use block::{clauses, only, the};
+pub use cursor::Cursor;
+pub use fault::{LexFault, NumFault};
+pub use length::Micron;
+pub use limits::{MILLIONTHS_LIMIT, NUMBER_LIMIT, TEXT_LIMIT, UNITS_LIMIT};
+pub use name::{Name, Names};
+pub use number::{micron, whole};
+pub use read_fault::{FaultKind, ReadFault};
+pub use token::Token;
+pub use word::{is_keyword, is_mark, is_name, is_quoted};
+pub use words::tokens;

@@ -1,0 +1,42 @@
+//! What is read past.
+
+ghost use Rattle.leg_lex.specs.Words.{Reads, keyword_at, end_at, end_of};
+ghost use Rattle.leg_lex.specs.Past.{past};
+
+use crate::cursor::Cursor;
+use crate::read_fault::ReadFault;
+
+impl<'t, 'a> Cursor<'t, 'a> {
+    /// Reads past everything up to this keyword, and the keyword.
+    #[tactic(auto, using(crate::proofs::Passed::keyword_later, crate::proofs::Passed::keyword_nowhere, crate::proofs::Passed::next_shorter))]
+    pub fn past_keyword(&mut self, keyword: &[u8]) -> Result<(), ReadFault>
+        ensures { Reads (λ x. x) result self.new (past (keyword_at keyword.now) self.old) }
+    {
+        'words: while !self.is_at(keyword) {
+            self.any()?;
+        }
+        self.keyword(keyword)
+    }
+
+    /// Reads past everything up to `END` and this keyword, and these two.
+    #[tactic(auto, using(crate::proofs::Passed::past_later, crate::proofs::Passed::past_nowhere, crate::proofs::Passed::next_shorter))]
+    pub fn past_end(&mut self, keyword: &[u8]) -> Result<(), ReadFault>
+        ensures { Reads (λ x. x) result self.new (past (end_at keyword.now) self.old) }
+    {
+        'words: while !self.is_at_end_keyword(keyword) {
+            self.any()?;
+        }
+        self.end(keyword)
+    }
+
+    /// Reads past everything up to `END` and this name, and these two.
+    #[tactic(auto, using(crate::proofs::Passed::past_later, crate::proofs::Passed::past_nowhere, crate::proofs::Passed::next_shorter))]
+    pub fn past_end_of(&mut self, name: &[u8]) -> Result<(), ReadFault>
+        ensures { Reads (λ x. x) result self.new (past (end_of name.now) self.old) }
+    {
+        'words: while !self.is_at_end_of(name) {
+            self.any()?;
+        }
+        self.end_of(name)
+    }
+}

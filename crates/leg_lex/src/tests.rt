@@ -1,0 +1,5 @@
+//! What no clause says, by values from outside.
+
+mod forms;
+mod numbers;
+mod texts;
