@@ -1,7 +1,7 @@
 -- Where a mark stands, and what is cut there.
-use Rattle.std.proofs.Common.{◌≡◌, ℕ, zero, suc, ◌+◌, ◌<◌, ◌≤◌, Bool, true, false, List, [], ◌∷◌, length, get_or, take, drop, map, Option, None, Some, refl, sym, ap, ◌∙◌, arith, add-one}
+use Rattle.std.proofs.Common.{◌≡◌, ℕ, zero, suc, ◌+◌, ◌<◌, ◌≤◌, Bool, true, false, List, [], ◌∷◌, length, get_or, take, drop, Option, None, Some, refl, arith, add-one}
 use Rattle.std.specs.Str.{bytes_eq}
-use Rattle.std.specs.List.{slice_split, onto_first}
+use Rattle.std.specs.List.{slice_split}
 use Rattle.leg_lex.specs.Word.{Word, texts}
 use Rattle.leg_lex.specs.Words.{Words, ◌>>=◌}
 use Rattle.leg_lex.specs.Statements.{up_to}

@@ -1,8 +1,8 @@
 -- What is read past: what a loop that looks for a form needs.
-use Rattle.std.proofs.Common.{◌≡◌, ℕ, suc, ◌<◌, ◌≤◌, Bool, true, false, List, [], ◌∷◌, length, Option, None, Some, is_some, refl, sym, ap, ◌∙◌, arith}
+use Rattle.std.proofs.Common.{◌≡◌, ℕ, suc, ◌<◌, Bool, true, false, List, [], ◌∷◌, length, Option, None, Some, is_some, refl, sym, ap, ◌∙◌, arith}
 use Rattle.std.specs.Option.{option_or}
 use Rattle.std.proofs.lemmas.Bool.{false≢true}
-use Rattle.leg_lex.specs.Words.{Words, ◌>>=◌, is_at, is_keyword, next_at, keyword_at}
+use Rattle.leg_lex.specs.Words.{Words, is_at, is_keyword, next_at, keyword_at}
 use Rattle.leg_lex.specs.Past.{past}
 use Rattle.leg_lex.proofs.Said.{rest_is}
 use Rattle.leg_lex.proofs.Until.{Below, below_more}

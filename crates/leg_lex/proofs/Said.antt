@@ -1,5 +1,5 @@
 -- The parts of what is said.
-use Rattle.std.proofs.Common.{◌≡◌, ℕ, List, [], Option, None, Some, ap}
+use Rattle.std.proofs.Common.{◌≡◌, [], Option, None, Some, ap}
 use Rattle.leg_lex.specs.Words.{Words}
 
 words_of : {Y : Type 0} → Option (Y × Words) → Words

@@ -1,8 +1,8 @@
 -- Each form of one word or more takes a word.
-use Rattle.std.proofs.Common.{◌≡◌, ℕ, suc, ◌<◌, ◌≤◌, List, [], ◌∷◌, length, Option, None, Some, Result, Ok, Err, ℤ, codes, arith}
+use Rattle.std.proofs.Common.{ℕ, ◌<◌, List, [], ◌∷◌, length, Result, Ok, Err, ℤ, codes, arith}
 use Rattle.std.specs.Str.{bytes_eq}
 use Rattle.leg_lex.specs.Number.{whole_of, micron_of}
-use Rattle.leg_lex.specs.Words.{Words, ◌>>=◌, is_keyword, is_name, is_mark, next_at, keyword_at, mark_at, name_at, word_at, said_number, whole_at, length_at, end_at, end_of}
+use Rattle.leg_lex.specs.Words.{Words, is_keyword, is_name, is_mark, next_at, keyword_at, mark_at, name_at, word_at, said_number, whole_at, length_at, end_at, end_of}
 use Rattle.leg_lex.proofs.Until.{Below, below_none, below_some, below_bind, below_if, below_more}
 
 pub next_below : (words : Words) → Below (length words) (next_at words)

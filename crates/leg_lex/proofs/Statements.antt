@@ -1,9 +1,8 @@
 -- Statements take words.
-use Rattle.std.proofs.Common.{◌≡◌, ℕ, suc, ◌+◌, ◌<◌, ◌≤◌, Bool, true, false, List, [], ◌∷◌, ◌++◌, length, Option, None, Some, refl, arith}
-use Rattle.leg_lex.specs.Words.{Words, ◌>>=◌, next_at, keyword_at, mark_at, name_at, word_at, whole_at, length_at, end_of}
-use Rattle.leg_lex.specs.Until.{until}
+use Rattle.std.proofs.Common.{◌≡◌, ℕ, suc, ◌<◌, Bool, List, [], ◌∷◌, ◌++◌, length, Some, arith}
+use Rattle.leg_lex.specs.Words.{Words}
 use Rattle.leg_lex.specs.Statements.{is_semicolon, up_to, statement_at, one_statement, statements_at, at_end}
-use Rattle.leg_lex.proofs.Until.{Below, Shortens, below_none, below_some, below_bind, below_if, below_more, until_below}
+use Rattle.leg_lex.proofs.Until.{Below, Shortens, below_none, below_some, below_bind, below_if, until_below}
 
 pub up_to_below : (ends : List ℕ → Bool) (words : Words) → Below (length words) (up_to ends words)
 unfolding up_to

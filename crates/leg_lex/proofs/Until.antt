@@ -1,6 +1,6 @@
 -- Forms one after the other: what a loop that reads them needs, and how to show that each of them takes a
 -- word.
-use Rattle.std.proofs.Common.{◌≡◌, ℕ, zero, suc, ◌+◌, ◌<◌, ◌≤◌, Bool, true, false, if◌then◌else◌, List, [], ◌∷◌, length, Option, None, Some, refl, sym, ap, ◌∙◌, arith}
+use Rattle.std.proofs.Common.{◌≡◌, ℕ, zero, suc, ◌<◌, ◌≤◌, Bool, true, false, if◌then◌else◌, length, Option, None, Some, refl, sym, ◌∙◌, arith}
 use Rattle.leg_lex.specs.Words.{Words, ◌>>=◌}
 use Rattle.leg_lex.specs.Until.{steps, until}
 use Rattle.leg_lex.proofs.Said.{made_is, rest_is}

@@ -1,5 +1,5 @@
 -- What is read past.
-use Rattle.std.specs.Prelude.{List, [], ◌∷◌, Option}
+use Rattle.std.specs.Prelude.{[], ◌∷◌, Option}
 use Rattle.std.specs.Option.{option_or}
 use Rattle.leg_lex.specs.Words.{Words}
 

@@ -1,6 +1,6 @@
 -- A statement is the words up to a semicolon (LEF/DEF 5.8, "Rules for LEF and DEF files"), and a block
 -- is asked which statements it has.
-use Rattle.std.specs.Prelude.{ℕ, Bool, true, ◌==◌, if◌then◌else◌, List, [], ◌∷◌, ◌++◌, Option, None, Some, filter, codes}
+use Rattle.std.specs.Prelude.{ℕ, Bool, if◌then◌else◌, List, [], ◌∷◌, ◌++◌, Option, None, Some, filter, codes}
 use Rattle.std.specs.Str.{bytes_eq}
 use Rattle.std.specs.List.{slice_split}
 use Rattle.leg_lex.specs.Words.{Words, ◌>>=◌, is_at}

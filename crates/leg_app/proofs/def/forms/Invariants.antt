@@ -1,0 +1,12 @@
+use Rattle.std.proofs.Common.{◌≡◌, length}
+use Rattle.leg_lex.specs.Until.{until}
+use Rattle.leg_lex.specs.Statements.{at_end}
+use Rattle.leg_app.specs.Def.{no_parts, def_form_at}
+use Rattle.leg_app.proofs.def.forms.Given as goal
+
+abbrev pub invariant-forms : goal.invariant-forms
+invariant-forms g l =
+    until at_end (def_form_at l.library l.n) l.parts l.words ≡ until at_end (def_form_at l.library l.n) no_parts l.initial.words
+
+abbrev pub decreases-forms : goal.decreases-forms
+decreases-forms g l = length l.words

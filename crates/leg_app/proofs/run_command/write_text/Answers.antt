@@ -1,0 +1,17 @@
+use Rattle.std.proofs.Common.{◌≡◌, ℕ, ◌-◌, List, ◌++◌, length, take, drop, sym, ap, ◌∙◌, append_assoc, take-append-drop}
+use Rattle.std.proofs.lemmas.List.{take_rest}
+use Rattle.std.proofs.KnownBytes.{Appends-trans}
+use Rattle.leg_app.proofs.run_command.write_text.Goals as goal
+
+-- n bytes of the rest go to the front
+moves_front : (all front rest : List ℕ) (n : ℕ) → all ≡ front ++ rest → all ≡ (front ++ take n rest) ++ take (length rest - n) (drop n rest)
+moves_front all front rest n e =
+    e ∙ ap (λ l. front ++ l) (sym (take-append-drop n rest)) ∙ sym (append_assoc front (take n rest) (drop n rest))
+    ∙ ap (λ l. (front ++ take n rest) ++ l) (sym (take_rest rest n))
+
+pub loop-rest-preserved : goal.loop-rest-preserved
+loop-rest-preserved g c =
+    let (front, split, appended) = c.loop-rest.invariant in
+    let rest = c.loop-rest.rest.now in
+    let n = c.in-Ok.taken in
+    (front ++ take n rest, moves_front _ front rest n split, Appends-trans _ _ _ _ _ appended c.in-Ok.ensures.bytes)

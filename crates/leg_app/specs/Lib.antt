@@ -1,0 +1,13 @@
+pub mod Measure
+pub mod Records
+pub mod Lef
+pub mod Scale
+pub mod Def
+pub mod Say
+pub mod Refusal
+pub mod Faults
+pub mod FaultsBefore
+pub mod Lines
+pub mod Answer
+pub mod Line
+pub mod Stream

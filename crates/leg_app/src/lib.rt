@@ -1,0 +1,34 @@
+//! lefdef's commands, over the bytes of their texts: what a program needs but for words, files and status.
+#![tactic(auto)]
+
+mod answer;
+mod block;
+mod command;
+mod component;
+mod def;
+mod design;
+mod extent;
+pub mod laws;
+mod lef;
+mod library;
+mod limits;
+mod line;
+mod lines;
+mod overlap;
+mod place;
+mod placed_box;
+mod run_command;
+mod scale;
+mod scale_fault;
+mod status;
+mod stream;
+#[cfg(test)]
+mod tests;
+mod text_fault;
+mod violation;
+
+pub use command::Command;
+pub use line::{Line, line_of};
+pub use run_command::{RunFault, run};
+pub use status::Status;
+pub use stream::split_stream;

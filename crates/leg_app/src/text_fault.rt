@@ -1,0 +1,34 @@
+//! Why texts are refused.
+
+ghost use Rattle.std.specs.Prelude.{◌≡◌};
+ghost use Rattle.leg_app.specs.declared.text_fault.TextFault.TheVariants as faults;
+
+use crate::scale_fault::ScaleFault;
+use leg_lex::ReadFault;
+
+/// Why a block's texts are refused.
+#[derive(Debug, Drop)]
+pub enum TextFault<'a> {
+    /// A text isn't read. The DEF is numbered after the LEFs.
+    Read(ReadFault),
+    /// A length of the library isn't said in the DEF's units.
+    Scale(ScaleFault<'a>),
+    /// A growth was refused.
+    Memory,
+}
+
+impl From<ReadFault> for TextFault<'_> {
+    ghost from_gives = { λ fault e. e ≡ faults.Read fault };
+
+    fn from(fault: ReadFault) -> Self {
+        TextFault::Read(fault)
+    }
+}
+
+impl<'a> From<ScaleFault<'a>> for TextFault<'a> {
+    ghost from_gives = { λ fault e. e ≡ faults.Scale fault };
+
+    fn from(fault: ScaleFault<'a>) -> Self {
+        TextFault::Scale(fault)
+    }
+}
