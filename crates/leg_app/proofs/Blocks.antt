@@ -1,5 +1,5 @@
 -- What LEFs say one after the other, and when texts say nothing.
-use Rattle.std.proofs.Common.{◌≡◌, ℕ, zero, suc, ◌+◌, ◌<◌, List, [], ◌∷◌, length, get_or, take, drop, map, Option, None, Some, refl, sym, ◌∙◌, ap, subst, arith}
+use Rattle.std.proofs.Common.{◌≡◌, ℕ, zero, suc, ◌<◌, List, [], ◌∷◌, length, get_or, take, drop, map, None, Some, refl, sym, subst, arith}
 use Rattle.leg_lex.specs.Word.{Word, texts}
 use Rattle.leg_app.specs.Records.{RawContents, Contents, DesignContents}
 use Rattle.leg_app.specs.Lef.{lef_in, empty_library}

@@ -1,10 +1,10 @@
 -- The LEF forms: each takes a word at least, and what their loop keeps.
-use Rattle.std.proofs.Common.{◌≡◌, ◌≢◌, ℕ, suc, ◌+◌, ◌<◌, ◌≤◌, Bool, true, false, if◌then◌else◌, List, [], ◌∷◌, ◌++◌, length, get_or, take, map, Option, None, Some, is_none, option_map, codes, slice_get, refl, sym, ap, ◌∙◌, arith}
+use Rattle.std.proofs.Common.{◌≡◌, ℕ, ◌+◌, ◌<◌, ◌≤◌, true, false, List, [], ◌∷◌, ◌++◌, length, get_or, take, map, Option, None, Some, is_none, option_map, codes, slice_get, refl, ap, ◌∙◌, arith}
 use Rattle.std.specs.List.{list_all}
 use Rattle.std.proofs.lemmas.List.{take_all}
 use Rattle.std.proofs.lemmas.List.Folds.{list_all_more, list_all_at}
 use Rattle.std.proofs.lemmas.Option.{slice_get-get_or, slice_get-map}
-use Rattle.leg_lex.specs.Words.{Words, ◌>>=◌, is_at, end_at, nothing_at}
+use Rattle.leg_lex.specs.Words.{Words, ◌>>=◌, is_at}
 use Rattle.leg_lex.specs.Until.{until}
 use Rattle.leg_lex.specs.Statements.{only, the}
 use Rattle.leg_lex.specs.Named.{place_of}
@@ -13,8 +13,8 @@ use Rattle.leg_lex.proofs.Until.{Below, Shortens, below_none, below_some, below_
 use Rattle.leg_lex.proofs.Shorter.{keyword_below, name_below, end_of_below}
 use Rattle.leg_lex.proofs.Statements.{statements_below}
 use Rattle.leg_lex.proofs.Named.{place_stands}
-use Rattle.leg_app.specs.Records.{RawContents, raw_site_names, raw_master_names}
-use Rattle.leg_app.specs.Lef.{size_in, site_at, add_site, site_named, with_site, site_of_any, is_macro_statement, all_read, macro_at, with_macro, form_at, at_last, ended}
+use Rattle.leg_app.specs.Records.{RawContents, raw_master_names}
+use Rattle.leg_app.specs.Lef.{size_in, site_at, add_site, site_named, with_site, site_of_any, is_macro_statement, all_read, macro_at, with_macro, form_at, at_last}
 
 site_below : (words : Words) → Below (length words) (site_at words)
 unfolding site_at

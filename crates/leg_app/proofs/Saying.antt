@@ -1,5 +1,5 @@
 -- What a text says, once its words are known.
-use Rattle.std.proofs.Common.{◌≡◌, ℕ, List, Option, None, Some, Result, Ok, Err, refl, sym, ◌∙◌, ap, OnOk, IfErr}
+use Rattle.std.proofs.Common.{◌≡◌, ℕ, List, Option, None, Some, Result, Ok, Err, sym, ◌∙◌, ap, OnOk, IfErr}
 use Rattle.leg_lex.specs.Word.{Word, texts}
 use Rattle.leg_lex.specs.Words.{Words, Means}
 use Rattle.leg_lex.specs.declared.read_fault.ReadFault.{ReadFault}

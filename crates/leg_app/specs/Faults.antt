@@ -1,6 +1,6 @@
 -- What is not legal about a placed design (own rules): components without a place, outside the die, and
 -- on one another. A component is the box of its macro, of which the cells count.
-use Rattle.std.specs.Prelude.{◌≡◌, ℕ, ◌≤◌, ◌<◌, ℤ, ◌+ℤ◌, List, Option, None, Some, All, AllPairs, Contains, slice_get}
+use Rattle.std.specs.Prelude.{◌≡◌, ℕ, ◌≤◌, ◌<◌, ◌+ℤ◌, List, Option, None, Some, All, AllPairs, Contains, slice_get}
 use Rattle.leg_lex.specs.Words.{◌>>=◌}
 use Rattle.leg_geom.specs.Plane.{Spot, Sides, HasCell, ShareCell}
 use Rattle.leg_sweep.specs.Pairs.{Before}

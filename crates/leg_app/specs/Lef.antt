@@ -1,9 +1,9 @@
 -- The LEF forms that are read (LEF/DEF 5.8, "LEF Syntax"): SITE, and MACRO with CLASS, SIZE and SITE.
-use Rattle.std.specs.Prelude.{ℕ, ℤ, pos, Bool, true, false, ◌&&◌, ◌||◌, int_lt, if◌then◌else◌, List, [], ◌∷◌, ◌++◌, Option, None, Some, is_none, codes, slice_get}
+use Rattle.std.specs.Prelude.{ℕ, pos, Bool, true, ◌&&◌, ◌||◌, int_lt, if◌then◌else◌, List, [], ◌∷◌, ◌++◌, Option, None, Some, is_none, codes, slice_get}
 use Rattle.std.specs.List.{list_all}
 use Rattle.std.specs.Ordering.{int_eq}
 use Rattle.leg_lex.specs.Words.{Words, ◌>>=◌, is_keyword, is_at, keyword_at, name_at, length_at, end_at, end_of, nothing_at}
-use Rattle.leg_lex.specs.Until.{until, over}
+use Rattle.leg_lex.specs.Until.{until}
 use Rattle.leg_lex.specs.Statements.{statements_at, only, the}
 use Rattle.leg_lex.specs.Named.{place_of}
 use Rattle.leg_app.specs.Measure.{Lengths}

@@ -1,5 +1,5 @@
 -- What LEF and DEF texts say, as records.
-use Rattle.std.specs.Prelude.{◌≡◌, ℕ, List, Option, map}
+use Rattle.std.specs.Prelude.{◌≡◌, ℕ, List, map}
 use Rattle.leg_geom.specs.Plane.{Sides}
 use Rattle.leg_app.specs.declared.library.RawSite.{RawSite}
 use Rattle.leg_app.specs.declared.library.RawMaster.{RawMaster}

@@ -1,4 +1,3 @@
-use Rattle.std.proofs.Common.{map}
 use Rattle.std.proofs.lemmas.Result.{err_from_is_err_and}
 use Rattle.leg_app.proofs.Blocks.{no_words, no_units, no_scaled, no_design}
 use Rattle.leg_app.proofs.block.read_block.Goals as goal
