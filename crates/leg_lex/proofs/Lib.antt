@@ -12,7 +12,9 @@ pub mod Until
 pub mod Over
 pub mod Shorter
 pub mod Passed
+pub mod Skipped
 pub mod Marks
 pub mod Statements
 pub mod Asked
 pub mod Named
+pub mod Saying

@@ -1,12 +1,15 @@
 -- Where a name stands among names.
-use Rattle.std.proofs.Common.{◌≡◌, ◌≢◌, ℕ, zero, suc, ◌<◌, Bool, true, false, cond, List, [], ◌∷◌, ◌++◌, length, get_or, Option, None, Some, option_map, Bor, refl, sym, ap, ◌∙◌, arith}
+use Rattle.std.proofs.Common.{◌≡◌, ◌≢◌, ℕ, zero, suc, ◌<◌, nat_lt, Bool, true, false, cond, List, [], ◌∷◌, ◌++◌, length, length-append, get_or, take, Option, None, Some, option_map, Bor, refl, sym, ap, ◌∙◌, arith}
 use Rattle.std.specs.Str.{bytes_eq}
 use Rattle.std.specs.HashMap as hash
 use Rattle.std.specs.HashMap.{HashMap}
 use Rattle.std.proofs.lemmas.Slice.Eq.{bytes_eq-Decides}
+use Rattle.std.proofs.Math.Seq.{get_or-append_seam}
+use Rattle.std.proofs.lemmas.List.{get_or_append_left, get_or_default, get_or-take, length-take}
+use Rattle.std.proofs.lemmas.Bool.Decides.{nat_tests}
 use Rattle.std.proofs.lemmas.Bool.{false_from_ne_true, false≢true}
 use Rattle.std.proofs.lemmas.Map.Text.{hash_map_updates_str}
-use Rattle.leg_lex.specs.Named.{place_of}
+use Rattle.leg_lex.specs.Named.{place_of, AreApart}
 
 -- the test of names
 pub same_name : (a b : List ℕ) → bytes_eq a b ≡ true → a ≡ b
@@ -133,3 +136,33 @@ index_push name m n names after place none places updates last more q =
     ∙ ap (λ p. cond (bytes_eq name.now q) (Some p) (place_of q names)) last
     ∙ sym (place_of_push name.now names none q)
     ∙ ap (place_of q) (sym more)
+
+-- After a push of a name that isn't there, no two of the names are the same.
+pub apart_push : (name : List ℕ) (names : List (List ℕ)) → place_of name names ≡ None → AreApart names → AreApart (names ++ name ∷ [])
+apart_push name names none apart i less = by (nat_lt i (length names)) refl where
+  all : List (List ℕ)
+  all = names ++ name ∷ []
+
+  earlier : (q : List ℕ) → place_of q names ≡ Some i → (same : Bool) → bytes_eq name q ≡ same → place_of q all ≡ Some i
+  earlier q there true same = absurd (let e : name ≡ q = same_name name q same in let f : ⊥ = cc in f)
+  earlier q there false other = place_of_push name names none q ∙ rw other there
+
+  by : (before : Bool) → nat_lt i (length names) ≡ before → place_of (get_or all i []) all ≡ Some i
+  by true before =
+      let within : i < length names = grind (arith, nat_tests) in
+      rw (get_or_append_left names (name ∷ []) [] i within) (earlier (get_or names i []) (apart i within) (bytes_eq name (get_or names i [])) refl)
+  by false last =
+      let end : i ≡ length names = grind (arith, nat_tests, length-append names (name ∷ [])) in
+      let it : get_or all i [] ≡ name = rw end (get_or-append_seam names name [] []) in
+      rw (it, place_of_push name names none name, name_itself name, end) refl
+
+-- A name that stands after others isn't among them.
+pub not_yet_there : (names : List (List ℕ)) (i : ℕ) (d : List ℕ) → AreApart names → i < length names → place_of (get_or names i d) (take i names) ≡ None
+not_yet_there names i d apart less = stands_nowhere (get_or names i d) (take i names) nowhere where
+  at : place_of (get_or names i d) names ≡ Some i
+  at = rw (get_or_default names i d [] less) (apart i less)
+
+  nowhere : (k : ℕ) (e : List ℕ) → k < length (take i names) → get_or (take i names) k e ≢ get_or names i d
+  nowhere k e within =
+      let before : k < i = omega (arith, length-take i names) in
+      rw (get_or-take i names k e before) ((place_stands (get_or names i d) names i at).first k e before)

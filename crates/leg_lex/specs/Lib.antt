@@ -7,3 +7,4 @@ pub mod Until
 pub mod Statements
 pub mod Past
 pub mod Named
+pub mod Say

@@ -75,10 +75,10 @@ impl<'t, 'a> Cursor<'t, 'a> {
         }
     }
 
-    // The fault of words that end too early.
-    fn cut_short(&self) -> ReadFault {
+    // The fault of words that end too early. Where a mark ends them, it stands in place of what is wanted.
+    fn cut_short(&self, in_place: FaultKind) -> ReadFault {
         let kind = match self.closed_at {
-            Some(_) => FaultKind::Unexpected,
+            Some(_) => in_place,
             None => FaultKind::UnexpectedEnd,
         };
         ReadFault {
@@ -102,6 +102,13 @@ impl<'t, 'a> Cursor<'t, 'a> {
         ensures { IsTrue result ↔ (self.now ≡ []) }
     {
         self.rest.is_empty()
+    }
+
+    /// How many words are left.
+    pub fn len(&self) -> usize
+        ensures { result ≡ length self.now }
+    {
+        self.rest.len()
     }
 
     /// Whether the next word is this keyword, in capitals or small letters.
@@ -141,18 +148,25 @@ impl<'t, 'a> Cursor<'t, 'a> {
     }
 
     // The next word; the cursor stays before it.
-    #[tactic(auto, unfolding(crate::specs::Words::next_at))]
     fn next(&self) -> Result<&'a [u8], ReadFault>
+        ensures { Means (λ word. (word.now, drop 1 self.now)) result (next_at self.now) }
+    {
+        self.next_or(FaultKind::Unexpected)
+    }
+
+    // The same, where a mark in place of the word is such a fault.
+    #[tactic(auto, unfolding(crate::specs::Words::next_at))]
+    fn next_or(&self, in_place: FaultKind) -> Result<&'a [u8], ReadFault>
         ensures { Means (λ word. (word.now, drop 1 self.now)) result (next_at self.now) }
     {
         match self.rest {
             [next, ..] => Ok(next.text),
-            [] => Err(self.cut_short()),
+            [] => Err(self.cut_short(in_place)),
         }
     }
 
     // Reads past the next word, if there is one.
-    fn skip(&mut self)
+    pub(crate) fn skip(&mut self)
         ensures { self.new ≡ drop 1 self.old }
     {
         if let [next, rest @ ..] = self.rest {
@@ -227,7 +241,7 @@ impl<'t, 'a> Cursor<'t, 'a> {
     pub fn whole(&mut self) -> Result<i64, ReadFault>
         ensures { Reads (λ z. z) result self.new (whole_at self.old) }
     {
-        let word = self.next()?;
+        let word = self.next_or(FaultKind::BadNumber)?;
         match number::whole(word) {
             Ok(whole) => {
                 self.skip();
@@ -242,7 +256,7 @@ impl<'t, 'a> Cursor<'t, 'a> {
     pub fn length(&mut self) -> Result<Micron, ReadFault>
         ensures { Reads (λ m. m) result self.new (length_at self.old) }
     {
-        let word = self.next()?;
+        let word = self.next_or(FaultKind::BadNumber)?;
         match number::micron(word) {
             Ok(micron) => {
                 self.skip();
@@ -294,7 +308,7 @@ impl<'t, 'a> Cursor<'t, 'a> {
     {
         match self.up_to(b';') {
             Some(statement) => Ok(statement),
-            None => Err(self.cut_short()),
+            None => Err(self.cut_short(FaultKind::Unexpected)),
         }
     }
 

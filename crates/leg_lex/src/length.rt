@@ -1,6 +1,6 @@
 //! Lengths of a LEF, and what they are in database units. Nothing is rounded.
 
-ghost use Rattle.std.specs.Prelude.{◌≡◌, ◌≤◌, unsigned_abs};
+ghost use Rattle.std.specs.Prelude.{◌≡◌, ◌≤◌, pos, unsigned_abs};
 ghost use Rattle.leg_lex.specs.Number.{AreUnits};
 
 use crate::fault::NumFault;
@@ -38,6 +38,13 @@ impl Micron {
         ensures { result ≡ millionths }
     {
         Micron { millionths }
+    }
+
+    /// No length.
+    pub fn zero() -> Micron
+        ensures { result ≡ pos 0 }
+    {
+        Micron { millionths: 0 }
     }
 
     /// The length in millionths of a micron.

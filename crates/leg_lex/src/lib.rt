@@ -17,6 +17,7 @@ mod tests;
 mod token;
 mod word;
 mod words;
+mod words_of_file;
 
 pub use block::{clauses, only, the};
 pub use cursor::Cursor;
@@ -29,3 +30,4 @@ pub use read_fault::{FaultKind, ReadFault};
 pub use token::Token;
 pub use word::{is_keyword, is_mark, is_name, is_quoted};
 pub use words::tokens;
+pub use words_of_file::file_words;

@@ -1,6 +1,6 @@
 //! Names, and a list of names in which a name is found by its bytes.
 
-ghost use Rattle.std.specs.Prelude.{◌≡◌, ◌∷◌, ◌++◌, [], length, None, OnOk, OnErr};
+ghost use Rattle.std.specs.Prelude.{◌≡◌, ◌∷◌, ◌++◌, [], length, None, IfOk, OnOk, OnErr};
 ghost use Rattle.std.specs.Str.{bytes_eq};
 ghost use Rattle.std.specs.Cmp.{partial_equiv_from_equiv};
 ghost use Rattle.std.specs.Cmp.Lexicographic.{nat_list_eq_equiv};
@@ -63,13 +63,14 @@ impl<'a, A: Allocator> Model for Names<'a, A> {
     ghost use Rattle.std.specs.Prelude.{◌≡◌, List, ℕ};
     ghost use Rattle.std.specs.Str.{bytes_eq};
     ghost use Rattle.std.specs.HashMap.{get_by};
-    ghost use Rattle.leg_lex.specs.Named.{place_of};
+    ghost use Rattle.leg_lex.specs.Named.{place_of, AreApart};
 
     ghost Value = { List (List ℕ) };
 
     ghost view = { λ s. s.names.items };
 
-    ghost invariant = { λ s. (name : List ℕ) → get_by (λ key. bytes_eq name key.now) s.index ≡ place_of name s.names.items };
+    ghost invariant = { λ s. ((name : List ℕ) → get_by (λ key. bytes_eq name key.now) s.index ≡ place_of name s.names.items)
+        × AreApart s.names.items };
 }
 
 impl<'a, A: Allocator + Copy> Names<'a, A> {
@@ -107,5 +108,17 @@ impl<'a, A: Allocator + Copy> Names<'a, A> {
         self.index.insert(name, self.names.len())?;
         self.names.push(Name::new(name)).unwrap();
         Ok(())
+    }
+
+    /// The same names, with an index of their own.
+    #[tactic(auto, using(crate::proofs::Named::not_yet_there))]
+    pub fn again(&self, alloc: A) -> Result<Names<'a, A>, AllocError>
+        ensures { IfOk result (λ names. names ≡ self.now) }
+    {
+        let mut names = Names::new(alloc);
+        for name in &self.names {
+            names.push(name.bytes())?;
+        }
+        Ok(names)
     }
 }

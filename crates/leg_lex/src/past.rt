@@ -1,6 +1,8 @@
 //! What is read past.
 
-ghost use Rattle.leg_lex.specs.Words.{Reads, keyword_at, end_at, end_of};
+ghost use Rattle.std.specs.Prelude.{◌≡◌};
+ghost use Rattle.std.specs.List.{after_first};
+ghost use Rattle.leg_lex.specs.Words.{Reads, is_keyword, keyword_at, end_at, end_of};
 ghost use Rattle.leg_lex.specs.Past.{past};
 
 use crate::cursor::Cursor;
@@ -16,6 +18,17 @@ impl<'t, 'a> Cursor<'t, 'a> {
             self.any()?;
         }
         self.keyword(keyword)
+    }
+
+    /// Reads past everything up to this keyword, and the keyword; where it doesn't stand, everything.
+    #[tactic(auto, using(crate::proofs::Skipped::skipped_on, crate::proofs::Skipped::skipped_here, crate::proofs::Skipped::skipped_all, crate::proofs::Skipped::skip_shorter))]
+    pub fn skip_past(&mut self, keyword: &[u8])
+        ensures { self.new ≡ after_first (is_keyword keyword.now) self.old }
+    {
+        'words: while !self.is_at_end() && !self.is_at(keyword) {
+            self.skip();
+        }
+        self.skip();
     }
 
     /// Reads past everything up to `END` and this keyword, and these two.

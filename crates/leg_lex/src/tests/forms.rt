@@ -56,11 +56,11 @@ fn tells_the_word_at_fault(rt: HostRuntime) -> Result<(), Fail> {
     assert_eq!(rt; fault.kind, FaultKind::Unexpected);
     size.whole()?;
     size.keyword(b"BY")?;
-    // The statement ends too early, at its semicolon.
+    // A semicolon stands in place of a number.
     let Err(fault) = size.whole() else {
         return Ok(assert!(rt; false));
     };
-    assert_eq!(rt; (fault.line, fault.kind), (4, FaultKind::Unexpected));
+    assert_eq!(rt; (fault.line, fault.kind), (4, FaultKind::BadNumber));
     // The text ends too early, at its last word.
     let Err(fault) = cursor.statement() else {
         return Ok(assert!(rt; false));
@@ -93,7 +93,7 @@ fn refuses_a_second_statement(rt: HostRuntime) -> Result<(), Fail> {
     let Err(fault) = only(&statements, b"TYPE") else {
         return Ok(assert!(rt; false));
     };
-    assert_eq!(rt; (fault.line, fault.kind), (4, FaultKind::Unexpected));
+    assert_eq!(rt; (fault.line, fault.kind), (4, FaultKind::BadNumber));
     assert!(rt; the(&statements, b"TYPE", &cursor).is_err());
     Ok(())
 }
