@@ -5,7 +5,7 @@ use Rattle.std.proofs.lemmas.Int.{ints}
 use Rattle.leg_lex.specs.Number.{IsNumber}
 use Rattle.leg_geom.specs.Plane.{Spot, Sides, IsRect, IsCoordinate}
 use Rattle.leg_app.specs.Measure.{IsPosition}
-use Rattle.leg_app.specs.Def.{between, rect_between}
+use Rattle.leg_lib.specs.Point.{between, rect_between}
 
 one_of : (choice : Bool) (x y : ℤ) → IsNumber x → IsNumber y → IsCoordinate (cond choice x y)
 one_of true x y a b = omega arith

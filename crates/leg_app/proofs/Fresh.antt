@@ -3,7 +3,7 @@ use Rattle.std.proofs.Common.{◌≡◌, ℕ, Bool, true, false, ◌||◌, List,
 use Rattle.leg_lex.specs.Words.{Words, ◌>>=◌, is_keyword, mark_at, name_at, nothing_at}
 use Rattle.leg_lex.specs.Named.{place_of}
 use Rattle.leg_app.specs.declared.design.Component.{Component}
-use Rattle.leg_app.specs.Records.{Contents}
+use Rattle.leg_lib.specs.Records.{Contents}
 use Rattle.leg_app.specs.Def.{unless, new_name_at, master_at, component_head, component_in, placement_of}
 
 -- where something is said, it is of this kind

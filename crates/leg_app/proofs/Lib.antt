@@ -1,6 +1,3 @@
-pub mod Saying
-pub mod Scaled
-pub mod LefForms
 pub mod Blocks
 pub mod SplitLemmas
 pub mod AnswerLemmas

@@ -8,8 +8,10 @@ use Rattle.leg_lex.proofs.Shorter.{keyword_below, mark_below, name_below, whole_
 use Rattle.leg_lex.proofs.Statements.{statement_below}
 use Rattle.leg_app.specs.declared.limits.TheConstants.{COMPONENT_LIMIT}
 use Rattle.leg_app.specs.declared.design.Component.{Component}
-use Rattle.leg_app.specs.Records.{Contents, component_names}
-use Rattle.leg_app.specs.Def.{DesignParts, unless, microns_at, units_after, point_at, rect_between, name_form, units_form, die_form, component_in, entry_at, components_at, components_form, version_form, def_form_at}
+use Rattle.leg_lib.specs.Records.{Contents}
+use Rattle.leg_app.specs.Records.{component_names}
+use Rattle.leg_app.specs.Def.{DesignParts, unless, microns_at, units_after, point_at, name_form, units_form, die_form, component_in, entry_at, components_at, components_form, version_form, def_form_at}
+use Rattle.leg_lib.specs.Point.{rect_between}
 
 units_after_below : (words : Words) → Below (length words) (units_after words)
 unfolding units_after

@@ -4,13 +4,14 @@ use Rattle.std.specs.Io.KnownBytes.{Appends}
 use Rattle.leg_lex.specs.declared.read_fault.ReadFault.{ReadFault}
 use Rattle.leg_lex.specs.declared.read_fault.FaultKind.TheVariants as kinds
 use Rattle.leg_app.specs.declared.violation.Violation.{Violation}
-use Rattle.leg_app.specs.declared.scale_fault.ScaleKind.{ScaleKind}
-use Rattle.leg_app.specs.declared.scale_fault.ScaleKind.TheVariants as scale
+use Rattle.leg_lib.specs.declared.scale_fault.ScaleKind.{ScaleKind}
+use Rattle.leg_lib.specs.declared.scale_fault.ScaleKind.TheVariants as scale
 use Rattle.leg_app.specs.declared.command.Command.{Command}
 use Rattle.leg_app.specs.declared.command.Command.TheVariants.{PlaceCheck}
 use Rattle.leg_app.specs.declared.status.Status.{Status}
 use Rattle.leg_app.specs.declared.status.Status.TheVariants.{Success, Violations, Refused, Memory}
-use Rattle.leg_app.specs.Records.{Contents, DesignContents}
+use Rattle.leg_lib.specs.Records.{Contents}
+use Rattle.leg_app.specs.Records.{DesignContents}
 use Rattle.leg_app.specs.Say.{SayDesign, SayNothing}
 use Rattle.leg_app.specs.Faults.{IsListOf}
 use Rattle.leg_app.specs.Lines.{violations_text, legal_text, memory_text, refused_text, scale_text}

@@ -1,7 +1,6 @@
 -- The DEF forms that are read (LEF/DEF 5.8, "DEF Syntax"): VERSION, DESIGN, UNITS, DIEAREA, COMPONENTS.
 -- 59 is a semicolon, 40 and 41 are parentheses, and 45 is a dash.
 use Rattle.std.specs.Prelude.{ℕ, pos, Bool, true, false, not, ◌&&◌, ◌||◌, int_lt, nat_le, ◌==◌, if◌then◌else◌, List, [], ◌∷◌, ◌++◌, length, filter, Option, None, Some, is_some, unwrap_or, codes, unsigned_abs}
-use Rattle.std.specs.Int.{int_min, int_max}
 use Rattle.std.specs.List.{list_all}
 use Rattle.leg_lex.specs.declared.limits.TheConstants.{UNITS_LIMIT}
 use Rattle.leg_lex.specs.Words.{Words, ◌>>=◌, is_keyword, is_mark, is_at, keyword_at, mark_at, name_at, whole_at, end_at, nothing_at}
@@ -14,7 +13,9 @@ use Rattle.leg_app.specs.declared.limits.TheConstants.{COMPONENT_LIMIT}
 use Rattle.leg_app.specs.declared.design.PlacementStatus.{PlacementStatus}
 use Rattle.leg_app.specs.declared.design.PlacementStatus.TheVariants.{Unplaced, Placed, Fixed, Cover}
 use Rattle.leg_app.specs.declared.design.Component.{Component}
-use Rattle.leg_app.specs.Records.{Contents, DesignContents, master_names, component_names}
+use Rattle.leg_lib.specs.Records.{Contents, master_names}
+use Rattle.leg_lib.specs.Point.{rect_between}
+use Rattle.leg_app.specs.Records.{DesignContents, component_names}
 
 -- only where the test isn't met
 abbrev pub unless : Bool → Option (Unit {0})
@@ -50,15 +51,6 @@ point_at words = do
   y ← whole_at x.1
   close ← mark_at 41 y.1
   Some (record { x = x.0; y = y.0 }, close.1)
-
--- the rectangle between two corners, which stand in either order, where it has area
-abbrev pub between : Spot → Spot → Sides
-between p q = record { x1 = int_min p.x q.x; y1 = int_min p.y q.y; x2 = int_max p.x q.x; y2 = int_max p.y q.y }
-
-unfoldable pub rect_between : Spot → Spot → Option Sides
-rect_between p q =
-    let sides = between p q in
-    if int_lt sides.x1 sides.x2 && int_lt sides.y1 sides.y2 then Some sides else None
 
 -- what the forms before said
 pub record DesignParts : Type 0 where

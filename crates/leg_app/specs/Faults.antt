@@ -6,9 +6,10 @@ use Rattle.leg_geom.specs.Plane.{Spot, Sides, HasCell, ShareCell}
 use Rattle.leg_sweep.specs.Pairs.{Before}
 use Rattle.leg_app.specs.declared.violation.Violation.{Violation}
 use Rattle.leg_app.specs.declared.violation.Violation.TheVariants.{Unplaced, Outside, Overlap}
-use Rattle.leg_app.specs.Records.{Contents, DesignContents}
+use Rattle.leg_lib.specs.Records.{Contents}
+use Rattle.leg_app.specs.Records.{DesignContents}
 use Rattle.leg_app.specs.declared.design.Component.{Component}
-use Rattle.leg_app.specs.Measure.{Lengths}
+use Rattle.leg_lib.specs.Measure.{Lengths}
 
 -- a box of this size whose lower left corner is the point
 abbrev pub box_at : Lengths → Spot → Sides

@@ -1,7 +1,5 @@
 pub mod Measure
 pub mod Records
-pub mod Lef
-pub mod Scale
 pub mod Def
 pub mod Say
 pub mod Refusal

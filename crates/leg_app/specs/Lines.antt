@@ -6,8 +6,8 @@ use Rattle.leg_lex.specs.declared.read_fault.FaultKind.{FaultKind}
 use Rattle.leg_lex.specs.declared.read_fault.FaultKind.TheVariants as kinds
 use Rattle.leg_app.specs.declared.violation.Violation.{Violation}
 use Rattle.leg_app.specs.declared.violation.Violation.TheVariants.{Unplaced, Outside, Overlap}
-use Rattle.leg_app.specs.declared.scale_fault.ScaleKind.{ScaleKind}
-use Rattle.leg_app.specs.declared.scale_fault.ScaleKind.TheVariants as scale
+use Rattle.leg_lib.specs.declared.scale_fault.ScaleKind.{ScaleKind}
+use Rattle.leg_lib.specs.declared.scale_fault.ScaleKind.TheVariants as scale
 use Rattle.leg_app.specs.Records.{DesignContents}
 use Rattle.leg_app.specs.declared.design.Component.{Component}
 

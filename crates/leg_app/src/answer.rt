@@ -8,13 +8,12 @@ ghost use Rattle.leg_app.specs.Answer.{IsAnswer, IsPlaceCheck};
 use crate::block::read_block;
 use crate::command::Command;
 use crate::design::Design;
-use crate::library::Library;
 use crate::lines::{refused_text, scale_text, violations_text};
 use crate::place::place_violations;
-use crate::scale_fault::ScaleKind;
 use crate::status::Status;
 use crate::text_fault::TextFault;
 use leg_lex::FaultKind;
+use leg_lib::{Library, ScaleKind};
 use std::alloc::{AllocError, Allocator};
 
 /// A text to be written, and the status that goes with it.

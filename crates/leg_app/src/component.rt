@@ -7,9 +7,9 @@ ghost use Rattle.leg_lex.specs.Statements.{at_most_one};
 ghost use Rattle.leg_app.specs.Def.{point_at, is_placement, is_clause, all_clauses, placed_in, unplaced_in, placement_in, placement_in_any, placement_of, new_name_at, master_at, component_head, component_in};
 
 use crate::design::{Component, PlacementStatus};
-use crate::extent::Position;
-use crate::library::Library;
+use crate::position::Position;
 use leg_lex::{Cursor, FaultKind, Name, Names, ReadFault, is_keyword};
+use leg_lib::Library;
 use std::alloc::Allocator;
 
 /// A place: `( x y )`.
@@ -143,7 +143,7 @@ fn master<A: Allocator + Copy>(
 {
     let first = head.again();
     let name = head.name()?;
-    match library.master_number(name) {
+    match library.master_named(name) {
         Some(number) => Ok(number),
         None => Err(first.fault(FaultKind::UnknownName)),
     }

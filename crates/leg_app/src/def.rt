@@ -6,15 +6,16 @@ ghost use Rattle.leg_lex.specs.Words.{Reads, Means};
 ghost use Rattle.leg_lex.specs.Until.{until};
 ghost use Rattle.leg_lex.specs.Statements.{at_end};
 ghost use Rattle.leg_app.specs.Records.{component_names};
-ghost use Rattle.leg_app.specs.Def.{microns_at, units_after, units_in, no_parts, rect_between, name_form, units_form, die_form, entry_at, components_at, components_form, version_form, def_form_at, design_of, design_in};
+ghost use Rattle.leg_lib.specs.Point.{rect_between};
+ghost use Rattle.leg_app.specs.Def.{microns_at, units_after, units_in, no_parts, name_form, units_form, die_form, entry_at, components_at, components_form, version_form, def_form_at, design_of, design_in};
 
 use crate::component::{component, point};
 use crate::design::{Component, Design};
-use crate::extent::Position;
-use crate::library::Library;
 use crate::limits::COMPONENT_LIMIT;
+use crate::position::Position;
 use leg_geom::Rect;
 use leg_lex::{Cursor, FaultKind, Name, Names, ReadFault, Token, UNITS_LIMIT, clauses, is_keyword};
+use leg_lib::Library;
 use std::alloc::Allocator;
 use std::marker::Model;
 
@@ -95,6 +96,7 @@ impl<'a, A: Allocator + Copy> Model for Parts<'a, A> {
     ghost use Rattle.std.specs.Prelude.{◌≤◌, length, option_map};
     ghost use Rattle.std.specs.Option.{ForSome};
     ghost use Rattle.leg_app.specs.declared.limits.TheConstants.{COMPONENT_LIMIT};
+    ghost use Rattle.leg_lib.specs.Point.{rect_between};
     ghost use Rattle.leg_app.specs.Def.{DesignParts};
 
     ghost Value = { DesignParts };

@@ -1,6 +1,6 @@
 //! A placed design.
 
-use crate::extent::Position;
+use crate::position::Position;
 use leg_geom::Rect;
 use leg_lex::Name;
 use std::alloc::Allocator;

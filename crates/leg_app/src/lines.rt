@@ -5,10 +5,10 @@ ghost use Rattle.std.specs.List.{flat_map};
 ghost use Rattle.leg_app.specs.Lines.{kind_name, name_at_number, refused_text, scale_kind_name, scale_text, violation_line, violations_text};
 
 use crate::design::Design;
-use crate::scale_fault::{ScaleFault, ScaleKind};
 use crate::violation::Violation;
 use itoa::Buffer;
 use leg_lex::{FaultKind, ReadFault};
+use leg_lib::{ScaleFault, ScaleKind};
 use std::alloc::{AllocError, Allocator};
 
 /// A line for each violation, and their number.

@@ -7,9 +7,9 @@ ghost use Rattle.leg_app.specs.Faults.{IsListOf};
 ghost use Rattle.leg_app.specs.FaultsBefore.{IsListBefore};
 
 use crate::design::Design;
-use crate::library::Library;
 use crate::placed_box::{PlacedBox, placed_boxes};
 use crate::violation::Violation;
+use leg_lib::Library;
 use leg_sweep::{PairRule, pairs};
 use std::alloc::{AllocError, Allocator};
 

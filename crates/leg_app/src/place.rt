@@ -1,15 +1,15 @@
 //! What is not legal about where components stand.
 
 ghost use Rattle.std.specs.Prelude.{◌≡◌, ◌<◌, ◌↔◌, length, IsTrue, IfOk, OnOk};
-ghost use Rattle.leg_app.specs.Records.{Contents};
+ghost use Rattle.leg_lib.specs.Records.{Contents};
 ghost use Rattle.leg_app.specs.Faults.{IsOutside, IsListOf};
 ghost use Rattle.leg_app.specs.FaultsBefore.{IsListBefore};
 
 use crate::design::Design;
-use crate::library::Library;
 use crate::overlap::push_overlaps;
 use crate::placed_box::box_of;
 use crate::violation::Violation;
+use leg_lib::Library;
 use std::alloc::{AllocError, Allocator};
 
 /// The violations of a placed design: all that hold, each once, in order.

@@ -7,8 +7,8 @@ ghost use Rattle.leg_app.specs.Faults.{box_of};
 ghost use Rattle.leg_app.specs.FaultsBefore.{AreBoxesBelow};
 
 use crate::design::{Component, Design};
-use crate::library::Library;
 use leg_geom::Rect;
+use leg_lib::Library;
 use std::alloc::{AllocError, Allocator};
 
 /// A component that has a place, by its number, and its box.
@@ -26,9 +26,9 @@ pub(crate) fn box_of<'a, A: Allocator + Copy>(
     ensures is { result ≡ box_of library.now component.now }
     ensures proper { IfSome result IsRect }
 {
-    let master = library.masters.get(component.master)?;
+    let master = library.masters().get(component.master)?;
     let at = component.place?;
-    Some(master.size.box_at(&at))
+    Some(at.box_of(&master.size))
 }
 
 /// The boxes of the placed components, in file order.

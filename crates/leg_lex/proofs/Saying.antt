@@ -2,9 +2,15 @@
 use Rattle.std.proofs.Common.{◌≡◌, ℕ, List, Option, None, Some, Result, Ok, Err, sym, ◌∙◌, ap, OnOk, IfErr}
 use Rattle.leg_lex.specs.Word.{Word, texts}
 use Rattle.leg_lex.specs.Words.{Words, Means}
+use Rattle.leg_lex.specs.Tokens.{words_from, AreTokens}
+use Rattle.leg_lex.proofs.Cuts.{cut_same}
 use Rattle.leg_lex.specs.declared.read_fault.ReadFault.{ReadFault}
 use Rattle.leg_lex.specs.declared.read_fault.FaultKind.TheVariants.{Memory}
 use Rattle.leg_lex.specs.Say.{Says, HasWords, HasNoWords}
+
+-- a text has one list of words at most
+pub one_tokens : (text : List ℕ) (a b : List Word) → AreTokens text a → AreTokens text b → a ≡ b
+one_tokens text a b p q = p.2 ∙ ap (words_from 1) (cut_same text p.0 q.0 p.1 q.1) ∙ sym q.2
 
 module _ {Said : Type 0} (reading : Words → Option Said) (text : List ℕ) where
   -- a text without words says nothing
@@ -29,3 +35,11 @@ module _ {Said : Type 0} (reading : Words → Option Said) (text : List ℕ) whe
   pub means_none : (words : List Word) (r : Result (Unit {0}) ReadFault) (made : Said) → HasWords text words → Means (λ _. made) r (reading (texts words)) → IfErr r (λ fault. (fault.kind ≡ Memory → ⊥) → (said : Said) → Says reading text said → ⊥)
   means_none words (Ok x) made has means = tt
   means_none words (Err fault) made has means = λ not_memory. says_none words has (means not_memory)
+
+  -- a text says one thing at most
+  pub says_one : (a b : Said) → Says reading text a → Says reading text b → a ≡ b
+  says_one a b p q =
+      let same : p.words ≡ q.words = one_tokens text p.words q.words p.tokens q.tokens in
+      let e : reading (texts q.words) ≡ Some a = ap (λ w. reading (texts w)) (sym same) ∙ p.reads in
+      let f : reading (texts q.words) ≡ Some b = q.reads in
+      cc

@@ -1,6 +1,6 @@
 -- The components so far that have no place are listed.
 use Rattle.leg_app.specs.declared.violation.Violation.TheVariants.{Unplaced}
-use Rattle.leg_app.specs.Records.{Contents}
+use Rattle.leg_lib.specs.Records.{Contents}
 use Rattle.leg_app.specs.FaultsBefore.{IsListBefore}
 use Rattle.leg_app.proofs.place.unplaced.Given as goal
 

@@ -1,0 +1,11 @@
+pub mod Corners
+pub mod Layers
+pub mod Drawn
+pub mod Joined
+pub mod Vias
+pub mod Pins
+pub mod Sites
+pub mod MacroForms
+pub mod Forms
+pub mod Readings
+pub mod Scaled

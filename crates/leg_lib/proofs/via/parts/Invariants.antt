@@ -1,0 +1,8 @@
+use Rattle.std.proofs.Common.{◌≡◌, drop}
+use Rattle.leg_lex.specs.Until.{over}
+use Rattle.leg_lib.specs.Via.{no_via_parts, via_part}
+use Rattle.leg_lib.proofs.via.parts.Given as goal
+
+abbrev pub invariant-loop-statement : goal.invariant-loop-statement
+invariant-loop-statement g l =
+    over (via_part l.library) l.parts (drop l.statement-index l.statements) ≡ over (via_part l.library) no_via_parts l.statements

@@ -1,0 +1,14 @@
+pub mod Measure
+pub mod Records
+pub mod Point
+pub mod Layer
+pub mod Geometry
+pub mod Joins
+pub mod JoinLaw
+pub mod Via
+pub mod Site
+pub mod Pin
+pub mod Macro
+pub mod Form
+pub mod Say
+pub mod Scale

@@ -1,0 +1,76 @@
+//! The forms of a LEF text (LEF/DEF 5.8, "LEF Syntax").
+
+ghost use Rattle.std.specs.Prelude.{codes};
+ghost use Rattle.leg_lex.specs.Until.{until};
+ghost use Rattle.leg_lex.specs.Words.{Reads, Means};
+ghost use Rattle.leg_lib.specs.Form.{form_at, at_last, ended, lef_in};
+
+use crate::layer::layer_form;
+use crate::macros::macro_form;
+use crate::raw_library::RawLibrary;
+use crate::site::site_form;
+use crate::skipped::past_form;
+use crate::via::via_form;
+use leg_lex::{Cursor, ReadFault};
+use std::alloc::Allocator;
+
+/// One form.
+#[tactic(auto, unfolding(crate::specs::Form::form_at))]
+fn form<'a, A: Allocator + Copy>(
+    alloc: A,
+    library: &mut RawLibrary<'a, A>,
+    words: &mut Cursor<'_, 'a>,
+) -> Result<(), ReadFault>
+    ensures { Reads (λ _. library.new) result words.new (form_at library.old words.old) }
+{
+    if words.is_at(b"LAYER") {
+        layer_form(alloc, library, words)
+    } else if words.is_at(b"VIA") {
+        via_form(alloc, library, words)
+    } else if words.is_at(b"SITE") {
+        site_form(alloc, library, words)
+    } else if words.is_at(b"MACRO") {
+        macro_form(alloc, library, words)
+    } else {
+        past_form(words)
+    }
+}
+
+/// The forms of a text, up to its end or to an `END` in a form's place.
+#[tactic(auto, using(crate::proofs::Forms::last_at_end, crate::proofs::Forms::last_at_word, crate::proofs::Forms::not_last, crate::proofs::Forms::forms_end, crate::proofs::Forms::forms_on, crate::proofs::Forms::forms_fail, crate::proofs::Forms::form_shorter))]
+fn forms<'a, A: Allocator + Copy>(
+    alloc: A,
+    library: &mut RawLibrary<'a, A>,
+    words: &mut Cursor<'_, 'a>,
+) -> Result<(), ReadFault>
+    ensures { Reads (λ _. library.new) result words.new (until at_last form_at library.old words.old) }
+{
+    'forms: while !words.is_at_end() && !words.is_at(b"END") {
+        form(alloc, library, words)?;
+    }
+    Ok(())
+}
+
+/// The end of a text: nothing, or `END LIBRARY` and nothing after it.
+fn ended(words: &mut Cursor<'_, '_>) -> Result<(), ReadFault>
+    ensures { Means (λ x. x) result (ended words.old) }
+{
+    if words.is_at_end() {
+        return Ok(());
+    }
+    words.end(b"LIBRARY")?;
+    words.nothing_more()
+}
+
+/// Adds the forms of a text to the library of the texts before it.
+#[tactic(auto, unfolding(crate::specs::Form::lef_in))]
+pub(crate) fn lef_words<'a, A: Allocator + Copy>(
+    alloc: A,
+    library: &mut RawLibrary<'a, A>,
+    words: &mut Cursor<'_, 'a>,
+) -> Result<(), ReadFault>
+    ensures { Means (λ _. library.new) result (lef_in library.old words.old) }
+{
+    forms(alloc, library, words)?;
+    ended(words)
+}

@@ -1,0 +1,176 @@
+//! Macros (LEF/DEF 5.8, "Macro").
+
+ghost use Rattle.std.specs.Prelude.{codes, not, if◌then◌else◌, Some, None};
+ghost use Rattle.std.specs.List.{list_any, list_all};
+ghost use Rattle.leg_lex.specs.Words.{Reads, Means, is_mark, is_keyword};
+ghost use Rattle.leg_lex.specs.Statements.{only};
+ghost use Rattle.leg_lib.specs.Macro.{origin_in, origin_of_any, symmetry_in, symmetry_of_any, site_in, site_of_any, macro_at, with_macro};
+
+use crate::items::Items;
+use crate::macro_part::MacroParts;
+use crate::measure::RawPoint;
+use crate::named::second_definition;
+use crate::point;
+use crate::raw::RawMaster;
+use crate::raw_library::RawLibrary;
+use leg_lex::{Cursor, FaultKind, Micron, Name, ReadFault, is_keyword, only, the};
+use std::alloc::Allocator;
+
+/// The point of an `ORIGIN` statement.
+#[tactic(auto, unfolding(crate::specs::Macro::origin_in))]
+fn origin(statement: &mut Cursor<'_, '_>) -> Result<RawPoint, ReadFault>
+    ensures { Means (λ p. p) result (origin_in statement.old) }
+{
+    statement.keyword(b"ORIGIN")?;
+    let point = point::point(statement)?;
+    statement.nothing_more()?;
+    Ok(point)
+}
+
+/// The same of a statement that may be missing: 0 0.
+fn origin_of_any(statement: Option<Cursor<'_, '_>>) -> Result<RawPoint, ReadFault>
+    ensures { Means (λ p. p) result (origin_of_any statement.entry) }
+{
+    match statement {
+        Some(mut statement) => origin(&mut statement),
+        None => Ok(RawPoint::new(Micron::zero(), Micron::zero())),
+    }
+}
+
+/// Whether `Y` is among these words, none of which is a mark.
+#[tactic(auto, using(crate::proofs::MacroForms::symmetry_ends, crate::proofs::MacroForms::symmetry_on, crate::proofs::MacroForms::symmetry_fails, crate::proofs::MacroForms::word_shorter))]
+fn has_y(words: &mut Cursor<'_, '_>) -> Result<bool, ReadFault>
+    ensures { Means (λ y. y) result (if list_all (λ word. not (is_mark word)) words.old then Some (list_any (is_keyword (codes "Y")) words.old) else None) }
+{
+    let mut found = false;
+    'words: while !words.is_at_end() {
+        let word = words.word()?;
+        found |= is_keyword(b"Y", word);
+    }
+    Ok(found)
+}
+
+/// Whether `Y` is among the words of a `SYMMETRY` statement.
+#[tactic(auto, using(crate::proofs::MacroForms::symmetry_said), unfolding(crate::specs::Macro::symmetry_in))]
+fn symmetry(statement: &mut Cursor<'_, '_>) -> Result<bool, ReadFault>
+    ensures { Means (λ y. y) result (symmetry_in statement.old) }
+{
+    statement.keyword(b"SYMMETRY")?;
+    let mut all = statement.again();
+    statement.word()?;
+    let with_y = has_y(&mut all)?;
+    Ok(with_y)
+}
+
+/// The same of a statement that may be missing: no.
+fn symmetry_of_any(statement: Option<Cursor<'_, '_>>) -> Result<bool, ReadFault>
+    ensures { Means (λ y. y) result (symmetry_of_any statement.entry) }
+{
+    match statement {
+        Some(mut statement) => symmetry(&mut statement),
+        None => Ok(false),
+    }
+}
+
+/// The `SITE` statement, if there is one. Macros of several sites are `Unsupported`.
+fn site_statement<'t, 'a>(
+    statements: &[Cursor<'t, 'a>],
+) -> Result<Option<Cursor<'t, 'a>>, ReadFault>
+    ensures { Means (λ found. found) result (only (codes "SITE") statements.now) }
+{
+    match only(statements, b"SITE") {
+        Err(
+            ReadFault {
+                file,
+                line,
+                kind: FaultKind::Unexpected,
+            },
+        ) => Err(ReadFault {
+            file,
+            line,
+            kind: FaultKind::Unsupported,
+        }),
+        found => found,
+    }
+}
+
+/// The number of the site that a `SITE` statement names.
+#[tactic(auto, unfolding(crate::specs::Macro::site_in, leg_lex::specs::Words::nothing_at))]
+fn site<A: Allocator + Copy>(
+    library: &RawLibrary<'_, A>,
+    statement: &mut Cursor<'_, '_>,
+) -> Result<usize, ReadFault>
+    ensures { Means (λ k. k) result (site_in library.now statement.old) }
+{
+    statement.keyword(b"SITE")?;
+    let named = statement.again();
+    let name = statement.name()?;
+    let Some(number) = library.site_named(name) else {
+        return Err(named.fault(FaultKind::UnknownName));
+    };
+    if !statement.is_at_end() {
+        return Err(statement.fault(FaultKind::Unsupported));
+    }
+    Ok(number)
+}
+
+/// The same of a statement that may be missing.
+fn site_of_any<A: Allocator + Copy>(
+    library: &RawLibrary<'_, A>,
+    statement: Option<Cursor<'_, '_>>,
+) -> Result<Option<usize>, ReadFault>
+    ensures { Means (λ k. k) result (site_of_any library.now statement.entry) }
+{
+    match statement {
+        Some(mut statement) => Ok(Some(site(library, &mut statement)?)),
+        None => Ok(None),
+    }
+}
+
+/// A macro, from `MACRO` to its `END`.
+#[tactic(auto, unfolding(crate::specs::Macro::macro_at))]
+fn master<'a, A: Allocator + Copy>(
+    alloc: A,
+    library: &RawLibrary<'a, A>,
+    words: &mut Cursor<'_, 'a>,
+) -> Result<RawMaster<'a, A>, ReadFault>
+    ensures { Reads (λ m. m) result words.new (macro_at library.now words.old) }
+{
+    words.keyword(b"MACRO")?;
+    let name = words.name()?;
+    let mut parts = MacroParts::new(alloc);
+    parts.macro_parts(alloc, library, words)?;
+    let mut of_size = the(&parts.statements, b"SIZE", words)?;
+    let size = point::size(&mut of_size)?;
+    let origin = origin_of_any(only(&parts.statements, b"ORIGIN")?)?;
+    let y_symmetric = symmetry_of_any(only(&parts.statements, b"SYMMETRY")?)?;
+    let site = site_of_any(library, site_statement(&parts.statements)?)?;
+    words.end_of(name)?;
+    Ok(RawMaster {
+        name: Name::new(name),
+        size,
+        origin,
+        y_symmetric,
+        site,
+        pins: Items::from_vec(parts.pins),
+        obstructions: Items::from_vec(parts.obstructions),
+    })
+}
+
+/// Adds the macro that stands next, whose name is new.
+#[tactic(auto, unfolding(crate::specs::Macro::with_macro))]
+pub(crate) fn macro_form<'a, A: Allocator + Copy>(
+    alloc: A,
+    library: &mut RawLibrary<'a, A>,
+    words: &mut Cursor<'_, 'a>,
+) -> Result<(), ReadFault>
+    ensures { Reads (λ _. library.new) result words.new (with_macro library.old words.old) }
+{
+    let first = words.again();
+    let master = master(alloc, library, words)?;
+    if library.master_named(master.name.bytes()).is_some() {
+        return Err(second_definition(&first));
+    }
+    library.push_master(master)?;
+    Ok(())
+}

@@ -1,0 +1,157 @@
+//! A library as LEF texts say it, in millionths of a micron.
+
+ghost use Rattle.std.specs.Prelude.{◌≡◌, ◌++◌, ◌∷◌, [], None, OnOk, OnErr, option_copied, slice_get};
+ghost use Rattle.leg_lex.specs.Named.{place_of};
+ghost use Rattle.leg_lib.specs.Records.{empty_library, raw_layer_names, raw_site_names, raw_via_names, raw_master_names};
+ghost use Rattle.leg_lib.specs.Site.{site_named};
+
+use crate::raw::{RawLayer, RawMaster, RawSite, RawVia};
+use leg_lex::Names;
+use std::alloc::{AllocError, Allocator};
+use std::marker::Model;
+
+/// A library in millionths of a micron, in file order. Of the layers, the sites, the vias and the macros no
+/// two have one name.
+#[derive(Drop)]
+pub struct RawLibrary<'a, A: Allocator + Copy> {
+    layers: Vec<RawLayer<'a>, A>,
+    pub(crate) layer_names: Names<'a, A>,
+    sites: Vec<RawSite<'a>, A>,
+    pub(crate) site_names: Names<'a, A>,
+    vias: Vec<RawVia<'a, A>, A>,
+    pub(crate) via_names: Names<'a, A>,
+    masters: Vec<RawMaster<'a, A>, A>,
+    pub(crate) master_names: Names<'a, A>,
+}
+
+impl<'a, A: Allocator + Copy> Model for RawLibrary<'a, A> {
+    ghost use Rattle.leg_lib.specs.Records.{RawContents, HasRawNames};
+
+    ghost Value = { RawContents };
+
+    ghost view = { λ l. record { layers = l.layers.items; sites = l.sites.items; vias = l.vias.items; masters = l.masters.items } };
+
+    ghost invariant = { λ l. HasRawNames (record { layers = l.layers.items; sites = l.sites.items; vias = l.vias.items; masters = l.masters.items }) l.layer_names l.site_names l.via_names l.master_names };
+}
+
+impl<'a, A: Allocator + Copy> RawLibrary<'a, A> {
+    /// The library of no text.
+    pub(crate) fn new(alloc: A) -> RawLibrary<'a, A>
+        ensures { result ≡ empty_library }
+    {
+        RawLibrary {
+            layers: Vec::new(alloc),
+            layer_names: Names::new(alloc),
+            sites: Vec::new(alloc),
+            site_names: Names::new(alloc),
+            vias: Vec::new(alloc),
+            via_names: Names::new(alloc),
+            masters: Vec::new(alloc),
+            master_names: Names::new(alloc),
+        }
+    }
+
+    /// The layers, bottom up.
+    pub fn layers(&self) -> &[RawLayer<'a>]
+        ensures { result.now ≡ self.now.layers }
+    {
+        self.layers.as_slice()
+    }
+
+    /// The sites, in file order.
+    pub fn sites(&self) -> &[RawSite<'a>]
+        ensures { result.now ≡ self.now.sites }
+    {
+        self.sites.as_slice()
+    }
+
+    /// The vias, in file order.
+    pub fn vias(&self) -> &[RawVia<'a, A>]
+        ensures { result.now ≡ self.now.vias }
+    {
+        self.vias.as_slice()
+    }
+
+    /// The macros, in file order.
+    pub fn masters(&self) -> &[RawMaster<'a, A>]
+        ensures { result.now ≡ self.now.masters }
+    {
+        self.masters.as_slice()
+    }
+
+    /// The number of the layer of this name.
+    pub fn layer_named(&self, name: &[u8]) -> Option<usize>
+        ensures { result ≡ place_of name.now (raw_layer_names self.now) }
+    {
+        self.layer_names.place_of(name)
+    }
+
+    /// The number of the site of this name.
+    pub fn site_named(&self, name: &[u8]) -> Option<usize>
+        ensures { result ≡ place_of name.now (raw_site_names self.now) }
+    {
+        self.site_names.place_of(name)
+    }
+
+    /// The number of the via of this name.
+    pub fn via_named(&self, name: &[u8]) -> Option<usize>
+        ensures { result ≡ place_of name.now (raw_via_names self.now) }
+    {
+        self.via_names.place_of(name)
+    }
+
+    /// The number of the macro of this name.
+    pub fn master_named(&self, name: &[u8]) -> Option<usize>
+        ensures { result ≡ place_of name.now (raw_master_names self.now) }
+    {
+        self.master_names.place_of(name)
+    }
+
+    /// Adds a layer whose name is new. Where memory is refused, nothing changes.
+    pub(crate) fn push_layer(&mut self, layer: RawLayer<'a>) -> Result<(), AllocError>
+        requires { place_of layer.name (raw_layer_names self.old) ≡ None }
+        ensures pushed { OnOk result (self.new ≡ record self.old { layers = self.old.layers ++ layer.entry ∷ [] }) }
+        ensures unchanged { OnErr result (self.new ≡ self.old) }
+    {
+        self.layers.reserve(1)?;
+        self.layer_names.push(layer.name.bytes())?;
+        self.layers.push(layer).unwrap();
+        Ok(())
+    }
+
+    /// Adds a site whose name is new. Where memory is refused, nothing changes.
+    pub(crate) fn push_site(&mut self, site: RawSite<'a>) -> Result<(), AllocError>
+        requires { place_of site.name (raw_site_names self.old) ≡ None }
+        ensures pushed { OnOk result (self.new ≡ record self.old { sites = self.old.sites ++ site.entry ∷ [] }) }
+        ensures unchanged { OnErr result (self.new ≡ self.old) }
+    {
+        self.sites.reserve(1)?;
+        self.site_names.push(site.name.bytes())?;
+        self.sites.push(site).unwrap();
+        Ok(())
+    }
+
+    /// Adds a via whose name is new. Where memory is refused, nothing changes.
+    pub(crate) fn push_via(&mut self, via: RawVia<'a, A>) -> Result<(), AllocError>
+        requires { place_of via.name (raw_via_names self.old) ≡ None }
+        ensures pushed { OnOk result (self.new ≡ record self.old { vias = self.old.vias ++ via.entry ∷ [] }) }
+        ensures unchanged { OnErr result (self.new ≡ self.old) }
+    {
+        self.vias.reserve(1)?;
+        self.via_names.push(via.name.bytes())?;
+        self.vias.push(via).unwrap();
+        Ok(())
+    }
+
+    /// Adds a macro whose name is new. Where memory is refused, nothing changes.
+    pub(crate) fn push_master(&mut self, master: RawMaster<'a, A>) -> Result<(), AllocError>
+        requires { place_of master.name (raw_master_names self.old) ≡ None }
+        ensures pushed { OnOk result (self.new ≡ record self.old { masters = self.old.masters ++ master.entry ∷ [] }) }
+        ensures unchanged { OnErr result (self.new ≡ self.old) }
+    {
+        self.masters.reserve(1)?;
+        self.master_names.push(master.name.bytes())?;
+        self.masters.push(master).unwrap();
+        Ok(())
+    }
+}

@@ -1,0 +1,59 @@
+//! What LEF texts say together.
+
+ghost use Rattle.std.specs.Prelude.{◌≡◌, ◌≢◌, ◌<◌, length, map, IfOk, IfErr, OnOk};
+ghost use Rattle.leg_lex.specs.declared.limits.TheConstants.{TEXT_LIMIT};
+ghost use Rattle.leg_lex.specs.declared.read_fault.FaultKind.TheVariants.{Memory};
+ghost use Rattle.leg_lex.specs.Say.{Says};
+ghost use Rattle.leg_lib.specs.Records.{RawContents};
+ghost use Rattle.leg_lib.specs.Form.{lef_in};
+ghost use Rattle.leg_lib.specs.Say.{SayLibrary};
+
+use crate::form;
+use crate::raw_library::RawLibrary;
+use leg_lex::{Cursor, ReadFault, file_words};
+use std::alloc::Allocator;
+
+/// Adds what a LEF says to the library of the LEFs before it.
+fn add_lef<'a, A: Allocator + Copy>(
+    alloc: A,
+    library: &mut RawLibrary<'a, A>,
+    file: u32,
+    text: &'a [u8],
+) -> Result<(), ReadFault>
+    ensures found { OnOk result (Says (lef_in library.old) text.now library.new) }
+    ensures only { OnOk result ((said : RawContents) → Says (lef_in library.old) text.now said → said ≡ library.new) }
+    // A text that is too long is never told as want of memory.
+    ensures too_long { IfErr result (λ fault. TEXT_LIMIT < length text.now → fault.kind ≢ Memory) }
+    ensures none { IfErr result (λ fault. fault.kind ≢ Memory
+        → (said : RawContents) → ¬ Says (lef_in library.old) text.now said) }
+{
+    let tokens = file_words(alloc, file, text)?;
+    form::lef_words(alloc, library, &mut Cursor::new(file, &tokens))
+}
+
+/// The library that LEF texts say, taken one after the other, in millionths of a micron.
+///
+/// A fault tells the first text that adds nothing, by its number from 0, and in it the line of the word at
+/// fault.
+pub fn read_lefs<'a, A: Allocator + Copy>(
+    alloc: A,
+    lefs: &[&'a [u8]],
+) -> Result<RawLibrary<'a, A>, ReadFault>
+    ensures found { IfOk result (λ library. SayLibrary (map (λ t. t.now) lefs.now) library) }
+    // The texts say no other library.
+    ensures only { IfOk result (λ library. (said : RawContents)
+        → SayLibrary (map (λ t. t.now) lefs.now) said → said ≡ library) }
+    ensures none { IfErr result (λ fault. fault.kind ≢ Memory
+        → (said : RawContents) → ¬ SayLibrary (map (λ t. t.now) lefs.now) said) }
+{
+    let mut library = RawLibrary::new(alloc);
+    'lefs: for (number, lef) in lefs.iter().enumerate() {
+        add_lef(alloc, &mut library, file_number(number), lef)?;
+    }
+    Ok(library)
+}
+
+/// The number of a file, which faults tell.
+fn file_number(number: usize) -> u32 {
+    u32::try_from(number).unwrap_or(u32::MAX)
+}

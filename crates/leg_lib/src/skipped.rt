@@ -1,0 +1,64 @@
+//! The forms that are read past (LEF/DEF 5.8, "LEF Syntax"; own rule).
+
+ghost use Rattle.std.specs.Prelude.{codes};
+ghost use Rattle.leg_lex.specs.Words.{Reads};
+ghost use Rattle.leg_lib.specs.Form.{past_named, past_section, past_extension, past_statement, past_form};
+
+use leg_lex::{Cursor, ReadFault};
+
+/// A keyword, a name, and everything up to `END` and this name.
+#[tactic(auto, unfolding(crate::specs::Form::past_named))]
+fn past_named(words: &mut Cursor<'_, '_>) -> Result<(), ReadFault>
+    ensures { Reads (λ x. x) result words.new (past_named words.old) }
+{
+    words.any()?;
+    let name = words.name()?;
+    words.past_end_of(name)
+}
+
+/// This keyword, and everything up to `END` and the keyword.
+#[tactic(auto, unfolding(crate::specs::Form::past_section))]
+fn past_section(keyword: &[u8], words: &mut Cursor<'_, '_>) -> Result<(), ReadFault>
+    ensures { Reads (λ x. x) result words.new (past_section keyword.now words.old) }
+{
+    words.keyword(keyword)?;
+    words.past_end(keyword)
+}
+
+/// `BEGINEXT`, and everything up to `ENDEXT`.
+#[tactic(auto, unfolding(crate::specs::Form::past_extension))]
+fn past_extension(words: &mut Cursor<'_, '_>) -> Result<(), ReadFault>
+    ensures { Reads (λ x. x) result words.new (past_extension words.old) }
+{
+    words.keyword(b"BEGINEXT")?;
+    words.past_keyword(b"ENDEXT")
+}
+
+/// Any other form, up to its semicolon.
+#[tactic(auto, unfolding(crate::specs::Form::past_statement))]
+fn past_statement(words: &mut Cursor<'_, '_>) -> Result<(), ReadFault>
+    ensures { Reads (λ x. x) result words.new (past_statement words.old) }
+{
+    words.statement()?;
+    Ok(())
+}
+
+/// A form that says nothing of the library.
+#[tactic(auto, unfolding(crate::specs::Form::past_form))]
+pub(crate) fn past_form(words: &mut Cursor<'_, '_>) -> Result<(), ReadFault>
+    ensures { Reads (λ x. x) result words.new (past_form words.old) }
+{
+    if words.is_at(b"VIARULE") || words.is_at(b"NONDEFAULTRULE") {
+        past_named(words)
+    } else if words.is_at(b"UNITS") {
+        past_section(b"UNITS", words)
+    } else if words.is_at(b"PROPERTYDEFINITIONS") {
+        past_section(b"PROPERTYDEFINITIONS", words)
+    } else if words.is_at(b"SPACING") {
+        past_section(b"SPACING", words)
+    } else if words.is_at(b"BEGINEXT") {
+        past_extension(words)
+    } else {
+        past_statement(words)
+    }
+}

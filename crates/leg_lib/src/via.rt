@@ -1,0 +1,258 @@
+//! Vias (LEF/DEF 5.8, "Via"; which of them are good is an own rule).
+
+ghost use Rattle.std.specs.Prelude.{◌≡◌, ◌≢◌, codes, not, ◌&&◌, if◌then◌else◌, drop, Some, IfOk, IfErr};
+ghost use Rattle.leg_lex.specs.Words.{Reads, Means, is_at};
+ghost use Rattle.leg_lex.specs.Until.{over};
+ghost use Rattle.leg_lib.specs.Via.{flag_at, flags_at, no_via_parts, layer_of_via, spoils, via_part, is_good, kept, via_at, with_via};
+
+use crate::geometry::Drawing;
+use crate::items::Items;
+use crate::joins::{is_wiring_word, joins_layers};
+use crate::named::second_definition;
+use crate::raw::{RawShape, RawVia};
+use crate::raw_library::RawLibrary;
+use leg_lex::{Cursor, FaultKind, Name, ReadFault};
+use std::alloc::Allocator;
+use std::marker::Model;
+
+/// Which words stand between a via's name and its statements.
+#[derive(Clone, Copy)]
+struct ViaFlags {
+    is_default: bool,
+    is_top_only: bool,
+    is_generated: bool,
+}
+
+impl Model for ViaFlags {
+    ghost use Rattle.leg_lib.specs.Via.{Flags};
+
+    ghost Value = { Flags };
+
+    ghost view = { λ f. record { is_default = f.is_default; is_top_only = f.is_top_only; is_generated = f.is_generated } };
+
+    ghost inverse = { λ f. record { is_default = f.is_default; is_top_only = f.is_top_only; is_generated = f.is_generated } };
+}
+
+/// Reads this word, if it stands there and didn't stand before, and says whether it was read.
+#[tactic(auto, using(crate::proofs::Vias::read_past, crate::proofs::Vias::surely_read))]
+fn first_time(stood: bool, keyword: &[u8], words: &mut Cursor<'_, '_>) -> Result<bool, ReadFault>
+    ensures said { IfOk result (λ read. read ≡ (is_at keyword.now words.old && not stood)) }
+    ensures left { IfOk result (λ read. words.new ≡ (if read then drop 1 words.old else words.old)) }
+    ensures refused { IfErr result (λ fault. fault.kind ≢ FaultKind.Memory → ⊥) }
+{
+    if stood || !words.is_at(keyword) {
+        return Ok(false);
+    }
+    words.keyword(keyword)?;
+    Ok(true)
+}
+
+/// Reads one more of the words `DEFAULT`, `TOPOFSTACKONLY` and `GENERATED`, if one stands there that
+/// didn't stand before.
+#[tactic(auto, unfolding(crate::specs::Via::flag_at))]
+fn flag(flags: ViaFlags, words: &mut Cursor<'_, '_>) -> Result<ViaFlags, ReadFault>
+    ensures { Reads (λ f. f) result words.new (Some (flag_at flags words.old)) }
+{
+    if first_time(flags.is_default, b"DEFAULT", words)? {
+        return Ok(ViaFlags {
+            is_default: true,
+            ..flags
+        });
+    }
+    if first_time(flags.is_top_only, b"TOPOFSTACKONLY", words)? {
+        return Ok(ViaFlags {
+            is_top_only: true,
+            ..flags
+        });
+    }
+    if first_time(flags.is_generated, b"GENERATED", words)? {
+        return Ok(ViaFlags {
+            is_generated: true,
+            ..flags
+        });
+    }
+    Ok(flags)
+}
+
+/// The words between a via's name and its statements.
+#[tactic(auto, unfolding(crate::specs::Via::flags_at))]
+fn flags(words: &mut Cursor<'_, '_>) -> Result<ViaFlags, ReadFault>
+    ensures { Reads (λ f. f) result words.new (Some (flags_at words.old)) }
+{
+    let none = ViaFlags {
+        is_default: false,
+        is_top_only: false,
+        is_generated: false,
+    };
+    let first = flag(none, words)?;
+    let second = flag(first, words)?;
+    flag(second, words)
+}
+
+/// What the statements of a via say: its shapes, and whether there is a form that no good via has.
+#[derive(Drop)]
+struct ViaParts<A: Allocator> {
+    drawing: Drawing<A>,
+    is_spoilt: bool,
+}
+
+impl<A: Allocator> Model for ViaParts<A> {
+    ghost use Rattle.leg_lib.specs.Via as via;
+
+    ghost Value = { via.ViaParts };
+
+    ghost view = { λ p. record { drawn = p.drawing; is_spoilt = p.is_spoilt } };
+}
+
+/// The number of the layer of a `LAYER` statement.
+#[tactic(auto, using(crate::proofs::Vias::nothing_said), unfolding(crate::specs::Via::layer_of_via))]
+fn layer<A: Allocator + Copy>(
+    library: &RawLibrary<'_, A>,
+    statement: &mut Cursor<'_, '_>,
+) -> Result<usize, ReadFault>
+    ensures { Means (λ number. number) result (layer_of_via library.now statement.old) }
+{
+    statement.keyword(b"LAYER")?;
+    let named = statement.again();
+    let name = statement.name()?;
+    let Some(number) = library.layer_named(name) else {
+        return Err(named.fault(FaultKind::UnknownName));
+    };
+    statement.nothing_more()?;
+    Ok(number)
+}
+
+/// Whether a statement begins with `RECT MASK`.
+#[tactic(auto, using(crate::proofs::Vias::read_past, crate::proofs::Vias::surely_read))]
+fn is_masked_rect(statement: &Cursor<'_, '_>) -> Result<bool, ReadFault>
+    ensures { Means (λ is. is) result (Some (is_at (codes "RECT") statement.now && is_at (codes "MASK") (drop 1 statement.now))) }
+{
+    if !statement.is_at(b"RECT") {
+        return Ok(false);
+    }
+    let mut rect = statement.again();
+    rect.keyword(b"RECT")?;
+    Ok(rect.is_at(b"MASK"))
+}
+
+/// Whether a via with this statement isn't good: `VIARULE`, `POLYGON` and `RECT MASK`.
+fn spoils(statement: &Cursor<'_, '_>) -> Result<bool, ReadFault>
+    ensures { Means (λ is. is) result (Some (spoils statement.now)) }
+{
+    if statement.is_at(b"VIARULE") || statement.is_at(b"POLYGON") {
+        return Ok(true);
+    }
+    is_masked_rect(statement)
+}
+
+impl<A: Allocator + Copy> ViaParts<A> {
+    /// What no statement says.
+    fn new(alloc: A) -> ViaParts<A>
+        ensures { result ≡ no_via_parts }
+    {
+        ViaParts {
+            drawing: Drawing::new(alloc),
+            is_spoilt: false,
+        }
+    }
+
+    /// One more statement.
+    #[tactic(auto, unfolding(crate::specs::Via::via_part))]
+    fn part(
+        &mut self,
+        library: &RawLibrary<'_, A>,
+        statement: &mut Cursor<'_, '_>,
+    ) -> Result<(), ReadFault>
+        ensures { Means (λ _. self.new) result (via_part library.now self.old statement.old) }
+    {
+        if spoils(statement)? {
+            self.is_spoilt = true;
+        } else if statement.is_at(b"LAYER") {
+            self.drawing.on = Some(layer(library, statement)?);
+        } else if statement.is_at(b"RECT") {
+            self.drawing.draw_rect(library, statement)?;
+        }
+        Ok(())
+    }
+}
+
+/// What all statements of a via say.
+#[tactic(auto, using(crate::proofs::Vias::parts_on, crate::proofs::Vias::parts_fail, crate::proofs::Vias::parts_end))]
+fn parts<A: Allocator + Copy>(
+    alloc: A,
+    library: &RawLibrary<'_, A>,
+    statements: &[Cursor<'_, '_>],
+) -> Result<ViaParts<A>, ReadFault>
+    ensures { Means (λ p. p) result (over (via_part library.now) no_via_parts statements.now) }
+{
+    let mut parts = ViaParts::new(alloc);
+    for statement in statements {
+        parts.part(library, &mut statement.again())?;
+    }
+    Ok(parts)
+}
+
+/// Whether a via of this name and of these statements is good.
+fn is_good<A: Allocator + Copy>(
+    library: &RawLibrary<'_, A>,
+    name: &[u8],
+    parts: &ViaParts<A>,
+) -> bool
+    ensures { result ≡ is_good library.now name.now parts.now }
+{
+    !parts.is_spoilt
+        && !is_wiring_word(name)
+        && joins_layers(library.layers(), &parts.drawing.shapes)
+}
+
+/// The shapes that are kept: those of a good via.
+fn kept<A: Allocator>(good: bool, mut shapes: Vec<RawShape, A>) -> Vec<RawShape, A>
+    ensures { result.items ≡ kept good shapes.items }
+{
+    if !good {
+        shapes.clear();
+    }
+    shapes
+}
+
+/// A via, from `VIA` to its `END`.
+#[tactic(auto, unfolding(crate::specs::Via::via_at))]
+fn via<'a, A: Allocator + Copy>(
+    alloc: A,
+    library: &RawLibrary<'a, A>,
+    words: &mut Cursor<'_, 'a>,
+) -> Result<RawVia<'a, A>, ReadFault>
+    ensures { Reads (λ v. v) result words.new (via_at library.now words.old) }
+{
+    words.keyword(b"VIA")?;
+    let name = words.name()?;
+    let flags = flags(words)?;
+    let statements = words.statements(alloc)?;
+    let parts = parts(alloc, library, &statements)?;
+    words.end_of(name)?;
+    let good = is_good(library, name, &parts);
+    Ok(RawVia {
+        name: Name::new(name),
+        default_via: flags.is_default,
+        good,
+        shapes: Items::from_vec(kept(good, parts.drawing.shapes)),
+    })
+}
+
+/// Adds the via that stands next, whose name is new.
+#[tactic(auto, unfolding(crate::specs::Via::with_via))]
+pub(crate) fn via_form<'a, A: Allocator + Copy>(
+    alloc: A,
+    library: &mut RawLibrary<'a, A>,
+    words: &mut Cursor<'_, 'a>,
+) -> Result<(), ReadFault>
+    ensures { Reads (λ _. library.new) result words.new (with_via library.old words.old) }
+{
+    let first = words.again();
+    let via = via(alloc, library, words)?;
+    if library.via_named(via.name.bytes()).is_some() {
+        return Err(second_definition(&first));
+    }
+    library.push_via(via)?;
+    Ok(())
+}
