@@ -1,3 +1,10 @@
 pub mod Lists
-pub mod Steps
 pub mod Unique
+pub mod Counts
+pub mod Nearness
+pub mod Turns
+pub mod Apart
+pub mod Progress
+pub mod Edges
+pub mod Places
+pub mod Listed

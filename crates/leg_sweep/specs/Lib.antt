@@ -1,2 +1,3 @@
 pub mod Pairs
-pub mod PairsBefore
+pub mod Counts
+pub mod Swept

@@ -1,6 +1,8 @@
 //! What follows from the definitions alone, as functions whose contracts say it.
 
-ghost use Rattle.std.specs.Prelude.{◌≡◌, ℕ, List};
+ghost use Rattle.std.specs.Prelude.{◌≡◌, ℕ, Bool, IsTrue, List, length};
+ghost use Rattle.leg_geom.specs.Plane.{Sides};
+ghost use Rattle.leg_sweep.specs.Counts.{count_pairs};
 ghost use Rattle.leg_sweep.specs.Pairs.{ArePairs};
 
 use crate::rule::PairRule;
@@ -9,4 +11,10 @@ use crate::rule::PairRule;
 pub fn pairs_are_unique<R: PairRule>()
     ensures { (rule : R) (items : List R.Item) (found other : List (ℕ × ℕ))
         → ArePairs (R.Holds rule) items found → ArePairs (R.Holds rule) items other → found ≡ other }
+{}
+
+/// A count of pairs is the length of the list of the pairs that pass the test.
+pub fn counts_are_lengths()
+    ensures { (test : Sides → Sides → Bool) (rects : List Sides) (found : List (ℕ × ℕ))
+        → ArePairs (λ a b. IsTrue (test a b)) rects found → length found ≡ count_pairs test rects }
 {}

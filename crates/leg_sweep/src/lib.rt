@@ -2,10 +2,12 @@
 #![tactic(auto)]
 
 pub mod laws;
+mod left_to_right;
 mod pair_list;
 mod rule;
+mod sweep;
 #[cfg(test)]
 mod tests;
 
-pub use pair_list::pairs;
+pub use pair_list::{Found, pairs, pairs_counted};
 pub use rule::PairRule;

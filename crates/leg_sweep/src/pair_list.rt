@@ -1,12 +1,25 @@
 //! The pairs of items for which a rule holds.
 
-ghost use Rattle.std.specs.Prelude.{◌≡◌, ◌≤◌, ◌<◌, ◌+◌, ◌-◌, ◌^◌, ◌↔◌, IsTrue, length, IfOk, OnOk};
-ghost use Rattle.leg_geom.specs.Gap.{x_gap, y_gap};
+ghost use Rattle.std.specs.Prelude.{◌≡◌, ◌≤◌, ◌<◌, ◌+◌, ◌^◌, length, map, IfOk, OnOk, IsPermutation, IsSorted};
 ghost use Rattle.leg_sweep.specs.Pairs.{ArePairs};
-ghost use Rattle.leg_sweep.specs.PairsBefore.{ArePairsBefore};
+ghost use Rattle.leg_sweep.specs.Counts.{near_along_x, near_along_both, count_pairs};
+ghost use Rattle.leg_sweep.specs.Swept.{pair_cmp};
 
+use crate::left_to_right::left_to_right;
 use crate::rule::PairRule;
+use crate::sweep::sweep;
 use std::alloc::{AllocError, Allocator};
+
+/// The pairs of a rule, and how often it was asked for them.
+#[derive(Drop)]
+pub struct Found<A: Allocator> {
+    /// Pairs of numbers of items, lower number first, in increasing order.
+    pub pairs: Vec<(u32, u32), A>,
+    /// How many tests were made.
+    pub tests: u64,
+    /// How many looks were taken.
+    pub looks: u64,
+}
 
 /// The pairs of numbers of items for which the rule holds, lower number first, in increasing order. The
 /// rule's counts tell afterwards how often it was asked.
@@ -21,59 +34,51 @@ pub fn pairs<R: PairRule, A: Allocator + Copy>(
     ensures pairs { IfOk result (λ found. ArePairs (R.Holds (R.fixed rule.old)) items.now found.items) }
     ensures tests { IfOk result (λ found. length found.items ≤ R.tests_of rule.new) }
     ensures looks { OnOk result (R.tests_of rule.new ≤ R.looks_of rule.new) }
+    ensures few_tests { OnOk result (R.tests_of rule.new
+        ≤ count_pairs (near_along_both (R.reach_of (R.fixed rule.old))) (map (R.rect_of (R.fixed rule.old)) items.now)) }
+    ensures few_looks { OnOk result (R.looks_of rule.new
+        ≤ length items.now + count_pairs (near_along_x (R.reach_of (R.fixed rule.old))) (map (R.rect_of (R.fixed rule.old)) items.now)) }
     ensures same { R.fixed rule.new ≡ R.fixed rule.old }
 {
-    let mut found = Vec::new(alloc);
-    for i in 0..items.len() {
-        push_pairs_of(items, rule, i, &mut found)?;
-    }
-    Ok(found)
+    let found = pairs_counted(alloc, items, rule)?;
+    Ok(found.pairs)
 }
 
-/// Adds the pairs whose lower number is `i` to the pairs before them.
-fn push_pairs_of<R: PairRule, A: Allocator + Copy>(
+/// The pairs as `pairs` answers them, with the rule's counts.
+pub fn pairs_counted<R: PairRule, A: Allocator + Copy>(
+    alloc: A,
     items: &[R::Item],
     rule: &mut R,
-    i: usize,
-    found: &mut Vec<(u32, u32), A>,
-) -> Result<(), AllocError>
+) -> Result<Found<A>, AllocError>
     requires few { length items.now < 2 ^ 32 }
-    requires in_range { i < length items.now }
-    requires pairs { ArePairsBefore (R.Holds (R.fixed rule.old)) items.now (i, 0) found.old.items }
-    requires tests { length found.old.items ≤ R.tests_of rule.old }
-    requires looks { R.tests_of rule.old ≤ R.looks_of rule.old }
-    requires room { R.looks_of rule.old + length items.now < 2 ^ 64 }
-    ensures pairs { OnOk result (ArePairsBefore (R.Holds (R.fixed rule.old)) items.now (i + 1, 0) found.new.items) }
-    ensures tests { OnOk result (length found.new.items ≤ R.tests_of rule.new) }
-    ensures looks { R.tests_of rule.new ≤ R.looks_of rule.new }
-    ensures few_looks { R.looks_of rule.new ≤ R.looks_of rule.old + length items.now }
+    requires untested { R.tests_of rule.old ≡ 0 }
+    requires unseen { R.looks_of rule.old ≡ 0 }
+    ensures pairs { IfOk result (λ found. ArePairs (R.Holds (R.fixed rule.old)) items.now found.pairs.items) }
+    ensures tests_told { IfOk result (λ found. found.tests ≡ R.tests_of rule.new) }
+    ensures looks_told { IfOk result (λ found. found.looks ≡ R.looks_of rule.new) }
+    ensures tests { IfOk result (λ found. length found.pairs.items ≤ R.tests_of rule.new) }
+    ensures looks { OnOk result (R.tests_of rule.new ≤ R.looks_of rule.new) }
+    ensures few_tests { OnOk result (R.tests_of rule.new
+        ≤ count_pairs (near_along_both (R.reach_of (R.fixed rule.old))) (map (R.rect_of (R.fixed rule.old)) items.now)) }
+    ensures few_looks { OnOk result (R.looks_of rule.new
+        ≤ length items.now + count_pairs (near_along_x (R.reach_of (R.fixed rule.old))) (map (R.rect_of (R.fixed rule.old)) items.now)) }
     ensures same { R.fixed rule.new ≡ R.fixed rule.old }
 {
-    for j in i + 1..items.len() {
-        if ask(rule, &items[i], &items[j]) {
-            found.push((i as u32, j as u32))?;
-        }
-    }
-    Ok(())
+    let order = left_to_right(alloc, items, rule)?;
+    let mut pairs = sweep(alloc, items, rule, &order)?;
+    sort_pairs(&mut pairs);
+    Ok(Found {
+        pairs,
+        tests: rule.tests(),
+        looks: rule.looks(),
+    })
 }
 
-/// Whether the rule holds of the two items: one look, and a test only where both gaps are within the
-/// reach.
-fn ask<R: PairRule>(rule: &mut R, a: &R::Item, b: &R::Item) -> bool
-    requires tests { R.tests_of rule.old < 2 ^ 64 - 1 }
-    requires looks { R.looks_of rule.old < 2 ^ 64 - 1 }
-    ensures answer { IsTrue result ↔ R.Holds (R.fixed rule.old) a.now b.now }
-    ensures looks { R.looks_of rule.new ≡ R.looks_of rule.old + 1 }
-    ensures one_test { R.tests_of rule.new ≤ R.tests_of rule.old + 1 }
-    ensures more_tests { R.tests_of rule.old ≤ R.tests_of rule.new }
-    ensures tested { IsTrue result → R.tests_of rule.new ≡ R.tests_of rule.old + 1 }
-    ensures untested_x { let rect = R.rect_of (R.fixed rule.old) in
-        R.reach_of (R.fixed rule.old) < x_gap (rect a.now) (rect b.now) → R.tests_of rule.new ≡ R.tests_of rule.old }
-    ensures untested_y { let rect = R.rect_of (R.fixed rule.old) in
-        R.reach_of (R.fixed rule.old) < y_gap (rect a.now) (rect b.now) → R.tests_of rule.new ≡ R.tests_of rule.old }
-    ensures same { R.fixed rule.new ≡ R.fixed rule.old }
+/// Puts the pairs in increasing order.
+fn sort_pairs<A: Allocator>(pairs: &mut Vec<(u32, u32), A>)
+    ensures moved { IsPermutation pairs.old.items pairs.new.items }
+    ensures count { length pairs.new.items ≡ length pairs.old.items }
+    ensures sorted { IsSorted pair_cmp pairs.new.items }
 {
-    let (x, y) = rule.gaps(a, b);
-    let reach = rule.reach();
-    x <= reach && y <= reach && rule.meets(a, b)
+    pairs.sort_unstable();
 }

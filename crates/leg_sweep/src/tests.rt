@@ -1,62 +1,52 @@
-//! The pairs at a concrete rule: rectangles that share a cell.
+//! The pairs at concrete rules, beside those of a loop over all pairs.
 
-use crate::{PairRule, pairs};
+mod rules;
+
+ghost use Rattle.std.specs.Prelude.{◌<◌, ◌^◌, length};
+
+use crate::{PairRule, pairs, pairs_counted};
 use leg_geom::Rect;
+use rules::{Overlap, Shape, Within};
+use std::alloc::{AllocError, Global};
+use std::cell::Cell;
 use std::test::Fail;
 
-#[derive(Drop)]
-struct Overlap {
-    tests: u64,
-    looks: u64,
+/// The pairs for which something holds, by a loop over all pairs.
+fn one_by_one<T, F: Fn(&T, &T) -> bool>(
+    alloc: Global,
+    items: &[T],
+    holds: F,
+) -> Result<Vec<(u32, u32)>, AllocError>
+    requires few { length items.now < 2 ^ 32 }
+    requires callable { F.IsAlwaysCallable holds }
+{
+    let mut found = Vec::new(alloc);
+    for i in 0..items.len() {
+        for j in i + 1..items.len() {
+            if holds(&items[i], &items[j]) {
+                found.push((i as u32, j as u32))?;
+            }
+        }
+    }
+    Ok(found)
 }
 
-impl PairRule for Overlap {
-    ghost use Rattle.leg_geom.specs.Plane.{ShareCell};
-    ghost use Rattle.leg_geom.proofs.Gaps.{ShareCell-symmetric, ShareCell-gaps};
-
-    type Item = Rect;
-
-    ghost fixed = { λ r. record r { tests = 0; looks = 0 } };
-
-    ghost Holds = { λ r a b. ShareCell a b };
-
-    ghost rect_of = { λ r a. a };
-
-    ghost reach_of = { λ r. 0 };
-
-    ghost tests_of = { λ r. r.tests };
-
-    ghost looks_of = { λ r. r.looks };
-
-    fn left(&self, item: &Rect) -> i64 {
-        item.x1()
+/// So many shapes with sides below 100 in a square with sides of 2000, by a fixed rule that looks random.
+fn scattered(alloc: Global, count: usize) -> Result<Vec<Shape>, Fail> {
+    let mut shapes = Vec::new(alloc);
+    let mut seed = 12_345u32;
+    for number in 0..count {
+        let mut sides = [0i64; 4];
+        for side in &mut sides {
+            seed = seed.wrapping_mul(1_664_525).wrapping_add(1_013_904_223);
+            *side = i64::from(seed >> 16);
+        }
+        let [x, y, width, height] = sides;
+        let (x, y) = (x % 2000, y % 2000);
+        let rect = Rect::new(x, y, x + 1 + width % 100, y + 1 + height % 100).ok_or("empty")?;
+        shapes.push(Shape { number, rect })?;
     }
-
-    fn reach(&self) -> i64 {
-        0
-    }
-
-    fn gaps(&mut self, a: &Rect, b: &Rect) -> (i64, i64) {
-        self.looks += 1;
-        (a.x_gap(b) as i64, a.y_gap(b) as i64)
-    }
-
-    fn meets(&mut self, a: &Rect, b: &Rect) -> bool {
-        self.tests += 1;
-        a.overlaps(b)
-    }
-
-    fn tests(&self) -> u64 {
-        self.tests
-    }
-
-    fn looks(&self) -> u64 {
-        self.looks
-    }
-
-    ghost symmetric = { λ r a b. ShareCell-symmetric a b };
-
-    ghost near = { λ r a b. ShareCell-gaps a b };
+    Ok(shapes)
 }
 
 #[test]
@@ -66,9 +56,126 @@ fn finds_the_two_that_overlap(rt: HostRuntime) -> Result<(), Fail> {
         Rect::new(399, 0, 799, 2000).ok_or("empty")?,
         Rect::new(799, 0, 1000, 2000).ok_or("empty")?,
     ];
-    let mut rule = Overlap { tests: 0, looks: 0 };
+    let mut rule = Overlap::new();
+    let found = pairs_counted(rt.alloc(), &cells, &mut rule)?;
+    assert_eq!(rt; found.pairs.as_slice(), [(0, 1)].as_slice());
+    assert!(rt; found.tests <= 2 && found.looks <= 5);
+    assert_eq!(rt; (found.tests, found.looks), (rule.tests(), rule.looks()));
+    Ok(())
+}
+
+#[test]
+fn no_items_and_one_item_have_no_pairs(rt: HostRuntime) -> Result<(), Fail> {
+    let cell = [Rect::new(0, 0, 400, 2000).ok_or("empty")?];
+    for count in 0..2 {
+        let mut rule = Overlap::new();
+        let found = pairs(rt.alloc(), &cell[..count], &mut rule)?;
+        assert!(rt; found.is_empty());
+        assert_eq!(rt; (rule.tests(), rule.looks()), (0, 0));
+    }
+    Ok(())
+}
+
+#[test]
+fn numbers_go_by_the_list_and_not_by_the_left_edges(rt: HostRuntime) -> Result<(), Fail> {
+    let cells = [
+        Rect::new(900, 0, 1000, 10).ok_or("empty")?,
+        Rect::new(0, 0, 500, 10).ok_or("empty")?,
+        Rect::new(450, 5, 950, 15).ok_or("empty")?,
+        Rect::new(0, 9, 10, 19).ok_or("empty")?,
+    ];
+    let mut rule = Overlap::new();
     let found = pairs(rt.alloc(), &cells, &mut rule)?;
-    assert_eq!(rt; found.as_slice(), [(0, 1)].as_slice());
-    assert_eq!(rt; (rule.tests(), rule.looks()), (2, 3));
+    assert_eq!(rt; found.as_slice(), [(0, 2), (1, 2), (1, 3)].as_slice());
+    Ok(())
+}
+
+#[test]
+fn an_item_stays_for_the_reach_behind_its_right_edge(rt: HostRuntime) -> Result<(), Fail> {
+    let shapes = [
+        Shape {
+            number: 0,
+            rect: Rect::new(0, 0, 100, 100).ok_or("empty")?,
+        },
+        Shape {
+            number: 1,
+            rect: Rect::new(150, 300, 160, 400).ok_or("empty")?,
+        },
+        Shape {
+            number: 2,
+            rect: Rect::new(190, 0, 290, 100).ok_or("empty")?,
+        },
+        Shape {
+            number: 3,
+            rect: Rect::new(391, 0, 400, 100).ok_or("empty")?,
+        },
+    ];
+    let mut rule = Within::new(100, 0, &[]);
+    let found = pairs(rt.alloc(), &shapes, &mut rule)?;
+    assert_eq!(rt; found.as_slice(), [(0, 2)].as_slice());
+    Ok(())
+}
+
+#[test]
+fn the_same_overlaps_as_one_by_one(rt: HostRuntime) -> Result<(), Fail> {
+    let shapes = scattered(rt.alloc(), 400)?;
+    let mut rects = Vec::new(rt.alloc());
+    for shape in &shapes {
+        rects.push(shape.rect)?;
+    }
+    assert!(rt; rects.len() < 1000);
+    let found = pairs(rt.alloc(), &rects, &mut Overlap::new())?;
+    let wanted = one_by_one(rt.alloc(), &rects, |a, b| a.overlaps(b))?;
+    assert!(rt; !wanted.is_empty());
+    assert_eq!(rt; found.as_slice(), wanted.as_slice());
+    Ok(())
+}
+
+#[test]
+fn the_same_as_one_by_one(rt: HostRuntime) -> Result<(), Fail> {
+    for (count, reach) in [(40, 0), (200, 0), (200, 30), (300, 500), (100, 5000)] {
+        let shapes = scattered(rt.alloc(), count)?;
+        assert!(rt; shapes.len() < 1000);
+        let mut rule = Within::new(reach, 0, &[]);
+        let found = pairs(rt.alloc(), &shapes, &mut rule)?;
+        let wanted = one_by_one(rt.alloc(), &shapes, |a, b| rule.holds(a, b))?;
+        assert_eq!(rt; found.as_slice(), wanted.as_slice(), "at {count} {reach}");
+    }
+    Ok(())
+}
+
+#[test]
+fn asked_once(rt: HostRuntime) -> Result<(), Fail> {
+    let shapes = scattered(rt.alloc(), 150)?;
+    assert!(rt; shapes.len() == 150);
+    let mut asked = Vec::new(rt.alloc());
+    for _ in 0..150 * 150 {
+        asked.push(Cell::new(0))?;
+    }
+    let mut rule = Within::new(200, 150, &asked);
+    let found = pairs(rt.alloc(), &shapes, &mut rule)?;
+    let mut total = 0u64;
+    for times in &asked {
+        assert!(rt; times.get() <= 1);
+        total = total.wrapping_add(u64::from(times.get()));
+    }
+    assert_eq!(rt; total, rule.tests());
+    assert!(rt; 0 < found.len() && rule.tests() < 150 * 149 / 2);
+    Ok(())
+}
+
+#[test]
+fn wide(rt: HostRuntime) -> Result<(), Fail> {
+    let mut cells = Vec::new(rt.alloc());
+    for place in 0..20_000u32 {
+        let left = i64::from(100 * (19_999 - place));
+        cells.push(Rect::new(left, 0, left + 50, 10).ok_or("empty")?)?;
+    }
+    assert!(rt; cells.len() == 20_000);
+    let mut rule = Overlap::new();
+    let found = pairs_counted(rt.alloc(), &cells, &mut rule)?;
+    assert!(rt; found.pairs.is_empty());
+    assert_eq!(rt; found.tests, 0);
+    assert!(rt; found.looks <= 20_000);
     Ok(())
 }

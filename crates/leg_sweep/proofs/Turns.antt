@@ -1,0 +1,133 @@
+-- One turn of the sweep: the pairs that a new item makes with active ones.
+use Rattle.std.proofs.Common.{◌≡◌, ◌≢◌, ℕ, ◌+◌, ◌<◌, ◌≤◌, min, max, Bool, true, false, List, [], ◌∷◌, ◌++◌, length, get_or, take, map, filter, Some, slice_get, Contains, inl, inr, refl, sym, ap, subst, ◌∙◌, append_assoc, arith}
+use Rattle.std.proofs.lemmas.Bool.{cases_lt}
+use Rattle.std.proofs.lemmas.List.{append-nil, get_or-map}
+use Rattle.std.proofs.lemmas.List.Elements.{filter_more, All-nil, All-push, All-weaker, Contains-append_left, Contains-push, Contains-push_cases}
+use Rattle.std.proofs.lemmas.List.Quantifiers.{all_pairs_push}
+use Rattle.std.proofs.lemmas.Option.{same_Some}
+use Rattle.leg_sweep.specs.Pairs.{IsPair}
+use Rattle.leg_geom.specs.Plane.{Sides}
+use Rattle.leg_sweep.specs.Swept.{unit_square, rect_at, test_at, ordered, AreNewPairs}
+use Rattle.leg_sweep.proofs.Lists.{Contains-nil, AllPairs-nil}
+
+pub ordered_below : (x n : ℕ) → x < n → ordered x n ≡ (x, n)
+ordered_below x n below =
+    let low : min x n ≡ x = omega arith in
+    let high : max x n ≡ n = omega arith in
+    cc
+
+pub ordered_above : (x n : ℕ) → n ≤ x → ordered x n ≡ (n, x)
+ordered_above x n above =
+    let low : min x n ≡ n = omega arith in
+    let high : max x n ≡ x = omega arith in
+    cc
+
+-- a pair and one of its numbers determine the other
+same_partner : (x y n : ℕ) → ordered x n ≡ ordered y n → x ≡ y
+same_partner x y n same =
+    let low : min x n ≡ min y n = ap (λ (p : ℕ × ℕ). p.0) same in
+    let high : max x n ≡ max y n = ap (λ (p : ℕ × ℕ). p.1) same in
+    omega arith
+
+module _ {Item : Type 0} (Holds : Item → Item → Type 0) (symmetric : (a b : Item) → Holds a b → Holds b a) (items : List Item) (x n : ℕ) (a b : Item) (a_at : slice_get items x ≡ Some a) (b_at : slice_get items n ≡ Some b) where
+  -- two items for which the rule holds are a pair
+  pub pair_from_holds : x ≢ n → Holds a b → IsPair Holds items (ordered x n)
+  pair_from_holds apart holds =
+      elim (cases_lt x n) [
+        | inl below ↦ subst (λ p. IsPair Holds items p) (sym (ordered_below x n below))
+            (record { a = a; b = b; a_at = a_at; b_at = b_at; in_order = below; holds = holds })
+        | inr above ↦ subst (λ p. IsPair Holds items p) (sym (ordered_above x n above))
+            (record { a = b; b = a; a_at = b_at; b_at = a_at; in_order = omega (arith, apart); holds = symmetric a b holds })
+      ]
+
+  -- and of no others it holds
+  pub holds_from_pair : IsPair Holds items (ordered x n) → Holds a b
+  holds_from_pair pair =
+      elim (cases_lt x n) [
+        | inl below ↦
+            let h = subst (λ p. IsPair Holds items p) (ordered_below x n below) pair in
+            let a_is : h.a ≡ a = same_Some h.a a (sym h.a_at ∙ a_at) in
+            let b_is : h.b ≡ b = same_Some h.b b (sym h.b_at ∙ b_at) in
+            rw (a_is, b_is) at h.holds
+        | inr above ↦
+            let h = subst (λ p. IsPair Holds items p) (ordered_above x n above) pair in
+            let b_is : h.a ≡ b = same_Some h.a b (sym h.a_at ∙ b_at) in
+            let a_is : h.b ≡ a = same_Some h.b a (sym h.b_at ∙ a_at) in
+            symmetric b a (rw (a_is, b_is) at h.holds)
+      ]
+
+module _ (IsOne : ℕ × ℕ → Type 0) (new : ℕ) (before : List (ℕ × ℕ)) where
+  -- what a pair of the new item and one of the list is
+  IsNamed : List ℕ → ℕ × ℕ → Type 0
+  IsNamed done p = (x : ℕ) × Contains done x × (p ≡ ordered x new)
+
+  -- no pair yet
+  pub new_pairs_none : AreNewPairs IsOne [] new before before
+  new_pairs_none = record {
+    more = [];
+    behind = sym (append-nil before);
+    each = All-nil IsOne;
+    named = All-nil (λ p. (x : ℕ) × Contains [] x × (p ≡ ordered x new));
+    distinct = AllPairs-nil (λ p q. p ≢ q);
+    all = λ x c h. absurd (Contains-nil x c);
+  }
+
+  -- one more active item, which makes no pair
+  pub new_pairs_skip : (done : List ℕ) (x : ℕ) (found : List (ℕ × ℕ)) → (IsOne (ordered x new) → ⊥) → AreNewPairs IsOne done new before found → AreNewPairs IsOne (done ++ x ∷ []) new before found
+  new_pairs_skip done x found is_none so_far = record {
+    more = so_far.more;
+    behind = so_far.behind;
+    each = so_far.each;
+    named =
+        All-weaker (λ p. (y : ℕ) × Contains done y × (p ≡ ordered y new)) (λ p. (y : ℕ) × Contains (done ++ x ∷ []) y × (p ≡ ordered y new))
+        (λ p n. (n.0, Contains-append_left done (x ∷ []) n.0 n.1, n.2)) so_far.more so_far.named;
+    distinct = so_far.distinct;
+    all = λ y c h. elim (Contains-push_cases done x y c) [
+      | inl earlier ↦ so_far.all y earlier h
+      | inr here ↦ absurd (is_none (rw here h))
+    ];
+  }
+
+  -- one more active item, which makes one
+  pub new_pairs_more : (done : List ℕ) (x : ℕ) (found : List (ℕ × ℕ)) → IsOne (ordered x new) → (Contains done x → ⊥) → AreNewPairs IsOne done new before found → AreNewPairs IsOne (done ++ x ∷ []) new before (found ++ ordered x new ∷ [])
+  new_pairs_more done x found is_one not_done so_far =
+      let pair = ordered x new in
+      record {
+        more = so_far.more ++ pair ∷ [];
+        behind = rw so_far.behind (append_assoc before so_far.more (pair ∷ []));
+        each = All-push IsOne so_far.more pair so_far.each is_one;
+        named =
+            All-push (λ p. (y : ℕ) × Contains (done ++ x ∷ []) y × (p ≡ ordered y new)) so_far.more pair
+            (All-weaker (λ p. (y : ℕ) × Contains done y × (p ≡ ordered y new)) (λ p. (y : ℕ) × Contains (done ++ x ∷ []) y × (p ≡ ordered y new))
+            (λ p n. (n.0, Contains-append_left done (x ∷ []) n.0 n.1, n.2)) so_far.more so_far.named)
+            (x, Contains-push done x, refl);
+        distinct =
+            all_pairs_push (λ p q. p ≢ q) so_far.more pair so_far.distinct
+            (λ k d within same.
+            let n = so_far.named k d within in
+            let y_is : n.0 ≡ x = same_partner n.0 x new (sym n.2 ∙ same) in
+            not_done (rw y_is at n.1));
+        all = λ y c h. elim (Contains-push_cases done x y c) [
+          | inl earlier ↦ Contains-append_left so_far.more (pair ∷ []) (ordered y new) (so_far.all y earlier h)
+          | inr here ↦ rw (← here) (Contains-push so_far.more pair)
+        ];
+      }
+
+module _ {Item : Type 0} (rect_of : Item → Sides) (items : List Item) where
+  -- the rectangle of an item that was read
+  pub rect_of_read : (x : ℕ) (a : Item) → x < length items → a ≡ get_or items x a → rect_at (map rect_of items) x ≡ rect_of a
+  rect_of_read x a within read = get_or-map rect_of items x a unit_square within ∙ ap rect_of (sym read)
+
+  -- a test of two items that were read
+  pub test_of_read : (test : Sides → Sides → Bool) (x y : ℕ) (a b : Item) → x < length items → y < length items → a ≡ get_or items x a → b ≡ get_or items y b
+      → test_at test (map rect_of items) x y ≡ test (rect_of a) (rect_of b)
+  test_of_read test x y a b x_in y_in a_read b_read = rw (rect_of_read x a x_in a_read, rect_of_read y b y_in b_read)
+
+module _ {X : Type 0} (test : X → Bool) (xs : List X) (i : ℕ) (x : X) (within : i < length xs) (kept : List X) (is : kept ≡ filter test (take i xs)) where
+  -- the next element passes
+  pub filter_yes : test (get_or xs i x) ≡ true → kept ++ get_or xs i x ∷ [] ≡ filter test (take (i + 1) xs)
+  filter_yes passes = rw (is, filter_more test xs i x within, passes)
+
+  -- it does not
+  pub filter_no : test (get_or xs i x) ≡ false → kept ≡ filter test (take (i + 1) xs)
+  filter_no fails = rw (filter_more test xs i x within, fails) (is ∙ sym (append-nil (filter test (take i xs))))

@@ -1,0 +1,17 @@
+-- How many pairs of rectangles lie near one another.
+use Rattle.std.specs.Prelude.{ℕ, ◌+◌, Bool, ◌&&◌, List, [], ◌∷◌, count_by, nat_le}
+use Rattle.leg_geom.specs.Plane.{Sides}
+use Rattle.leg_geom.specs.Gap.{x_gap, y_gap}
+
+-- the x gap of two rectangles is at most the reach
+abbrev pub near_along_x : ℕ → Sides → Sides → Bool
+near_along_x reach a b = nat_le (x_gap a b) reach
+
+-- both gaps of two rectangles are at most the reach
+abbrev pub near_along_both : ℕ → Sides → Sides → Bool
+near_along_both reach a b = nat_le (x_gap a b) reach && nat_le (y_gap a b) reach
+
+-- how many pairs of a list pass a test: each element is paired with each later one
+abbrev pub count_pairs : {X : Type 0} → (X → X → Bool) → List X → ℕ
+count_pairs test [] = 0
+count_pairs test (x ∷ xs) = count_by (test x) xs + count_pairs test xs
