@@ -25,8 +25,6 @@ mod scale_shapes;
 mod site;
 mod skipped;
 mod spacing;
-#[cfg(test)]
-mod tests;
 mod via;
 
 pub use items::Items;

@@ -1,10 +1,10 @@
 //! A small standard-cell library, every field of its record written down by hand.
 
-use crate::{
-    Direction, LayerKind, Library, Master, RawKind, RawLibrary, RawMaster, RawRect, RawShape,
-    Shape, Supply, read_lefs,
-};
 use leg_geom::Rect;
+use leg_lib::{
+    Direction, LayerKind, Library, Master, RawKind, RawLayer, RawLibrary, RawMaster, RawRect,
+    RawShape, Shape, Supply, read_lefs,
+};
 use std::alloc::Global;
 use std::test::Fail;
 
@@ -52,43 +52,44 @@ pub(super) fn are_shapes(shapes: &[Shape], expected: &[(usize, [i64; 4])]) -> bo
             && sides(&shape.rect) == *at)
 }
 
+// A routing layer of this name and direction, 0.1 micron wide.
+fn is_routing_layer(layer: &RawLayer<'_>, name: &[u8], wanted: Direction) -> bool {
+    match layer.kind {
+        RawKind::Routing { direction, width } => {
+            layer.name.bytes() == name && direction == wanted && width.millionths() == 100_000
+        }
+        _ => false,
+    }
+}
+
 #[test]
 fn reads_layers_vias_and_sites(rt: HostRuntime) -> Result<(), Fail> {
     let raw: RawLibrary<'_, Global> = read_lefs(rt.alloc(), &[STANDARD.as_bytes()])?;
-    let layers = raw.layers();
-    assert_eq!(rt; layers.len(), 3);
-    let directions = [Some(Direction::Horizontal), None, Some(Direction::Vertical)];
-    let names = [b"m1".as_slice(), b"v1".as_slice(), b"m2".as_slice()];
-    for (i, layer) in layers.iter().enumerate() {
-        assert_eq!(rt; layer.name.bytes(), names[i]);
+    let [m1, v1, m2] = raw.layers() else {
+        return Ok(assert!(rt; false));
+    };
+    assert!(rt; is_routing_layer(m1, b"m1", Direction::Horizontal));
+    assert!(rt; v1.name.bytes() == b"v1".as_slice() && matches!(v1.kind, RawKind::Cut));
+    assert!(rt; is_routing_layer(m2, b"m2", Direction::Vertical));
+    for layer in raw.layers() {
         assert_eq!(rt; layer.spacing.millionths(), 100_000);
-        match layer.kind {
-            RawKind::Routing { direction, width } => {
-                assert_eq!(rt; Some(direction), directions[i]);
-                assert_eq!(rt; width.millionths(), 100_000);
-            }
-            RawKind::Cut => assert_eq!(rt; i, 1),
-            RawKind::Other => assert!(rt; false),
-        }
     }
 
-    let vias = raw.vias();
-    assert_eq!(rt; vias.len(), 1);
-    assert_eq!(rt; vias[0].name.bytes(), b"V12".as_slice());
-    assert!(rt; vias[0].default_via && vias[0].good);
+    let [via] = raw.vias() else {
+        return Ok(assert!(rt; false));
+    };
+    assert_eq!(rt; via.name.bytes(), b"V12".as_slice());
+    assert!(rt; via.default_via && via.good);
     let square = [-50_000, -50_000, 50_000, 50_000];
-    assert!(rt;
-        are_raw_shapes(
-            vias[0].shapes.as_slice(),
-            &[(0, square), (1, square), (2, square)]
-        )
-    );
+    let squares = [(0, square), (1, square), (2, square)];
+    assert!(rt; are_raw_shapes(via.shapes.as_slice(), &squares));
 
-    let sites = raw.sites();
-    assert_eq!(rt; sites.len(), 1);
-    assert_eq!(rt; sites[0].name.bytes(), b"core".as_slice());
-    assert_eq!(rt; sites[0].size.width().millionths(), 200_000);
-    assert_eq!(rt; sites[0].size.height().millionths(), 2_000_000);
+    let [site] = raw.sites() else {
+        return Ok(assert!(rt; false));
+    };
+    assert_eq!(rt; site.name.bytes(), b"core".as_slice());
+    assert_eq!(rt; site.size.width().millionths(), 200_000);
+    assert_eq!(rt; site.size.height().millionths(), 2_000_000);
     Ok(())
 }
 
@@ -122,29 +123,33 @@ fn is_inverter(master: &RawMaster<'_, Global>) -> bool {
 #[test]
 fn reads_macros(rt: HostRuntime) -> Result<(), Fail> {
     let raw: RawLibrary<'_, Global> = read_lefs(rt.alloc(), &[STANDARD.as_bytes()])?;
-    let masters = raw.masters();
-    assert_eq!(rt; masters.len(), 3);
-    assert!(rt; is_inverter(&masters[0]));
-    let pins = masters[0].pins.as_slice();
+    let [inverter, block, bar] = raw.masters() else {
+        return Ok(assert!(rt; false));
+    };
+    assert!(rt; is_inverter(inverter));
+    let pins = inverter.pins.as_slice();
     assert_eq!(rt; pins.len(), 4);
     for (pin, (name, supply, at)) in pins.iter().zip(&PINS) {
         assert_eq!(rt; pin.name.bytes(), *name);
         assert_eq!(rt; pin.supply, *supply);
         assert!(rt; are_raw_shapes(pin.shapes.as_slice(), &[(0, *at)]));
     }
-    let block = (0, [100_000, 700_000, 300_000, 1_200_000]);
-    let bar = (2, [-300_000, 0, 700_000, 2_000_000]);
-    for (i, name) in [b"BLK".as_slice(), b"BLK2".as_slice()].iter().enumerate() {
-        let master = &masters[i + 1];
-        assert_eq!(rt; master.name.bytes(), *name);
-        assert!(rt; !master.y_symmetric && master.site.is_none());
-        assert!(rt; master.pins.as_slice().is_empty());
-        assert_eq!(rt; master.size.width().millionths(), 400_000);
-        assert_eq!(rt; master.size.height().millionths(), 2_000_000);
-    }
-    assert!(rt; are_raw_shapes(masters[1].obstructions.as_slice(), &[block]));
-    assert!(rt; are_raw_shapes(masters[2].obstructions.as_slice(), &[block, bar]));
+    assert!(rt; is_bare(block, b"BLK") && is_bare(bar, b"BLK2"));
+    let square = (0, [100_000, 700_000, 300_000, 1_200_000]);
+    let strip = (2, [-300_000, 0, 700_000, 2_000_000]);
+    assert!(rt; are_raw_shapes(block.obstructions.as_slice(), &[square]));
+    assert!(rt; are_raw_shapes(bar.obstructions.as_slice(), &[square, strip]));
     Ok(())
+}
+
+// A macro of this name and INV's size, without a site and without pins.
+fn is_bare(master: &RawMaster<'_, Global>, name: &[u8]) -> bool {
+    master.name.bytes() == name
+        && !master.y_symmetric
+        && master.site.is_none()
+        && master.pins.as_slice().is_empty()
+        && master.size.width().millionths() == 400_000
+        && master.size.height().millionths() == 2_000_000
 }
 
 fn is_scaled_inverter(master: &Master<'_, Global>) -> bool {
@@ -186,23 +191,25 @@ fn scales_the_whole_library(rt: HostRuntime) -> Result<(), Fail> {
         assert_eq!(rt; layer.kind, *kind);
         assert_eq!(rt; layer.spacing, 100);
     }
-    let square = [-50, -50, 50, 50];
-    let via = &library.vias()[0];
+    let [via] = library.vias() else {
+        return Ok(assert!(rt; false));
+    };
     assert!(rt; via.default_via && via.good);
-    assert!(rt;
-        are_shapes(
-            via.shapes.as_slice(),
-            &[(0, square), (1, square), (2, square)]
-        )
-    );
-    let site = &library.sites()[0];
+    let square = [-50, -50, 50, 50];
+    let squares = [(0, square), (1, square), (2, square)];
+    assert!(rt; are_shapes(via.shapes.as_slice(), &squares));
+    let [site] = library.sites() else {
+        return Ok(assert!(rt; false));
+    };
     assert_eq!(rt; (site.size.width(), site.size.height()), (200, 2000));
-    assert_eq!(rt; library.masters().len(), 3);
-    assert!(rt; is_scaled_inverter(&library.masters()[0]));
-    let block = (0, [100, 700, 300, 1200]);
-    let bar = (2, [-300, 0, 700, 2000]);
-    assert!(rt; are_shapes(library.masters()[1].obstructions.as_slice(), &[block]));
-    assert!(rt; are_shapes(library.masters()[2].obstructions.as_slice(), &[block, bar]));
+    let [inverter, block, bar] = library.masters() else {
+        return Ok(assert!(rt; false));
+    };
+    assert!(rt; is_scaled_inverter(inverter));
+    let box_of_block = (0, [100, 700, 300, 1200]);
+    let strip = (2, [-300, 0, 700, 2000]);
+    assert!(rt; are_shapes(block.obstructions.as_slice(), &[box_of_block]));
+    assert!(rt; are_shapes(bar.obstructions.as_slice(), &[box_of_block, strip]));
     Ok(())
 }
 

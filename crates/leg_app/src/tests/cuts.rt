@@ -1,7 +1,7 @@
 //! Texts that end too early.
 
 use super::standard::STANDARD;
-use crate::{RawLibrary, read_lefs};
+use leg_lib::{RawLibrary, read_lefs};
 use std::alloc::Global;
 use std::test::Fail;
 
@@ -10,11 +10,11 @@ use std::test::Fail;
 #[test]
 fn nineteen_cuts_are_read(rt: HostRuntime) -> Result<(), Fail> {
     let text = STANDARD.as_bytes();
-    let mut read = 0;
+    let mut read = 0usize;
     for end in 0..=text.len() {
         let library: Result<RawLibrary<'_, Global>, _> = read_lefs(rt.alloc(), &[&text[..end]]);
         if library.is_ok() {
-            read += 1;
+            read = read.saturating_add(1);
         }
     }
     assert_eq!(rt; read, 19);
@@ -25,13 +25,12 @@ fn nineteen_cuts_are_read(rt: HostRuntime) -> Result<(), Fail> {
 fn a_library_may_be_cut_into_texts(rt: HostRuntime) -> Result<(), Fail> {
     let text = STANDARD.as_bytes();
     let sites = STANDARD.find("SITE").ok_or("no site")?;
-    let library: RawLibrary<'_, Global> = read_lefs(
-        rt.alloc(),
-        &[&text[..sites], b"", &text[sites..]],
-    )?;
+    let front = text.get(..sites).ok_or("no front")?;
+    let rest = text.get(sites..).ok_or("no rest")?;
+    let library: RawLibrary<'_, Global> = read_lefs(rt.alloc(), &[front, b"", rest])?;
     assert_eq!(rt; library.layers().len(), 3);
     assert_eq!(rt; library.masters().len(), 3);
-    let Err(fault) = read_lefs(rt.alloc(), &[&text[..sites], text]) else {
+    let Err(fault) = read_lefs(rt.alloc(), &[front, text]) else {
         return Ok(assert!(rt; false));
     };
     assert_eq!(rt; (fault.file, fault.line), (1, 1));

@@ -1,6 +1,6 @@
 //! Which fault is told, and at which line.
 
-use crate::{FaultKind, RawLibrary, read_lefs};
+use leg_lib::{FaultKind, RawLibrary, read_lefs};
 use std::alloc::Global;
 use std::test::Fail;
 

@@ -1,6 +1,6 @@
 //! Which spacing of a layer is taken.
 
-use crate::{RawKind, RawLibrary, read_lefs};
+use leg_lib::{RawKind, RawLibrary, read_lefs};
 use std::alloc::Global;
 use std::test::Fail;
 
@@ -39,11 +39,10 @@ fn the_first_spacing_of_one_number_is_taken(rt: HostRuntime) -> Result<(), Fail>
         text.push_str(statements)?;
         text.push_str(" END a")?;
         let library: RawLibrary<'_, Global> = read_lefs(rt.alloc(), &[text.as_bytes()])?;
-        assert_eq!(rt;
-            library.layers()[0].spacing.millionths(),
-            *spacing,
-            "at {statements}"
-        );
+        let [layer] = library.layers() else {
+            return Ok(assert!(rt; false));
+        };
+        assert_eq!(rt; layer.spacing.millionths(), *spacing, "at {statements}");
     }
     Ok(())
 }
@@ -53,7 +52,10 @@ fn the_first_width_of_one_number_is_taken(rt: HostRuntime) -> Result<(), Fail> {
     let text =
         b"LAYER a TYPE ROUTING ; WIDTH 1 2 ; WIDTH 0.3 ; WIDTH 0.4 ; WIDTH abc ; DIRECTION vertical ; END a";
     let library: RawLibrary<'_, Global> = read_lefs(rt.alloc(), &[text.as_slice()])?;
-    let RawKind::Routing { width, .. } = library.layers()[0].kind else {
+    let [layer] = library.layers() else {
+        return Ok(assert!(rt; false));
+    };
+    let RawKind::Routing { width, .. } = layer.kind else {
         return Ok(assert!(rt; false));
     };
     assert_eq!(rt; width.millionths(), 300_000);

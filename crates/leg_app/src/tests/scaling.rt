@@ -1,7 +1,7 @@
 //! Lengths in database units.
 
 use super::standard::{STANDARD, are_shapes};
-use crate::{Library, RawLibrary, ScaleKind, read_lefs};
+use leg_lib::{Library, RawLibrary, ScaleKind, read_lefs};
 use std::alloc::Global;
 use std::test::Fail;
 
@@ -19,9 +19,13 @@ fn an_origin_shifts_what_is_drawn(rt: HostRuntime) -> Result<(), Fail> {
     let text = changed(rt.alloc(), "ORIGIN 0 0", "ORIGIN 0.1 0")?;
     let raw: RawLibrary<'_, Global> = read_lefs(rt.alloc(), &[text.as_bytes()])?;
     let library: Library<'_, Global> = raw.at(rt.alloc(), 1000).map_err(|_| "not scaled")?;
-    let inverter = &library.masters()[0];
-    let pins = inverter.pins.as_slice();
-    assert!(rt; are_shapes(pins[0].shapes.as_slice(), &[(0, [150, 850, 250, 1050])]));
+    let [inverter, ..] = library.masters() else {
+        return Ok(assert!(rt; false));
+    };
+    let [pin, ..] = inverter.pins.as_slice() else {
+        return Ok(assert!(rt; false));
+    };
+    assert!(rt; are_shapes(pin.shapes.as_slice(), &[(0, [150, 850, 250, 1050])]));
     assert_eq!(rt;
         (inverter.size.width(), inverter.size.height()),
         (400, 2000)
@@ -94,7 +98,10 @@ fn a_library_is_scaled_more_than_once(rt: HostRuntime) -> Result<(), Fail> {
     for n in [100, 1000, 2000, 20000] {
         let library: Library<'_, Global> = raw.at(rt.alloc(), n).map_err(|_| "not scaled")?;
         assert_eq!(rt; library.units(), n);
-        assert_eq!(rt; library.sites()[0].size.height(), i64::from(n) * 2);
+        let [site] = library.sites() else {
+            return Ok(assert!(rt; false));
+        };
+        assert_eq!(rt; site.size.height(), i64::from(n) * 2);
     }
     Ok(())
 }

@@ -1,6 +1,6 @@
 //! Which vias are good.
 
-use crate::{RawLibrary, read_lefs};
+use leg_lib::{RawLibrary, read_lefs};
 use std::alloc::Global;
 use std::test::Fail;
 
@@ -50,7 +50,9 @@ fn good_vias_join_neighbours(rt: HostRuntime) -> Result<(), Fail> {
         text.push_str(" END ")?;
         text.push_str(name)?;
         let library: RawLibrary<'_, Global> = read_lefs(rt.alloc(), &[text.as_bytes()])?;
-        let via = &library.vias()[0];
+        let [via] = library.vias() else {
+            return Ok(assert!(rt; false));
+        };
         assert_eq!(rt; via.good, *good, "at {name} {layers}");
         assert_eq!(rt; via.shapes.as_slice().is_empty(), !*good);
     }
@@ -78,8 +80,11 @@ fn shapes_on_routing_layers_hold_the_origin(rt: HostRuntime) -> Result<(), Fail>
         text.push_str(statement)?;
         text.push_str(" END V")?;
         let library: RawLibrary<'_, Global> = read_lefs(rt.alloc(), &[text.as_bytes()])?;
-        assert_eq!(rt; library.vias()[0].good, *good, "at {statement}");
-        assert!(rt; library.vias()[0].default_via);
+        let [via] = library.vias() else {
+            return Ok(assert!(rt; false));
+        };
+        assert_eq!(rt; via.good, *good, "at {statement}");
+        assert!(rt; via.default_via);
     }
     Ok(())
 }
