@@ -1,12 +1,4 @@
-//! What no clause says: the words of lines, cuts of streams, that writing goes on and stops, and of
-//! libraries worked values and which fault is told.
-
-mod cuts;
-mod refusals;
-mod scaling;
-mod spacing;
-mod standard;
-mod vias;
+//! What no clause says: the words of lines, cuts of streams, and that writing goes on and stops.
 
 ghost use Rattle.std.specs.Prelude.{Some};
 
