@@ -1,8 +1,8 @@
 -- Rectangles by their two intervals.
 use Rattle.std.proofs.Common.{◌↔◌, ℕ, arith}
 use Rattle.std.proofs.lemmas.Int.{ints}
-use Rattle.leg_geom.specs.Plane.{Sides, IsRect, ShareCell, HasAllPoints}
-use Rattle.leg_geom.specs.Line.{Ends, IsSpan, ShareStep, HasAllNumbers, IsGap}
+use Rattle.leg_geom.specs.Plane.{Sides, IsRect, ShareCell, SharePoint, HasAllPoints}
+use Rattle.leg_geom.specs.Line.{Ends, IsSpan, ShareNumber, ShareStep, HasAllNumbers, IsGap}
 use Rattle.leg_geom.specs.Gap.{IsXGap, IsYGap}
 
 -- a rectangle along each axis
@@ -34,6 +34,28 @@ ShareCell-steps a b = (
     },
     record {
       step = s.cell.y;
+      in_a = record { above = s.in_a.bottom; below = s.in_a.top };
+      in_b = record { above = s.in_b.bottom; below = s.in_b.top };
+    },
+  ),
+)
+
+-- rectangles share a point just where their intervals share a number along each axis
+pub SharePoint-numbers : (a b : Sides) → (ShareNumber (x_ends a) (x_ends b) × ShareNumber (y_ends a) (y_ends b)) ↔ SharePoint a b
+SharePoint-numbers a b = (
+  λ s. record {
+    point = record { x = s.0.number; y = s.1.number };
+    in_a = record { left = s.0.in_a.above; right = s.0.in_a.below; bottom = s.1.in_a.above; top = s.1.in_a.below };
+    in_b = record { left = s.0.in_b.above; right = s.0.in_b.below; bottom = s.1.in_b.above; top = s.1.in_b.below };
+  },
+  λ s. (
+    record {
+      number = s.point.x;
+      in_a = record { above = s.in_a.left; below = s.in_a.right };
+      in_b = record { above = s.in_b.left; below = s.in_b.right };
+    },
+    record {
+      number = s.point.y;
       in_a = record { above = s.in_a.bottom; below = s.in_a.top };
       in_b = record { above = s.in_b.bottom; below = s.in_b.top };
     },

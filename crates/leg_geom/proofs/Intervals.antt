@@ -1,8 +1,15 @@
 -- Intervals of whole numbers by comparisons of their ends.
-use Rattle.std.proofs.Common.{◌≡◌, ℕ, ◌≤ℤ◌, ◌<ℤ◌, ◌-ℤ◌, unsigned_abs, arith}
+use Rattle.std.proofs.Common.{◌≡◌, ℕ, ℤ, ◌≤ℤ◌, ◌<ℤ◌, ◌-ℤ◌, unsigned_abs, arith}
 use Rattle.std.proofs.lemmas.Int.{ints, by_lt_z}
 use Rattle.leg_geom.specs.Gap.{gap_between}
-use Rattle.leg_geom.specs.Line.{Ends, IsSpan, HasNumber, ShareStep, HasAllNumbers, IsGap}
+use Rattle.leg_geom.specs.Line.{Ends, IsSpan, HasNumber, ShareNumber, ShareStep, HasAllNumbers, IsGap}
+
+-- an interval has its two ends
+pub HasNumber-low : (a : Ends) → IsSpan a → HasNumber a a.low
+HasNumber-low a s = record { above = omega (arith, ints); below = omega (arith, ints) }
+
+pub HasNumber-high : (a : Ends) → IsSpan a → HasNumber a a.high
+HasNumber-high a s = record { above = omega (arith, ints); below = omega (arith, ints) }
 
 -- intervals that begin before the other ends share the first step of the one that begins later
 pub ShareStep-begin : (a b : Ends) → IsSpan a → IsSpan b → a.low <ℤ b.high → b.low <ℤ a.high → ShareStep a b
@@ -19,15 +26,31 @@ ShareStep-begin a b sa sb l r =
       in_b = record { above = h; below = l };
     })
 
+-- intervals that begin no later than the other ends share the first number of the one that begins later
+pub ShareNumber-begin : (a b : Ends) → IsSpan a → IsSpan b → a.low ≤ℤ b.high → b.low ≤ℤ a.high → ShareNumber a b
+ShareNumber-begin a b sa sb l r =
+    by_lt_z a.low b.low
+    (λ h. record {
+      number = b.low;
+      in_a = record { above = omega (arith, ints); below = r };
+      in_b = HasNumber-low b sb;
+    })
+    (λ h. record {
+      number = a.low;
+      in_a = HasNumber-low a sa;
+      in_b = record { above = h; below = l };
+    })
+
+-- intervals share a step where two different numbers lie in both
+pub ShareStep-numbers : (a b : Ends) (s t : ℤ) → HasNumber a s → HasNumber b s → HasNumber a t → HasNumber b t → s <ℤ t → ShareStep a b
+ShareStep-numbers a b s t sa sb ta tb h = record {
+  step = s;
+  in_a = record { above = sa.above; below = omega (arith, ints) };
+  in_b = record { above = sb.above; below = omega (arith, ints) };
+}
+
 pub HasAllNumbers-ends : (a b : Ends) → a.low ≤ℤ b.low → b.high ≤ℤ a.high → HasAllNumbers a b
 HasAllNumbers-ends a b l h z m = record { above = omega (arith, ints); below = omega (arith, ints) }
-
--- an interval has its two ends
-pub HasNumber-low : (a : Ends) → IsSpan a → HasNumber a a.low
-HasNumber-low a s = record { above = omega (arith, ints); below = omega (arith, ints) }
-
-pub HasNumber-high : (a : Ends) → IsSpan a → HasNumber a a.high
-HasNumber-high a s = record { above = omega (arith, ints); below = omega (arith, ints) }
 
 pub IsGap-before : (a b : Ends) (n : ℕ) → IsSpan a → IsSpan b → a.high <ℤ b.low → n ≡ unsigned_abs (b.low -ℤ a.high) → IsGap a b n
 IsGap-before a b n sa sb h e = record {

@@ -1,4 +1,5 @@
 mod Intervals
 mod Axes
 mod Corners
+mod Touching
 pub mod Gaps

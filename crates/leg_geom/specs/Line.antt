@@ -24,6 +24,12 @@ pub record HasStep (s : Ends) (z : ℤ) : Type 0 where
   pub above : s.low ≤ℤ z
   pub below : z <ℤ s.high
 
+-- some number lies in both intervals
+pub record ShareNumber (a b : Ends) : Type 0 where
+  pub number : ℤ
+  pub in_a : HasNumber a number
+  pub in_b : HasNumber b number
+
 -- some step lies in both intervals
 pub record ShareStep (a b : Ends) : Type 0 where
   pub step : ℤ

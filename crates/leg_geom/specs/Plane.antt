@@ -1,5 +1,5 @@
 -- Points, cells and rectangles of the plane, in database units.
-use Rattle.std.specs.Prelude.{◌≤◌, ℤ, ◌≤ℤ◌, ◌<ℤ◌, unsigned_abs}
+use Rattle.std.specs.Prelude.{◌≢◌, ◌≤◌, ℤ, ◌≤ℤ◌, ◌<ℤ◌, unsigned_abs}
 use Rattle.leg_geom.specs.declared.limits.TheConstants.{COORDINATE_LIMIT}
 
 -- a point of the lattice
@@ -51,6 +51,22 @@ pub record ShareCell (a b : Sides) : Type 0 where
   pub cell : Spot
   pub in_a : HasCell a cell
   pub in_b : HasCell b cell
+
+-- some point lies in both rectangles
+pub record SharePoint (a b : Sides) : Type 0 where
+  pub point : Spot
+  pub in_a : HasPoint a point
+  pub in_b : HasPoint b point
+
+-- two different points lie in both rectangles
+pub record ShareTwoPoints (a b : Sides) : Type 0 where
+  pub p : Spot
+  pub q : Spot
+  pub differ : p ≢ q
+  pub p_in_a : HasPoint a p
+  pub p_in_b : HasPoint b p
+  pub q_in_a : HasPoint a q
+  pub q_in_b : HasPoint b q
 
 -- each point of the second rectangle is one of the first
 abbrev pub HasAllPoints : Sides → Sides → Type 0

@@ -1,7 +1,7 @@
 //! A rectangle of the plane.
 
 ghost use Rattle.std.specs.Prelude.{◌≡◌, ◌↔◌, ◌≤◌, ◌*◌, IsTrue, SomeIff};
-ghost use Rattle.leg_geom.specs.Plane.{IsRect, ShareCell, HasAllPoints};
+ghost use Rattle.leg_geom.specs.Plane.{IsRect, ShareCell, SharePoint, ShareTwoPoints, HasAllPoints};
 ghost use Rattle.leg_geom.specs.Gap.{x_gap, y_gap, IsXGap, IsYGap};
 
 use crate::limits::COORDINATE_LIMIT;
@@ -75,6 +75,20 @@ impl Rect {
         ensures { IsTrue result ↔ ShareCell self.now other.now }
     {
         self.x.shares_step(&other.x) && self.y.shares_step(&other.y)
+    }
+
+    /// Whether some point lies in both rectangles: their borders may only meet, as in a corner.
+    pub fn shares_point(&self, other: &Rect) -> bool
+        ensures { IsTrue result ↔ SharePoint self.now other.now }
+    {
+        self.x.shares_number(&other.x) && self.y.shares_number(&other.y)
+    }
+
+    /// Whether two different points lie in both rectangles: they overlap, or abut along more than a corner.
+    pub fn touches(&self, other: &Rect) -> bool
+        ensures { IsTrue result ↔ ShareTwoPoints self.now other.now }
+    {
+        self.shares_point(other) && (self.x.shares_step(&other.x) || self.y.shares_step(&other.y))
     }
 
     /// Whether each point of the other rectangle is one of this.

@@ -1,7 +1,7 @@
 //! An interval of whole numbers: a rectangle along one axis.
 
 ghost use Rattle.std.specs.Prelude.{◌≡◌, ◌↔◌, ◌≤◌, ◌*◌, IsTrue, SomeIff};
-ghost use Rattle.leg_geom.specs.Line.{IsSpan, ShareStep, HasAllNumbers, IsGap};
+ghost use Rattle.leg_geom.specs.Line.{IsSpan, ShareNumber, ShareStep, HasAllNumbers, IsGap};
 ghost use Rattle.leg_geom.specs.Gap.{gap_between};
 
 use crate::limits::COORDINATE_LIMIT;
@@ -52,6 +52,13 @@ impl Span {
         ensures { result ≡ self.now.high }
     {
         self.high
+    }
+
+    /// Whether some number lies in both: they may only abut.
+    pub(crate) fn shares_number(&self, other: &Span) -> bool
+        ensures { IsTrue result ↔ ShareNumber self.now other.now }
+    {
+        self.low <= other.high && other.low <= self.high
     }
 
     /// Whether some step from a number to the next lies in both.

@@ -64,6 +64,33 @@ fn rectangles_that_abut_do_not_overlap(rt: HostRuntime) {
 }
 
 #[test]
+fn rectangles_touch_along_more_than_a_corner(rt: HostRuntime) {
+    let cell = rect(&rt, 0, 0, 400, 2000);
+    for (x1, y1, x2, y2, shares_point, touches) in [
+        (400, 2000, 800, 4000, true, false),
+        (-400, 2000, 0, 4000, true, false),
+        (400, 1999, 800, 4000, true, true),
+        (400, 0, 800, 2000, true, true),
+        (100, 2000, 101, 4000, true, true),
+        (401, 0, 801, 2000, false, false),
+        (0, 2001, 400, 4001, false, false),
+        (100, 100, 200, 200, true, true),
+    ] {
+        let other = rect(&rt, x1, y1, x2, y2);
+        assert_eq!(rt;
+            (cell.shares_point(&other), cell.touches(&other)),
+            (shares_point, touches),
+            "at {x1} {y1} {x2} {y2}"
+        );
+        assert_eq!(rt;
+            (other.shares_point(&cell), other.touches(&cell)),
+            (shares_point, touches),
+            "at {x1} {y1} {x2} {y2}"
+        );
+    }
+}
+
+#[test]
 fn a_rectangle_contains_what_is_within_its_border(rt: HostRuntime) {
     let cell = rect(&rt, 0, 0, 400, 2000);
     for (x1, y1, x2, y2, want) in [
