@@ -1,5 +1,6 @@
 -- Points, cells and rectangles of the plane, in database units.
-use Rattle.std.specs.Prelude.{◌≢◌, ◌≤◌, ℤ, ◌≤ℤ◌, ◌<ℤ◌, unsigned_abs}
+use Rattle.std.specs.Prelude.{◌≢◌, ◌≤◌, ℤ, pos, ◌+ℤ◌, ◌≤ℤ◌, ◌<ℤ◌, unsigned_abs}
+use Rattle.std.specs.Int.{int_div_euclid}
 use Rattle.leg_geom.specs.declared.limits.TheConstants.{COORDINATE_LIMIT}
 
 -- a point of the lattice
@@ -71,3 +72,21 @@ pub record ShareTwoPoints (a b : Sides) : Type 0 where
 -- each point of the second rectangle is one of the first
 abbrev pub HasAllPoints : Sides → Sides → Type 0
 HasAllPoints a b = (p : Spot) → HasPoint b p → HasPoint a p
+
+-- the number is halfway between two others, rounded down: twice the number is their sum, or one less
+pub record IsHalfway (a b half : ℤ) : Type 0 where
+  pub below : (half +ℤ half) ≤ℤ (a +ℤ b)
+  pub near : (a +ℤ b) ≤ℤ (half +ℤ half +ℤ pos 1)
+
+-- the point is the rectangle's centre, each coordinate rounded down
+pub record IsCentre (r : Sides) (p : Spot) : Type 0 where
+  pub x : IsHalfway r.x1 r.x2 p.x
+  pub y : IsHalfway r.y1 r.y2 p.y
+
+-- half the sum of two numbers, rounded down
+abbrev pub halfway : ℤ → ℤ → ℤ
+halfway a b = int_div_euclid (a +ℤ b) (pos 2)
+
+-- the centre of a rectangle
+abbrev pub centre : Sides → Spot
+centre r = record { x = halfway r.x1 r.x2; y = halfway r.y1 r.y2 }

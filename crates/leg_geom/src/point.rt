@@ -37,6 +37,14 @@ impl Point {
         }
     }
 
+    /// The point with these coordinates, which the caller knows to be within the limit.
+    pub(crate) fn known(x: i64, y: i64) -> Point
+        requires { IsSpot (record { x = x; y = y }) }
+        ensures { result ≡ record { x = x; y = y } }
+    {
+        Point { x, y }
+    }
+
     /// The x coordinate, in database units.
     pub fn x(&self) -> i64
         ensures is { result ≡ self.now.x }

@@ -1,10 +1,11 @@
 //! A rectangle of the plane.
 
 ghost use Rattle.std.specs.Prelude.{◌≡◌, ◌↔◌, ◌≤◌, ◌*◌, IsTrue, SomeIff};
-ghost use Rattle.leg_geom.specs.Plane.{IsRect, ShareCell, SharePoint, ShareTwoPoints, HasAllPoints};
+ghost use Rattle.leg_geom.specs.Plane.{IsRect, ShareCell, SharePoint, ShareTwoPoints, HasAllPoints, IsCentre, centre};
 ghost use Rattle.leg_geom.specs.Gap.{x_gap, y_gap, IsXGap, IsYGap};
 
 use crate::limits::COORDINATE_LIMIT;
+use crate::point::Point;
 use crate::span::Span;
 use std::marker::Model;
 
@@ -116,5 +117,13 @@ impl Rect {
         ensures small { result ≤ 2 * COORDINATE_LIMIT }
     {
         self.y.gap(&other.y)
+    }
+
+    /// The point in the middle, each coordinate rounded down, towards minus infinity.
+    pub fn centre(&self) -> Point
+        ensures is { result ≡ centre self.now }
+        ensures halfway { IsCentre self.now result }
+    {
+        Point::known(self.x.middle(), self.y.middle())
     }
 }

@@ -3,6 +3,7 @@
 ghost use Rattle.std.specs.Prelude.{◌≡◌, ◌↔◌, ◌≤◌, ◌*◌, IsTrue, SomeIff};
 ghost use Rattle.leg_geom.specs.Line.{IsSpan, ShareNumber, ShareStep, HasAllNumbers, IsGap};
 ghost use Rattle.leg_geom.specs.Gap.{gap_between};
+ghost use Rattle.leg_geom.specs.Plane.{IsCoordinate, IsHalfway, halfway};
 
 use crate::limits::COORDINATE_LIMIT;
 use std::marker::Model;
@@ -88,5 +89,14 @@ impl Span {
         } else {
             0
         }
+    }
+
+    /// The number halfway between the ends, rounded down.
+    pub(crate) fn middle(&self) -> i64
+        ensures is { result ≡ halfway self.now.low self.now.high }
+        ensures halfway { IsHalfway self.now.low self.now.high result }
+        ensures within { IsCoordinate result }
+    {
+        (self.low + self.high).div_euclid(2)
     }
 }

@@ -136,6 +136,28 @@ fn gaps_lie_between_the_nearest_edges(rt: HostRuntime) {
 }
 
 #[test]
+fn a_centre_is_rounded_down(rt: HostRuntime) {
+    for (x1, y1, x2, y2, x, y) in [
+        (0, 0, 400, 2000, 200, 1000),
+        (0, 0, 401, 2001, 200, 1000),
+        (-401, -2001, 0, 0, -201, -1001),
+        (-1, -4, 0, 1, -1, -2),
+        (-2, -1, 1, 2, -1, 0),
+        (
+            999_999_997,
+            -1_000_000_000,
+            1_000_000_000,
+            -999_999_999,
+            999_999_998,
+            -1_000_000_000,
+        ),
+    ] {
+        let centre = rect(&rt, x1, y1, x2, y2).centre();
+        assert_eq!(rt; (centre.x(), centre.y()), (x, y), "at {x1} {y1} {x2} {y2}");
+    }
+}
+
+#[test]
 fn rectangles_compare_by_their_corners(rt: HostRuntime) {
     let cell = rect(&rt, 0, 0, 400, 2000);
     let copy = cell;
