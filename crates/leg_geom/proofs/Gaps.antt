@@ -1,8 +1,9 @@
 -- What rules over pairs of rectangles need to know of cells and gaps.
-use Rattle.std.proofs.Common.{◌≡◌, ◌≤◌, ◌≤ℤ◌, arith}
+use Rattle.std.proofs.Common.{◌≡◌, ℕ, ◌+◌, ◌*◌, ◌≤◌, ◌≤ℤ◌, refl, arith}
 use Rattle.std.proofs.lemmas.Int.{ints}
+use Rattle.std.proofs.lemmas.Nat.{mul-le}
 use Rattle.leg_geom.specs.Plane.{Sides, IsRect, ShareCell}
-use Rattle.leg_geom.specs.Gap.{x_gap, y_gap, IsXGap, IsYGap}
+use Rattle.leg_geom.specs.Gap.{x_gap, y_gap, IsXGap, IsYGap, IsSquareGap}
 use Rattle.leg_geom.proofs.Axes.{IsSpan-x_ends, IsSpan-y_ends, IsXGap-ends, IsYGap-ends}
 use Rattle.leg_geom.proofs.Intervals.{IsGap-gap_between}
 
@@ -32,3 +33,19 @@ IsXGap-x_gap a b ra rb = IsXGap-ends a b _ ra rb (IsGap-gap_between _ _ (IsSpan-
 
 pub IsYGap-y_gap : (a b : Sides) → IsRect a → IsRect b → IsYGap a b (y_gap a b)
 IsYGap-y_gap a b ra rb = IsYGap-ends a b _ ra rb (IsGap-gap_between _ _ (IsSpan-y_ends a ra) (IsSpan-y_ends b rb))
+
+-- the squares of the two gaps make the least squared distance
+pub IsSquareGap-gaps : (a b : Sides) (m n : ℕ) → IsXGap a b m → IsYGap a b n → IsSquareGap a b (m * m + n * n)
+IsSquareGap-gaps a b m n g h = record {
+  p = record { x = g.p.x; y = h.p.y };
+  q = record { x = g.q.x; y = h.q.y };
+  in_a = record { left = g.in_a.left; right = g.in_a.right; bottom = h.in_a.bottom; top = h.in_a.top };
+  in_b = record { left = g.in_b.left; right = g.in_b.right; bottom = h.in_b.bottom; top = h.in_b.top };
+  is = rw (g.is, h.is) refl;
+  least = λ s t ms mt.
+      let x = g.least s t ms mt in
+      let y = h.least s t ms mt in
+      let xx = mul-le _ _ _ _ x x in
+      let yy = mul-le _ _ _ _ y y in
+      omega arith;
+}

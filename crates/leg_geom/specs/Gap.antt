@@ -1,5 +1,5 @@
--- How far two rectangles lie apart along an axis, in database units.
-use Rattle.std.specs.Prelude.{◌≡◌, ℕ, ◌≤◌, ℤ, ◌-ℤ◌, unsigned_abs, int_lt, if◌then◌else◌}
+-- How far two rectangles lie apart, along an axis and as the crow flies, in database units.
+use Rattle.std.specs.Prelude.{◌≡◌, ℕ, ◌+◌, ◌*◌, ◌≤◌, ℤ, ◌-ℤ◌, unsigned_abs, int_lt, if◌then◌else◌}
 use Rattle.leg_geom.specs.Plane.{Spot, Sides, HasPoint}
 
 -- the distance of two whole numbers
@@ -37,3 +37,16 @@ pub record IsYGap (a b : Sides) (n : ℕ) : Type 0 where
   pub in_b : HasPoint b q
   pub is : apart p.y q.y ≡ n
   pub least : (s t : Spot) → HasPoint a s → HasPoint b t → n ≤ apart s.y t.y
+
+-- the squared distance of two points
+abbrev pub square_distance : Spot → Spot → ℕ
+square_distance p q = apart p.x q.x * apart p.x q.x + apart p.y q.y * apart p.y q.y
+
+-- n is the least squared distance of a point of the one rectangle and a point of the other
+pub record IsSquareGap (a b : Sides) (n : ℕ) : Type 0 where
+  pub p : Spot
+  pub q : Spot
+  pub in_a : HasPoint a p
+  pub in_b : HasPoint b q
+  pub is : square_distance p q ≡ n
+  pub least : (s t : Spot) → HasPoint a s → HasPoint b t → n ≤ square_distance s t

@@ -1,8 +1,8 @@
 //! A rectangle of the plane.
 
-ghost use Rattle.std.specs.Prelude.{◌≡◌, ◌↔◌, ◌≤◌, ◌*◌, IsTrue, SomeIff};
+ghost use Rattle.std.specs.Prelude.{◌≡◌, ◌↔◌, ◌≤◌, ◌*◌, ℕ, pos, IsTrue, SomeIff};
 ghost use Rattle.leg_geom.specs.Plane.{IsRect, ShareCell, SharePoint, ShareTwoPoints, HasAllPoints, IsCentre, centre};
-ghost use Rattle.leg_geom.specs.Gap.{x_gap, y_gap, IsXGap, IsYGap};
+ghost use Rattle.leg_geom.specs.Gap.{x_gap, y_gap, IsXGap, IsYGap, IsSquareGap};
 
 use crate::limits::COORDINATE_LIMIT;
 use crate::point::Point;
@@ -117,6 +117,15 @@ impl Rect {
         ensures small { result ≤ 2 * COORDINATE_LIMIT }
     {
         self.y.gap(&other.y)
+    }
+
+    /// The least squared distance of a point of this rectangle and a point of the other, in square database units.
+    pub fn gap2(&self, other: &Rect) -> i64
+        ensures { (n : ℕ) × (result ≡ pos n) × IsSquareGap self.now other.now n }
+    {
+        let x = self.x_gap(other);
+        let y = self.y_gap(other);
+        (x * x + y * y) as i64
     }
 
     /// The point in the middle, each coordinate rounded down, towards minus infinity.

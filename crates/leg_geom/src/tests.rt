@@ -136,6 +136,35 @@ fn gaps_lie_between_the_nearest_edges(rt: HostRuntime) {
 }
 
 #[test]
+fn the_squared_gap_is_that_of_the_nearest_points(rt: HostRuntime) {
+    let cell = rect(&rt, 0, 0, 400, 2000);
+    for (x1, y1, x2, y2, gap2) in [
+        (399, 1999, 800, 4000, 0),
+        (400, 2000, 800, 4000, 0),
+        (403, 2004, 800, 4000, 25),
+        (403, 1000, 800, 4000, 9),
+        (-500, -2100, -100, -100, 20_000),
+        (100, 2007, 300, 4007, 49),
+    ] {
+        let other = rect(&rt, x1, y1, x2, y2);
+        assert_eq!(rt;
+            (cell.gap2(&other), other.gap2(&cell)),
+            (gap2, gap2),
+            "at {x1} {y1} {x2} {y2}"
+        );
+    }
+    let low = rect(
+        &rt,
+        -1_000_000_000,
+        -1_000_000_000,
+        -999_999_999,
+        -999_999_999,
+    );
+    let high = rect(&rt, 999_999_999, 999_999_999, 1_000_000_000, 1_000_000_000);
+    assert_eq!(rt; low.gap2(&high), 7_999_999_984_000_000_008);
+}
+
+#[test]
 fn a_centre_is_rounded_down(rt: HostRuntime) {
     for (x1, y1, x2, y2, x, y) in [
         (0, 0, 400, 2000, 200, 1000),
