@@ -1,3 +1,4 @@
+mod Points
 mod Intervals
 mod Axes
 mod Corners

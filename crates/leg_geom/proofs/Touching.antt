@@ -1,16 +1,11 @@
 -- Rectangles that have two points in common share a step along one of the axes.
-use Rattle.std.proofs.Common.{◌≡◌, ◌≢◌, ℤ, pos, ◌<ℤ◌, ◌+ℤ◌, ◌⊎◌, inl, inr, ap, arith}
+use Rattle.std.proofs.Common.{◌≡◌, ◌≢◌, pos, ◌<ℤ◌, ◌+ℤ◌, ◌⊎◌, inl, inr, ap, arith}
 use Rattle.std.proofs.lemmas.Int.{ints, by_lt_z}
 use Rattle.leg_geom.specs.Plane.{Spot, Sides, HasPoint, SharePoint, ShareTwoPoints}
 use Rattle.leg_geom.specs.Line.{HasNumber, ShareStep}
+use Rattle.leg_geom.proofs.Points.{spot, same_spot}
 use Rattle.leg_geom.proofs.Axes.{x_ends, y_ends}
 use Rattle.leg_geom.proofs.Intervals.{ShareStep-numbers}
-
-abbrev spot : ℤ → ℤ → Spot
-spot x y = record { x = x; y = y }
-
-same_spot : (x y u v : ℤ) → x ≡ u → y ≡ v → spot x y ≡ spot u v
-same_spot x y u v e f = cc
 
 -- two points that differ do so along x or along y
 x_differs : (p q : Spot) → p.x <ℤ q.x → p ≢ q

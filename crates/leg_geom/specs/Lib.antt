@@ -1,3 +1,4 @@
 pub mod Plane
 pub mod Gap
 pub mod Line
+pub mod Orientation

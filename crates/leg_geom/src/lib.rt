@@ -3,11 +3,13 @@
 
 pub mod laws;
 mod limits;
+mod orient;
 mod point;
 mod rect;
 mod span;
 
 pub use limits::COORDINATE_LIMIT;
+pub use orient::Orient;
 pub use point::Point;
 pub use rect::Rect;
 

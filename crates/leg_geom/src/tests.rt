@@ -1,6 +1,6 @@
 //! Points and rectangles by worked values.
 
-use crate::{Point, Rect};
+use crate::{Orient, Point, Rect};
 use std::process::Abort;
 
 // The rectangle with these corners, which the caller knows to be one.
@@ -192,4 +192,35 @@ fn rectangles_compare_by_their_corners(rt: HostRuntime) {
     let copy = cell;
     assert_eq!(rt; copy, cell);
     assert_ne!(rt; rect(&rt, 0, 0, 400, 2001), cell);
+}
+
+#[test]
+fn orientations_take_points_within_the_oriented_box(rt: HostRuntime) {
+    let point = Point::new(50, 850).expect(&rt, "a point");
+    for (orient, x, y) in [
+        (Orient::N, 50, 850),
+        (Orient::S, 350, 1150),
+        (Orient::W, 1150, 50),
+        (Orient::E, 850, 350),
+        (Orient::FN, 350, 850),
+        (Orient::FS, 50, 1150),
+        (Orient::FW, 850, 50),
+        (Orient::FE, 1150, 350),
+    ] {
+        let image = orient.apply(400, 2000, point);
+        assert_eq!(rt; (image.x(), image.y()), (x, y), "at {orient:?}");
+    }
+}
+
+#[test]
+fn mirroring_flips_an_orientation_and_back(rt: HostRuntime) {
+    for (plain, flipped) in [
+        (Orient::N, Orient::FN),
+        (Orient::S, Orient::FS),
+        (Orient::W, Orient::FW),
+        (Orient::E, Orient::FE),
+    ] {
+        assert_eq!(rt; plain.mirror_y(), flipped);
+        assert_eq!(rt; flipped.mirror_y(), plain);
+    }
 }
