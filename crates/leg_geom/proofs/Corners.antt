@@ -15,10 +15,10 @@ HasPoint-lower_left r p = record { left = omega (arith, ints); right = omega (ar
 HasPoint-upper_right : (r : Sides) → IsRect r → HasPoint r (upper_right r)
 HasPoint-upper_right r p = record { left = omega (arith, ints); right = omega (arith, ints); bottom = omega (arith, ints); top = omega (arith, ints) }
 
-abbrev sides : ℤ → ℤ → ℤ → ℤ → Sides
+abbrev pub sides : ℤ → ℤ → ℤ → ℤ → Sides
 sides x1 y1 x2 y2 = record { x1 = x1; y1 = y1; x2 = x2; y2 = y2 }
 
-same_sides : (x1 y1 x2 y2 u1 v1 u2 v2 : ℤ) → x1 ≡ u1 → y1 ≡ v1 → x2 ≡ u2 → y2 ≡ v2 → sides x1 y1 x2 y2 ≡ sides u1 v1 u2 v2
+pub same_sides : (x1 y1 x2 y2 u1 v1 u2 v2 : ℤ) → x1 ≡ u1 → y1 ≡ v1 → x2 ≡ u2 → y2 ≡ v2 → sides x1 y1 x2 y2 ≡ sides u1 v1 u2 v2
 same_sides x1 y1 x2 y2 u1 v1 u2 v2 e f g h = cc
 
 -- rectangles with the same points have the same corners

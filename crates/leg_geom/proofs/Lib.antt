@@ -3,4 +3,5 @@ mod Intervals
 mod Axes
 mod Corners
 mod Touching
+mod Images
 pub mod Gaps

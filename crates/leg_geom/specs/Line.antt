@@ -1,5 +1,5 @@
 -- Intervals of whole numbers: what a rectangle is along one axis.
-use Rattle.std.specs.Prelude.{◌≡◌, ℕ, ◌≤◌, ℤ, ◌≤ℤ◌, ◌<ℤ◌}
+use Rattle.std.specs.Prelude.{◌≡◌, ℕ, ◌≤◌, ℤ, ◌≤ℤ◌, ◌<ℤ◌, int_lt, if◌then◌else◌}
 use Rattle.leg_geom.specs.Plane.{IsCoordinate}
 use Rattle.leg_geom.specs.Gap.{apart}
 
@@ -7,6 +7,10 @@ use Rattle.leg_geom.specs.Gap.{apart}
 pub record Ends : Type 0 where
   pub low : ℤ
   pub high : ℤ
+
+-- the interval between two numbers, in either order
+abbrev pub between : ℤ → ℤ → Ends
+between a b = record { low = if int_lt a b then a else b; high = if int_lt a b then b else a }
 
 -- an interval has length, and its ends are within the limit
 pub record IsSpan (s : Ends) : Type 0 where

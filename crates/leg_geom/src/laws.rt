@@ -1,7 +1,9 @@
-//! Laws of rectangles: each holds by the contract of a function that does nothing.
+//! Laws of rectangles and orientations: each holds by the contract of a function that does nothing.
 
-ghost use Rattle.std.specs.Prelude.{◌≡◌};
-ghost use Rattle.leg_geom.specs.Plane.{Sides, IsRect, ShareCell, HasAllPoints};
+ghost use Rattle.std.specs.Prelude.{◌≡◌, ℤ};
+ghost use Rattle.leg_geom.specs.Plane.{Spot, Sides, IsRect, ShareCell, HasAllPoints};
+ghost use Rattle.leg_geom.specs.Orientation.{turned, placed, placed_rect, IsImage};
+ghost use Rattle.leg_geom.specs.declared.orient.Orient.{Orient};
 ghost use Rattle.leg_geom.specs.Gap.{x_gap, y_gap, IsXGap, IsYGap};
 
 /// Rectangles share a cell in either order.
@@ -18,4 +20,14 @@ pub fn points_determine_a_rectangle()
 pub fn gaps_are_least()
     ensures along_x { (a b : Sides) → IsRect a → IsRect b → IsXGap a b (x_gap a b) }
     ensures along_y { (a b : Sides) → IsRect a → IsRect b → IsYGap a b (y_gap a b) }
+{}
+
+/// An orientation takes different points of a box to different points.
+pub fn orientations_keep_points_apart()
+    ensures { (o : Orient) (w h : ℤ) (p q : Spot) → turned o w h p ≡ turned o w h q → p ≡ q }
+{}
+
+/// The rectangle between the images of two opposite corners has exactly the images of the rectangle's points.
+pub fn placed_rectangles_are_images()
+    ensures { (at : Spot) (o : Orient) (w h : ℤ) (r : Sides) → IsRect r → IsImage (placed at o w h) r (placed_rect at o w h r) }
 {}

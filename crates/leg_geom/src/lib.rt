@@ -4,12 +4,14 @@
 pub mod laws;
 mod limits;
 mod orient;
+mod place;
 mod point;
 mod rect;
 mod span;
 
 pub use limits::COORDINATE_LIMIT;
 pub use orient::Orient;
+pub use place::Place;
 pub use point::Point;
 pub use rect::Rect;
 

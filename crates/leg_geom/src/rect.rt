@@ -1,7 +1,8 @@
 //! A rectangle of the plane.
 
-ghost use Rattle.std.specs.Prelude.{◌≡◌, ◌↔◌, ◌≤◌, ◌*◌, ℕ, pos, IsTrue, SomeIff};
+ghost use Rattle.std.specs.Prelude.{◌≡◌, ◌≢◌, ◌↔◌, ◌≤◌, ◌*◌, ℕ, pos, IsTrue, SomeIff};
 ghost use Rattle.leg_geom.specs.Plane.{IsRect, ShareCell, SharePoint, ShareTwoPoints, HasAllPoints, IsCentre, centre};
+ghost use Rattle.leg_geom.specs.Line.{between};
 ghost use Rattle.leg_geom.specs.Gap.{x_gap, y_gap, IsXGap, IsYGap, IsSquareGap};
 
 use crate::limits::COORDINATE_LIMIT;
@@ -37,6 +38,29 @@ impl Rect {
         let x = Span::new(x1, x2)?;
         let y = Span::new(y1, y2)?;
         Some(Rect { x, y })
+    }
+
+    /// The rectangle between two opposite corners, which the caller knows to differ along both axes.
+    pub(crate) fn between(p: &Point, q: &Point) -> Rect
+        requires x { p.now.x ≢ q.now.x }
+        requires y { p.now.y ≢ q.now.y }
+        ensures x { (record { low = result.x1; high = result.x2 }) ≡ between p.now.x q.now.x }
+        ensures y { (record { low = result.y1; high = result.y2 }) ≡ between p.now.y q.now.y }
+    {
+        let x = Span::between(p.x(), q.x());
+        let y = Span::between(p.y(), q.y());
+        Rect { x, y }
+    }
+
+    /// The lower left and the upper right corner.
+    pub(crate) fn corners(&self) -> (Point, Point)
+        ensures lower_left { result.0 ≡ record { x = self.now.x1; y = self.now.y1 } }
+        ensures upper_right { result.1 ≡ record { x = self.now.x2; y = self.now.y2 } }
+        ensures proper { IsRect self.now }
+    {
+        let lower_left = Point::known(self.x1(), self.y1());
+        let upper_right = Point::known(self.x2(), self.y2());
+        (lower_left, upper_right)
     }
 
     /// The x coordinate of the left edge.

@@ -1,7 +1,7 @@
 //! An interval of whole numbers: a rectangle along one axis.
 
-ghost use Rattle.std.specs.Prelude.{◌≡◌, ◌↔◌, ◌≤◌, ◌*◌, IsTrue, SomeIff};
-ghost use Rattle.leg_geom.specs.Line.{IsSpan, ShareNumber, ShareStep, HasAllNumbers, IsGap};
+ghost use Rattle.std.specs.Prelude.{◌≡◌, ◌↔◌, ◌≤◌, ◌*◌, ◌≢◌, IsTrue, SomeIff};
+ghost use Rattle.leg_geom.specs.Line.{IsSpan, ShareNumber, ShareStep, HasAllNumbers, IsGap, between};
 ghost use Rattle.leg_geom.specs.Gap.{gap_between};
 ghost use Rattle.leg_geom.specs.Plane.{IsCoordinate, IsHalfway, halfway};
 
@@ -38,6 +38,20 @@ impl Span {
             Some(Span { low, high })
         } else {
             None
+        }
+    }
+
+    /// The interval between two different numbers, in either order, which the caller knows to be within the limit.
+    pub(crate) fn between(a: i64, b: i64) -> Span
+        requires a { IsCoordinate a }
+        requires b { IsCoordinate b }
+        requires differ { a ≢ b }
+        ensures { result ≡ between a b }
+    {
+        if a < b {
+            Span { low: a, high: b }
+        } else {
+            Span { low: b, high: a }
         }
     }
 
