@@ -93,7 +93,7 @@ fn refuses_a_second_statement(rt: HostRuntime) -> Result<(), Fail> {
     let Err(fault) = only(&statements, b"TYPE") else {
         return Ok(assert!(rt; false));
     };
-    assert_eq!(rt; (fault.line, fault.kind), (4, FaultKind::BadNumber));
+    assert_eq!(rt; (fault.line, fault.kind), (4, FaultKind::Unexpected));
     assert!(rt; the(&statements, b"TYPE", &cursor).is_err());
     Ok(())
 }
