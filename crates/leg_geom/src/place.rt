@@ -1,7 +1,7 @@
 //! The place of a component.
 
 ghost use Rattle.std.specs.Prelude.{◌≡◌};
-ghost use Rattle.leg_geom.specs.Plane.{IsSpot};
+ghost use Rattle.leg_geom.specs.Plane.{IsRect, IsSpot};
 ghost use Rattle.leg_geom.specs.Orientation.{placed, placed_rect, StaysWithin, IsImage};
 
 use crate::orient::Orient;
@@ -22,6 +22,7 @@ impl Place {
         requires { StaysWithin (placed self.now.at self.now.orient width height) rect.now }
         ensures is { result ≡ placed_rect self.now.at self.now.orient width height rect.now }
         ensures image { IsImage (placed self.now.at self.now.orient width height) rect.now result }
+        ensures proper { IsRect result }
     {
         let (lower_left, upper_right) = rect.corners();
         let corner = self.point(width, height, &lower_left);

@@ -46,6 +46,7 @@ impl Rect {
         requires y { p.now.y ≢ q.now.y }
         ensures x { (record { low = result.x1; high = result.x2 }) ≡ between p.now.x q.now.x }
         ensures y { (record { low = result.y1; high = result.y2 }) ≡ between p.now.y q.now.y }
+        ensures proper { IsRect result }
     {
         let x = Span::between(p.x(), q.x());
         let y = Span::between(p.y(), q.y());

@@ -1,6 +1,6 @@
 //! Points and rectangles by worked values.
 
-use crate::{Orient, Point, Rect};
+use crate::{Orient, Place, Point, Rect};
 use std::process::Abort;
 
 // The rectangle with these corners, which the caller knows to be one.
@@ -222,5 +222,24 @@ fn mirroring_flips_an_orientation_and_back(rt: HostRuntime) {
     ] {
         assert_eq!(rt; plain.mirror_y(), flipped);
         assert_eq!(rt; flipped.mirror_y(), plain);
+    }
+}
+
+#[test]
+fn places_take_rectangles_to_the_oriented_box(rt: HostRuntime) {
+    let pin = Rect::new(50, 850, 150, 1050).expect(&rt, "a rectangle");
+    let at = Point::new(0, 0).expect(&rt, "a point");
+    for (orient, x1, y1, x2, y2) in [
+        (Orient::N, 50, 850, 150, 1050),
+        (Orient::S, 250, 950, 350, 1150),
+        (Orient::W, 950, 50, 1150, 150),
+        (Orient::E, 850, 250, 1050, 350),
+        (Orient::FN, 250, 850, 350, 1050),
+        (Orient::FS, 50, 950, 150, 1150),
+        (Orient::FW, 850, 50, 1050, 150),
+        (Orient::FE, 950, 250, 1150, 350),
+    ] {
+        let image = Place { at, orient }.rect(400, 2000, &pin);
+        assert_eq!(rt; image, rect(&rt, x1, y1, x2, y2), "at {orient:?}");
     }
 }

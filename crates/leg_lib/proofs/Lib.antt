@@ -1,4 +1,3 @@
-pub mod Corners
 pub mod Layers
 pub mod Drawn
 pub mod Joined
@@ -9,3 +8,4 @@ pub mod MacroForms
 pub mod Forms
 pub mod Readings
 pub mod Scaled
+pub mod Same

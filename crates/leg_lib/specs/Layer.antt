@@ -1,6 +1,6 @@
 -- Layers (LEF/DEF 5.8, "Layer (Cut)", "Layer (Routing)"; which width and which spacing are taken is an own
 -- rule).
-use Rattle.std.specs.Prelude.{ℕ, ℤ, pos, Bool, true, false, ◌&&◌, int_lt, if◌then◌else◌, List, [], ◌∷◌, ◌++◌, Option, None, Some, is_none, codes}
+use Rattle.std.specs.Prelude.{ℕ, ℤ, pos, Bool, true, false, ◌&&◌, int_lt, if◌then◌else◌, List, [], ◌∷◌, ◌++◌, Option, None, Some, is_none, unwrap_or, codes}
 use Rattle.std.specs.List.{find, after_first}
 use Rattle.leg_lex.specs.Words.{Words, ◌>>=◌, is_keyword, is_at, next_at, keyword_at, name_at, word_at, length_at, end_of, nothing_at}
 use Rattle.leg_lex.specs.Statements.{statements_at, only, the}
@@ -119,17 +119,13 @@ abbrev pub table_value_of_any : Option Words → Option (Option ℤ)
 table_value_of_any None = Some None
 table_value_of_any (Some statement) = table_value statement
 
-abbrev pub or_else : Option ℤ → ℤ → ℤ
-or_else None z = z
-or_else (Some y) z = y
-
 -- The first SPACING of one number; without one the value of the first table by parallel run length;
 -- without that, 0.
 unfoldable pub spacing_of : List Words → Option ℤ
 spacing_of statements = do
   written ← spacing_of_any (first_of_one_word (codes "SPACING") statements)
   tabled ← table_value_of_any (find is_table statements)
-  Some (or_else written (or_else tabled (pos 0)))
+  Some (unwrap_or written (unwrap_or tabled (pos 0)))
 
 -- LAYER NAME statements END NAME
 unfoldable pub layer_at : Words → Option (RawLayer × Words)

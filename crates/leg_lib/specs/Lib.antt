@@ -5,6 +5,8 @@ pub mod Layer
 pub mod Geometry
 pub mod Joins
 pub mod JoinLaw
+pub mod GoodVia
+pub mod ShapeLayers
 pub mod Via
 pub mod Site
 pub mod Pin

@@ -8,6 +8,7 @@ use Rattle.leg_lib.specs.declared.raw.RawShape.{RawShape}
 use Rattle.leg_lib.specs.Records.{RawContents, RawViaSaid, raw_layer_names, raw_via_names}
 use Rattle.leg_lib.specs.Geometry.{Drawn, nothing_drawn, drawn_rect}
 use Rattle.leg_lib.specs.Joins.{is_wiring_word, join_layers}
+use Rattle.leg_lib.specs.GoodVia.{raw_uses, raw_parts}
 
 -- the words between a via's name and its statements, each at most once and in any order
 pub record Flags : Type 0 where
@@ -65,7 +66,8 @@ via_part library parts statement =
 
 abbrev pub is_good : RawContents → List ℕ → ViaParts → Bool
 is_good library name parts =
-    not parts.is_spoilt && not (is_wiring_word name) && join_layers library.layers parts.drawn.shapes
+    not parts.is_spoilt && not (is_wiring_word name)
+    && join_layers (raw_uses library.layers) (raw_parts parts.drawn.shapes)
 
 -- a via that isn't good is kept by its name, without shapes
 abbrev pub kept : Bool → List RawShape → List RawShape

@@ -1,8 +1,9 @@
 //! The list in a field of a record.
 
-ghost use Rattle.std.specs.Prelude.{◌≡◌};
+ghost use Rattle.std.specs.Prelude.{◌≡◌, ◌++◌, ◌∷◌, [], OnOk, OnErr};
+ghost use Rattle.std.specs.Cmp.Lexicographic.{pointwise, lists_per};
 
-use std::alloc::Allocator;
+use std::alloc::{AllocError, Allocator};
 use std::marker::Model;
 
 /// Elements in their order. Contracts see it as the list of them.
@@ -32,5 +33,38 @@ impl<T, A: Allocator> Items<T, A> {
         ensures { result.now ≡ self.now }
     {
         self.items.as_slice()
+    }
+
+    /// Adds an element after the others. Where memory is refused, nothing changes.
+    pub fn push(&mut self, item: T) -> Result<(), AllocError>
+    where
+        T: Drop,
+        A: Clone,
+        ensures pushed { OnOk result (self.new ≡ self.old ++ item ∷ []) }
+        ensures unchanged { OnErr result (self.new ≡ self.old) }
+    {
+        self.items.reserve(1)?;
+        self.items.push(item).unwrap();
+        Ok(())
+    }
+
+    /// Adds elements after the others. Where memory is refused, nothing changes, and those elements are dropped.
+    pub fn append(&mut self, mut more: Vec<T, A>) -> Result<(), AllocError>
+    where
+        T: Drop,
+        ensures appended { OnOk result (self.new ≡ self.old ++ more.items) }
+        ensures unchanged { OnErr result (self.new ≡ self.old) }
+    {
+        self.items.append(&mut more)
+    }
+}
+
+impl<T: PartialEq, A: Allocator> PartialEq for Items<T, A> {
+    ghost eq = { λ x y. pointwise T.eq x y };
+
+    ghost laws = { lists_per T.laws };
+
+    fn eq(&self, other: &Self) -> bool {
+        self.as_slice() == other.as_slice()
     }
 }

@@ -2,8 +2,10 @@
 //! "LEF Syntax").
 #![tactic(auto)]
 
+mod equals;
 mod form;
 mod geometry;
+mod good_via;
 mod items;
 mod joins;
 pub mod laws;
@@ -28,11 +30,12 @@ mod spacing;
 mod via;
 
 pub use items::Items;
+pub use joins::{LayerUse, ViaPart, is_wiring_word};
 pub use leg_lex::{FaultKind, ReadFault};
 pub use library::Library;
 pub use measure::{Extent, RawExtent, RawPoint, RawRect};
 pub use raw::{RawKind, RawLayer, RawMaster, RawPin, RawShape, RawSite, RawVia};
 pub use raw_library::RawLibrary;
-pub use read::read_lefs;
+pub use read::{file_number, read_lefs};
 pub use records::{Direction, Layer, LayerKind, Master, MasterPin, Shape, Site, Supply, Via};
 pub use scale_fault::{ScaleFault, ScaleKind};

@@ -1,9 +1,8 @@
 //! A library as LEF texts say it, in millionths of a micron.
 
-ghost use Rattle.std.specs.Prelude.{◌≡◌, ◌++◌, ◌∷◌, [], None, OnOk, OnErr, option_copied, slice_get};
+ghost use Rattle.std.specs.Prelude.{◌≡◌, ◌++◌, ◌∷◌, [], None, OnOk, OnErr};
 ghost use Rattle.leg_lex.specs.Named.{place_of};
 ghost use Rattle.leg_lib.specs.Records.{empty_library, raw_layer_names, raw_site_names, raw_via_names, raw_master_names};
-ghost use Rattle.leg_lib.specs.Site.{site_named};
 
 use crate::raw::{RawLayer, RawMaster, RawSite, RawVia};
 use leg_lex::Names;

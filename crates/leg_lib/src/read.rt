@@ -1,6 +1,6 @@
 //! What LEF texts say together.
 
-ghost use Rattle.std.specs.Prelude.{◌≡◌, ◌≢◌, ◌<◌, length, map, IfOk, IfErr, OnOk};
+ghost use Rattle.std.specs.Prelude.{◌≡◌, ◌≢◌, ◌<◌, ◌-◌, ◌^◌, min, length, map, IfOk, IfErr, OnOk};
 ghost use Rattle.leg_lex.specs.declared.limits.TheConstants.{TEXT_LIMIT};
 ghost use Rattle.leg_lex.specs.declared.read_fault.FaultKind.TheVariants.{Memory};
 ghost use Rattle.leg_lex.specs.Say.{Says};
@@ -53,7 +53,10 @@ pub fn read_lefs<'a, A: Allocator + Copy>(
     Ok(library)
 }
 
-/// The number of a file, which faults tell.
-fn file_number(number: usize) -> u32 {
-    u32::try_from(number).unwrap_or(u32::MAX)
+/// The number by which faults tell a file: its place among the files, from 0. Beyond a `u32` all have the
+/// greatest.
+pub fn file_number(place: usize) -> u32
+    ensures { result ≡ min place (2 ^ 32 - 1) }
+{
+    u32::try_from(place).unwrap_or(u32::MAX)
 }

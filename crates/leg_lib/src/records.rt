@@ -35,7 +35,7 @@ pub enum LayerKind {
 }
 
 /// A layer (LEF/DEF 5.8, "Layer"). Layers stand bottom up.
-#[derive(Drop)]
+#[derive(PartialEq, Drop)]
 pub struct Layer<'a> {
     pub name: Name<'a>,
     pub kind: LayerKind,
@@ -44,7 +44,7 @@ pub struct Layer<'a> {
 }
 
 /// A site (LEF/DEF 5.8, "Site").
-#[derive(Drop)]
+#[derive(PartialEq, Drop)]
 pub struct Site<'a> {
     pub name: Name<'a>,
     pub size: Extent,
@@ -59,6 +59,7 @@ pub struct Shape {
 
 /// A via (LEF/DEF 5.8, "Via"). One that isn't good has no shapes.
 #[derive(Drop)]
+#[derive_where(PartialEq)]
 pub struct Via<'a, A: Allocator> {
     pub name: Name<'a>,
     /// Whether the word `DEFAULT` stands behind its name.
@@ -74,10 +75,13 @@ impl<'a, A: Allocator> Model for Via<'a, A> {
     ghost Value = { ViaSaid };
 
     ghost view = { λ v. record { name = v.name; default_via = v.default_via; good = v.good; shapes = v.shapes } };
+
+    ghost inverse = { λ s. record { name = s.name; default_via = s.default_via; good = s.good; shapes = s.shapes } };
 }
 
 /// A pin of a master, with the shapes of all its ports (LEF/DEF 5.8, "Macro Pin Statement").
 #[derive(Drop)]
+#[derive_where(PartialEq)]
 pub struct MasterPin<'a, A: Allocator> {
     pub name: Name<'a>,
     pub supply: Supply,
@@ -90,11 +94,14 @@ impl<'a, A: Allocator> Model for MasterPin<'a, A> {
     ghost Value = { PinSaid };
 
     ghost view = { λ p. record { name = p.name; supply = p.supply; shapes = p.shapes } };
+
+    ghost inverse = { λ s. record { name = s.name; supply = s.supply; shapes = s.shapes } };
 }
 
 /// A master, which LEF calls a macro (LEF/DEF 5.8, "Macro"). Its site is told by the site's number; its
 /// origin is added to its shapes.
 #[derive(Drop)]
+#[derive_where(PartialEq)]
 pub struct Master<'a, A: Allocator> {
     pub name: Name<'a>,
     pub size: Extent,
@@ -111,4 +118,6 @@ impl<'a, A: Allocator> Model for Master<'a, A> {
     ghost Value = { MasterSaid };
 
     ghost view = { λ m. record { name = m.name; size = m.size; y_symmetric = m.y_symmetric; site = m.site; pins = m.pins; obstructions = m.obstructions } };
+
+    ghost inverse = { λ s. record { name = s.name; size = s.size; y_symmetric = s.y_symmetric; site = s.site; pins = s.pins; obstructions = s.obstructions } };
 }

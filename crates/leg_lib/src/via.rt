@@ -6,13 +6,14 @@ ghost use Rattle.leg_lex.specs.Until.{over};
 ghost use Rattle.leg_lib.specs.Via.{flag_at, flags_at, no_via_parts, layer_of_via, spoils, via_part, is_good, kept, via_at, with_via};
 
 use crate::geometry::Drawing;
+use crate::good_via::{raw_parts, raw_uses};
 use crate::items::Items;
 use crate::joins::{is_wiring_word, joins_layers};
 use crate::named::second_definition;
 use crate::raw::{RawShape, RawVia};
 use crate::raw_library::RawLibrary;
 use leg_lex::{Cursor, FaultKind, Name, ReadFault};
-use std::alloc::Allocator;
+use std::alloc::{AllocError, Allocator};
 use std::marker::Model;
 
 /// Which words stand between a via's name and its statements.
@@ -194,15 +195,19 @@ fn parts<A: Allocator + Copy>(
 
 /// Whether a via of this name and of these statements is good.
 fn is_good<A: Allocator + Copy>(
+    alloc: A,
     library: &RawLibrary<'_, A>,
     name: &[u8],
     parts: &ViaParts<A>,
-) -> bool
-    ensures { result ≡ is_good library.now name.now parts.now }
+) -> Result<bool, AllocError>
+    ensures { IfOk result (λ good. good ≡ is_good library.now name.now parts.now) }
 {
-    !parts.is_spoilt
-        && !is_wiring_word(name)
-        && joins_layers(library.layers(), &parts.drawing.shapes)
+    if parts.is_spoilt || is_wiring_word(name) {
+        return Ok(false);
+    }
+    let layers = raw_uses(alloc, library.layers())?;
+    let shapes = raw_parts(alloc, &parts.drawing.shapes)?;
+    Ok(joins_layers(&layers, &shapes))
 }
 
 /// The shapes that are kept: those of a good via.
@@ -230,7 +235,7 @@ fn via<'a, A: Allocator + Copy>(
     let statements = words.statements(alloc)?;
     let parts = parts(alloc, library, &statements)?;
     words.end_of(name)?;
-    let good = is_good(library, name, &parts);
+    let good = is_good(alloc, library, name, &parts)?;
     Ok(RawVia {
         name: Name::new(name),
         default_via: flags.is_default,

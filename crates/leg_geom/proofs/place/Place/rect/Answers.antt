@@ -14,4 +14,4 @@ returns c =
     let opposite = rw (width, height) at c.point-opposite.ensures in
     let is : c.between.result ≡ placed_rect place.at place.orient c.args.width c.args.height c.args.rect.now =
     placed_rect-corners _ _ _ _ _ _ _ _ _ _ corners.lower_left corners.upper_right corner opposite c.between.ensures.x c.between.ensures.y in
-    record { is = is; image = rw is (IsImage-placed_rect place.at place.orient c.args.width c.args.height _ corners.proper) }
+    record { is = is; image = rw is (IsImage-placed_rect place.at place.orient c.args.width c.args.height _ corners.proper); proper = c.between.ensures.proper }

@@ -1,0 +1,5 @@
+//! What LEF texts say, field by field: tests of `leg_lib` over texts.
+#![tactic(auto)]
+
+#[cfg(test)]
+mod tests;
