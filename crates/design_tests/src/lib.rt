@@ -1,0 +1,5 @@
+//! What DEF texts say, field by field: tests of `leg_design` over texts.
+#![tactic(auto)]
+
+#[cfg(test)]
+mod tests;

@@ -1,0 +1,6 @@
+//! The records that texts say, against values that were written down by hand.
+
+mod block;
+mod frame;
+mod nets;
+mod paths;

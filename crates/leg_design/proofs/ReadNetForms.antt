@@ -1,0 +1,235 @@
+-- What the forms of a DEF say of nets is well-formed.
+use Rattle.std.proofs.Common.{◌≡◌, ◌≤◌, Bool, true, false, ◌==◌, List, [], ◌++◌, length, Contains, Option, is_some, codes, ⊎_elim, refl, arith}
+use Rattle.std.proofs.lemmas.Bool.{true≢false}
+use Rattle.std.proofs.lemmas.List.Elements.{All-nil, Contains-append_left, Contains-append_right, Contains-append_cases}
+use Rattle.leg_lex.specs.Words.{Words, is_at}
+use Rattle.leg_lib.specs.Records.{Contents}
+use Rattle.leg_design.specs.declared.limits.TheConstants.{ENTRY_LIMIT, PART_LIMIT}
+use Rattle.leg_design.specs.Guard.{when, unless}
+use Rattle.leg_design.specs.Known.{KnownSaid}
+use Rattle.leg_design.specs.Header.{word_after, design_name_at, units_at}
+use Rattle.leg_design.specs.Die.{die_at}
+use Rattle.leg_design.specs.Row.{row_at}
+use Rattle.leg_design.specs.Track.{track_at}
+use Rattle.leg_design.specs.Via.{vias_at}
+use Rattle.leg_design.specs.Component.{components_at}
+use Rattle.leg_design.specs.Pin.{pins_at}
+use Rattle.leg_design.specs.LonePins.{NetLists}
+use Rattle.leg_design.specs.Records.{NetSaid, wire_count}
+use Rattle.leg_design.specs.Form.{DesignParts, no_parts, known, divider_form, bus_form, name_form, units_form, die_form, row_form, track_form, vias_form, components_form, pins_form, nets_form, special_form, past_form, header_form, form_at}
+use Rattle.leg_design.specs.WellFormedNets.{AreInOneNet}
+use Rattle.leg_design.proofs.Gives.{Gives, gives_some, gives_bind, gives_skip, gives_if, unless_gives}
+use Rattle.leg_design.proofs.ReadNets.{IsKnownNet, AreEntries, nets_give}
+use Rattle.leg_design.proofs.ReadLonePins.{HasEntries}
+use Rattle.leg_design.proofs.MoreKnown.{Grows, nets_grow, vias_grow, components_grow, pins_grow}
+
+abbrev pub lists_of : List NetSaid → List NetSaid → NetLists
+lists_of nets special = record { nets = nets; special = special }
+
+-- The entries so far; what they may name is empty where it didn't stand yet.
+pub record HasNetsSoFar (before : KnownSaid) (vias components pins : Bool) (nets special : List NetSaid) : Type 0 where
+  pub no_vias : vias ≡ false → before.vias ≡ []
+  pub no_components : components ≡ false → before.components ≡ []
+  pub no_pins : pins ≡ false → before.pins ≡ []
+  pub entries : HasEntries before (lists_of nets special)
+
+abbrev pub HasNetParts : Contents → DesignParts → Type 0
+HasNetParts library parts =
+    HasNetsSoFar (known library parts) parts.stood.vias parts.stood.components parts.stood.pins parts.nets parts.special
+
+entries_grow : (before next : KnownSaid) (lists : NetLists) → Grows before next → HasEntries before lists → HasEntries next lists
+entries_grow before next lists grows entries = record {
+  nets = nets_grow before next false lists.nets grows entries.nets;
+  nets_apart = entries.nets_apart;
+  special = nets_grow before next true lists.special grows entries.special;
+  special_apart = entries.special_apart;
+  one_net = entries.one_net;
+  few = entries.few;
+  few_wires = entries.few_wires;
+}
+
+-- the order of the two sections doesn't matter
+other_order : (nets special : List NetSaid) → AreInOneNet (nets ++ special) → AreInOneNet (special ++ nets)
+other_order nets special before a b t in_a in_b = before a b t (moved a in_a) (moved b in_b) where
+  moved : (c : NetSaid) → Contains (special ++ nets) c → Contains (nets ++ special) c
+  moved c there =
+      ⊎_elim (λ here. Contains-append_right nets special c here) (λ other. Contains-append_left nets special c other)
+      (Contains-append_cases special nets c there)
+
+-- the other section is all of them
+only_others : (nets others : List NetSaid) → AreInOneNet (nets ++ others) → AreInOneNet others
+only_others nets others before a b t in_a in_b =
+    before a b t (Contains-append_right nets others a in_a) (Contains-append_right nets others b in_b)
+
+-- a section begins, beside the other's entries
+begins : (before : KnownSaid) (special : Bool) (others : List NetSaid) → AreInOneNet others → length others ≤ ENTRY_LIMIT → wire_count others ≤ PART_LIMIT → AreEntries before special others []
+begins before special others one_net few few_wires = record {
+  each = All-nil (IsKnownNet before special);
+  apart = λ i less. absurd (omega arith);
+  one_net = one_net;
+  few = omega arith;
+  few_wires = omega arith;
+}
+
+never : {P : Type 0} → true ≡ false → P
+never is = absurd (true≢false is)
+
+module _ (library : Contents) (parts : DesignParts) (words : Words) (sound : HasNetParts library parts) where
+  -- where something is said, this still holds
+  abbrev Keeps : Option (DesignParts × Words) → Type 0
+  Keeps said = Gives (λ (next : DesignParts × Words). HasNetParts library next.0) said
+
+  divider_keeps : Keeps (divider_form parts words)
+  unfolding divider_form
+  divider_keeps = gives_skip (unless (is_some parts.divider)) (λ once. gives_skip (word_after (codes "DIVIDERCHAR") words) (λ word. gives_some _ sound))
+
+  bus_keeps : Keeps (bus_form parts words)
+  unfolding bus_form
+  bus_keeps = gives_skip (unless (is_some parts.bus)) (λ once. gives_skip (word_after (codes "BUSBITCHARS") words) (λ word. gives_some _ sound))
+
+  name_keeps : Keeps (name_form parts words)
+  unfolding name_form
+  name_keeps = gives_skip (unless (is_some parts.name)) (λ once. gives_skip (design_name_at words) (λ name. gives_some _ sound))
+
+  units_keeps : Keeps (units_form library parts words)
+  unfolding units_form
+  units_keeps =
+      gives_skip (unless parts.stood.units) (λ once.
+      gives_skip (units_at words) (λ n.
+      gives_skip (when (n.0 == library.units)) (λ same. gives_some _ sound)))
+
+  die_keeps : Keeps (die_form parts words)
+  unfolding die_form
+  die_keeps = gives_skip (unless (is_some parts.die)) (λ once. gives_skip (die_at words) (λ die. gives_some _ sound))
+
+  row_keeps : Keeps (row_form library parts words)
+  unfolding row_form
+  row_keeps = gives_skip (row_at library words) (λ row. gives_some _ sound)
+
+  track_keeps : Keeps (track_form library parts words)
+  unfolding track_form
+  track_keeps = gives_skip (track_at library words) (λ track. gives_some _ sound)
+
+  vias_keep : Keeps (vias_form library parts words)
+  unfolding vias_form
+  vias_keep =
+      gives_bind (unless_gives parts.stood.vias) (λ once new.
+      gives_skip (vias_at library words) (λ vias.
+      let grows = vias_grow (known library parts) vias.0 (sound.no_vias new) in
+      gives_some _ (record {
+        no_vias = never;
+        no_components = sound.no_components;
+        no_pins = sound.no_pins;
+        entries = entries_grow (known library parts) _ (lists_of parts.nets parts.special) grows sound.entries;
+      })))
+
+  components_keep : Keeps (components_form library parts words)
+  unfolding components_form
+  components_keep =
+      gives_bind (unless_gives parts.stood.components) (λ once new.
+      gives_skip (components_at library words) (λ components.
+      let grows = components_grow (known library parts) components.0 (sound.no_components new) in
+      gives_some _ (record {
+        no_vias = sound.no_vias;
+        no_components = never;
+        no_pins = sound.no_pins;
+        entries = entries_grow (known library parts) _ (lists_of parts.nets parts.special) grows sound.entries;
+      })))
+
+  pins_keep : Keeps (pins_form library parts words)
+  unfolding pins_form
+  pins_keep =
+      gives_bind (unless_gives parts.stood.pins) (λ once new.
+      gives_skip (pins_at library words) (λ pins.
+      let grows = pins_grow (known library parts) pins.0 (sound.no_pins new) in
+      gives_some _ (record {
+        no_vias = sound.no_vias;
+        no_components = sound.no_components;
+        no_pins = never;
+        entries = entries_grow (known library parts) _ (lists_of parts.nets parts.special) grows sound.entries;
+      })))
+
+  nets_keep : Keeps (nets_form library parts words)
+  unfolding nets_form
+  nets_keep =
+      let entries = sound.entries in
+      let few = entries.few in
+      let few_wires = entries.few_wires in
+      gives_skip (unless parts.stood.nets) (λ once.
+      gives_bind (nets_give (known library parts) false parts.special (begins (known library parts) false parts.special (only_others parts.nets parts.special entries.one_net) (omega arith) (omega arith)) words) (λ nets are.
+      gives_some _ (record {
+        no_vias = sound.no_vias;
+        no_components = sound.no_components;
+        no_pins = sound.no_pins;
+        entries = record {
+          nets = are.each;
+          nets_apart = are.apart;
+          special = entries.special;
+          special_apart = entries.special_apart;
+          one_net = are.one_net;
+          few = are.few;
+          few_wires = are.few_wires;
+        };
+      })))
+
+  special_keep : Keeps (special_form library parts words)
+  unfolding special_form
+  special_keep =
+      let entries = sound.entries in
+      let few = entries.few in
+      let few_wires = entries.few_wires in
+      gives_skip (unless parts.stood.special) (λ once.
+      gives_bind (nets_give (known library parts) true parts.nets (begins (known library parts) true parts.nets (only_others parts.special parts.nets (other_order parts.nets parts.special entries.one_net)) (omega arith) (omega arith)) words) (λ special are.
+      let few_too = are.few in
+      let few_wires_too = are.few_wires in
+      gives_some _ (record {
+        no_vias = sound.no_vias;
+        no_components = sound.no_components;
+        no_pins = sound.no_pins;
+        entries = record {
+          nets = entries.nets;
+          nets_apart = entries.nets_apart;
+          special = are.each;
+          special_apart = are.apart;
+          one_net = other_order special.0 parts.nets are.one_net;
+          few = omega arith;
+          few_wires = omega arith;
+        };
+      })))
+
+  header_keeps : Keeps (header_form library parts words)
+  unfolding header_form
+  header_keeps =
+      gives_if (is_at (codes "DIVIDERCHAR") words) divider_keeps
+      (gives_if (is_at (codes "BUSBITCHARS") words) bus_keeps
+      (gives_if (is_at (codes "DESIGN") words) name_keeps
+      (gives_if (is_at (codes "UNITS") words) units_keeps
+      (gives_if (is_at (codes "DIEAREA") words) die_keeps
+      (gives_if (is_at (codes "ROW") words) row_keeps
+      (gives_if (is_at (codes "TRACKS") words) track_keeps
+      (gives_skip (past_form words) (λ form. gives_some _ sound))))))))
+
+  pub net_form_keeps : Keeps (form_at library parts words)
+  unfolding form_at
+  net_form_keeps =
+      gives_if (is_at (codes "VIAS") words) vias_keep
+      (gives_if (is_at (codes "COMPONENTS") words) components_keep
+      (gives_if (is_at (codes "PINS") words) pins_keep
+      (gives_if (is_at (codes "SPECIALNETS") words) special_keep
+      (gives_if (is_at (codes "NETS") words) nets_keep header_keeps))))
+
+pub no_net_parts : (library : Contents) → HasNetParts library no_parts
+no_net_parts library = record {
+  no_vias = λ new. refl;
+  no_components = λ new. refl;
+  no_pins = λ new. refl;
+  entries = record {
+    nets = All-nil (IsKnownNet (known library no_parts) false);
+    nets_apart = λ i less. absurd (omega arith);
+    special = All-nil (IsKnownNet (known library no_parts) true);
+    special_apart = λ i less. absurd (omega arith);
+    one_net = λ a b t in_a in_b lists_a lists_b. let less = in_a.1 in absurd (omega arith);
+    few = omega arith;
+    few_wires = omega arith;
+  };
+}

@@ -1,0 +1,38 @@
+-- The whole numbers that words say are within their limit.
+use Rattle.std.proofs.Common.{◌≡◌, ℕ, Bool, true, false, List, [], ◌∷◌, ℤ, unsigned_abs, Some, Result, Ok, Err, nat_le, refl, arith}
+use Rattle.std.proofs.lemmas.Int.{ints}
+use Rattle.std.proofs.lemmas.Bool.Decides.{nat_tests}
+use Rattle.std.specs.Str.Parse.{digits_value}
+use Rattle.leg_lex.specs.declared.limits.TheConstants.{NUMBER_LIMIT}
+use Rattle.leg_lex.specs.declared.fault.NumFault.{NumFault}
+use Rattle.leg_lex.specs.Number.{IsNumber, whole_of, is_whole, is_negative, without_sign, within, signed}
+use Rattle.leg_lex.specs.Words.{Words, next_at, whole_at}
+use Rattle.leg_lex.proofs.Said.{made_is}
+
+magnitude : (negative : Bool) (n : ℕ) → unsigned_abs (signed negative n) ≡ n
+magnitude true n = omega (arith, ints)
+magnitude false n = refl
+
+within_is : (negative : Bool) (n : ℕ) (z : ℤ) → within NUMBER_LIMIT negative n ≡ Ok z → IsNumber z
+within_is negative n z is = by (nat_le n NUMBER_LIMIT) refl where
+  by : (small : Bool) → nat_le n NUMBER_LIMIT ≡ small → IsNumber z
+  by true small =
+      let same : signed negative n ≡ z = cc (rw small at is) in
+      rw (← same, magnitude negative n) (grind (arith, nat_tests))
+  by false large = absurd (let e : ⊥ = cc (rw large at is) in e)
+
+whole_of_is : (word : List ℕ) (z : ℤ) → whole_of word ≡ Ok z → IsNumber z
+whole_of_is word z is = by (is_whole word) refl where
+  by : (whole : Bool) → is_whole word ≡ whole → IsNumber z
+  by true whole = within_is (is_negative word) (digits_value 10 (without_sign word)) z (rw whole at is)
+  by false other = absurd (let e : ⊥ = cc (rw other at is) in e)
+
+pub whole_is_number : (words : Words) (z : ℤ) (rest : Words) → whole_at words ≡ Some (z, rest) → IsNumber z
+unfolding whole_at next_at
+whole_is_number [] z rest said = absurd (let e : ⊥ = cc in e)
+whole_is_number (word ∷ words) z rest said = by (whole_of word) refl where
+  by : (number : Result ℤ NumFault) → whole_of word ≡ number → IsNumber z
+  by (Ok y) is =
+      let same : y ≡ z = made_is y z words rest (rw is at said) in
+      whole_of_is word z (rw (← same) is)
+  by (Err fault) is = absurd (let e : ⊥ = cc (rw is at said) in e)

@@ -1,0 +1,12 @@
+use Rattle.std.proofs.Common.{◌≡◌, length}
+use Rattle.leg_lex.specs.Until.{until}
+use Rattle.leg_lex.specs.Statements.{at_end}
+use Rattle.leg_design.specs.Form.{no_parts, form_at}
+use Rattle.leg_design.proofs.form.forms.Given as goal
+
+abbrev pub invariant-forms : goal.invariant-forms
+invariant-forms g l =
+    until at_end (form_at l.library) l.parts l.words ≡ until at_end (form_at l.library) no_parts l.initial.words
+
+abbrev pub decreases-forms : goal.decreases-forms
+decreases-forms g l = length l.words

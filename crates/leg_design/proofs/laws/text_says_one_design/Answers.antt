@@ -1,0 +1,7 @@
+use Rattle.std.proofs.Common.{sym}
+use Rattle.leg_lex.proofs.Saying.{says_one}
+use Rattle.leg_design.specs.Form.{design_in}
+use Rattle.leg_design.proofs.laws.text_says_one_design.Goals as goal
+
+pub returns : goal.returns
+returns c = λ library same text a b equal first second. says_one (design_in library) text a b first (rw (sym equal) at second)

@@ -1,0 +1,18 @@
+-- Conditions of a form.
+use Rattle.std.specs.Prelude.{Bool, true, false, [], ◌∷◌, Option, None, Some}
+use Rattle.leg_lex.specs.Words.{Words}
+
+-- nothing is said unless the test is met
+abbrev pub when : Bool → Option (Unit {0})
+when true = Some tt
+when false = None
+
+-- nothing is said where the test is met
+abbrev pub unless : Bool → Option (Unit {0})
+unless true = None
+unless false = Some tt
+
+-- no word is left
+abbrev pub is_over : Words → Bool
+is_over [] = true
+is_over (word ∷ words) = false

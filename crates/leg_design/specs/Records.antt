@@ -1,0 +1,77 @@
+-- What a DEF text says, as records.
+use Rattle.std.specs.Prelude.{ℕ, ℤ, List, [], ◌∷◌, ◌+◌, length, map, Option}
+use Rattle.leg_geom.specs.Plane.{Sides}
+use Rattle.leg_geom.specs.declared.place.Place.{Place}
+use Rattle.leg_lib.specs.declared.records.Shape.{Shape}
+use Rattle.leg_lib.specs.Records.{Contents, ViaSaid}
+use Rattle.leg_design.specs.declared.records.Status.{Status}
+use Rattle.leg_design.specs.declared.records.Axis.{Axis}
+use Rattle.leg_design.specs.declared.records.Row.{Row}
+use Rattle.leg_design.specs.declared.records.Component.{Component}
+use Rattle.leg_design.specs.declared.records.Terminal.{Terminal}
+use Rattle.leg_design.specs.declared.records.Wire.{Wire}
+
+-- tracks at start + k * step for k from 0 below the count, on these layers or on all
+pub record TrackSaid : Type 0 where
+  pub axis : Axis
+  pub start : ℤ
+  pub count : ℤ
+  pub step : ℤ
+  pub layers : List ℕ
+
+-- a port of a design pin; its shapes are those of the pin at the point 0 0 in orientation N
+pub record PortSaid : Type 0 where
+  pub shapes : List Shape
+  pub status : Status
+  pub place : Option Place
+
+-- a design pin; its net, direction and use are kept as they are written
+pub record PinSaid : Type 0 where
+  pub name : List ℕ
+  pub net_name : Option (List ℕ)
+  pub direction : Option (List ℕ)
+  pub usage : Option (List ℕ)
+  pub ports : List PortSaid
+
+-- an entry of NETS or SPECIALNETS
+pub record NetSaid : Type 0 where
+  pub name : List ℕ
+  pub usage : Option (List ℕ)
+  pub terminals : List Terminal
+  pub wires : List Wire
+
+-- a design under its library, in file order
+pub record DesignContents : Type 0 where
+  pub library : Contents
+  pub name : List ℕ
+  pub divider : Option (List ℕ)
+  pub bus : Option (List ℕ)
+  pub die : Sides
+  pub rows : List Row
+  pub tracks : List TrackSaid
+  pub vias : List ViaSaid
+  pub components : List Component
+  pub pins : List PinSaid
+  pub nets : List NetSaid
+  pub special : List NetSaid
+
+abbrev pub design_via_names : List ViaSaid → List (List ℕ)
+design_via_names vias = map (λ v. v.name) vias
+
+abbrev pub component_names : List Component → List (List ℕ)
+component_names components = map (λ c. c.name) components
+
+abbrev pub pin_names : List PinSaid → List (List ℕ)
+pin_names pins = map (λ p. p.name) pins
+
+abbrev pub net_names : List NetSaid → List (List ℕ)
+net_names nets = map (λ n. n.name) nets
+
+-- how many terminals the entries list, each counted once in an entry
+abbrev pub terminal_count : List NetSaid → ℕ
+terminal_count [] = 0
+terminal_count (net ∷ nets) = length net.terminals + terminal_count nets
+
+abbrev pub wire_count : List NetSaid → ℕ
+wire_count [] = 0
+wire_count (net ∷ nets) = length net.wires + wire_count nets

@@ -1,0 +1,112 @@
+//! The forms of a DEF text (LEF/DEF 5.8, "DEF Syntax").
+
+ghost use Rattle.std.specs.Prelude.{codes};
+ghost use Rattle.leg_lex.specs.Words.{Reads, Means};
+ghost use Rattle.leg_lex.specs.Until.{until};
+ghost use Rattle.leg_lex.specs.Statements.{at_end};
+ghost use Rattle.leg_design.specs.Form.{no_parts, header_form, form_at, design_in};
+
+use crate::design::{Design, Fields};
+use crate::parts::Parts;
+use crate::skipped::past_form;
+use leg_lex::{Cursor, ReadFault};
+use leg_lib::Library;
+use std::alloc::Allocator;
+
+/// A form that stands before the sections.
+#[tactic(auto, unfolding(crate::specs::Form::header_form))]
+fn header_form<'a, A: Allocator + Copy>(
+    alloc: A,
+    library: &Library<'a, A>,
+    parts: &mut Parts<'a, A>,
+    words: &mut Cursor<'_, 'a>,
+) -> Result<(), ReadFault>
+    ensures { Reads (λ _. parts.new) result words.new (header_form library.now parts.old words.old) }
+{
+    if words.is_at(b"DIVIDERCHAR") {
+        parts.divider_form(words)
+    } else if words.is_at(b"BUSBITCHARS") {
+        parts.bus_form(words)
+    } else if words.is_at(b"DESIGN") {
+        parts.name_form(words)
+    } else if words.is_at(b"UNITS") {
+        parts.units_form(library, words)
+    } else if words.is_at(b"DIEAREA") {
+        parts.die_form(alloc, words)
+    } else if words.is_at(b"ROW") {
+        parts.row_form(alloc, library, words)
+    } else if words.is_at(b"TRACKS") {
+        parts.track_form(alloc, library, words)
+    } else {
+        past_form(words)
+    }
+}
+
+/// One form.
+#[tactic(auto, unfolding(crate::specs::Form::form_at))]
+fn form<'a, A: Allocator + Copy>(
+    alloc: A,
+    library: &Library<'a, A>,
+    parts: &mut Parts<'a, A>,
+    words: &mut Cursor<'_, 'a>,
+) -> Result<(), ReadFault>
+    ensures { Reads (λ _. parts.new) result words.new (form_at library.now parts.old words.old) }
+{
+    if words.is_at(b"VIAS") {
+        parts.vias_form(alloc, library, words)
+    } else if words.is_at(b"COMPONENTS") {
+        parts.components_form(alloc, library, words)
+    } else if words.is_at(b"PINS") {
+        parts.pins_form(alloc, library, words)
+    } else if words.is_at(b"SPECIALNETS") {
+        parts.special_form(alloc, library, words)
+    } else if words.is_at(b"NETS") {
+        parts.nets_form(alloc, library, words)
+    } else {
+        header_form(alloc, library, parts, words)
+    }
+}
+
+/// The forms of a DEF, up to the `END` in a form's place.
+#[tactic(auto, using(crate::proofs::Forms::forms_end, crate::proofs::Forms::forms_on, crate::proofs::Forms::forms_fail, crate::proofs::FormsShorter::form_shorter))]
+fn forms<'a, A: Allocator + Copy>(
+    alloc: A,
+    library: &Library<'a, A>,
+    words: &mut Cursor<'_, 'a>,
+) -> Result<Parts<'a, A>, ReadFault>
+    ensures { Reads (λ parts. parts) result words.new (until at_end (form_at library.now) no_parts words.old) }
+{
+    let mut parts = Parts::new(alloc);
+    'forms: while !words.is_at(b"END") {
+        form(alloc, library, &mut parts, words)?;
+    }
+    Ok(parts)
+}
+
+/// The fields of the design that the words of a DEF say under a library.
+#[tactic(auto, unfolding(crate::specs::Form::design_in))]
+fn design_fields<'a, A: Allocator + Copy>(
+    alloc: A,
+    library: &'a Library<'a, A>,
+    words: &mut Cursor<'_, 'a>,
+) -> Result<Fields<'a, A>, ReadFault>
+    ensures { Means (λ d. d) result (design_in library.now words.old) }
+{
+    let parts = forms(alloc, library, words)?;
+    let end = words.again();
+    words.end(b"DESIGN")?;
+    words.nothing_more()?;
+    parts.design(library, &end)
+}
+
+/// The design that the words of a DEF say under a library.
+pub(crate) fn design_words<'a, A: Allocator + Copy>(
+    alloc: A,
+    library: &'a Library<'a, A>,
+    words: &mut Cursor<'_, 'a>,
+) -> Result<Design<'a, A>, ReadFault>
+    ensures { Means (λ d. d) result (design_in library.now words.old) }
+{
+    let fields = design_fields(alloc, library, words)?;
+    Ok(Design::new(fields))
+}

@@ -1,0 +1,81 @@
+//! The pins of a design, in file order.
+
+ghost use Rattle.std.specs.Prelude.{◌≡◌, ◌∷◌, ◌++◌, [], length, None, OnOk, OnErr};
+ghost use Rattle.leg_lex.specs.Named.{place_of};
+ghost use Rattle.leg_design.specs.Records.{pin_names};
+
+use crate::records::Pin;
+use leg_lex::Names;
+use std::alloc::{AllocError, Allocator};
+use std::marker::Model;
+
+/// The pins of a design, in file order. No two have one name. Contracts see it as the list of them.
+#[derive(Drop)]
+pub(crate) struct PinTable<'a, A: Allocator + Copy> {
+    items: Vec<Pin<'a, A>, A>,
+    names: Names<'a, A>,
+}
+
+impl<'a, A: Allocator + Copy> Model for PinTable<'a, A> {
+    ghost use Rattle.std.specs.Prelude.{◌≡◌, List};
+    ghost use Rattle.leg_design.specs.Records.{PinSaid};
+    ghost use Rattle.leg_design.specs.Records.{pin_names};
+
+    ghost Value = { List PinSaid };
+
+    ghost view = { λ t. t.items.items };
+
+    ghost invariant = { λ t. t.names ≡ pin_names t.items.items };
+}
+
+impl<'a, A: Allocator + Copy> PinTable<'a, A> {
+    /// An empty list.
+    pub(crate) fn new(alloc: A) -> PinTable<'a, A>
+        ensures { result ≡ [] }
+    {
+        PinTable {
+            items: Vec::new(alloc),
+            names: Names::new(alloc),
+        }
+    }
+
+    /// All of them.
+    pub(crate) fn as_slice(&self) -> &[Pin<'a, A>]
+        ensures { result.now ≡ self.now }
+    {
+        self.items.as_slice()
+    }
+
+    /// How many there are.
+    pub(crate) fn len(&self) -> usize
+        ensures { result ≡ length self.now }
+    {
+        self.items.len()
+    }
+
+    /// The number of the one of this name.
+    pub(crate) fn place_of(&self, name: &[u8]) -> Option<usize>
+        ensures { result ≡ place_of name.now (pin_names self.now) }
+    {
+        self.names.place_of(name)
+    }
+
+    /// Adds one whose name is new. Where memory is refused, nothing changes.
+    pub(crate) fn push(&mut self, item: Pin<'a, A>) -> Result<(), AllocError>
+        requires { place_of item.name (pin_names self.old) ≡ None }
+        ensures pushed { OnOk result (self.new ≡ self.old ++ item.entry ∷ []) }
+        ensures unchanged { OnErr result (self.new ≡ self.old) }
+    {
+        self.items.reserve(1)?;
+        self.names.push(item.name.bytes())?;
+        self.items.push(item).unwrap();
+        Ok(())
+    }
+
+    /// The list without the names.
+    pub(crate) fn into_vec(self) -> Vec<Pin<'a, A>, A>
+        ensures { result.items ≡ self.entry }
+    {
+        self.items
+    }
+}

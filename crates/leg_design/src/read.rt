@@ -1,0 +1,53 @@
+//! What a DEF text says.
+
+ghost use Rattle.std.specs.Prelude.{ℕ, ◌≡◌, ◌≢◌, ◌<◌, ◌≤◌, length, IfOk, IfErr};
+ghost use Rattle.leg_lex.specs.declared.limits.TheConstants.{TEXT_LIMIT, UNITS_LIMIT};
+ghost use Rattle.leg_lex.specs.declared.read_fault.FaultKind.TheVariants.{Memory};
+ghost use Rattle.leg_lex.specs.Say.{Says};
+ghost use Rattle.leg_design.specs.Records.{DesignContents};
+ghost use Rattle.leg_design.specs.Header.{units_in};
+ghost use Rattle.leg_design.specs.Form.{design_in};
+
+use crate::design::Design;
+use crate::form::design_words;
+use crate::header::units_anywhere;
+use leg_lex::{Cursor, ReadFault, file_words};
+use leg_lib::Library;
+use std::alloc::Allocator;
+
+/// The database units of a micron that a DEF says, from 1 to 20,000, at the first place where its `UNITS` stand.
+///
+/// A fault tells the text by the number 0, and in it the line of the word at fault.
+pub fn def_units<A: Allocator + Copy>(alloc: A, text: &[u8]) -> Result<u32, ReadFault>
+    ensures found { IfOk result (λ n. Says units_in text.now n) }
+    ensures limits { IfOk result (λ n. (1 ≤ n) × (n ≤ UNITS_LIMIT)) }
+    // The text says no other number.
+    ensures only { IfOk result (λ n. (said : ℕ) → Says units_in text.now said → said ≡ n) }
+    // A text that is too long is never told as want of memory.
+    ensures too_long { IfErr result (λ fault. TEXT_LIMIT < length text.now → fault.kind ≢ Memory) }
+    ensures none { IfErr result (λ fault. fault.kind ≢ Memory → (said : ℕ) → ¬ Says units_in text.now said) }
+{
+    let tokens = file_words(alloc, 0, text)?;
+    units_anywhere(&mut Cursor::new(0, &tokens))
+}
+
+/// The design that a DEF says under a library.
+///
+/// A fault tells the text by the number 0, and in it the line of the word at fault.
+pub fn read_def<'a, A: Allocator + Copy>(
+    alloc: A,
+    library: &'a Library<'a, A>,
+    text: &'a [u8],
+) -> Result<Design<'a, A>, ReadFault>
+    ensures found { IfOk result (λ design. Says (design_in library.now) text.now design) }
+    // The text says no other design.
+    ensures only { IfOk result (λ design. (said : DesignContents)
+        → Says (design_in library.now) text.now said → said ≡ design) }
+    // A text that is too long is never told as want of memory.
+    ensures too_long { IfErr result (λ fault. TEXT_LIMIT < length text.now → fault.kind ≢ Memory) }
+    ensures none { IfErr result (λ fault. fault.kind ≢ Memory
+        → (said : DesignContents) → ¬ Says (design_in library.now) text.now said) }
+{
+    let tokens = file_words(alloc, 0, text)?;
+    design_words(alloc, library, &mut Cursor::new(0, &tokens))
+}

@@ -1,0 +1,79 @@
+//! The forms that say nothing of a design (LEF/DEF 5.8, "DEF Syntax"; own rule).
+
+ghost use Rattle.std.specs.Prelude.{◌≡◌, codes};
+ghost use Rattle.leg_lex.specs.Words.{Reads};
+ghost use Rattle.leg_design.specs.Form.{is_past_statement, is_past_section, past_section, past_extension, past_form};
+
+use leg_lex::{Cursor, FaultKind, ReadFault};
+
+/// Whether a statement stands there that says nothing.
+fn is_past_statement(words: &Cursor<'_, '_>) -> bool
+    ensures { result ≡ is_past_statement words.now }
+{
+    words.is_at(b"VERSION")
+        || words.is_at(b"NAMESCASESENSITIVE")
+        || words.is_at(b"TECHNOLOGY")
+        || words.is_at(b"HISTORY")
+        || words.is_at(b"GCELLGRID")
+}
+
+/// Whether a section begins there that says nothing.
+fn is_past_section(words: &Cursor<'_, '_>) -> bool
+    ensures { result ≡ is_past_section words.now }
+{
+    words.is_at(b"PROPERTYDEFINITIONS")
+        || words.is_at(b"NONDEFAULTRULES")
+        || words.is_at(b"REGIONS")
+        || words.is_at(b"FILLS")
+        || words.is_at(b"SLOTS")
+        || words.is_at(b"STYLES")
+        || words.is_at(b"SCANCHAINS")
+        || words.is_at(b"GROUPS")
+        || words.is_at(b"PINPROPERTIES")
+}
+
+/// A keyword, and everything up to `END` and the keyword.
+#[tactic(auto, using(crate::proofs::Skips::past_section_from, crate::proofs::Skips::past_section_of_none))]
+fn past_section(words: &mut Cursor<'_, '_>) -> Result<(), ReadFault>
+    ensures { Reads (λ x. x) result words.new (past_section words.old) }
+{
+    let keyword = words.any()?;
+    words.past_end(keyword)
+}
+
+/// `BEGINEXT`, and everything up to `ENDEXT`.
+#[tactic(auto, unfolding(crate::specs::Form::past_extension))]
+fn past_extension(words: &mut Cursor<'_, '_>) -> Result<(), ReadFault>
+    ensures { Reads (λ x. x) result words.new (past_extension words.old) }
+{
+    words.keyword(b"BEGINEXT")?;
+    words.past_keyword(b"ENDEXT")
+}
+
+/// The fault of words that begin no form.
+fn no_form(words: &Cursor<'_, '_>) -> ReadFault {
+    if words.is_at_end() {
+        words.fault(FaultKind::UnexpectedEnd)
+    } else if words.is_at(b"BLOCKAGES") {
+        words.fault(FaultKind::Unsupported)
+    } else {
+        words.fault(FaultKind::Unexpected)
+    }
+}
+
+/// A form that says nothing. A word that begins no form is `Unexpected`, or `Unsupported` where it is left out by name.
+#[tactic(auto, unfolding(crate::specs::Form::past_form))]
+pub(crate) fn past_form(words: &mut Cursor<'_, '_>) -> Result<(), ReadFault>
+    ensures { Reads (λ x. x) result words.new (past_form words.old) }
+{
+    if is_past_statement(words) {
+        words.statement()?;
+        Ok(())
+    } else if is_past_section(words) {
+        past_section(words)
+    } else if words.is_at(b"BEGINEXT") {
+        past_extension(words)
+    } else {
+        Err(no_form(words))
+    }
+}
