@@ -10,8 +10,7 @@ use Rattle.leg_app.specs.Answer.{IsAnswer}
 pub IsAnswer-memory : (command : Command) (lefs : List (List ℕ)) (def : List ℕ) → IsAnswer command lefs def Memory memory_text
 IsAnswer-memory PlaceCheck lefs def = refl
 
--- what an answer is to all texts of which P holds, it is to these
-pub ok_at : {T E : Type 0} (P : List (List ℕ) → List ℕ → Type 0) (Q : List (List ℕ) → List ℕ → T → Type 0) (r : Result T E) (lefs : List (List ℕ)) (def : List ℕ)
-    → IfOk r (λ t. (ls : List (List ℕ)) (d : List ℕ) → P ls d → Q ls d t) → P lefs def → IfOk r (λ t. Q lefs def t)
-ok_at P Q (Ok t) lefs def all holds = all lefs def holds
-ok_at P Q (Err e) lefs def all holds = tt
+-- what is weaker holds of what is answered too
+pub ok_weaker : {T E : Type 0} (P Q : T → Type 0) (r : Result T E) → ((t : T) → P t → Q t) → IfOk r P → IfOk r Q
+ok_weaker P Q (Ok t) weaker holds = weaker t holds
+ok_weaker P Q (Err e) weaker holds = tt

@@ -1,4 +1,4 @@
-pub mod Blocks
+pub mod Sayings
 pub mod SplitLemmas
 pub mod AnswerLemmas
 pub mod Places
@@ -6,10 +6,3 @@ pub mod Cells
 pub mod Boxes
 pub mod Listing
 pub mod Overlaps
-pub mod Numbers
-pub mod Sought
-pub mod Clauses
-pub mod Corners
-pub mod Fresh
-pub mod Shorter
-pub mod Microns

@@ -9,7 +9,7 @@ use Rattle.leg_sweep.proofs.Lists.{AllPairs-nil}
 use Rattle.leg_app.specs.declared.violation.Violation.{Violation}
 use Rattle.leg_app.specs.declared.violation.Violation.TheVariants.{Unplaced, Outside, Overlap}
 use Rattle.leg_lib.specs.Records.{Contents}
-use Rattle.leg_app.specs.Records.{DesignContents}
+use Rattle.leg_design.specs.Records.{DesignContents}
 use Rattle.leg_app.specs.Faults.{Holds, ComesBefore}
 use Rattle.leg_app.specs.FaultsBefore.{IsListBefore}
 

@@ -11,7 +11,7 @@ use Rattle.leg_app.specs.declared.violation.Violation.{Violation}
 use Rattle.leg_app.specs.declared.violation.Violation.TheVariants.{Unplaced, Outside, Overlap}
 use Rattle.leg_app.specs.declared.placed_box.PlacedBox.{PlacedBox}
 use Rattle.leg_lib.specs.Records.{Contents}
-use Rattle.leg_app.specs.Records.{DesignContents}
+use Rattle.leg_design.specs.Records.{DesignContents}
 use Rattle.leg_app.specs.Faults.{StandsIn, Holds, ComesBefore, kind_number, numbers_of, IsListOf}
 use Rattle.leg_app.specs.FaultsBefore.{IsListBefore, AreBoxesBelow, HasLowerNumber}
 use Rattle.leg_app.proofs.Places.{place_of_contained, All-at, AllPairs-at, lower_first, same_place}

@@ -11,7 +11,7 @@ use Rattle.leg_app.specs.declared.command.Command.TheVariants.{PlaceCheck}
 use Rattle.leg_app.specs.declared.status.Status.{Status}
 use Rattle.leg_app.specs.declared.status.Status.TheVariants.{Success, Violations, Refused, Memory}
 use Rattle.leg_lib.specs.Records.{Contents}
-use Rattle.leg_app.specs.Records.{DesignContents}
+use Rattle.leg_design.specs.Records.{DesignContents}
 use Rattle.leg_app.specs.Say.{SayDesign, SayNothing}
 use Rattle.leg_app.specs.Faults.{IsListOf}
 use Rattle.leg_app.specs.Lines.{violations_text, legal_text, memory_text, refused_text, scale_text}

@@ -1,26 +1,27 @@
 -- What is not legal about a placed design (own rules): components without a place, outside the die, and
 -- on one another. A component is the box of its macro, of which the cells count.
-use Rattle.std.specs.Prelude.{◌≡◌, ℕ, ◌≤◌, ◌<◌, ◌+ℤ◌, List, Option, None, Some, All, AllPairs, Contains, slice_get}
+use Rattle.std.specs.Prelude.{◌≡◌, ℕ, ◌≤◌, ◌<◌, pos, List, Option, None, Some, All, AllPairs, Contains, slice_get}
 use Rattle.leg_lex.specs.Words.{◌>>=◌}
 use Rattle.leg_geom.specs.Plane.{Spot, Sides, HasCell, ShareCell}
+use Rattle.leg_geom.specs.Orientation.{placed_rect}
 use Rattle.leg_sweep.specs.Pairs.{Before}
 use Rattle.leg_app.specs.declared.violation.Violation.{Violation}
 use Rattle.leg_app.specs.declared.violation.Violation.TheVariants.{Unplaced, Outside, Overlap}
 use Rattle.leg_lib.specs.Records.{Contents}
-use Rattle.leg_app.specs.Records.{DesignContents}
-use Rattle.leg_app.specs.declared.design.Component.{Component}
+use Rattle.leg_design.specs.Records.{DesignContents}
+use Rattle.leg_design.specs.declared.records.Component.{Component}
 use Rattle.leg_lib.specs.Measure.{Lengths}
 
--- a box of this size whose lower left corner is the point
-abbrev pub box_at : Lengths → Spot → Sides
-box_at size at = record { x1 = at.x; y1 = at.y; x2 = at.x +ℤ size.width; y2 = at.y +ℤ size.height }
+-- the box of a macro of this size, as it is drawn
+abbrev pub box_of_size : Lengths → Sides
+box_of_size size = record { x1 = pos 0; y1 = pos 0; x2 = size.width; y2 = size.height }
 
--- the box of a component that has a place
+-- the box of a component that has a place: that of its macro, turned as the place says
 abbrev pub box_of : Contents → Component → Option Sides
 box_of library component = do
   master ← slice_get library.masters component.master
-  at ← component.place
-  Some (box_at master.size at)
+  place ← component.place
+  Some (placed_rect place.at place.orient master.size.width master.size.height (box_of_size master.size))
 
 -- component c of the design stands in this box
 pub record StandsIn (library : Contents) (design : DesignContents) (c : ℕ) (box : Sides) : Type 0 where

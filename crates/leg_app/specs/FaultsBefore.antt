@@ -4,7 +4,7 @@ use Rattle.leg_geom.specs.Plane.{Sides}
 use Rattle.leg_app.specs.declared.violation.Violation.{Violation}
 use Rattle.leg_app.specs.declared.placed_box.PlacedBox.{PlacedBox}
 use Rattle.leg_lib.specs.Records.{Contents}
-use Rattle.leg_app.specs.Records.{DesignContents}
+use Rattle.leg_design.specs.Records.{DesignContents}
 use Rattle.leg_app.specs.Faults.{StandsIn, Holds, ComesBefore}
 
 -- the list of the violations that hold and come before the given one: all of them, each once, in order

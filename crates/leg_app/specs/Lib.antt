@@ -1,6 +1,3 @@
-pub mod Measure
-pub mod Records
-pub mod Def
 pub mod Say
 pub mod Refusal
 pub mod Faults

@@ -8,8 +8,8 @@ use Rattle.leg_app.specs.declared.violation.Violation.{Violation}
 use Rattle.leg_app.specs.declared.violation.Violation.TheVariants.{Unplaced, Outside, Overlap}
 use Rattle.leg_lib.specs.declared.scale_fault.ScaleKind.{ScaleKind}
 use Rattle.leg_lib.specs.declared.scale_fault.ScaleKind.TheVariants as scale
-use Rattle.leg_app.specs.Records.{DesignContents}
-use Rattle.leg_app.specs.declared.design.Component.{Component}
+use Rattle.leg_design.specs.Records.{DesignContents}
+use Rattle.leg_design.specs.declared.records.Component.{Component}
 
 abbrev pub name_at_number : List Component → ℕ → List ℕ
 name_at_number components c = name_if (slice_get components c)

@@ -1,20 +1,34 @@
 -- What LEF and DEF texts say together.
-use Rattle.std.specs.Prelude.{ℕ, List}
+use Rattle.std.specs.Prelude.{◌≡◌, ℕ, List}
 use Rattle.leg_lex.specs.Say.{Says}
 use Rattle.leg_lib.specs.Records.{RawContents, Contents}
 use Rattle.leg_lib.specs.Say.{SayLibrary}
 use Rattle.leg_lib.specs.Scale.{IsLibraryAt}
-use Rattle.leg_app.specs.Records.{DesignContents}
-use Rattle.leg_app.specs.Def.{units_in, design_in}
+use Rattle.leg_design.specs.Records.{DesignContents}
+use Rattle.leg_design.specs.Header.{units_in}
+use Rattle.leg_design.specs.Form.{design_in}
 
--- The texts say this library, at the DEF's own units a micron, and this design.
-pub record SayDesign (lefs : List (List ℕ)) (def : List ℕ) (library : Contents) (design : DesignContents) : Type 0 where
+-- The texts say this library, at the DEF's own units a micron.
+pub record SayLibraryFor (lefs : List (List ℕ)) (def : List ℕ) (library : Contents) : Type 0 where
   pub raw : RawContents
   pub units : ℕ
   pub lef : SayLibrary lefs raw
   pub unit : Says units_in def units
   pub scaled : IsLibraryAt units raw library
-  pub def_ : Says (design_in library units) def design
+
+-- The texts say this library, and under it the DEF says this design.
+pub record SayDesign (lefs : List (List ℕ)) (def : List ℕ) (library : Contents) (design : DesignContents) : Type 0 where
+  pub under : SayLibraryFor lefs def library
+  pub said : Says (design_in library) def design
+
+-- this library is said, and no other
+pub record SaysJust (lefs : List (List ℕ)) (def : List ℕ) (library : Contents) : Type 0 where
+  pub found : SayLibraryFor lefs def library
+  pub only : (said : Contents) → SayLibraryFor lefs def said → said ≡ library
+
+-- no library is said
+abbrev pub SayNoLibrary : List (List ℕ) → List ℕ → Type 0
+SayNoLibrary lefs def = (library : Contents) → ¬ SayLibraryFor lefs def library
 
 -- no library and no design are said
 abbrev pub SayNothing : List (List ℕ) → List ℕ → Type 0

@@ -1,17 +1,17 @@
 //! What a command answers.
 
 ghost use Rattle.std.specs.Prelude.{ℕ, List, map, IfOk};
-ghost use Rattle.leg_app.specs.Say.{SayDesign, SayNothing};
+ghost use Rattle.leg_app.specs.Say.{SaysJust, SayDesign, SayNothing};
 ghost use Rattle.leg_app.specs.Refusal.{IsForMemory};
 ghost use Rattle.leg_app.specs.Answer.{IsAnswer, IsPlaceCheck};
 
-use crate::block::read_block;
 use crate::command::Command;
-use crate::design::Design;
 use crate::lines::{refused_text, scale_text, violations_text};
 use crate::place::place_violations;
 use crate::status::Status;
 use crate::text_fault::TextFault;
+use crate::texts::{behind_lefs, library_for};
+use leg_design::{Design, read_def};
 use leg_lex::FaultKind;
 use leg_lib::{Library, ScaleKind};
 use std::alloc::{AllocError, Allocator};
@@ -46,23 +46,38 @@ fn place_check<'a, A: Allocator + Copy>(
     ensures { IfOk result (λ answer.
         IsPlaceCheck (map (λ t. t.now) lefs.now) def.now answer.status answer.text.items) }
 {
-    match read_block(alloc, lefs, def) {
-        Ok(block) => design_check(alloc, &block.library, &block.design),
+    match library_for(alloc, lefs, def) {
+        Ok(library) => library_check(alloc, lefs.len(), &library, def),
         Err(fault) => refusal(alloc, &fault),
     }
 }
 
-// What is answered to texts that say this library and this design.
-fn design_check<'a, A: Allocator + Copy>(
+// What is answered to a DEF behind so many LEFs, where the texts say this library and no other.
+fn library_check<A: Allocator + Copy>(
     alloc: A,
-    library: &Library<'a, A>,
-    design: &Design<'a, A>,
+    count: usize,
+    library: &Library<'_, A>,
+    def: &[u8],
+) -> Result<Answer<A>, AllocError>
+    ensures { IfOk result (λ answer. (lefs : List (List ℕ)) →
+        SaysJust lefs def.now library.now → IsPlaceCheck lefs def.now answer.status answer.text.items) }
+{
+    match read_def(alloc, library, def) {
+        Ok(design) => design_check(alloc, &design),
+        Err(fault) => refusal(alloc, &TextFault::Read(behind_lefs(count, fault))),
+    }
+}
+
+// What is answered to texts that say this design.
+fn design_check<A: Allocator + Copy>(
+    alloc: A,
+    design: &Design<'_, A>,
 ) -> Result<Answer<A>, AllocError>
     ensures { IfOk result (λ answer. (lefs : List (List ℕ)) (def : List ℕ) →
-        SayDesign lefs def library.now design.now →
+        SayDesign lefs def design.now.library design.now →
         IsPlaceCheck lefs def answer.status answer.text.items) }
 {
-    let violations = place_violations(alloc, library, design)?;
+    let violations = place_violations(alloc, design)?;
     if violations.is_empty() {
         let text = Vec::from_slice(alloc, b"legal\n")?;
         return Ok(Answer {

@@ -2,24 +2,19 @@
 #![tactic(auto)]
 
 mod answer;
-mod block;
 mod command;
-mod component;
-mod def;
-mod design;
-mod limits;
 mod line;
 mod lines;
 mod overlap;
 mod place;
 mod placed_box;
-mod position;
 mod run_command;
 mod status;
 mod stream;
 #[cfg(test)]
 mod tests;
 mod text_fault;
+mod texts;
 mod violation;
 
 pub use command::Command;

@@ -4,9 +4,9 @@ ghost use Rattle.std.specs.Prelude.{◌≡◌, ◌++◌, IfOk, OnOk, length, cod
 ghost use Rattle.std.specs.List.{flat_map};
 ghost use Rattle.leg_app.specs.Lines.{kind_name, name_at_number, refused_text, scale_kind_name, scale_text, violation_line, violations_text};
 
-use crate::design::Design;
 use crate::violation::Violation;
 use itoa::Buffer;
+use leg_design::Design;
 use leg_lex::{FaultKind, ReadFault};
 use leg_lib::{ScaleFault, ScaleKind};
 use std::alloc::{AllocError, Allocator};
@@ -68,10 +68,10 @@ fn push_violation<A: Allocator + Copy>(
 }
 
 // Empty where the design has no component of this number.
-fn component_name<'d, A: Allocator>(design: &'d Design<'_, A>, number: u32) -> &'d [u8]
+fn component_name<'d, A: Allocator + Copy>(design: &'d Design<'_, A>, number: u32) -> &'d [u8]
     ensures { result.now ≡ name_at_number design.now.components number }
 {
-    match design.components.get(number as usize) {
+    match design.components().get(number as usize) {
         Some(component) => component.name.bytes(),
         None => b"",
     }

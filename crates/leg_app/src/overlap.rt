@@ -6,10 +6,9 @@ ghost use Rattle.leg_geom.proofs.Gaps.{ShareCell-symmetric, ShareCell-gaps};
 ghost use Rattle.leg_app.specs.Faults.{IsListOf};
 ghost use Rattle.leg_app.specs.FaultsBefore.{IsListBefore};
 
-use crate::design::Design;
 use crate::placed_box::{PlacedBox, placed_boxes};
 use crate::violation::Violation;
-use leg_lib::Library;
+use leg_design::Design;
 use leg_sweep::{PairRule, pairs};
 use std::alloc::{AllocError, Allocator};
 
@@ -67,16 +66,15 @@ impl PairRule for OnOneAnother {
 }
 
 /// Adds the pairs of placed components that share a cell to the violations of the other kinds.
-pub(crate) fn push_overlaps<'a, A: Allocator + Copy>(
+pub(crate) fn push_overlaps<A: Allocator + Copy>(
     alloc: A,
-    library: &Library<'a, A>,
-    design: &Design<'a, A>,
+    design: &Design<'_, A>,
     found: &mut Vec<Violation, A>,
 ) -> Result<(), AllocError>
-    requires { IsListBefore library.now design.now (Violation.Overlap 0 0) found.old.items }
-    ensures { OnOk result (IsListOf library.now design.now found.new.items) }
+    requires { IsListBefore design.now.library design.now (Violation.Overlap 0 0) found.old.items }
+    ensures { OnOk result (IsListOf design.now.library design.now found.new.items) }
 {
-    let boxes = placed_boxes(alloc, library, design)?;
+    let boxes = placed_boxes(alloc, design)?;
     let mut rule = OnOneAnother { tests: 0, looks: 0 };
     let overlaps = pairs(alloc, &boxes, &mut rule)?;
     for (a, b) in &overlaps {

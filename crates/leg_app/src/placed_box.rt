@@ -2,13 +2,15 @@
 
 ghost use Rattle.std.specs.Prelude.{◌≡◌, ◌≤◌, length, IfOk, IfSome};
 ghost use Rattle.leg_geom.specs.Plane.{IsRect};
-ghost use Rattle.leg_app.specs.declared.limits.TheConstants.{COMPONENT_LIMIT};
-ghost use Rattle.leg_app.specs.Faults.{box_of};
+ghost use Rattle.leg_geom.specs.Orientation.{placed_rect};
+ghost use Rattle.leg_design.specs.declared.limits.TheConstants.{ENTRY_LIMIT};
+ghost use Rattle.leg_design.specs.WellFormedParts.{IsPosition, IsComponent};
+ghost use Rattle.leg_app.specs.Faults.{box_of_size, box_of};
 ghost use Rattle.leg_app.specs.FaultsBefore.{AreBoxesBelow};
 
-use crate::design::{Component, Design};
-use leg_geom::Rect;
-use leg_lib::Library;
+use leg_design::{Component, Design};
+use leg_geom::{Place, Rect};
+use leg_lib::{Extent, Library};
 use std::alloc::{AllocError, Allocator};
 
 /// A component that has a place, by its number, and its box.
@@ -18,31 +20,42 @@ pub(crate) struct PlacedBox {
     pub rect: Rect,
 }
 
+/// The box of a component of a macro of this size that has this place.
+fn placed_size(place: &Place, size: &Extent) -> Rect
+    requires { IsPosition place.now.at }
+    ensures is { result ≡ placed_rect place.now.at place.now.orient size.now.width size.now.height (box_of_size size.now) }
+    ensures proper { IsRect result }
+{
+    let (width, height) = (size.width(), size.height());
+    let drawn = Rect::new(0, 0, width, height).unwrap();
+    place.rect(width, height, &drawn)
+}
+
 /// The box of the component, where it has a place.
-pub(crate) fn box_of<'a, A: Allocator + Copy>(
-    library: &Library<'a, A>,
-    component: &Component<'a>,
+pub(crate) fn box_of<A: Allocator + Copy>(
+    library: &Library<'_, A>,
+    component: &Component<'_>,
 ) -> Option<Rect>
+    requires { IsComponent library.now component.now }
     ensures is { result ≡ box_of library.now component.now }
     ensures proper { IfSome result IsRect }
 {
     let master = library.masters().get(component.master)?;
-    let at = component.place?;
-    Some(at.box_of(&master.size))
+    let place = component.place?;
+    Some(placed_size(&place, &master.size))
 }
 
 /// The boxes of the placed components, in file order.
-pub(crate) fn placed_boxes<'a, A: Allocator + Copy>(
+pub(crate) fn placed_boxes<A: Allocator + Copy>(
     alloc: A,
-    library: &Library<'a, A>,
-    design: &Design<'a, A>,
+    design: &Design<'_, A>,
 ) -> Result<Vec<PlacedBox, A>, AllocError>
-    ensures boxes { IfOk result (λ boxes. AreBoxesBelow library.now design.now (length design.now.components) boxes.items) }
-    ensures few { IfOk result (λ boxes. length boxes.items ≤ COMPONENT_LIMIT) }
+    ensures boxes { IfOk result (λ boxes. AreBoxesBelow design.now.library design.now (length design.now.components) boxes.items) }
+    ensures few { IfOk result (λ boxes. length boxes.items ≤ ENTRY_LIMIT) }
 {
     let mut boxes = Vec::new(alloc);
-    for (i, component) in design.components.iter().enumerate() {
-        if let Some(rect) = box_of(library, component) {
+    for (i, component) in design.components().iter().enumerate() {
+        if let Some(rect) = box_of(design.library(), component) {
             boxes.push(PlacedBox {
                 component: i as u32,
                 rect,

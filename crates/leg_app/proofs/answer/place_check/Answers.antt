@@ -1,8 +1,11 @@
-use Rattle.leg_app.specs.Say.{SayDesign}
-use Rattle.leg_app.specs.Answer.{IsPlaceCheck}
-use Rattle.leg_app.proofs.AnswerLemmas.{ok_at}
+use Rattle.leg_app.proofs.AnswerLemmas.{ok_weaker}
+use Rattle.leg_app.proofs.Sayings.{nothing_under}
 use Rattle.leg_app.proofs.answer.place_check.Goals as goal
 
 pub returns-in-Ok : goal.returns-in-Ok
 returns-in-Ok g c =
-    ok_at (λ ls d. SayDesign ls d c.in-Ok.block.library c.in-Ok.block.design) (λ ls d answer. IsPlaceCheck ls d answer.status answer.text.items) c.design_check.result _ _ c.design_check.ensures c.in-Ok.ensures.found
+    ok_weaker _ _ c.library_check.result (λ answer all. all _ (record { found = c.in-Ok.ensures.found; only = c.in-Ok.ensures.only })) c.library_check.ensures
+
+pub returns-in-Err : goal.returns-in-Err
+returns-in-Err g c =
+    ok_weaker _ _ c.refusal.result (λ answer all. all _ _ (λ not_memory. nothing_under _ _ (c.in-Err.ensures.none not_memory))) c.refusal.ensures

@@ -8,15 +8,19 @@ use Rattle.leg_app.proofs.place.is_outside.Goals as goal
 
 pub returns-in-Some : goal.returns-in-Some
 returns-in-Some g c =
-    let within : c.args.number < length c.design.inside.components.items = rw (← c.design.view_is) at c.requires in
-    let there : slice_get c.args.design.now.components c.args.number ≡ Some c.index.result.now =
-    rw (← c.design.view_is) (slice_get_read c.design.inside.components.items _ c.args.number _ refl within c.index.ensures) in
-    let test : IsTrue c.contains.result ↔ HasAllPoints c.args.design.now.die c.in-Some.rect = rw (← c.design.view_is) c.contains.ensures in
-    IsOutside-test c.args.library.now c.args.design.now c.args.number c.index.result.now there c.in-Some.rect _ c.in-Some.ensures.is c.in-Some.ensures.proper test
+    let design = c.args.design.now in
+    let component = c.index-components-number.result in
+    let within : c.args.number < length c.components.result.now = rw c.components.ensures.is c.requires in
+    let there : slice_get design.components c.args.number ≡ Some component =
+    rw (← c.components.ensures.is) (slice_get_read c.components.result.now _ c.args.number component refl within c.index-components-number.is) in
+    let test : IsTrue c.contains.result ↔ HasAllPoints design.die c.in-Some.rect = rw c.die.ensures.is at c.contains.ensures in
+    IsOutside-test design.library design c.args.number component there c.in-Some.rect _ (rw c.library.ensures.is at c.in-Some.ensures.is) c.in-Some.ensures.proper test
 
 pub returns-in-None : goal.returns-in-None
 returns-in-None g c =
-    let within : c.args.number < length c.design.inside.components.items = rw (← c.design.view_is) at c.requires in
-    let there : slice_get c.args.design.now.components c.args.number ≡ Some c.index.result.now =
-    rw (← c.design.view_is) (slice_get_read c.design.inside.components.items _ c.args.number _ refl within c.index.ensures) in
-    (λ t. absurd (false≢true t), λ out. absurd (IsOutside-unplaced c.args.library.now c.args.design.now c.args.number c.index.result.now there c.in-None.ensures.is out))
+    let design = c.args.design.now in
+    let component = c.index-components-number.result in
+    let within : c.args.number < length c.components.result.now = rw c.components.ensures.is c.requires in
+    let there : slice_get design.components c.args.number ≡ Some component =
+    rw (← c.components.ensures.is) (slice_get_read c.components.result.now _ c.args.number component refl within c.index-components-number.is) in
+    (λ t. absurd (false≢true t), λ out. absurd (IsOutside-unplaced design.library design c.args.number component there (rw c.library.ensures.is at c.in-None.ensures.is) out))

@@ -7,7 +7,7 @@ use Rattle.leg_app.proofs.place.push_outside.Goals.{then-is_outside+in_ok-push, 
 
 pub loop-i-preserved : goal.loop-i-preserved
 loop-i-preserved g c =
-    let library = c.args.library.now in
+    let library = c.args.design.now.library in
     let design = c.args.design.now in
     elim c.if-is_outside.branch [
       | then-is_outside+in_ok-push w ↦
@@ -20,5 +20,5 @@ loop-i-preserved g c =
 
 pub returns : goal.returns
 returns g c =
-    let last : c.loop-i.i ≡ length c.design.inside.components.items = omega (arith, c.design.inside.components.ok.0) in
-    listing_Outside_end c.args.library.now c.args.design.now c.loop-i.i c.loop-i.found.items (rw (← c.design.view_is) last) c.loop-i.invariant
+    let last : c.loop-i.i ≡ length c.args.design.now.components = rw (← c.components-i-end.ensures.is) (omega arith) in
+    listing_Outside_end c.args.design.now.library c.args.design.now c.loop-i.i c.loop-i.found.items last c.loop-i.invariant

@@ -15,8 +15,8 @@ none_from_test (Some x) test = cc
 pub loop-i-preserved : goal.loop-i-preserved
 loop-i-preserved g c =
     let there : slice_get c.args.design.now.components c.loop-i.i ≡ Some c.component-item.result =
-    rw (← c.design.view_is, ← c.deref-component-items.ensures.value)
-    (slice_get_read c.deref-component-items.result.now _ c.loop-i.i c.component-item.result refl (omega arith) c.component-item.is) in
+    rw (← c.components-component-items.ensures.is)
+    (slice_get_read c.components-component-items.result.now _ c.loop-i.i c.component-item.result refl (omega arith) c.component-item.is) in
     elim c.if-is_none.branch [
       | then-is_none+in_ok-push w ↦ λ library.
           let none : c.component-item.result.place ≡ None = none_from_test _ w.if-is_none.ensures in
@@ -35,5 +35,5 @@ loop-i-preserved g c =
 
 pub returns : goal.returns
 returns g c =
-    let last : c.loop-i.i ≡ length c.args.design.now.components = rw (← c.design.view_is, ← c.deref-component-items.ensures.value) (omega arith) in
-    λ library. listing_Unplaced_end library c.args.design.now c.loop-i.i c.loop-i.found.items last (c.loop-i.invariant library)
+    let last : c.loop-i.i ≡ length c.args.design.now.components = rw (← c.components-component-items.ensures.is) (omega arith) in
+    listing_Unplaced_end c.args.design.now.library c.args.design.now c.loop-i.i c.loop-i.found.items last (c.loop-i.invariant c.args.design.now.library)

@@ -8,18 +8,17 @@ use Rattle.leg_app.proofs.placed_box.placed_boxes.Goals.{in-Some+in_ok-push, in_
 
 pub loop-i-preserved : goal.loop-i-preserved
 loop-i-preserved g c =
-    let library = c.args.library.now in
     let design = c.args.design.now in
     let boxes = c.loop-i.boxes.items in
-    let there : slice_get c.args.design.now.components c.loop-i.i ≡ Some c.component-item.result =
-    rw (← c.design.view_is, ← c.deref-component-items.ensures.value)
-    (slice_get_read c.deref-component-items.result.now _ c.loop-i.i c.component-item.result refl (omega arith) c.component-item.is) in
+    let there : slice_get design.components c.loop-i.i ≡ Some c.component-item.result =
+    rw (← c.components-component-items.ensures.is)
+    (slice_get_read c.components-component-items.result.now _ c.loop-i.i c.component-item.result refl (omega arith) c.component-item.is) in
     elim c.match-box_of.branch [
       | in-Some+in_ok-push w ↦
           rw (w.boxes-is, w.in_ok-push.ensures.items) (
-            boxes_more library design c.loop-i.i c.component-item.result there w.in-Some.rect boxes w.in-Some.ensures.is c.loop-i.invariant.0,
+            boxes_more design.library design c.loop-i.i c.component-item.result there w.in-Some.rect boxes (rw c.library.ensures.is at w.in-Some.ensures.is) c.loop-i.invariant.0,
             omega (arith, length_push boxes (record { component = c.loop-i.i; rect = w.in-Some.rect })),
           )
       | in_default w ↦
-          rw w.boxes-is (boxes_skip library design c.loop-i.i c.component-item.result there boxes w.in_default.ensures.is c.loop-i.invariant.0, omega arith)
+          rw w.boxes-is (boxes_skip design.library design c.loop-i.i c.component-item.result there boxes (rw c.library.ensures.is at w.in_default.ensures.is) c.loop-i.invariant.0, omega arith)
     ]

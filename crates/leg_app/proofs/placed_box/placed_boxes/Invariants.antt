@@ -4,4 +4,4 @@ use Rattle.leg_app.specs.FaultsBefore.{AreBoxesBelow}
 use Rattle.leg_app.proofs.placed_box.placed_boxes.Given as goal
 
 abbrev pub invariant-loop-i : goal.invariant-loop-i
-invariant-loop-i g l = AreBoxesBelow l.library l.design l.i l.boxes.items × (length l.boxes.items ≤ l.i)
+invariant-loop-i g l = AreBoxesBelow l.design.library l.design l.i l.boxes.items × (length l.boxes.items ≤ l.i)
