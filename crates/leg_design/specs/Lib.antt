@@ -23,3 +23,4 @@ pub mod Form
 pub mod WellFormedParts
 pub mod WellFormedNets
 pub mod WellFormed
+pub mod Violation

@@ -11,6 +11,7 @@ mod coordinate;
 mod design;
 mod design_change;
 mod die;
+mod fault;
 mod form;
 mod header;
 mod known;
@@ -41,6 +42,7 @@ mod via_table;
 mod wiring;
 
 pub use design::Design;
+pub use fault::Fault;
 pub use limits::{ENTRY_LIMIT, PART_LIMIT};
 pub use read::{def_units, read_def};
 pub use records::{Axis, Component, Net, Pin, Port, Row, Status, Terminal, Track, Wire};

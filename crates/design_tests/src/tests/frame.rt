@@ -25,6 +25,18 @@ END LIBRARY
 "
 }
 
+// What the test answers of the library at 1000 units a micron.
+pub(super) fn under_library(
+    alloc: Global,
+    test: fn(Global, &Library<'_, Global>) -> Result<bool, Fail>,
+) -> Result<bool, Fail>
+    requires callable { IsAlwaysCallable test }
+{
+    let raw: RawLibrary<'_, Global> = read_lefs(alloc, &[library_text().as_bytes()])?;
+    let library: Library<'_, Global> = raw.at(alloc, 1000).map_err(|_| "not scaled")?;
+    test(alloc, &library)
+}
+
 // Whether the design that the text says under the library, at 1000 units a micron, passes the test.
 pub(super) fn says(
     alloc: Global,

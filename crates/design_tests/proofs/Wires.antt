@@ -1,0 +1,18 @@
+-- Wires of one design that another may get.
+use Rattle.std.proofs.Common.{◌≡◌, ℕ, ◌<◌, List, [], ◌∷◌, length, false, All, slice_index_or, arith}
+use Rattle.leg_lib.specs.Records.{Contents, ViaSaid}
+use Rattle.leg_design.specs.declared.records.Wire.{Wire}
+use Rattle.leg_design.specs.Records.{DesignContents, NetSaid, wire_count}
+use Rattle.leg_design.specs.WellFormed.{IsWellFormed}
+use Rattle.leg_design.specs.WellFormedNets.{IsWire}
+
+-- the wires of a net are spelled under the design's library and vias
+pub spelled_of : (design : DesignContents) → IsWellFormed design → (net : NetSaid) → 0 < length design.nets → net ≡ slice_index_or design.nets 0 net → (library : Contents) (vias : List ViaSaid) → design.library ≡ library → design.vias ≡ vias → All (IsWire library vias false) net.wires
+spelled_of design proper net some is library vias same_library same_vias =
+    rw (same_library, same_vias, ← is) at (proper.nets.nets.each 0 net some).wires
+
+-- the one net of a list has no wires, so the list has none
+pub wire_count_one : (nets : List NetSaid) (net : NetSaid) → length nets ≡ 1 → net ≡ slice_index_or nets 0 net → length net.wires ≡ 0 → wire_count nets ≡ 0
+wire_count_one [] net one is none = absurd (omega (arith, one))
+wire_count_one (first ∷ []) net one is none = omega (arith, rw is at none)
+wire_count_one (first ∷ second ∷ rest) net one is none = absurd (omega (arith, one))
