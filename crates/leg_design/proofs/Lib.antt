@@ -10,6 +10,7 @@ pub mod Components
 pub mod Skips
 pub mod Moved
 pub mod PinNames
+pub mod Numbered
 pub mod WiringWords
 pub mod NetClauses
 pub mod ViaNumbers

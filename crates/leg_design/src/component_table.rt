@@ -1,7 +1,8 @@
 //! The components of a DEF, in file order.
 
-ghost use Rattle.std.specs.Prelude.{◌≡◌, ◌∷◌, ◌++◌, [], length, None, OnOk, OnErr};
+ghost use Rattle.std.specs.Prelude.{◌≡◌, ◌<◌, ◌≤◌, ◌∷◌, ◌++◌, [], length, None, OnOk, OnErr, IfSome};
 ghost use Rattle.leg_lex.specs.Named.{place_of};
+ghost use Rattle.leg_design.specs.declared.limits.TheConstants.{ENTRY_LIMIT};
 ghost use Rattle.leg_design.specs.Records.{component_names};
 
 use crate::records::Component;
@@ -9,7 +10,8 @@ use leg_lex::Names;
 use std::alloc::{AllocError, Allocator};
 use std::marker::Model;
 
-/// The components of a DEF, in file order. No two have one name. Contracts see it as the list of them.
+/// The components of a DEF, in file order. No two have one name, and there are at most as many as a
+/// design has. Contracts see it as the list of them.
 #[derive(Drop)]
 pub(crate) struct ComponentTable<'a, A: Allocator + Copy> {
     items: Vec<Component<'a>, A>,
@@ -17,7 +19,8 @@ pub(crate) struct ComponentTable<'a, A: Allocator + Copy> {
 }
 
 impl<'a, A: Allocator + Copy> Model for ComponentTable<'a, A> {
-    ghost use Rattle.std.specs.Prelude.{◌≡◌, List};
+    ghost use Rattle.std.specs.Prelude.{◌≡◌, ◌≤◌, List, length};
+    ghost use Rattle.leg_design.specs.declared.limits.TheConstants.{ENTRY_LIMIT};
     ghost use Rattle.leg_design.specs.declared.records.Component.{Component};
     ghost use Rattle.leg_design.specs.Records.{component_names};
 
@@ -25,7 +28,7 @@ impl<'a, A: Allocator + Copy> Model for ComponentTable<'a, A> {
 
     ghost view = { λ t. t.items.items };
 
-    ghost invariant = { λ t. t.names ≡ component_names t.items.items };
+    ghost invariant = { λ t. (t.names ≡ component_names t.items.items) × (length t.items.items ≤ ENTRY_LIMIT) };
 }
 
 impl<'a, A: Allocator + Copy> ComponentTable<'a, A> {
@@ -41,7 +44,8 @@ impl<'a, A: Allocator + Copy> ComponentTable<'a, A> {
 
     /// All of them.
     pub(crate) fn as_slice(&self) -> &[Component<'a>]
-        ensures { result.now ≡ self.now }
+        ensures value { result.now ≡ self.now }
+        ensures few { length result.now ≤ ENTRY_LIMIT }
     {
         self.items.as_slice()
     }
@@ -55,14 +59,16 @@ impl<'a, A: Allocator + Copy> ComponentTable<'a, A> {
 
     /// The number of the one of this name.
     pub(crate) fn place_of(&self, name: &[u8]) -> Option<usize>
-        ensures { result ≡ place_of name.now (component_names self.now) }
+        ensures value { result ≡ place_of name.now (component_names self.now) }
+        ensures few { IfSome result (λ number. number < ENTRY_LIMIT) }
     {
         self.names.place_of(name)
     }
 
-    /// Adds one whose name is new. Where memory is refused, nothing changes.
+    /// Adds one whose name is new, where there is room. Where memory is refused, nothing changes.
     pub(crate) fn push(&mut self, item: Component<'a>) -> Result<(), AllocError>
-        requires { place_of item.name (component_names self.old) ≡ None }
+        requires new { place_of item.name (component_names self.old) ≡ None }
+        requires room { length self.old < ENTRY_LIMIT }
         ensures pushed { OnOk result (self.new ≡ self.old ++ item.entry ∷ []) }
         ensures unchanged { OnErr result (self.new ≡ self.old) }
     {

@@ -1,6 +1,7 @@
 //! Pins of the design that no net lists (own rule).
 
-ghost use Rattle.std.specs.Prelude.{◌≡◌, OnOk};
+ghost use Rattle.std.specs.Prelude.{◌≡◌, ◌<◌, ◌≤◌, length, OnOk};
+ghost use Rattle.leg_design.specs.declared.limits.TheConstants.{ENTRY_LIMIT};
 ghost use Rattle.leg_design.specs.LonePins.{with_lone_pin, with_lone_pins};
 
 use crate::net_table::NetTable;
@@ -15,13 +16,11 @@ fn add_lone_pin<'a, A: Allocator + Copy>(
     nets: &mut NetTable<'a, A>,
     special: &mut NetTable<'a, A>,
 ) -> Result<(), AllocError>
+    requires { number < ENTRY_LIMIT }
     ensures { OnOk result (record { nets = nets.new; special = special.new }
         ≡ with_lone_pin (record { nets = nets.old; special = special.old }) number pin.now) }
 {
-    let Ok(number) = u32::try_from(number) else {
-        return Err(AllocError);
-    };
-    let terminal = Terminal::Pin(number);
+    let terminal = Terminal::Pin(number as u32);
     if nets.is_listed(&terminal) || special.is_listed(&terminal) {
         return Ok(());
     }
@@ -44,6 +43,7 @@ pub(crate) fn add_lone_pins<'a, A: Allocator + Copy>(
     nets: &mut NetTable<'a, A>,
     special: &mut NetTable<'a, A>,
 ) -> Result<(), AllocError>
+    requires { length pins.now ≤ ENTRY_LIMIT }
     ensures { OnOk result (record { nets = nets.new; special = special.new }
         ≡ with_lone_pins (record { nets = nets.old; special = special.old }) 0 pins.now) }
 {

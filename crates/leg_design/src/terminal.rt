@@ -1,8 +1,9 @@
 //! Terminals of nets (LEF/DEF 5.8, "Nets", "Special Nets").
 
-ghost use Rattle.std.specs.Prelude.{◌≡◌, ◌∷◌, [], ◌&&◌, if◌then◌else◌, codes, map, IfOk};
+ghost use Rattle.std.specs.Prelude.{◌≡◌, ◌≤◌, ◌∷◌, [], ◌&&◌, if◌then◌else◌, codes, length, map, IfOk};
 ghost use Rattle.leg_lex.specs.Words.{Reads, Means, is_at};
 ghost use Rattle.leg_lex.specs.Named.{place_of};
+ghost use Rattle.leg_design.specs.declared.limits.TheConstants.{ENTRY_LIMIT};
 ghost use Rattle.leg_design.specs.Terminal.{pin_of_component, pins_of_all, component_terminal, pin_terminal, one_terminal_at, all_terminals_at, past_synthesized, terminals_at};
 
 use crate::known::Known;
@@ -36,16 +37,6 @@ fn pin_of_component<A: Allocator + Copy>(
     pin_named(master.pins.as_slice(), name)
 }
 
-/// A component's or a pin's number as terminals keep it. No table is so long that a number doesn't fit.
-fn numbered(place: usize) -> Result<u32, AllocError>
-    ensures { IfOk result (λ number. number ≡ place) }
-{
-    match u32::try_from(place) {
-        Ok(number) => Ok(number),
-        Err(_) => Err(AllocError),
-    }
-}
-
 /// The pin of this name of each component that has it, in order.
 #[tactic(auto, using(crate::proofs::PinNames::one_has, crate::proofs::PinNames::one_has_not, crate::proofs::PinNames::all_seen))]
 fn pins_of_all<A: Allocator + Copy>(
@@ -54,12 +45,13 @@ fn pins_of_all<A: Allocator + Copy>(
     name: &[u8],
     components: &[Component<'_>],
 ) -> Result<Vec<Terminal, A>, AllocError>
+    requires { length components.now ≤ ENTRY_LIMIT }
     ensures { IfOk result (λ v. v.items ≡ pins_of_all library.now name.now 0 components.now) }
 {
     let mut terminals = Vec::new(alloc);
     for (c, component) in components.iter().enumerate() {
         if let Some(pin) = pin_of_component(library, component, name) {
-            let component = numbered(c)?;
+            let component = c as u32;
             terminals.push(Terminal::Comp { component, pin })?;
         }
     }
@@ -87,7 +79,7 @@ fn component_terminal<A: Allocator + Copy>(
         return Err(of_pin.fault(FaultKind::UnknownName));
     };
     Ok(Terminal::Comp {
-        component: numbered(c)?,
+        component: c as u32,
         pin,
     })
 }
@@ -103,7 +95,7 @@ fn pin_terminal<A: Allocator + Copy>(
     let Some(p) = known.pins.place_of(pin) else {
         return Err(of_pin.fault(FaultKind::UnknownName));
     };
-    Ok(Terminal::Pin(numbered(p)?))
+    Ok(Terminal::Pin(p as u32))
 }
 
 /// `component pin`, or `PIN` and a pin of the design.

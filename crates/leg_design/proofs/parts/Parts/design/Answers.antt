@@ -9,8 +9,8 @@ returns-then-not-stood g c = λ not_memory.
 
 pub returns-then-are_too_many : goal.returns-then-are_too_many
 returns-then-are_too_many g c = λ not_memory.
-    rw (← c.self.view_is) (design_refused c.args.library.now _ c.in-Some.name c.in-Some-die.die c.add_lone_pins.new.nets c.add_lone_pins.new.special c.in-Some.is c.in-Some-die.is (not-false _ c.if-not-stood.false) (rw c.as_slice.ensures at c.in_ok-add_lone_pins.ensures) (sym c.are_too_many.ensures ∙ c.if-are_too_many.true))
+    rw (← c.self.view_is) (design_refused c.args.library.now _ c.in-Some.name c.in-Some-die.die c.add_lone_pins.new.nets c.add_lone_pins.new.special c.in-Some.is c.in-Some-die.is (not-false _ c.if-not-stood.false) (rw c.as_slice.ensures.value at c.in_ok-add_lone_pins.ensures) (sym c.are_too_many.ensures ∙ c.if-are_too_many.true))
 
 pub returns : goal.returns
 returns g c =
-    rw (← c.self.view_is, c.into_vec.ensures, c.into_vec-2.ensures, c.into_vec-3.ensures, c.into_vec-4.ensures, c.into_vec-5.ensures) (design_made c.args.library.now _ c.in-Some.name c.in-Some-die.die c.add_lone_pins.new.nets c.add_lone_pins.new.special c.in-Some.is c.in-Some-die.is (not-false _ c.if-not-stood.false) (rw c.as_slice.ensures at c.in_ok-add_lone_pins.ensures) (sym c.are_too_many.ensures ∙ c.if-are_too_many.false))
+    rw (← c.self.view_is, c.into_vec.ensures, c.into_vec-2.ensures, c.into_vec-3.ensures, c.into_vec-4.ensures, c.into_vec-5.ensures) (design_made c.args.library.now _ c.in-Some.name c.in-Some-die.die c.add_lone_pins.new.nets c.add_lone_pins.new.special c.in-Some.is c.in-Some-die.is (not-false _ c.if-not-stood.false) (rw c.as_slice.ensures.value at c.in_ok-add_lone_pins.ensures) (sym c.are_too_many.ensures ∙ c.if-are_too_many.false))
