@@ -12,7 +12,8 @@ use Rattle.leg_design.specs.declared.limits.TheConstants.{PART_LIMIT}
 use Rattle.leg_design.specs.Guard.{when, unless}
 use Rattle.leg_design.specs.Records.{DesignContents, terminal_count}
 use Rattle.leg_design.specs.Header.{units_in}
-use Rattle.leg_design.specs.Form.{DesignParts, no_parts, form_at, all_nets, design_of, design_in}
+use Rattle.leg_design.specs.Parts.{DesignParts, no_parts}
+use Rattle.leg_design.specs.Form.{form_at, all_nets, design_of, design_in}
 use Rattle.leg_design.proofs.Gives.{Gives, gives_some, gives_skip}
 use Rattle.leg_app.specs.Say.{SayLibraryFor, SayDesign, SaysJust, SayNoLibrary, SayNothing}
 

@@ -5,7 +5,8 @@ use Rattle.leg_lib.specs.Records.{Contents}
 use Rattle.leg_design.specs.declared.limits.TheConstants.{PART_LIMIT}
 use Rattle.leg_design.specs.LonePins.{with_lone_pins}
 use Rattle.leg_design.specs.Records.{NetSaid, terminal_count}
-use Rattle.leg_design.specs.Form.{DesignParts, design_with, design_of}
+use Rattle.leg_design.specs.Parts.{DesignParts}
+use Rattle.leg_design.specs.Form.{design_with, design_of}
 
 module _ (library : Contents) (parts : DesignParts) (name : List ℕ) (die : Sides) (nets special : List NetSaid) (named : parts.name ≡ Some name) (has_die : parts.die ≡ Some die) (has_units : parts.stood.units ≡ true) (lone : record { nets = nets; special = special } ≡ with_lone_pins (record { nets = parts.nets; special = parts.special }) 0 parts.pins) where
   -- with the lone pins there are too many terminals

@@ -5,7 +5,8 @@ use Rattle.leg_lex.specs.Until.{until}
 use Rattle.leg_lex.specs.Statements.{at_end}
 use Rattle.leg_lex.proofs.Until as loops
 use Rattle.leg_lib.specs.Records.{Contents}
-use Rattle.leg_design.specs.Form.{DesignParts, no_parts, form_at, design_in}
+use Rattle.leg_design.specs.Parts.{DesignParts, no_parts}
+use Rattle.leg_design.specs.Form.{form_at, design_in}
 use Rattle.leg_design.proofs.FormsShorter.{form_shortens}
 
 -- one more form

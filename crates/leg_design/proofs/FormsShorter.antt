@@ -22,7 +22,9 @@ use Rattle.leg_design.specs.Via.{via_in, via_entry, vias_at}
 use Rattle.leg_design.specs.Component.{component_in, component_entry, components_at}
 use Rattle.leg_design.specs.Pin.{pin_in, pin_entry, pins_at}
 use Rattle.leg_design.specs.Net.{net_in, are_too_many, net_entry, section_word, nets_at}
-use Rattle.leg_design.specs.Form.{DesignParts, known, divider_form, bus_form, name_form, units_form, die_form, row_form, track_form, vias_form, components_form, pins_form, nets_form, special_form, is_past_statement, is_past_section, past_section, past_extension, past_form, header_form, form_at}
+use Rattle.leg_design.specs.Parts.{DesignParts, known, divider_form, bus_form, name_form, units_form, die_form, row_form, track_form, vias_form, components_form, pins_form, nets_form, special_form}
+use Rattle.leg_design.specs.Skipped.{is_past_statement, is_past_section, past_section, past_extension, past_form}
+use Rattle.leg_design.specs.Form.{header_form, form_at}
 
 -- what stands before the sections
 

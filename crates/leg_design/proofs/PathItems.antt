@@ -13,7 +13,7 @@ use Rattle.leg_design.specs.declared.path.Item.{Item}
 use Rattle.leg_design.specs.declared.path.Item.TheVariants.{ToPoint, AtVia, AtRect}
 use Rattle.leg_design.specs.Guard.{unless}
 use Rattle.leg_design.specs.Known.{KnownSaid, via_named}
-use Rattle.leg_design.specs.Wiring.{count_at, coordinate_at, extension_in_point, point_item, first_point_at, rect_item, past_north, via_item, item_at, one_item, at_path_end}
+use Rattle.leg_design.specs.PathItem.{count_at, coordinate_at, extension_in_point, point_item, first_point_at, rect_item, past_north, via_item, item_at, one_item, at_path_end}
 
 -- a word that isn't this keyword isn't this mark
 pub no_mark : (words : Words) → is_at (codes "(") words ≡ false → mark_at 40 words ≡ None

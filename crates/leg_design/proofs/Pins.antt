@@ -10,7 +10,8 @@ use Rattle.leg_lib.specs.Records.{Contents}
 use Rattle.leg_design.specs.declared.limits.TheConstants.{ENTRY_LIMIT}
 use Rattle.leg_design.specs.Guard.{unless}
 use Rattle.leg_design.specs.Records.{PinSaid, pin_names}
-use Rattle.leg_design.specs.Pin.{no_pin_parts, all_ports, pin_clause, pin_head, pin_in, pin_entry, pins_at}
+use Rattle.leg_design.specs.PinParts.{no_pin_parts, all_ports, pin_clause}
+use Rattle.leg_design.specs.Pin.{pin_head, pin_in, pin_entry, pins_at}
 use Rattle.leg_design.proofs.Givens.{Gives, gives_none, gives_some, gives_bind, free_is}
 use Rattle.leg_design.proofs.Sections.{section_below}
 

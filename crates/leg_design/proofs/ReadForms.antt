@@ -10,7 +10,9 @@ use Rattle.leg_design.specs.Guard.{when, unless}
 use Rattle.leg_design.specs.Header.{word_after, design_name_at, units_at}
 use Rattle.leg_design.specs.Net.{nets_at}
 use Rattle.leg_design.specs.Records.{TrackSaid, PinSaid}
-use Rattle.leg_design.specs.Form.{DesignParts, no_parts, known, divider_form, bus_form, name_form, units_form, die_form, row_form, track_form, vias_form, components_form, pins_form, nets_form, special_form, past_form, header_form, form_at}
+use Rattle.leg_design.specs.Parts.{DesignParts, no_parts, known, divider_form, bus_form, name_form, units_form, die_form, row_form, track_form, vias_form, components_form, pins_form, nets_form, special_form}
+use Rattle.leg_design.specs.Skipped.{past_form}
+use Rattle.leg_design.specs.Form.{header_form, form_at}
 use Rattle.leg_design.specs.WellFormedParts.{IsKept, IsNameIfAny, IsArea, AreComponents, IsRow, IsTrack, AreVias, ArePins}
 use Rattle.leg_design.proofs.Gives.{Gives, gives_none, gives_some, gives_bind, gives_skip, gives_if, name_gives, word_gives}
 use Rattle.leg_design.proofs.ReadDie.{die_gives}

@@ -16,7 +16,9 @@ use Rattle.leg_design.specs.Component.{components_at}
 use Rattle.leg_design.specs.Pin.{pins_at}
 use Rattle.leg_design.specs.LonePins.{NetLists}
 use Rattle.leg_design.specs.Records.{NetSaid, wire_count}
-use Rattle.leg_design.specs.Form.{DesignParts, no_parts, known, divider_form, bus_form, name_form, units_form, die_form, row_form, track_form, vias_form, components_form, pins_form, nets_form, special_form, past_form, header_form, form_at}
+use Rattle.leg_design.specs.Parts.{DesignParts, no_parts, known, divider_form, bus_form, name_form, units_form, die_form, row_form, track_form, vias_form, components_form, pins_form, nets_form, special_form}
+use Rattle.leg_design.specs.Skipped.{past_form}
+use Rattle.leg_design.specs.Form.{header_form, form_at}
 use Rattle.leg_design.specs.WellFormedNets.{AreInOneNet}
 use Rattle.leg_design.proofs.Gives.{Gives, gives_some, gives_bind, gives_skip, gives_if, unless_gives}
 use Rattle.leg_design.proofs.ReadNets.{IsKnownNet, AreEntries, nets_give}

@@ -13,7 +13,9 @@ use Rattle.leg_design.specs.declared.limits.TheConstants.{ENTRY_LIMIT}
 use Rattle.leg_design.specs.Guard.{when, unless}
 use Rattle.leg_design.specs.Clause.{is_clause}
 use Rattle.leg_design.specs.Placement.{says_place}
-use Rattle.leg_design.specs.Pin.{PinParts, no_pin_parts, empty_port, net_of_pin, word_in, last_port, all_ports, port_start, past_rules, layer_rect, port_rect, net_clause, direction_clause, use_clause, port_place, pin_clause, pin_head, pin_in, pin_entry, pins_at}
+use Rattle.leg_design.specs.PinParts.{PinParts, no_pin_parts, net_of_pin, word_in, last_port, all_ports, port_start, port_rect, net_clause, direction_clause, use_clause, port_place, pin_clause}
+use Rattle.leg_design.specs.Port.{empty_port, past_rules, layer_rect}
+use Rattle.leg_design.specs.Pin.{pin_head, pin_in, pin_entry, pins_at}
 use Rattle.leg_design.specs.Records.{PortSaid, PinSaid, pin_names}
 use Rattle.leg_design.specs.WellFormedParts.{IsKept, IsNameIfAny, IsPort, IsPin, ArePins}
 use Rattle.leg_design.proofs.Gives.{Gives, gives_none, gives_some, gives_bind, gives_skip, gives_if, unless_gives, none_from, name_gives, word_gives, over_gives, section_gives}

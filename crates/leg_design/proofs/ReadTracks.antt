@@ -5,8 +5,7 @@ use Rattle.leg_lex.specs.Words.{Words, keyword_at, name_at}
 use Rattle.leg_lex.specs.Statements.{statement_at}
 use Rattle.leg_lib.specs.declared.records.Layer.{Layer}
 use Rattle.leg_lib.specs.Records.{Contents}
-use Rattle.leg_design.specs.Guard.{is_over}
-use Rattle.leg_design.specs.Row.{is_within}
+use Rattle.leg_design.specs.Guard.{is_over, is_within}
 use Rattle.leg_design.specs.Track.{axis_at, one_layer, layers_in, track_in, track_at}
 use Rattle.leg_design.specs.WellFormedParts.{IsTrack}
 use Rattle.leg_design.proofs.Gives.{Gives, gives_some, gives_bind, gives_skip, named_gives_within, when_gives, until_gives}

@@ -15,7 +15,8 @@ use Rattle.leg_design.specs.Layers.{is_routing}
 use Rattle.leg_design.specs.Known.{KnownSaid, via_named}
 use Rattle.leg_design.specs.declared.path.Item.{Item}
 use Rattle.leg_design.specs.Path.{}
-use Rattle.leg_design.specs.Wiring.{count_at, coordinate_at, extension_in_point, point_item, first_point_at, rect_item, past_north, via_item, item_at, one_item, at_path_end, routing_at, past_taper, is_even, written_width_at, at_no_shape, past_shape, written_at, path_at, at_no_new, new_path, paths_at, wiring_start, wiring_at}
+use Rattle.leg_design.specs.PathItem.{count_at, coordinate_at, extension_in_point, point_item, first_point_at, rect_item, past_north, via_item, item_at, one_item, at_path_end}
+use Rattle.leg_design.specs.Wiring.{routing_at, past_taper, is_even, written_width_at, at_no_shape, past_shape, written_at, path_at, at_no_new, new_path, paths_at, wiring_start, wiring_at}
 use Rattle.leg_design.specs.WellFormedParts.{IsPosition}
 use Rattle.leg_design.specs.WellFormedNets.{IsWire}
 use Rattle.leg_design.proofs.Gives.{Gives, gives_some, gives_bind, gives_skip, gives_choice, gives_if, when_gives, unless_gives, until_gives}

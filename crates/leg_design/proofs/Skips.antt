@@ -3,7 +3,7 @@ use Rattle.std.proofs.Common.{◌≡◌, ℕ, List, [], ◌∷◌, None, Some, r
 use Rattle.leg_lex.specs.Words.{Words, next_at, end_at}
 use Rattle.leg_lex.specs.Past.{past}
 use Rattle.leg_lex.proofs.Said.{made_is, rest_is}
-use Rattle.leg_design.specs.Form.{past_section}
+use Rattle.leg_design.specs.Skipped.{past_section}
 
 pub past_section_from : (words : Words) (keyword : List ℕ) (rest : Words) → next_at words ≡ Some (keyword, rest) → past_section words ≡ past (end_at keyword) rest
 unfolding past_section next_at

@@ -10,7 +10,8 @@ use Rattle.leg_design.specs.Guard.{when}
 use Rattle.leg_design.specs.Layers.{is_routing}
 use Rattle.leg_design.specs.Known.{KnownSaid}
 use Rattle.leg_design.specs.Path.{path_wires}
-use Rattle.leg_design.specs.Wiring.{one_item, at_path_end, routing_at, past_taper, is_even, written_width_at, at_no_shape, past_shape, written_at, path_at, new_path}
+use Rattle.leg_design.specs.PathItem.{one_item, at_path_end}
+use Rattle.leg_design.specs.Wiring.{routing_at, past_taper, is_even, written_width_at, at_no_shape, past_shape, written_at, path_at, new_path}
 use Rattle.leg_design.proofs.PathItems.{count_below, first_point_below, one_item_shortens}
 
 routing_below : (library : Contents) (words : Words) → Below (length words) (routing_at library words)

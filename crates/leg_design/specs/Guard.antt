@@ -1,5 +1,6 @@
 -- Conditions of a form.
-use Rattle.std.specs.Prelude.{Bool, true, false, [], ◌∷◌, Option, None, Some}
+use Rattle.std.specs.Prelude.{ℤ, Bool, true, false, nat_le, [], ◌∷◌, Option, None, Some, unsigned_abs}
+use Rattle.leg_lex.specs.declared.limits.TheConstants.{NUMBER_LIMIT}
 use Rattle.leg_lex.specs.Words.{Words}
 
 -- nothing is said unless the test is met
@@ -16,3 +17,7 @@ unless false = Some tt
 abbrev pub is_over : Words → Bool
 is_over [] = true
 is_over (word ∷ words) = false
+
+-- a number is within the limit of numbers
+abbrev pub is_within : ℤ → Bool
+is_within z = nat_le (unsigned_abs z) NUMBER_LIMIT

@@ -1,141 +1,15 @@
--- Pins of the design (LEF/DEF 5.8, "Pins"; how many there may be, and what is left out, are own rules).
-use Rattle.std.specs.Prelude.{ℕ, ◌||◌, nat_le, if◌then◌else◌, List, [], ◌∷◌, ◌++◌, length, Option, None, Some, is_some, codes}
-use Rattle.leg_lex.specs.Words.{Words, ◌>>=◌, is_at, keyword_at, mark_at, name_at, word_at, whole_at, nothing_at}
+-- Pins of the design (LEF/DEF 5.8, "Pins"; how many there may be is an own rule).
+use Rattle.std.specs.Prelude.{ℕ, nat_le, List, [], ◌∷◌, ◌++◌, length, Option, None, Some, is_some, codes}
+use Rattle.leg_lex.specs.Words.{Words, ◌>>=◌, mark_at, name_at, nothing_at}
 use Rattle.leg_lex.specs.Until.{over}
 use Rattle.leg_lex.specs.Statements.{statement_at, clauses_of}
 use Rattle.leg_lex.specs.Named.{place_of}
-use Rattle.leg_geom.specs.Plane.{Sides}
 use Rattle.leg_lib.specs.Records.{Contents}
 use Rattle.leg_design.specs.declared.limits.TheConstants.{ENTRY_LIMIT}
-use Rattle.leg_design.specs.declared.records.Status.TheVariants.{Unplaced}
-use Rattle.leg_design.specs.Guard.{when, unless}
-use Rattle.leg_design.specs.Placement.{rect_at, says_place, placed_in}
-use Rattle.leg_design.specs.Clause.{is_clause}
-use Rattle.leg_design.specs.Layers.{layer_at, with_rect}
+use Rattle.leg_design.specs.Guard.{unless}
 use Rattle.leg_design.specs.Section.{section_at}
-use Rattle.leg_design.specs.Records.{PortSaid, PinSaid, pin_names}
-
--- what the clauses before said: words that stand at most once, the ports that are whole, and the last port
-pub record PinParts : Type 0 where
-  pub net_name : Option (List ℕ)
-  pub direction : Option (List ℕ)
-  pub usage : Option (List ℕ)
-  pub done : List PortSaid
-  pub last : Option PortSaid
-
-abbrev pub no_pin_parts : PinParts
-no_pin_parts = record { net_name = None; direction = None; usage = None; done = []; last = None }
-
-abbrev pub empty_port : PortSaid
-empty_port = record { shapes = []; status = Unplaced; place = None }
-
--- NET NAME
-unfoldable pub net_of_pin : Words → Option (List ℕ)
-net_of_pin clause = do
-  start ← keyword_at (codes "NET") clause
-  name ← name_at start.1
-  end ← nothing_at name.1
-  Some name.0
-
--- KEYWORD word
-unfoldable pub word_in : List ℕ → Words → Option (List ℕ)
-word_in keyword clause = do
-  start ← keyword_at keyword clause
-  word ← word_at start.1
-  end ← nothing_at word.1
-  Some word.0
-
--- the last port, or the first where none has begun
-abbrev pub last_port : PinParts → PortSaid
-last_port parts = port_or parts.last where
-  port_or : Option PortSaid → PortSaid
-  port_or None = empty_port
-  port_or (Some port) = port
-
--- all ports
-abbrev pub all_ports : PinParts → List PortSaid
-all_ports parts = ports_and parts.last where
-  ports_and : Option PortSaid → List PortSaid
-  ports_and None = parts.done
-  ports_and (Some port) = parts.done ++ port ∷ []
-
--- PORT begins a port
-unfoldable pub port_start : PinParts → Words → Option PinParts
-port_start parts clause = do
-  start ← keyword_at (codes "PORT") clause
-  end ← nothing_at start.1
-  Some (record parts { done = all_ports parts; last = Some empty_port })
-
--- KEYWORD number, if it is written
-unfoldable pub past_number : List ℕ → Words → Option (Unit {0} × Words)
-past_number keyword words =
-    if is_at keyword words then (do
-      start ← keyword_at keyword words
-      number ← whole_at start.1
-      Some (tt, number.1))
-    else Some (tt, words)
-
--- [SPACING number] [DESIGNRULEWIDTH number]
-unfoldable pub past_rules : Words → Option (Unit {0} × Words)
-past_rules words = do
-  spacing ← past_number (codes "SPACING") words
-  past_number (codes "DESIGNRULEWIDTH") spacing.1
-
--- LAYER NAME [SPACING number] [DESIGNRULEWIDTH number] corners: the layer's number, and the rectangle
-unfoldable pub layer_rect : Contents → Words → Option (ℕ × Sides)
-layer_rect library clause = do
-  start ← keyword_at (codes "LAYER") clause
-  layer ← layer_at library start.1
-  rules ← past_rules layer.1
-  rect ← rect_at rules.1
-  end ← nothing_at rect.1
-  Some (layer.0, rect.0)
-
--- LAYER, which adds a rectangle to the last port
-unfoldable pub port_rect : Contents → PinParts → Words → Option PinParts
-port_rect library parts clause = do
-  on ← layer_rect library clause
-  Some (record parts { last = Some (record (last_port parts) { shapes = with_rect library on.0 on.1 (last_port parts).shapes }) })
-
--- PLACED, FIXED or COVER with a place, at most once in a port
-unfoldable pub port_place : PinParts → Words → Option PinParts
-port_place parts clause = do
-  once ← unless (is_some (last_port parts).place)
-  placed ← placed_in clause
-  Some (record parts { last = Some (record (last_port parts) { status = placed.0; place = Some placed.1 }) })
-
--- NET NAME, at most once
-unfoldable pub net_clause : PinParts → Words → Option PinParts
-net_clause parts clause = do
-  once ← unless (is_some parts.net_name)
-  name ← net_of_pin clause
-  Some (record parts { net_name = Some name })
-
--- DIRECTION word, at most once
-unfoldable pub direction_clause : PinParts → Words → Option PinParts
-direction_clause parts clause = do
-  once ← unless (is_some parts.direction)
-  word ← word_in (codes "DIRECTION") clause
-  Some (record parts { direction = Some word })
-
--- USE word, at most once
-unfoldable pub use_clause : PinParts → Words → Option PinParts
-use_clause parts clause = do
-  once ← unless (is_some parts.usage)
-  word ← word_in (codes "USE") clause
-  Some (record parts { usage = Some word })
-
--- one more clause
-unfoldable pub pin_clause : Contents → PinParts → Words → Option PinParts
-pin_clause library parts clause =
-    if is_at (codes "NET") clause then net_clause parts clause
-    else (if is_at (codes "DIRECTION") clause then direction_clause parts clause
-    else (if is_at (codes "USE") clause then use_clause parts clause
-    else (if is_at (codes "PORT") clause then port_start parts clause
-    else (if is_at (codes "LAYER") clause then port_rect library parts clause
-    else (if says_place clause then port_place parts clause
-    else (if is_at (codes "POLYGON") clause || is_at (codes "VIA") clause then None
-    else (when (is_clause clause) >>= λ _. Some parts)))))))
+use Rattle.leg_design.specs.Records.{PinSaid, pin_names}
+use Rattle.leg_design.specs.PinParts.{no_pin_parts, all_ports, pin_clause}
 
 -- - NAME, a new one (45 is the dash)
 unfoldable pub pin_head : List (List ℕ) → Words → Option (List ℕ)

@@ -1,7 +1,6 @@
 -- Rows (LEF/DEF 5.8, "Rows"; that a row has one line of abutting sites, not turned, is an own rule).
-use Rattle.std.specs.Prelude.{ℕ, ℤ, pos, Bool, true, false, ◌||◌, int_le, nat_le, ◌+ℤ◌, ◌*ℤ◌, List, [], ◌∷◌, Option, Some, codes, unsigned_abs, slice_get}
+use Rattle.std.specs.Prelude.{ℕ, ℤ, pos, Bool, true, false, ◌||◌, int_le, ◌+ℤ◌, ◌*ℤ◌, List, [], ◌∷◌, Option, Some, codes, slice_get}
 use Rattle.std.specs.Ordering.{int_eq}
-use Rattle.leg_lex.specs.declared.limits.TheConstants.{NUMBER_LIMIT}
 use Rattle.leg_lex.specs.Words.{Words, ◌>>=◌, keyword_at, name_at, whole_at, nothing_at}
 use Rattle.leg_lex.specs.Statements.{statement_at, clauses_of}
 use Rattle.leg_lex.specs.Named.{place_of}
@@ -9,7 +8,7 @@ use Rattle.leg_geom.specs.declared.orient.Orient.{Orient}
 use Rattle.leg_geom.specs.declared.orient.Orient.TheVariants.{N, S, W, E, FN, FS, FW, FE}
 use Rattle.leg_lib.specs.declared.records.Site.{Site}
 use Rattle.leg_lib.specs.Records.{Contents, site_names}
-use Rattle.leg_design.specs.Guard.{when}
+use Rattle.leg_design.specs.Guard.{when, is_within}
 use Rattle.leg_design.specs.Placement.{orient_at}
 use Rattle.leg_design.specs.declared.records.Row.{Row}
 
@@ -23,10 +22,6 @@ is_upright W = false
 is_upright E = false
 is_upright FW = false
 is_upright FE = false
-
--- a number is within the limit of numbers
-abbrev pub is_within : ℤ → Bool
-is_within z = nat_le (unsigned_abs z) NUMBER_LIMIT
 
 -- a site of the library: its number, and the site
 unfoldable pub site_at : Contents → Words → Option ((ℕ × Site) × Words)

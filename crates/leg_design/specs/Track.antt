@@ -5,8 +5,7 @@ use Rattle.leg_lex.specs.Until.{until}
 use Rattle.leg_lex.specs.Statements.{statement_at}
 use Rattle.leg_lex.specs.Named.{place_of}
 use Rattle.leg_lib.specs.Records.{Contents, layer_names}
-use Rattle.leg_design.specs.Guard.{when, is_over}
-use Rattle.leg_design.specs.Row.{is_within}
+use Rattle.leg_design.specs.Guard.{when, is_over, is_within}
 use Rattle.leg_design.specs.Records.{TrackSaid}
 use Rattle.leg_design.specs.declared.records.Axis.{Axis}
 use Rattle.leg_design.specs.declared.records.Axis.TheVariants.{X, Y}

@@ -4,7 +4,8 @@ ghost use Rattle.std.specs.Prelude.{codes};
 ghost use Rattle.leg_lex.specs.Words.{Reads, Means};
 ghost use Rattle.leg_lex.specs.Until.{until};
 ghost use Rattle.leg_lex.specs.Statements.{at_end};
-ghost use Rattle.leg_design.specs.Form.{no_parts, header_form, form_at, design_in};
+ghost use Rattle.leg_design.specs.Parts.{no_parts};
+ghost use Rattle.leg_design.specs.Form.{header_form, form_at, design_in};
 
 use crate::design::{Design, Fields};
 use crate::parts::Parts;

@@ -5,7 +5,8 @@ ghost use Rattle.leg_lex.specs.Words.{Reads, Means};
 ghost use Rattle.leg_design.specs.declared.limits.TheConstants.{PART_LIMIT};
 ghost use Rattle.leg_design.specs.Guard.{unless};
 ghost use Rattle.leg_design.specs.Records.{terminal_count};
-ghost use Rattle.leg_design.specs.Form.{no_parts, divider_form, bus_form, name_form, units_form, die_form, row_form, track_form, design_of};
+ghost use Rattle.leg_design.specs.Parts.{no_parts, divider_form, bus_form, name_form, units_form, die_form, row_form, track_form};
+ghost use Rattle.leg_design.specs.Form.{design_of};
 
 mod sections;
 
@@ -56,7 +57,7 @@ pub(crate) struct Parts<'a, A: Allocator + Copy> {
 }
 
 impl<'a, A: Allocator + Copy> Model for Parts<'a, A> {
-    ghost use Rattle.leg_design.specs.Form.{DesignParts};
+    ghost use Rattle.leg_design.specs.Parts.{DesignParts};
 
     ghost Value = { DesignParts };
 
@@ -92,7 +93,7 @@ impl<'a, A: Allocator + Copy> Parts<'a, A> {
     }
 
     /// `DIVIDERCHAR word ;`, once.
-    #[tactic(auto, unfolding(crate::specs::Form::divider_form))]
+    #[tactic(auto, unfolding(crate::specs::Parts::divider_form))]
     pub(crate) fn divider_form(&mut self, words: &mut Cursor<'_, 'a>) -> Result<(), ReadFault>
         ensures { Reads (λ _. self.new) result words.new (divider_form self.old words.old) }
     {
@@ -103,7 +104,7 @@ impl<'a, A: Allocator + Copy> Parts<'a, A> {
     }
 
     /// `BUSBITCHARS word ;`, once.
-    #[tactic(auto, unfolding(crate::specs::Form::bus_form))]
+    #[tactic(auto, unfolding(crate::specs::Parts::bus_form))]
     pub(crate) fn bus_form(&mut self, words: &mut Cursor<'_, 'a>) -> Result<(), ReadFault>
         ensures { Reads (λ _. self.new) result words.new (bus_form self.old words.old) }
     {
@@ -114,7 +115,7 @@ impl<'a, A: Allocator + Copy> Parts<'a, A> {
     }
 
     /// `DESIGN NAME ;`, once.
-    #[tactic(auto, unfolding(crate::specs::Form::name_form))]
+    #[tactic(auto, unfolding(crate::specs::Parts::name_form))]
     pub(crate) fn name_form(&mut self, words: &mut Cursor<'_, 'a>) -> Result<(), ReadFault>
         ensures { Reads (λ _. self.new) result words.new (name_form self.old words.old) }
     {
@@ -125,7 +126,7 @@ impl<'a, A: Allocator + Copy> Parts<'a, A> {
     }
 
     /// `UNITS`, once. Another number than the library's is `Unexpected`.
-    #[tactic(auto, unfolding(crate::specs::Form::units_form))]
+    #[tactic(auto, unfolding(crate::specs::Parts::units_form))]
     pub(crate) fn units_form(
         &mut self,
         library: &Library<'a, A>,
@@ -143,7 +144,7 @@ impl<'a, A: Allocator + Copy> Parts<'a, A> {
     }
 
     /// `DIEAREA`, once.
-    #[tactic(auto, unfolding(crate::specs::Form::die_form))]
+    #[tactic(auto, unfolding(crate::specs::Parts::die_form))]
     pub(crate) fn die_form(&mut self, alloc: A, words: &mut Cursor<'_, 'a>) -> Result<(), ReadFault>
         ensures { Reads (λ _. self.new) result words.new (die_form self.old words.old) }
     {
@@ -153,7 +154,7 @@ impl<'a, A: Allocator + Copy> Parts<'a, A> {
     }
 
     /// One more row.
-    #[tactic(auto, unfolding(crate::specs::Form::row_form))]
+    #[tactic(auto, unfolding(crate::specs::Parts::row_form))]
     pub(crate) fn row_form(
         &mut self,
         alloc: A,
@@ -168,7 +169,7 @@ impl<'a, A: Allocator + Copy> Parts<'a, A> {
     }
 
     /// More tracks.
-    #[tactic(auto, unfolding(crate::specs::Form::track_form))]
+    #[tactic(auto, unfolding(crate::specs::Parts::track_form))]
     pub(crate) fn track_form(
         &mut self,
         alloc: A,

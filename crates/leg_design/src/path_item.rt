@@ -3,7 +3,7 @@
 ghost use Rattle.std.specs.Prelude.{◌≡◌};
 ghost use Rattle.leg_lex.specs.Words.{Reads, mark_at};
 ghost use Rattle.leg_lex.specs.Until.{until};
-ghost use Rattle.leg_design.specs.Wiring.{count_at, coordinate_at, extension_in_point, point_item, first_point_at, rect_item, past_north, via_item, item_at, one_item, at_path_end};
+ghost use Rattle.leg_design.specs.PathItem.{count_at, coordinate_at, extension_in_point, point_item, first_point_at, rect_item, past_north, via_item, item_at, one_item, at_path_end};
 
 use crate::coordinate::{Coordinate, point, rect_between};
 use crate::known::Known;
@@ -20,7 +20,7 @@ const LEFT_OUT: [&[u8]; 5] = [b"TAPERRULE", b"STYLE", b"MASK", b"VIRTUAL", b"DO"
 const MISPLACED: [&[u8]; 4] = [b"NEW", b"RECT", b"TAPER", b"N"];
 
 /// A number of at least 0. One below 0 is `TooLarge`.
-#[tactic(auto, unfolding(crate::specs::Wiring::count_at))]
+#[tactic(auto, unfolding(crate::specs::PathItem::count_at))]
 pub(crate) fn count(words: &mut Cursor<'_, '_>) -> Result<i64, ReadFault>
     ensures { Reads (λ z. z) result words.new (count_at words.old) }
 {
@@ -33,7 +33,7 @@ pub(crate) fn count(words: &mut Cursor<'_, '_>) -> Result<i64, ReadFault>
 }
 
 /// A coordinate, or `*` for that of the point before.
-#[tactic(auto, unfolding(crate::specs::Wiring::coordinate_at))]
+#[tactic(auto, unfolding(crate::specs::PathItem::coordinate_at))]
 fn coordinate(words: &mut Cursor<'_, '_>) -> Result<Option<Coordinate>, ReadFault>
     ensures { Reads (λ c. c) result words.new (coordinate_at words.old) }
 {
@@ -45,7 +45,7 @@ fn coordinate(words: &mut Cursor<'_, '_>) -> Result<Option<Coordinate>, ReadFaul
 }
 
 /// The extension in a point, if there is one.
-#[tactic(auto, unfolding(crate::specs::Wiring::extension_in_point))]
+#[tactic(auto, unfolding(crate::specs::PathItem::extension_in_point))]
 fn extension_in_point(words: &mut Cursor<'_, '_>) -> Result<Option<i64>, ReadFault>
     ensures { Reads (λ e. e) result words.new (extension_in_point words.old) }
 {
@@ -56,7 +56,7 @@ fn extension_in_point(words: &mut Cursor<'_, '_>) -> Result<Option<i64>, ReadFau
 }
 
 /// `( x y )` or `( x y extension )`.
-#[tactic(auto, unfolding(crate::specs::Wiring::point_item))]
+#[tactic(auto, unfolding(crate::specs::PathItem::point_item))]
 fn point_item(words: &mut Cursor<'_, '_>) -> Result<Item, ReadFault>
     ensures { Reads (λ i. i) result words.new (point_item words.old) }
 {
@@ -89,7 +89,7 @@ fn first_mark(words: &mut Cursor<'_, '_>) -> Result<(), ReadFault>
 }
 
 /// The first point of a path, with the extension that is given there.
-#[tactic(auto, unfolding(crate::specs::Wiring::first_point_at))]
+#[tactic(auto, unfolding(crate::specs::PathItem::first_point_at))]
 pub(crate) fn first_point(words: &mut Cursor<'_, '_>) -> Result<(Point, Option<i64>), ReadFault>
     ensures { Reads (λ p. p) result words.new (first_point_at words.old) }
 {
@@ -102,7 +102,7 @@ pub(crate) fn first_point(words: &mut Cursor<'_, '_>) -> Result<(Point, Option<i
 }
 
 /// `RECT ( a b c d )`: the rectangle between two corners about the point. One without area is `EmptyRect`.
-#[tactic(auto, unfolding(crate::specs::Wiring::rect_item))]
+#[tactic(auto, unfolding(crate::specs::PathItem::rect_item))]
 fn rect_item(words: &mut Cursor<'_, '_>) -> Result<Item, ReadFault>
     ensures { Reads (λ i. i) result words.new (rect_item words.old) }
 {
@@ -121,7 +121,7 @@ fn rect_item(words: &mut Cursor<'_, '_>) -> Result<Item, ReadFault>
 }
 
 /// Reads past an `N`, if it stands there.
-#[tactic(auto, unfolding(crate::specs::Wiring::past_north))]
+#[tactic(auto, unfolding(crate::specs::PathItem::past_north))]
 fn past_north(words: &mut Cursor<'_, '_>) -> Result<(), ReadFault>
     ensures { Reads (λ x. x) result words.new (past_north words.old) }
 {
@@ -142,7 +142,7 @@ fn kind_of_wiring_word(word: &[u8]) -> FaultKind {
 
 /// The name of a via. A name that no via has is `UnknownName`; a word that is left out by name is
 /// `Unsupported`, as an orientation is.
-#[tactic(auto, unfolding(crate::specs::Wiring::via_item))]
+#[tactic(auto, unfolding(crate::specs::PathItem::via_item))]
 fn via_item<A: Allocator + Copy>(
     known: &Known<'_, '_, A>,
     words: &mut Cursor<'_, '_>,
@@ -162,7 +162,7 @@ fn via_item<A: Allocator + Copy>(
 }
 
 /// An item of a path. Rectangles stand in `NETS` only.
-#[tactic(auto, unfolding(crate::specs::Wiring::item_at))]
+#[tactic(auto, unfolding(crate::specs::PathItem::item_at))]
 fn item<A: Allocator + Copy>(
     known: &Known<'_, '_, A>,
     special: bool,
@@ -180,7 +180,7 @@ fn item<A: Allocator + Copy>(
 }
 
 /// One more item.
-#[tactic(auto, unfolding(crate::specs::Wiring::one_item))]
+#[tactic(auto, unfolding(crate::specs::PathItem::one_item))]
 fn one_item<'t, 'a, A: Allocator + Copy>(
     known: &Known<'_, '_, A>,
     special: bool,

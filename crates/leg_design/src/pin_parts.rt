@@ -3,7 +3,7 @@
 ghost use Rattle.std.specs.Prelude.{◌≡◌, Some, None, OnOk};
 ghost use Rattle.leg_lex.specs.Words.{Means};
 ghost use Rattle.leg_lex.specs.Until.{over};
-ghost use Rattle.leg_design.specs.Pin.{no_pin_parts, net_of_pin, word_in, last_port, all_ports, port_start, port_rect, port_place, net_clause, direction_clause, use_clause, pin_clause};
+ghost use Rattle.leg_design.specs.PinParts.{no_pin_parts, net_of_pin, word_in, last_port, all_ports, port_start, port_rect, port_place, net_clause, direction_clause, use_clause, pin_clause};
 
 use crate::clause::clause;
 use crate::layers::push_rect;
@@ -26,7 +26,7 @@ pub(crate) struct PinParts<'a, A: Allocator> {
 }
 
 impl<'a, A: Allocator> Model for PinParts<'a, A> {
-    ghost use Rattle.leg_design.specs.Pin as pin;
+    ghost use Rattle.leg_design.specs.PinParts as pin;
 
     ghost Value = { pin.PinParts };
 
@@ -34,7 +34,7 @@ impl<'a, A: Allocator> Model for PinParts<'a, A> {
 }
 
 /// The name of a clause `NET NAME`.
-#[tactic(auto, unfolding(crate::specs::Pin::net_of_pin))]
+#[tactic(auto, unfolding(crate::specs::PinParts::net_of_pin))]
 fn net_name<'a>(clause: &mut Cursor<'_, 'a>) -> Result<&'a [u8], ReadFault>
     ensures { Means (λ name. name.now) result (net_of_pin clause.old) }
 {
@@ -45,7 +45,7 @@ fn net_name<'a>(clause: &mut Cursor<'_, 'a>) -> Result<&'a [u8], ReadFault>
 }
 
 /// The word of a clause that has this keyword and one word.
-#[tactic(auto, unfolding(crate::specs::Pin::word_in))]
+#[tactic(auto, unfolding(crate::specs::PinParts::word_in))]
 fn word_after<'a>(keyword: &[u8], clause: &mut Cursor<'_, 'a>) -> Result<&'a [u8], ReadFault>
     ensures { Means (λ word. word.now) result (word_in keyword.now clause.old) }
 {
@@ -92,7 +92,7 @@ impl<'a, A: Allocator + Copy> PinParts<'a, A> {
     }
 
     /// `NET NAME`, at most once.
-    #[tactic(auto, unfolding(crate::specs::Pin::net_clause))]
+    #[tactic(auto, unfolding(crate::specs::PinParts::net_clause))]
     fn net_clause(&mut self, clause: &mut Cursor<'_, 'a>) -> Result<(), ReadFault>
         ensures { Means (λ _. self.new) result (net_clause self.old clause.old) }
     {
@@ -104,7 +104,7 @@ impl<'a, A: Allocator + Copy> PinParts<'a, A> {
     }
 
     /// `DIRECTION word`, at most once.
-    #[tactic(auto, unfolding(crate::specs::Pin::direction_clause))]
+    #[tactic(auto, unfolding(crate::specs::PinParts::direction_clause))]
     fn direction_clause(&mut self, clause: &mut Cursor<'_, 'a>) -> Result<(), ReadFault>
         ensures { Means (λ _. self.new) result (direction_clause self.old clause.old) }
     {
@@ -116,7 +116,7 @@ impl<'a, A: Allocator + Copy> PinParts<'a, A> {
     }
 
     /// `USE word`, at most once.
-    #[tactic(auto, unfolding(crate::specs::Pin::use_clause))]
+    #[tactic(auto, unfolding(crate::specs::PinParts::use_clause))]
     fn use_clause(&mut self, clause: &mut Cursor<'_, 'a>) -> Result<(), ReadFault>
         ensures { Means (λ _. self.new) result (use_clause self.old clause.old) }
     {
@@ -128,7 +128,7 @@ impl<'a, A: Allocator + Copy> PinParts<'a, A> {
     }
 
     /// `PORT`, which begins a port.
-    #[tactic(auto, unfolding(crate::specs::Pin::port_start))]
+    #[tactic(auto, unfolding(crate::specs::PinParts::port_start))]
     fn port_start(&mut self, alloc: A, clause: &mut Cursor<'_, 'a>) -> Result<(), ReadFault>
         ensures { Means (λ _. self.new) result (port_start self.old clause.old) }
     {
@@ -140,7 +140,7 @@ impl<'a, A: Allocator + Copy> PinParts<'a, A> {
     }
 
     /// `LAYER`, which adds a rectangle to the last port.
-    #[tactic(auto, unfolding(crate::specs::Pin::port_rect))]
+    #[tactic(auto, unfolding(crate::specs::PinParts::port_rect))]
     fn port_rect(
         &mut self,
         alloc: A,
@@ -157,7 +157,7 @@ impl<'a, A: Allocator + Copy> PinParts<'a, A> {
     }
 
     /// The place of the last port, at most once in it.
-    #[tactic(auto, unfolding(crate::specs::Pin::port_place))]
+    #[tactic(auto, unfolding(crate::specs::PinParts::port_place))]
     fn port_place(&mut self, alloc: A, clause: &mut Cursor<'_, 'a>) -> Result<(), ReadFault>
         ensures { Means (λ _. self.new) result (port_place self.old clause.old) }
     {
@@ -173,7 +173,7 @@ impl<'a, A: Allocator + Copy> PinParts<'a, A> {
     }
 
     /// One more clause.
-    #[tactic(auto, unfolding(crate::specs::Pin::pin_clause))]
+    #[tactic(auto, unfolding(crate::specs::PinParts::pin_clause))]
     fn add(
         &mut self,
         alloc: A,

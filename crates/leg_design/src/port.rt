@@ -2,7 +2,7 @@
 
 ghost use Rattle.std.specs.Prelude.{◌≡◌};
 ghost use Rattle.leg_lex.specs.Words.{Reads, Means};
-ghost use Rattle.leg_design.specs.Pin.{empty_port, past_number, past_rules, layer_rect};
+ghost use Rattle.leg_design.specs.Port.{empty_port, past_number, past_rules, layer_rect};
 
 use crate::clause::rect_or_mask;
 use crate::layers::layer;
@@ -59,7 +59,7 @@ impl<A: Allocator + Copy> OpenPort<A> {
 }
 
 /// Reads past this keyword and a number, if the keyword stands there.
-#[tactic(auto, unfolding(crate::specs::Pin::past_number))]
+#[tactic(auto, unfolding(crate::specs::Port::past_number))]
 fn past_number(keyword: &[u8], clause: &mut Cursor<'_, '_>) -> Result<(), ReadFault>
     ensures { Reads (λ x. x) result clause.new (past_number keyword.now clause.old) }
 {
@@ -71,7 +71,7 @@ fn past_number(keyword: &[u8], clause: &mut Cursor<'_, '_>) -> Result<(), ReadFa
 }
 
 /// Reads past the spacing and the width that a rectangle is taken for.
-#[tactic(auto, unfolding(crate::specs::Pin::past_rules))]
+#[tactic(auto, unfolding(crate::specs::Port::past_rules))]
 fn past_rules(clause: &mut Cursor<'_, '_>) -> Result<(), ReadFault>
     ensures { Reads (λ x. x) result clause.new (past_rules clause.old) }
 {
@@ -80,7 +80,7 @@ fn past_rules(clause: &mut Cursor<'_, '_>) -> Result<(), ReadFault>
 }
 
 /// The layer's number and the rectangle of a clause `LAYER`.
-#[tactic(auto, unfolding(crate::specs::Pin::layer_rect))]
+#[tactic(auto, unfolding(crate::specs::Port::layer_rect))]
 pub(crate) fn layer_rect<A: Allocator + Copy>(
     library: &Library<'_, A>,
     clause: &mut Cursor<'_, '_>,

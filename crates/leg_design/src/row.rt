@@ -3,7 +3,8 @@
 ghost use Rattle.std.specs.Prelude.{◌≡◌, ◌+ℤ◌, ◌*ℤ◌, IfOk};
 ghost use Rattle.leg_lex.specs.Number.{IsNumber};
 ghost use Rattle.leg_lex.specs.Words.{Reads, Means};
-ghost use Rattle.leg_design.specs.Row.{is_upright, is_within, site_at, step_in, sites_in, row_in, head_of, row_at};
+ghost use Rattle.leg_design.specs.Guard.{is_within};
+ghost use Rattle.leg_design.specs.Row.{is_upright, site_at, step_in, sites_in, row_in, head_of, row_at};
 
 use crate::placement::orient;
 use crate::records::Row;

@@ -2,7 +2,7 @@
 
 ghost use Rattle.std.specs.Prelude.{◌≡◌, codes};
 ghost use Rattle.leg_lex.specs.Words.{Reads};
-ghost use Rattle.leg_design.specs.Form.{is_past_statement, is_past_section, past_section, past_extension, past_form};
+ghost use Rattle.leg_design.specs.Skipped.{is_past_statement, is_past_section, past_section, past_extension, past_form};
 
 use leg_lex::{Cursor, FaultKind, ReadFault};
 
@@ -42,7 +42,7 @@ fn past_section(words: &mut Cursor<'_, '_>) -> Result<(), ReadFault>
 }
 
 /// `BEGINEXT`, and everything up to `ENDEXT`.
-#[tactic(auto, unfolding(crate::specs::Form::past_extension))]
+#[tactic(auto, unfolding(crate::specs::Skipped::past_extension))]
 fn past_extension(words: &mut Cursor<'_, '_>) -> Result<(), ReadFault>
     ensures { Reads (λ x. x) result words.new (past_extension words.old) }
 {
@@ -62,7 +62,7 @@ fn no_form(words: &Cursor<'_, '_>) -> ReadFault {
 }
 
 /// A form that says nothing. A word that begins no form is `Unexpected`, or `Unsupported` where it is left out by name.
-#[tactic(auto, unfolding(crate::specs::Form::past_form))]
+#[tactic(auto, unfolding(crate::specs::Skipped::past_form))]
 pub(crate) fn past_form(words: &mut Cursor<'_, '_>) -> Result<(), ReadFault>
     ensures { Reads (λ x. x) result words.new (past_form words.old) }
 {

@@ -2,7 +2,7 @@
 
 ghost use Rattle.std.specs.Prelude.{◌≡◌};
 ghost use Rattle.leg_lex.specs.Words.{Reads};
-ghost use Rattle.leg_design.specs.Form.{known, vias_form, components_form, pins_form, nets_form, special_form};
+ghost use Rattle.leg_design.specs.Parts.{known, vias_form, components_form, pins_form, nets_form, special_form};
 
 use crate::component::components;
 use crate::known::Known;
@@ -17,7 +17,7 @@ use std::mem::replace;
 
 impl<'a, A: Allocator + Copy> Parts<'a, A> {
     /// The section `VIAS`, once.
-    #[tactic(auto, unfolding(crate::specs::Form::vias_form))]
+    #[tactic(auto, unfolding(crate::specs::Parts::vias_form))]
     pub(crate) fn vias_form(
         &mut self,
         alloc: A,
@@ -34,7 +34,7 @@ impl<'a, A: Allocator + Copy> Parts<'a, A> {
     }
 
     /// The section `COMPONENTS`, once.
-    #[tactic(auto, unfolding(crate::specs::Form::components_form))]
+    #[tactic(auto, unfolding(crate::specs::Parts::components_form))]
     pub(crate) fn components_form(
         &mut self,
         alloc: A,
@@ -51,7 +51,7 @@ impl<'a, A: Allocator + Copy> Parts<'a, A> {
     }
 
     /// The section `PINS`, once.
-    #[tactic(auto, unfolding(crate::specs::Form::pins_form))]
+    #[tactic(auto, unfolding(crate::specs::Parts::pins_form))]
     pub(crate) fn pins_form(
         &mut self,
         alloc: A,
@@ -68,7 +68,7 @@ impl<'a, A: Allocator + Copy> Parts<'a, A> {
     }
 
     /// The section `NETS`, once.
-    #[tactic(auto, unfolding(crate::specs::Form::nets_form))]
+    #[tactic(auto, unfolding(crate::specs::Parts::nets_form))]
     pub(crate) fn nets_form(
         &mut self,
         alloc: A,
@@ -85,7 +85,7 @@ impl<'a, A: Allocator + Copy> Parts<'a, A> {
     }
 
     /// The section `SPECIALNETS`, once.
-    #[tactic(auto, unfolding(crate::specs::Form::special_form))]
+    #[tactic(auto, unfolding(crate::specs::Parts::special_form))]
     pub(crate) fn special_form(
         &mut self,
         alloc: A,

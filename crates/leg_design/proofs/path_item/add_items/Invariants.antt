@@ -1,6 +1,6 @@
 use Rattle.std.proofs.Common.{◌≡◌, length}
 use Rattle.leg_lex.specs.Until.{until}
-use Rattle.leg_design.specs.Wiring.{at_path_end, one_item}
+use Rattle.leg_design.specs.PathItem.{at_path_end, one_item}
 use Rattle.leg_design.proofs.path_item.add_items.Given as goal
 
 abbrev pub invariant-items : goal.invariant-items

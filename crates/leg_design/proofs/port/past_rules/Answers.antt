@@ -1,4 +1,4 @@
-use Rattle.leg_design.specs.Pin.{past_rules}
+use Rattle.leg_design.specs.Port.{past_rules}
 use Rattle.leg_design.proofs.port.past_rules.Goals as goal
 
 pub returns : goal.returns

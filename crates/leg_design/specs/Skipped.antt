@@ -1,0 +1,35 @@
+-- What is read past of a DEF text (own rule).
+use Rattle.std.specs.Prelude.{Bool, ◌||◌, if◌then◌else◌, [], ◌∷◌, Option, None, Some, codes}
+use Rattle.leg_lex.specs.Words.{Words, ◌>>=◌, is_at, keyword_at, end_at}
+use Rattle.leg_lex.specs.Past.{past}
+use Rattle.leg_lex.specs.Statements.{statement_at}
+
+-- statements that say nothing
+abbrev pub is_past_statement : Words → Bool
+is_past_statement words =
+    is_at (codes "VERSION") words || is_at (codes "NAMESCASESENSITIVE") words || is_at (codes "TECHNOLOGY") words
+    || is_at (codes "HISTORY") words || is_at (codes "GCELLGRID") words
+
+-- sections that say nothing, up to END and the same word
+abbrev pub is_past_section : Words → Bool
+is_past_section words =
+    is_at (codes "PROPERTYDEFINITIONS") words || is_at (codes "NONDEFAULTRULES") words || is_at (codes "REGIONS") words
+    || is_at (codes "FILLS") words || is_at (codes "SLOTS") words || is_at (codes "STYLES") words
+    || is_at (codes "SCANCHAINS") words || is_at (codes "GROUPS") words || is_at (codes "PINPROPERTIES") words
+
+unfoldable pub past_section : Words → Option (Unit {0} × Words)
+past_section [] = None
+past_section (keyword ∷ words) = past (end_at keyword) words
+
+-- BEGINEXT .. ENDEXT
+unfoldable pub past_extension : Words → Option (Unit {0} × Words)
+past_extension words = do
+  start ← keyword_at (codes "BEGINEXT") words
+  past (keyword_at (codes "ENDEXT")) start.1
+
+-- what is read past
+unfoldable pub past_form : Words → Option (Unit {0} × Words)
+past_form words =
+    if is_past_statement words then (statement_at words >>= λ statement. Some (tt, statement.1))
+    else (if is_past_section words then past_section words
+    else (if is_at (codes "BEGINEXT") words then past_extension words else None))
