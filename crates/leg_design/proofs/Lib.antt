@@ -11,11 +11,8 @@ pub mod Skips
 pub mod Moved
 pub mod PinNames
 pub mod Numbered
-pub mod WiringWords
 pub mod NetClauses
 pub mod ViaNumbers
-pub mod WholeNumbers
-pub mod Opposite
 pub mod ReadPlacement
 pub mod ReadDie
 pub mod ReadRows
@@ -34,7 +31,6 @@ pub mod LonePinsListed
 pub mod MoreKnown
 pub mod ReadNetForms
 pub mod ReadForms
-pub mod Givens
 pub mod Changed
 pub mod NetsKept
 pub mod MovedNets

@@ -13,7 +13,7 @@ use Rattle.leg_design.specs.Guard.{unless, is_over}
 use Rattle.leg_design.specs.Known.{KnownSaid}
 use Rattle.leg_design.specs.Wiring.{is_wiring}
 use Rattle.leg_design.specs.Net.{NetParts, is_left_out, use_clause, wiring_clause, from_plus, past_clause, clause_at, net_clause}
-use Rattle.leg_design.proofs.WiringWords.{wiring_below}
+use Rattle.leg_design.proofs.Wirings.{wiring_below}
 
 -- a plus has no capitals
 lower_plus : (b : ℕ) → (to_ascii_lowercase b == 43) ≡ (b == 43)

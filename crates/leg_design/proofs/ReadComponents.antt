@@ -69,7 +69,7 @@ head_gives library names head =
     gives_skip _ (λ end.
     gives_some _ (new, less)))))
 
-component_gives : (library : Contents) (names : List (List ℕ)) (parts : List Words) → Gives (λ component. IsComponent library component × (place_of component.name names ≡ None)) (component_in library names parts)
+pub component_gives : (library : Contents) (names : List (List ℕ)) (parts : List Words) → Gives (λ component. IsComponent library component × (place_of component.name names ≡ None)) (component_in library names parts)
 unfolding component_in
 component_gives library names [] = gives_none
 component_gives library names (head ∷ clauses) =

@@ -146,7 +146,7 @@ module _ (library : Contents) where
   no_pin_parts_are : ArePinParts no_pin_parts
   no_pin_parts_are = record { net_name = tt; direction = tt; usage = tt; done = All-nil (IsPort library); last = tt }
 
-  pin_in_gives : (names : List (List ℕ)) (parts : List Words) → Gives (λ pin. IsPin library pin × (place_of pin.name names ≡ None)) (pin_in library names parts)
+  pub pin_in_gives : (names : List (List ℕ)) (parts : List Words) → Gives (λ pin. IsPin library pin × (place_of pin.name names ≡ None)) (pin_in library names parts)
   unfolding pin_in
   pin_in_gives names [] = gives_none
   pin_in_gives names (head ∷ clauses) =

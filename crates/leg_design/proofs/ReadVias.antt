@@ -66,7 +66,7 @@ module _ (library : Contents) where
         here = none_from (place_of name.0 (design_via_names vias)) parts.1;
       })))))
 
-  via_in_gives : (vias : List ViaSaid) (parts : List Words) → Gives (λ via. IsDesignVia library via × (place_of via.name (design_via_names vias) ≡ None)) (via_in library vias parts)
+  pub via_in_gives : (vias : List ViaSaid) (parts : List Words) → Gives (λ via. IsDesignVia library via × (place_of via.name (design_via_names vias) ≡ None)) (via_in library vias parts)
   unfolding via_in
   via_in_gives vias [] = gives_none
   via_in_gives vias (head ∷ clauses) =

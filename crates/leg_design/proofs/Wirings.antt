@@ -1,9 +1,9 @@
--- Paths of wiring: each takes a word at least.
+-- Paths of wiring, and clauses that say them: each takes a word at least.
 use Rattle.std.proofs.Common.{◌≡◌, suc, ◌<◌, Bool, List, [], ◌++◌, length, None, Some, codes, arith}
 use Rattle.leg_lex.specs.Words.{Words, is_at}
 use Rattle.leg_lex.specs.Named.{place_of}
 use Rattle.leg_lex.proofs.Until.{Below, Shortens, below_some, below_bind, below_ask, below_if, below_more, until_below}
-use Rattle.leg_lex.proofs.Shorter.{keyword_below, mark_below, name_below, word_below}
+use Rattle.leg_lex.proofs.Shorter.{next_below, keyword_below, mark_below, name_below, word_below}
 use Rattle.leg_lib.specs.Records.{Contents, layer_names}
 use Rattle.leg_design.specs.declared.records.Wire.{Wire}
 use Rattle.leg_design.specs.Guard.{when}
@@ -11,7 +11,7 @@ use Rattle.leg_design.specs.Layers.{is_routing}
 use Rattle.leg_design.specs.Known.{KnownSaid}
 use Rattle.leg_design.specs.Path.{path_wires}
 use Rattle.leg_design.specs.PathItem.{one_item, at_path_end}
-use Rattle.leg_design.specs.Wiring.{routing_at, past_taper, is_even, written_width_at, at_no_shape, past_shape, written_at, path_at, new_path}
+use Rattle.leg_design.specs.Wiring.{routing_at, past_taper, is_even, written_width_at, at_no_shape, past_shape, written_at, path_at, at_no_new, new_path, paths_at, wiring_start, wiring_at}
 use Rattle.leg_design.proofs.PathItems.{count_below, first_point_below, one_item_shortens}
 
 routing_below : (library : Contents) (words : Words) → Below (length words) (routing_at library words)
@@ -75,3 +75,23 @@ new_path_shortens known special wires words =
 
 pub new_path_shorter : (known : KnownSaid) (special : Bool) (wires next : List Wire) (words rest : Words) → new_path known special wires words ≡ Some (next, rest) → length rest < length words
 new_path_shorter known special wires next words rest said = (new_path_shortens known special wires words).left next rest said
+
+paths_below : (known : KnownSaid) (special : Bool) (words : Words) → Below (length words) (paths_at known special words)
+unfolding paths_at
+paths_below known special words =
+    below_bind (omega arith) (path_below known special words) (λ first less.
+    below_more (omega arith) (until_below at_no_new (new_path known special) (new_path_shortens known special) first.0 first.1))
+
+start_below : (words : Words) → Below (length words) (wiring_start words)
+unfolding wiring_start
+start_below words =
+    below_if (is_at (codes "SHIELD") words)
+    (below_bind (omega arith) (keyword_below (codes "SHIELD") words) (λ start less.
+    below_bind (omega arith) (name_below start.1) (λ name last. below_some tt name.1 last)))
+    (below_bind (omega arith) (next_below words) (λ start less. below_some tt start.1 less))
+
+pub wiring_below : (known : KnownSaid) (special : Bool) (words : Words) → Below (length words) (wiring_at known special words)
+unfolding wiring_at
+wiring_below known special words =
+    below_bind (omega arith) (start_below words) (λ start less.
+    below_more (omega arith) (paths_below known special start.1))

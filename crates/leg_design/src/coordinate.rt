@@ -3,9 +3,8 @@
 ghost use Rattle.std.specs.Prelude.{◌≡◌, unwrap_or};
 ghost use Rattle.leg_lex.specs.Words.{Reads, whole_at};
 ghost use Rattle.leg_geom.specs.Plane.{IsCoordinate};
-ghost use Rattle.leg_lib.specs.Point.{rect_between};
 
-use leg_geom::{Point, Rect};
+use leg_geom::Point;
 use leg_lex::{Cursor, ReadFault};
 use std::marker::Model;
 
@@ -30,7 +29,7 @@ impl Model for Coordinate {
 
 impl Coordinate {
     /// Reads a coordinate. Another word is `BadNumber`, or `TooLarge` beyond the limit.
-    #[tactic(auto, using(crate::proofs::WholeNumbers::whole_is_number))]
+    #[tactic(auto, using(crate::proofs::Numbers::whole_is_number))]
     pub(crate) fn read(words: &mut Cursor<'_, '_>) -> Result<Coordinate, ReadFault>
         ensures { Reads (λ c. c) result words.new (whole_at words.old) }
     {
@@ -56,16 +55,4 @@ pub(crate) fn point(x: Coordinate, y: Coordinate) -> Point
     ensures { result ≡ record { x = x; y = y } }
 {
     Point::new(x.number, y.number).unwrap()
-}
-
-/// The rectangle between two corners, which stand in any order, where it has area.
-pub(crate) fn rect_between(p: Point, q: Point) -> Option<Rect>
-    ensures { result ≡ rect_between p q }
-{
-    Rect::new(
-        p.x().min(q.x()),
-        p.y().min(q.y()),
-        p.x().max(q.x()),
-        p.y().max(q.y()),
-    )
 }

@@ -68,7 +68,7 @@ pub(crate) fn units(words: &mut Cursor<'_, '_>) -> Result<u32, ReadFault>
 }
 
 /// Whether `UNITS DISTANCE MICRONS` stand first.
-#[tactic(auto, using(crate::proofs::Microns::no_units, crate::proofs::Microns::no_distance, crate::proofs::Microns::all_but_microns, leg_lib::proofs::Vias::surely_read))]
+#[tactic(auto, using(crate::proofs::Microns::no_units, crate::proofs::Microns::no_distance, crate::proofs::Microns::all_but_microns, leg_lex::proofs::Keywords::surely_read))]
 fn is_at_microns(words: &Cursor<'_, '_>) -> Result<bool, ReadFault>
     ensures { Means (λ is. is) result (Some (is_some (microns_at words.now))) }
 {

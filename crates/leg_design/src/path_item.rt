@@ -5,9 +5,10 @@ ghost use Rattle.leg_lex.specs.Words.{Reads, mark_at};
 ghost use Rattle.leg_lex.specs.Until.{until};
 ghost use Rattle.leg_design.specs.PathItem.{count_at, coordinate_at, extension_in_point, point_item, first_point_at, rect_item, past_north, via_item, item_at, one_item, at_path_end};
 
-use crate::coordinate::{Coordinate, point, rect_between};
+use crate::coordinate::{Coordinate, point};
 use crate::known::Known;
 use crate::path::{Item, ItemAt};
+use crate::placement::rect_between;
 use leg_geom::Point;
 use leg_lex::{Cursor, FaultKind, ReadFault, is_keyword};
 use leg_lib::is_wiring_word;
@@ -114,7 +115,7 @@ fn rect_item(words: &mut Cursor<'_, '_>) -> Result<Item, ReadFault>
     let c = Coordinate::read(words)?;
     let d = Coordinate::read(words)?;
     words.mark(b')')?;
-    let Some(rect) = rect_between(point(a, b), point(c, d)) else {
+    let Some(rect) = rect_between(&point(a, b), &point(c, d)) else {
         return Err(corner.fault(FaultKind::EmptyRect));
     };
     Ok(Item::AtRect(rect))

@@ -64,7 +64,7 @@ fn written_width(words: &mut Cursor<'_, '_>) -> Result<i64, ReadFault>
 }
 
 /// Whether `+ SHAPE` stands next.
-#[tactic(auto, using(leg_lib::proofs::Vias::read_past, leg_lib::proofs::Vias::surely_read))]
+#[tactic(auto, using(leg_lex::proofs::Keywords::read_past, leg_lex::proofs::Keywords::surely_read))]
 fn is_at_shape(words: &Cursor<'_, '_>) -> Result<bool, ReadFault>
     ensures { Means (λ is. is) result (Some (is_at (codes "+") words.now && is_at (codes "SHAPE") (drop 1 words.now))) }
 {

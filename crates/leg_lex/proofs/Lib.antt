@@ -11,6 +11,7 @@ pub mod Said
 pub mod Until
 pub mod Over
 pub mod Shorter
+pub mod Keywords
 pub mod Passed
 pub mod Skipped
 pub mod Marks

@@ -1,10 +1,8 @@
 -- Vias: a via takes a word, and what the loop over its statements keeps.
-use Rattle.std.proofs.Common.{◌≡◌, ℕ, ◌+◌, ◌<◌, ◌≤◌, Bool, true, false, not, ◌&&◌, List, [], ◌∷◌, ◌++◌, length, get_or, drop, Option, None, Some, is_none, if◌then◌else◌, codes, refl, sym, arith, length-drop}
-use Rattle.std.proofs.lemmas.Bool.{true≢false}
-use Rattle.leg_lex.specs.Words.{Words, ◌>>=◌, is_keyword, is_at, next_at, keyword_at}
+use Rattle.std.proofs.Common.{◌≡◌, ℕ, ◌+◌, ◌<◌, ◌≤◌, Bool, true, false, not, ◌&&◌, List, [], ◌∷◌, ◌++◌, length, get_or, drop, Option, None, Some, is_none, if◌then◌else◌, codes, refl, arith, length-drop}
+use Rattle.leg_lex.specs.Words.{Words, ◌>>=◌, is_at}
 use Rattle.leg_lex.specs.Until.{over}
 use Rattle.leg_lex.specs.Named.{place_of}
-use Rattle.leg_lex.proofs.Said.{rest_is}
 use Rattle.leg_lex.proofs.Until.{Below, below_none, below_some, below_bind, below_ask, below_if}
 use Rattle.leg_lex.proofs.Over.{over_ends, over_goes_on, over_fails}
 use Rattle.leg_lex.proofs.Shorter.{keyword_below, name_below, end_of_below}
@@ -16,21 +14,6 @@ use Rattle.leg_lib.specs.Via.{Flags, no_flags, flag_at, flags_at, ViaParts, no_v
 pub nothing_said : {X Y : Type 0} (said : Option X) (last : Option Y) → last ≡ None → (said >>= λ x. last) ≡ None
 nothing_said None last none = refl
 nothing_said (Some x) last none = none
-
--- A keyword that stands there is read,
-pub read_past : (keyword : List ℕ) (words : Words) (x : Unit {0}) (rest : Words) → keyword_at keyword words ≡ Some (x, rest) → rest ≡ drop 1 words
-unfolding keyword_at next_at
-read_past keyword [] x rest said = absurd (let e : ⊥ = cc in e)
-read_past keyword (word ∷ words) x rest said = by (is_keyword keyword word) refl where
-  by : (test : Bool) → is_keyword keyword word ≡ test → rest ≡ words
-  by true is = sym (rest_is tt x words rest (rw is at said))
-  by false is = absurd (let e : ⊥ = cc (rw is at said) in e)
-
--- and not refused.
-pub surely_read : (keyword : List ℕ) (words : Words) → is_at keyword words ≡ true → keyword_at keyword words ≡ None → ⊥
-unfolding keyword_at next_at
-surely_read keyword [] there said = true≢false (sym there)
-surely_read keyword (word ∷ words) there said = let e : ⊥ = cc (rw there at said) in e
 
 drop_no_longer : (words : Words) → length (drop 1 words) ≤ length words
 drop_no_longer words = let left = length-drop 1 words in omega arith

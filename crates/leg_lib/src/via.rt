@@ -35,7 +35,7 @@ impl Model for ViaFlags {
 }
 
 /// Reads this word, if it stands there and didn't stand before, and says whether it was read.
-#[tactic(auto, using(crate::proofs::Vias::read_past, crate::proofs::Vias::surely_read))]
+#[tactic(auto, using(leg_lex::proofs::Keywords::read_past, leg_lex::proofs::Keywords::surely_read))]
 fn first_time(stood: bool, keyword: &[u8], words: &mut Cursor<'_, '_>) -> Result<bool, ReadFault>
     ensures said { IfOk result (λ read. read ≡ (is_at keyword.now words.old && not stood)) }
     ensures left { IfOk result (λ read. words.new ≡ (if read then drop 1 words.old else words.old)) }
@@ -124,7 +124,7 @@ fn layer<A: Allocator + Copy>(
 }
 
 /// Whether a statement begins with `RECT MASK`.
-#[tactic(auto, using(crate::proofs::Vias::read_past, crate::proofs::Vias::surely_read))]
+#[tactic(auto, using(leg_lex::proofs::Keywords::read_past, leg_lex::proofs::Keywords::surely_read))]
 fn is_masked_rect(statement: &Cursor<'_, '_>) -> Result<bool, ReadFault>
     ensures { Means (λ is. is) result (Some (is_at (codes "RECT") statement.now && is_at (codes "MASK") (drop 1 statement.now))) }
 {
