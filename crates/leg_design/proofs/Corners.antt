@@ -9,7 +9,7 @@ one_of : (choice : Bool) (x y : ℤ) → IsCoordinate x → IsCoordinate y → I
 one_of true x y a b = a
 one_of false x y a b = b
 
-lt_is : (a b : ℤ) → int_lt a b ≡ true → a <ℤ b
+pub lt_is : (a b : ℤ) → int_lt a b ≡ true → a <ℤ b
 lt_is a b less = grind (arith, ints)
 
 not_lt_is : (a b : ℤ) → int_lt a b ≡ false → a <ℤ b → ⊥

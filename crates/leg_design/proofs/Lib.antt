@@ -5,6 +5,7 @@ pub mod Spots
 pub mod Clauses
 pub mod Sought
 pub mod Gives
+pub mod Guards
 pub mod Sections
 pub mod Components
 pub mod Skips

@@ -1,7 +1,8 @@
 -- Pins of the design that no net lists, one after the other, and an entry with one more terminal.
 use Rattle.std.proofs.Common.{◌≡◌, ◌≢◌, ℕ, zero, suc, ◌+◌, ◌<◌, ◌≤◌, false, cond, List, [], ◌∷◌, ◌++◌, length, get_or, take, drop, slice_get, slice_set, Option, Some, refl, sym, ap, ◌∙◌, arith, add-one, length-append}
-use Rattle.std.proofs.lemmas.List.{drop_more, drop_all, take_all, append-nil}
+use Rattle.std.proofs.lemmas.List.{drop_all, take_all, append-nil}
 use Rattle.std.proofs.lemmas.Option.{slice_get-get_or}
+use Rattle.leg_lex.proofs.Over.{at_front}
 use Rattle.leg_design.specs.declared.records.Terminal.{Terminal}
 use Rattle.leg_design.specs.Terminal.{is_same_terminal}
 use Rattle.leg_design.specs.Records.{PinSaid, NetSaid, net_names, terminal_count, wire_count}
@@ -9,9 +10,6 @@ use Rattle.leg_design.specs.LonePins.{NetLists, is_listed, with_terminal, with_l
 use Rattle.leg_design.specs.Index.{lists_of, IsKept}
 use Rattle.leg_design.proofs.Listed.{index_more, index_by, blank}
 use Rattle.leg_design.proofs.ListedNets.{not_listed}
-
-at_front : (pins : List PinSaid) (i : ℕ) (x : PinSaid) → i < length pins → x ≡ get_or pins i x → drop i pins ≡ x ∷ drop (i + 1) pins
-at_front pins i x less is = drop_more pins i x less ∙ ap (λ y. y ∷ drop (i + 1) pins) (sym is)
 
 pub pin_added : (before after : NetLists) (pins : List PinSaid) (i : ℕ) (x : PinSaid) → i < length pins → x ≡ get_or pins i x → after ≡ with_lone_pin before i x → with_lone_pins before i (drop i pins) ≡ with_lone_pins after (i + 1) (drop (i + 1) pins)
 unfolding with_lone_pins

@@ -13,6 +13,7 @@ use Rattle.leg_design.specs.Guard.{unless, is_over}
 use Rattle.leg_design.specs.Known.{KnownSaid}
 use Rattle.leg_design.specs.Wiring.{is_wiring}
 use Rattle.leg_design.specs.Net.{NetParts, is_left_out, use_clause, wiring_clause, from_plus, past_clause, clause_at, net_clause}
+use Rattle.leg_design.proofs.Guards.{over_is, not_over_is}
 use Rattle.leg_design.proofs.Wirings.{wiring_below}
 
 -- a plus has no capitals
@@ -105,21 +106,14 @@ net_clause_shortens known special parts words =
 pub net_clause_shorter : (known : KnownSaid) (special : Bool) (parts more : NetParts) (words rest : Words) → net_clause known special parts words ≡ Some (more, rest) → length rest < length words
 net_clause_shorter known special parts more words rest said = (net_clause_shortens known special parts words).left more rest said
 
-over_is : (words : Words) → words ≡ [] → is_over words ≡ true
-over_is words none = rw none refl
-
-over_is_not : (words : Words) → (words ≡ [] → ⊥) → is_over words ≡ false
-over_is_not [] some = absurd (some refl)
-over_is_not (word ∷ words) some = refl
-
 -- the loop over the clauses
 pub clauses_on : (known : KnownSaid) (special : Bool) (parts more : NetParts) (words rest : Words) → net_clause known special parts words ≡ Some (more, rest) → (words ≡ [] → ⊥) → until is_over (net_clause known special) parts words ≡ until is_over (net_clause known special) more rest
 clauses_on known special parts more words rest said some =
-    loops.goes_on is_over (net_clause known special) (net_clause_shortens known special) parts more words rest (over_is_not words some) said
+    loops.goes_on is_over (net_clause known special) (net_clause_shortens known special) parts more words rest (not_over_is words some) said
 
 pub clauses_end : (known : KnownSaid) (special : Bool) (parts : NetParts) (words : Words) → words ≡ [] → until is_over (net_clause known special) parts words ≡ Some (parts, words)
 clauses_end known special parts words none = loops.ends is_over (net_clause known special) parts words (over_is words none)
 
 pub clauses_fail : (known : KnownSaid) (special : Bool) (parts : NetParts) (words : Words) → net_clause known special parts words ≡ None → (words ≡ [] → ⊥) → until is_over (net_clause known special) parts words ≡ None
 clauses_fail known special parts words said some =
-    loops.fails is_over (net_clause known special) parts words (over_is_not words some) said
+    loops.fails is_over (net_clause known special) parts words (not_over_is words some) said

@@ -1,12 +1,13 @@
 -- Entries of nets: that each pair of parentheses and each entry takes a word, what a new name is, and how many parts
 -- there are.
-use Rattle.std.proofs.Common.{◌≡◌, ℕ, suc, ◌+◌, ◌<◌, ◌≤◌, nat_lt, nat_le, Bool, true, false, ◌&&◌, ◌||◌, if◌then◌else◌, List, [], ◌∷◌, ◌++◌, length, get_or, drop, Option, None, Some, is_some, codes, refl, arith}
+use Rattle.std.proofs.Common.{◌≡◌, ℕ, suc, ◌+◌, ◌<◌, ◌≤◌, nat_lt, nat_le, Bool, true, false, ◌&&◌, ◌||◌, if◌then◌else◌, List, [], ◌∷◌, ◌++◌, length, get_or, drop, None, Some, is_some, codes, refl, arith}
+use Rattle.std.proofs.lemmas.Bool.{or_parts}
 use Rattle.std.proofs.lemmas.Bool.Decides.{nat_tests}
 use Rattle.std.proofs.lemmas.List.{get_or_default}
 use Rattle.leg_lex.specs.Words.{Words, is_keyword, is_at}
 use Rattle.leg_lex.specs.Until.{until, over}
 use Rattle.leg_lex.specs.Named.{place_of}
-use Rattle.leg_lex.proofs.Until.{Below, Shortens, below_none, below_some, below_bind, below_ask, below_if, below_more}
+use Rattle.leg_lex.proofs.Until.{Below, Shortens, below_some, below_bind, below_ask, below_if, below_more}
 use Rattle.leg_lex.proofs.Until as loops
 use Rattle.leg_lex.proofs.Over.{over_ends, over_goes_on, over_fails}
 use Rattle.leg_lex.proofs.Shorter.{mark_below, keyword_below, name_below}
@@ -19,6 +20,7 @@ use Rattle.leg_design.specs.Known.{KnownSaid}
 use Rattle.leg_design.specs.Records.{NetSaid, net_names, terminal_count, wire_count}
 use Rattle.leg_design.specs.Terminal.{pin_terminal, component_terminal, pins_of_all, one_terminal_at, all_terminals_at, past_synthesized, terminals_at, add_terminal, terminal_form, at_no_terminal}
 use Rattle.leg_design.specs.Net.{net_in, are_too_many, net_entry}
+use Rattle.leg_design.proofs.Gives.{none_from}
 use Rattle.leg_design.proofs.ListedNets.{terminals_more, wires_more}
 
 one_terminal_below : (known : KnownSaid) (words : Words) → Below (length words) (one_terminal_at known words)
@@ -93,10 +95,7 @@ terminals_end known special name nets terminals words other =
 
 -- a name that isn't found is new
 pub new_name : (name : List ℕ) (nets : List NetSaid) → is_some (place_of name (net_names nets)) ≡ false → place_of name (net_names nets) ≡ None
-new_name name nets none = by (place_of name (net_names nets)) none where
-  by : (o : Option ℕ) → is_some o ≡ false → o ≡ None
-  by None none = refl
-  by (Some k) none = absurd (let e : ⊥ = cc in e)
+new_name name nets none = none_from (place_of name (net_names nets)) none
 
 pub net_entry_shortens : (known : KnownSaid) (special : Bool) (others : List NetSaid) → Shortens (net_entry known special others)
 unfolding net_entry
@@ -113,16 +112,12 @@ net_entry_shorter known special others nets more words rest said = (net_entry_sh
 pub too_many : (others nets : List NetSaid) (net : NetSaid) → are_too_many others (nets ++ net ∷ []) ≡ (nat_lt PART_LIMIT (terminal_count nets + length net.terminals + terminal_count others) || nat_lt PART_LIMIT (wire_count nets + length net.wires + wire_count others))
 too_many others nets net = rw (terminals_more nets net, wires_more nets net) refl
 
-either_false : (a b : Bool) → (a || b) ≡ false → (a ≡ false) × (b ≡ false)
-either_false false b e = (refl, e)
-either_false true b e = absurd (let f : ⊥ = cc in f)
-
 pub few_terminals : (a b c : ℕ) (other : Bool) → (nat_lt PART_LIMIT (a + b + c) || other) ≡ false → a + b ≤ PART_LIMIT
 few_terminals a b c other e =
-    let few = (either_false (nat_lt PART_LIMIT (a + b + c)) other e).0 in
+    let few = (or_parts (nat_lt PART_LIMIT (a + b + c)) other e).0 in
     grind (arith, nat_tests, few)
 
 pub few_wires : (a b c : ℕ) (other : Bool) → (other || nat_lt PART_LIMIT (a + b + c)) ≡ false → a + b ≤ PART_LIMIT
 few_wires a b c other e =
-    let few = (either_false other (nat_lt PART_LIMIT (a + b + c)) e).1 in
+    let few = (or_parts other (nat_lt PART_LIMIT (a + b + c)) e).1 in
     grind (arith, nat_tests, few)

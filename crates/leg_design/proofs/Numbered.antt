@@ -4,9 +4,9 @@ use Rattle.leg_lex.specs.Named.{place_of}
 use Rattle.leg_lex.proofs.Named.{place_stands}
 
 -- a name's place is below a limit of how many names there are
-pub place_below : (name : List ℕ) (names : List (List ℕ)) (limit : ℕ) (place : Option ℕ) → length names ≤ limit → place ≡ place_of name names → IfSome place (λ number. number < limit)
-place_below name names limit None few is = tt
-place_below name names limit (Some number) few is =
+pub number_below : (name : List ℕ) (names : List (List ℕ)) (limit : ℕ) (place : Option ℕ) → length names ≤ limit → place ≡ place_of name names → IfSome place (λ number. number < limit)
+number_below name names limit None few is = tt
+number_below name names limit (Some number) few is =
     let stands = place_stands name names number (sym is) in
     let within = stands.within in
     omega (arith, few, within)

@@ -1,13 +1,11 @@
 -- The items of a path, one after the other.
-use Rattle.std.proofs.Common.{◌≡◌, ℕ, ℤ, ◌+◌, ◌<◌, ◌≤◌, true, false, List, ◌∷◌, length, get_or, drop, Option, refl, sym, ap, ◌∙◌}
-use Rattle.std.proofs.lemmas.List.{drop_more, drop_all}
+use Rattle.std.proofs.Common.{◌≡◌, ℕ, ℤ, ◌+◌, ◌<◌, ◌≤◌, true, false, List, length, get_or, drop, Option, refl}
+use Rattle.std.proofs.lemmas.List.{drop_all}
+use Rattle.leg_lex.proofs.Over.{at_front}
 use Rattle.leg_geom.specs.Plane.{Spot, Sides}
 use Rattle.leg_design.specs.declared.path.Item.{Item}
 use Rattle.leg_design.specs.declared.path.Item.TheVariants.{ToPoint, AtVia, AtRect}
 use Rattle.leg_design.specs.Path.{next_spot, is_same_spot, last_given, extension_at}
-
-at_front : (items : List Item) (i : ℕ) (item : Item) → i < length items → item ≡ get_or items i item → drop i items ≡ item ∷ drop (i + 1) items
-at_front items i item less is = drop_more items i item less ∙ ap (λ y. y ∷ drop (i + 1) items) (sym is)
 
 -- no item is left
 pub extension_ends : (at : Spot) (given : Option ℤ) (items : List Item) (i : ℕ) → length items ≤ i → extension_at at given (drop i items) ≡ given

@@ -1,7 +1,8 @@
 -- Pins of macros by their names, and the pins of one name of many components.
-use Rattle.std.proofs.Common.{◌≡◌, ℕ, ◌+◌, suc, ◌<◌, ◌≤◌, true, false, List, [], ◌∷◌, ◌++◌, length, get_or, drop, map, Option, None, Some, option_map, refl, sym, ap, ◌∙◌, arith, add-one}
+use Rattle.std.proofs.Common.{◌≡◌, ℕ, ◌+◌, suc, ◌<◌, ◌≤◌, true, false, List, [], ◌∷◌, ◌++◌, length, get_or, drop, map, Option, None, Some, option_map, refl, ap, ◌∙◌, arith, add-one}
 use Rattle.std.specs.Str.{bytes_eq}
-use Rattle.std.proofs.lemmas.List.{drop_more, drop_all, append_assoc, append-nil}
+use Rattle.std.proofs.lemmas.List.{drop_all, append_assoc, append-nil}
+use Rattle.leg_lex.proofs.Over.{at_front}
 use Rattle.leg_lex.specs.Named.{place_of}
 use Rattle.leg_lex.proofs.Named.{same_other_way}
 use Rattle.leg_lib.specs.Records.{Contents, PinSaid}
@@ -17,9 +18,6 @@ place_from name pins i = option_map (λ k. i + k) (place_of name (map (λ p. p.n
 shifted : (i : ℕ) (o : Option ℕ) → option_map (λ k. i + k) (option_map suc o) ≡ option_map (λ k. (i + 1) + k) o
 shifted i None = refl
 shifted i (Some k) = ap (λ n. Some n) (omega arith)
-
-at_front : {X : Type 0} (xs : List X) (i : ℕ) (x : X) → i < length xs → x ≡ get_or xs i x → drop i xs ≡ x ∷ drop (i + 1) xs
-at_front xs i x less is = drop_more xs i x less ∙ ap (λ y. y ∷ drop (i + 1) xs) (sym is)
 
 pub passed_pin : (name : List ℕ) (pins : List PinSaid) (i : ℕ) (x : PinSaid) → i < length pins → x ≡ get_or pins i x → bytes_eq x.name name ≡ false → place_from name pins i ≡ place_from name pins (i + 1)
 passed_pin name pins i x less is other =

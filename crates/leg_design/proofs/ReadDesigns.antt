@@ -103,11 +103,6 @@ forms_give : (library : Contents) (words : Words) → Gives (λ forms. AreRead l
 forms_give library words =
     until_gives (AreRead library) at_end (form_at library) (form_is_read library) no_parts words (record { sound = no_parts_sound library; nets = no_net_parts library })
 
--- What the forms say, all of them read, says only well-formed designs.
-pub forms_well_formed : (library : Contents) (words : Words) (parts : DesignParts) (rest : Words) → until at_end (form_at library) no_parts words ≡ Some (parts, rest) → (design : DesignContents) → design_of library parts ≡ Some design → IsWellFormed design
-forms_well_formed library words parts rest forms design is =
-    (design_gives library parts ((forms_give library words).given (parts, rest) forms)).given design is
-
 text_gives : (library : Contents) (words : Words) → Gives IsWellFormed (design_in library words)
 unfolding design_in
 text_gives library words =

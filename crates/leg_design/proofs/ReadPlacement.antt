@@ -1,6 +1,5 @@
 -- Points, rectangles and places that are read are of numbers within their limit.
-use Rattle.std.proofs.Common.{◌≡◌, ℤ, ◌<ℤ◌, Bool, true, false, cond, ◌&&◌, int_lt, Some, codes, arith}
-use Rattle.std.proofs.lemmas.Int.{ints}
+use Rattle.std.proofs.Common.{ℤ, Bool, true, false, cond, ◌&&◌, int_lt, Some, codes}
 use Rattle.std.proofs.lemmas.Bool.{and_parts}
 use Rattle.leg_lex.specs.Number.{IsNumber}
 use Rattle.leg_lex.specs.Words.{Words, is_at, whole_at}
@@ -11,6 +10,7 @@ use Rattle.leg_design.specs.declared.records.Status.{Status}
 use Rattle.leg_design.specs.declared.records.Status.TheVariants.{Placed, Fixed, Cover}
 use Rattle.leg_design.specs.Placement.{spot_at, rect_at, place_at, place_as, placed_in}
 use Rattle.leg_design.specs.WellFormedParts.{IsPosition, IsArea, IsPlaced}
+use Rattle.leg_design.proofs.Corners.{lt_is}
 use Rattle.leg_design.proofs.Numbers.{whole_is_number}
 use Rattle.leg_design.proofs.Gives.{Gives, gives_none, gives_some, gives_bind, gives_skip, gives_choice, gives_if}
 
@@ -29,9 +29,6 @@ spot_gives words =
 one_of : (choice : Bool) (x y : ℤ) → IsNumber x → IsNumber y → IsNumber (cond choice x y)
 one_of true x y a b = a
 one_of false x y a b = b
-
-pub lt_is : (a b : ℤ) → int_lt a b ≡ true → a <ℤ b
-lt_is a b less = grind (arith, ints)
 
 -- the rectangle between two corners
 pub between_gives : (p q : Spot) → IsPosition p → IsPosition q → Gives IsArea (rect_between p q)

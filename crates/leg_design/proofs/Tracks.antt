@@ -9,15 +9,7 @@ use Rattle.leg_lex.proofs.Shorter.{name_below}
 use Rattle.leg_lex.proofs.Statements.{statement_below}
 use Rattle.leg_lex.proofs.Until.{Below, Shortens, below_some, below_bind, below_ask}
 use Rattle.leg_lib.specs.Records.{Contents, layer_names}
-use Rattle.leg_design.specs.Guard.{is_over}
 use Rattle.leg_design.specs.Track.{one_layer, layers_in, track_in, track_at}
-
-pub over_is : (words : Words) → words ≡ [] → is_over words ≡ true
-over_is words none = rw none refl
-
-pub not_over_is : (words : Words) → (words ≡ [] → ⊥) → is_over words ≡ false
-not_over_is [] some = absurd (some refl)
-not_over_is (word ∷ words) some = refl
 
 pub one_layer_shortens : (library : Contents) → Shortens (one_layer library)
 unfolding one_layer

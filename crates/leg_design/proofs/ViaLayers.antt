@@ -1,15 +1,13 @@
 -- The layers of a via.
-use Rattle.std.proofs.Common.{◌≡◌, ℕ, ◌+◌, ◌<◌, ◌≤◌, ◌==◌, Bool, true, false, not, ◌&&◌, List, ◌∷◌, length, get_or, drop, None, Some, refl, sym, ap, ◌∙◌}
+use Rattle.std.proofs.Common.{◌≡◌, ℕ, ◌+◌, ◌<◌, ◌≤◌, ◌==◌, Bool, true, false, not, ◌&&◌, List, length, get_or, drop, None, Some, refl}
 use Rattle.std.specs.List.{list_any}
-use Rattle.std.proofs.lemmas.List.{drop_more, drop_all}
+use Rattle.std.proofs.lemmas.List.{drop_all}
+use Rattle.leg_lex.proofs.Over.{at_front}
 use Rattle.leg_lib.specs.declared.records.Shape.{Shape}
 use Rattle.leg_lib.specs.Records.{Contents, ViaSaid}
 use Rattle.leg_design.specs.Layers.{is_routing}
 use Rattle.leg_design.specs.Known.{KnownSaid, via_numbered}
 use Rattle.leg_design.specs.Path.{other_layer, across}
-
-at_front : (shapes : List Shape) (i : ℕ) (shape : Shape) → i < length shapes → shape ≡ get_or shapes i shape → drop i shapes ≡ shape ∷ drop (i + 1) shapes
-at_front shapes i shape less is = drop_more shapes i shape less ∙ ap (λ y. y ∷ drop (i + 1) shapes) (sym is)
 
 -- The shape lies on another routing layer.
 pub other_here : (library : Contents) (layer : ℕ) (shapes : List Shape) (i : ℕ) (shape : Shape) → i < length shapes → shape ≡ get_or shapes i shape → is_routing library shape.layer ≡ true → (shape.layer == layer) ≡ false → other_layer library layer (drop i shapes) ≡ Some shape.layer

@@ -44,7 +44,7 @@ fn one_layer<A: Allocator + Copy>(
 }
 
 /// Adds the numbers of the layers whose names are left.
-#[tactic(auto, using(leg_lex::proofs::Until::ends, leg_lex::proofs::Until::goes_on, leg_lex::proofs::Until::fails, crate::proofs::Tracks::over_is, crate::proofs::Tracks::not_over_is, crate::proofs::Tracks::one_layer_shortens, crate::proofs::Tracks::one_layer_shorter))]
+#[tactic(auto, using(leg_lex::proofs::Until::ends, leg_lex::proofs::Until::goes_on, leg_lex::proofs::Until::fails, crate::proofs::Guards::over_is, crate::proofs::Guards::not_over_is, crate::proofs::Tracks::one_layer_shortens, crate::proofs::Tracks::one_layer_shorter))]
 fn more_layers<A: Allocator + Copy>(
     library: &Library<'_, A>,
     numbers: &mut Vec<usize, A>,

@@ -5,14 +5,15 @@ use Rattle.std.proofs.lemmas.List.{drop_more, drop_all}
 use Rattle.leg_lex.specs.Words.{◌>>=◌}
 use Rattle.leg_lex.specs.Until.{over}
 
+-- An element is the first of those from its place on.
+pub at_front : {X : Type 0} (xs : List X) (i : ℕ) (x : X) → i < length xs → x ≡ get_or xs i x → drop i xs ≡ x ∷ drop (i + 1) xs
+at_front xs i x less is = drop_more xs i x less ∙ ap (λ y. y ∷ drop (i + 1) xs) (sym is)
+
 module _ {S X : Type 0} (step : S → X → Option S) where
   -- No element is left.
   pub over_ends : (made : S) (xs : List X) (i : ℕ) → length xs ≤ i → over step made (drop i xs) ≡ Some made
   unfolding over
   over_ends made xs i past = rw (drop_all i xs past) refl
-
-  at_front : (xs : List X) (i : ℕ) (x : X) → i < length xs → x ≡ get_or xs i x → drop i xs ≡ x ∷ drop (i + 1) xs
-  at_front xs i x less is = drop_more xs i x less ∙ ap (λ y. y ∷ drop (i + 1) xs) (sym is)
 
   -- One more element is taken.
   pub over_goes_on : (made next : S) (xs : List X) (i : ℕ) (x : X) → i < length xs → x ≡ get_or xs i x → step made x ≡ Some next → over step made (drop i xs) ≡ over step next (drop (i + 1) xs)
