@@ -1,5 +1,5 @@
 -- Each form of a DEF takes a word.
-use Rattle.std.proofs.Common.{◌≡◌, ◌+◌, ◌<◌, Bool, true, false, ◌==◌, List, [], ◌∷◌, ◌++◌, length, Some, is_some, codes, arith}
+use Rattle.std.proofs.Common.{◌≡◌, ◌<◌, Bool, true, false, ◌==◌, List, [], ◌∷◌, ◌++◌, length, Some, is_some, codes, arith}
 use Rattle.leg_lex.specs.Words.{Words, is_at, keyword_at, end_at}
 use Rattle.leg_lex.proofs.Until.{Below, Shortens, below_none, below_some, below_bind, below_ask, below_if, below_more}
 use Rattle.leg_lex.proofs.Shorter.{keyword_below, end_below}

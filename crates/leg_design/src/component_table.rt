@@ -10,8 +10,8 @@ use leg_lex::Names;
 use std::alloc::{AllocError, Allocator};
 use std::marker::Model;
 
-/// The components of a DEF, in file order. No two have one name, and there are at most as many as a
-/// design has. Contracts see it as the list of them.
+/// The components of a DEF, in file order. No two have one name, and there are at most
+/// `ENTRY_LIMIT`. Contracts see it as the list of them.
 #[derive(Drop)]
 pub(crate) struct ComponentTable<'a, A: Allocator + Copy> {
     items: Vec<Component<'a>, A>,
