@@ -8,6 +8,7 @@ pub mod Decimals
 pub mod Exact
 pub mod Units
 pub mod Said
+pub mod Gives
 pub mod Until
 pub mod Over
 pub mod Shorter

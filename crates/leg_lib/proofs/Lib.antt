@@ -9,3 +9,4 @@ pub mod Forms
 pub mod Readings
 pub mod Scaled
 pub mod Same
+pub mod Sound

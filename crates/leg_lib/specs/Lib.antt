@@ -14,3 +14,4 @@ pub mod Macro
 pub mod Form
 pub mod Say
 pub mod Scale
+pub mod Sound

@@ -175,7 +175,7 @@ fn layer<'a, A: Allocator + Copy>(
 }
 
 /// Adds the layer that stands next, whose name is new.
-#[tactic(auto, unfolding(crate::specs::Layer::with_layer))]
+#[tactic(auto, using(crate::proofs::Sound::layer_sound), unfolding(crate::specs::Layer::with_layer))]
 pub(crate) fn layer_form<'a, A: Allocator + Copy>(
     alloc: A,
     library: &mut RawLibrary<'a, A>,

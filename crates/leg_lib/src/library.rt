@@ -3,6 +3,7 @@
 ghost use Rattle.std.specs.Prelude.{◌≡◌};
 ghost use Rattle.leg_lex.specs.Named.{place_of};
 ghost use Rattle.leg_lib.specs.Records.{layer_names, site_names, via_names, master_names};
+ghost use Rattle.leg_lib.specs.Sound.{IsSound};
 
 use crate::records::{Layer, Master, Site, Via};
 use leg_lex::Names;
@@ -10,7 +11,8 @@ use std::alloc::Allocator;
 use std::marker::Model;
 
 /// A library in database units, in file order. Of the layers, the sites, the vias and the masters no two
-/// have one name.
+/// have one name. Widths, spacings and the sides of shapes are within the limit of numbers, twice that in
+/// masters; widths are even and above 0, and no spacing is below 0.
 #[derive(Drop)]
 pub struct Library<'a, A: Allocator + Copy> {
     pub(crate) units: u32,
@@ -26,12 +28,13 @@ pub struct Library<'a, A: Allocator + Copy> {
 
 impl<'a, A: Allocator + Copy> Model for Library<'a, A> {
     ghost use Rattle.leg_lib.specs.Records.{Contents, HasNames};
+    ghost use Rattle.leg_lib.specs.Sound.{IsSound};
 
     ghost Value = { Contents };
 
     ghost view = { λ l. record { units = l.units; layers = l.layers.items; sites = l.sites.items; vias = l.vias.items; masters = l.masters.items } };
 
-    ghost invariant = { λ l. HasNames (record { units = l.units; layers = l.layers.items; sites = l.sites.items; vias = l.vias.items; masters = l.masters.items }) l.layer_names l.site_names l.via_names l.master_names };
+    ghost invariant = { λ l. HasNames (record { units = l.units; layers = l.layers.items; sites = l.sites.items; vias = l.vias.items; masters = l.masters.items }) l.layer_names l.site_names l.via_names l.master_names × IsSound (record { units = l.units; layers = l.layers.items; sites = l.sites.items; vias = l.vias.items; masters = l.masters.items }) };
 }
 
 impl<'a, A: Allocator + Copy> Library<'a, A> {
@@ -44,7 +47,8 @@ impl<'a, A: Allocator + Copy> Library<'a, A> {
 
     /// The layers, bottom up.
     pub fn layers(&self) -> &[Layer<'a>]
-        ensures { result.now ≡ self.now.layers }
+        ensures is { result.now ≡ self.now.layers }
+        ensures proper { IsSound self.now }
     {
         self.layers.as_slice()
     }
@@ -58,14 +62,16 @@ impl<'a, A: Allocator + Copy> Library<'a, A> {
 
     /// The vias, in file order.
     pub fn vias(&self) -> &[Via<'a, A>]
-        ensures { result.now ≡ self.now.vias }
+        ensures is { result.now ≡ self.now.vias }
+        ensures proper { IsSound self.now }
     {
         self.vias.as_slice()
     }
 
     /// The masters, in file order.
     pub fn masters(&self) -> &[Master<'a, A>]
-        ensures { result.now ≡ self.now.masters }
+        ensures is { result.now ≡ self.now.masters }
+        ensures proper { IsSound self.now }
     {
         self.masters.as_slice()
     }

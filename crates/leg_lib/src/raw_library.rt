@@ -3,6 +3,7 @@
 ghost use Rattle.std.specs.Prelude.{◌≡◌, ◌++◌, ◌∷◌, [], None, OnOk, OnErr};
 ghost use Rattle.leg_lex.specs.Named.{place_of};
 ghost use Rattle.leg_lib.specs.Records.{empty_library, raw_layer_names, raw_site_names, raw_via_names, raw_master_names};
+ghost use Rattle.leg_lib.specs.Sound.{IsSoundRawLayer, IsSoundRaw};
 
 use crate::raw::{RawLayer, RawMaster, RawSite, RawVia};
 use leg_lex::Names;
@@ -10,7 +11,7 @@ use std::alloc::{AllocError, Allocator};
 use std::marker::Model;
 
 /// A library in millionths of a micron, in file order. Of the layers, the sites, the vias and the macros no
-/// two have one name.
+/// two have one name. The width of a routing layer is above 0, and no spacing is below 0.
 #[derive(Drop)]
 pub struct RawLibrary<'a, A: Allocator + Copy> {
     layers: Vec<RawLayer<'a>, A>,
@@ -25,12 +26,13 @@ pub struct RawLibrary<'a, A: Allocator + Copy> {
 
 impl<'a, A: Allocator + Copy> Model for RawLibrary<'a, A> {
     ghost use Rattle.leg_lib.specs.Records.{RawContents, HasRawNames};
+    ghost use Rattle.leg_lib.specs.Sound.{IsSoundRaw};
 
     ghost Value = { RawContents };
 
     ghost view = { λ l. record { layers = l.layers.items; sites = l.sites.items; vias = l.vias.items; masters = l.masters.items } };
 
-    ghost invariant = { λ l. HasRawNames (record { layers = l.layers.items; sites = l.sites.items; vias = l.vias.items; masters = l.masters.items }) l.layer_names l.site_names l.via_names l.master_names };
+    ghost invariant = { λ l. HasRawNames (record { layers = l.layers.items; sites = l.sites.items; vias = l.vias.items; masters = l.masters.items }) l.layer_names l.site_names l.via_names l.master_names × IsSoundRaw (record { layers = l.layers.items; sites = l.sites.items; vias = l.vias.items; masters = l.masters.items }) };
 }
 
 impl<'a, A: Allocator + Copy> RawLibrary<'a, A> {
@@ -52,7 +54,8 @@ impl<'a, A: Allocator + Copy> RawLibrary<'a, A> {
 
     /// The layers, bottom up.
     pub fn layers(&self) -> &[RawLayer<'a>]
-        ensures { result.now ≡ self.now.layers }
+        ensures is { result.now ≡ self.now.layers }
+        ensures proper { IsSoundRaw self.now }
     {
         self.layers.as_slice()
     }
@@ -108,7 +111,8 @@ impl<'a, A: Allocator + Copy> RawLibrary<'a, A> {
 
     /// Adds a layer whose name is new. Where memory is refused, nothing changes.
     pub(crate) fn push_layer(&mut self, layer: RawLayer<'a>) -> Result<(), AllocError>
-        requires { place_of layer.name (raw_layer_names self.old) ≡ None }
+        requires is_new { place_of layer.name (raw_layer_names self.old) ≡ None }
+        requires sound { IsSoundRawLayer layer }
         ensures pushed { OnOk result (self.new ≡ record self.old { layers = self.old.layers ++ layer.entry ∷ [] }) }
         ensures unchanged { OnErr result (self.new ≡ self.old) }
     {

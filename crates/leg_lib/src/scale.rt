@@ -8,6 +8,7 @@ ghost use Rattle.leg_lib.specs.declared.records.Site.{Site};
 ghost use Rattle.leg_lib.specs.Measure.{Lengths};
 ghost use Rattle.leg_lib.specs.Records.{Contents, raw_layer_names, raw_site_names, raw_via_names, raw_master_names};
 ghost use Rattle.leg_lib.specs.Scale.{IsLengthAt, IsSizeAt, IsEven, IsKindAt, IsLayerAt, IsSiteAt, OneForOne, IsLibraryAt};
+ghost use Rattle.leg_lib.specs.Sound.{IsSound};
 
 use crate::library::Library;
 use crate::measure::{Extent, RawExtent};
@@ -180,7 +181,7 @@ impl<'a, A: Allocator + Copy> RawLibrary<'a, A> {
         Ok(self.with_names(alloc, n, layers, sites, vias, masters)?)
     }
 
-    /// The library of these records, which have the names of this one's.
+    /// The library of these records, which have the names of this one's and are those of a library.
     fn with_names(
         &self,
         alloc: A,
@@ -194,6 +195,7 @@ impl<'a, A: Allocator + Copy> RawLibrary<'a, A> {
         requires sites { map (λ s. s.name) sites.items ≡ raw_site_names self.now }
         requires vias { map (λ v. v.name) vias.items ≡ raw_via_names self.now }
         requires masters { map (λ m. m.name) masters.items ≡ raw_master_names self.now }
+        requires sound { IsSound (record { units = units; layers = layers.items; sites = sites.items; vias = vias.items; masters = masters.items }) }
         ensures { IfOk result (λ library. library ≡ record { units = units; layers = layers.entry.items; sites = sites.entry.items; vias = vias.entry.items; masters = masters.entry.items }) }
     {
         Ok(Library {
