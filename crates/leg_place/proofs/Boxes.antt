@@ -1,0 +1,91 @@
+-- The boxes of components.
+use Rattle.std.proofs.Common.{◌≡◌, ℕ, Bool, true, false, not, IsTrue, refl, ◌+◌, ◌<◌, ◌↔◌, List, [], ◌∷◌, ◌++◌, Some, None, slice_get, inl, inr, sym, ◌∙◌, arith}
+use Rattle.std.proofs.lemmas.Bool.{cases_lt, false≢true}
+use Rattle.std.proofs.lemmas.List.Elements.{All-nil, All-push, All-weaker, Contains-append_left, Contains-push}
+use Rattle.std.proofs.lemmas.List.Quantifiers.{all_pairs_push}
+use Rattle.std.proofs.lemmas.Option.{same_Some, none-some}
+use Rattle.leg_geom.specs.Plane.{Sides, IsRect, HasAllPoints}
+use Rattle.leg_sweep.proofs.Lists.{AllPairs-nil}
+use Rattle.leg_design.specs.declared.records.Component.{Component}
+use Rattle.leg_place.specs.declared.placed_box.PlacedBox.{PlacedBox}
+use Rattle.leg_lib.specs.Records.{Contents}
+use Rattle.leg_design.specs.Records.{DesignContents}
+use Rattle.leg_place.specs.Box.{box_of, StandsIn}
+use Rattle.leg_place.specs.Faults.{IsOutside}
+use Rattle.leg_place.specs.Before.{AreBoxesBelow, HasLowerNumber}
+use Rattle.leg_place.proofs.Cells.{HasCell-points, CellOutside-points}
+
+module _ (library : Contents) (design : DesignContents) where
+  -- the box of the component at a number is the one in which it stands
+  pub StandsIn-is : (c : ℕ) (component : Component) (rect : Sides) → slice_get design.components c ≡ Some component → StandsIn library design c rect → box_of library component ≡ Some rect
+  StandsIn-is c component rect at stands =
+      let same : stands.component ≡ component = same_Some stands.component component (sym stands.there ∙ at) in
+      rw same at stands.placed
+
+  module _ (c : ℕ) (component : Component) (at : slice_get design.components c ≡ Some component) where
+    -- a component is outside the die just where the die lacks a point of its box
+    IsOutside-points : (rect : Sides) → box_of library component ≡ Some rect → IsRect rect → (HasAllPoints design.die rect → ⊥) ↔ IsOutside library design c
+    IsOutside-points rect is proper = (
+      λ missed.
+          let lost = CellOutside-points design.die rect proper missed in
+          record { box = rect; stands = record { component = component; there = at; placed = is }; cell = lost.cell; inside = lost.inside; outside = lost.outside },
+      λ out points.
+          let same : out.box ≡ rect = same_Some out.box rect (sym (StandsIn-is c component out.box at out.stands) ∙ is) in
+          out.outside (HasCell-points design.die rect points out.cell (rw same at out.inside)),
+    )
+
+    -- the same by a test whether the die has them all
+    pub IsOutside-test : (rect : Sides) (b : Bool) → Some rect ≡ box_of library component → IsRect rect → IsTrue b ↔ HasAllPoints design.die rect → IsTrue (not b) ↔ IsOutside library design c
+    IsOutside-test rect true is proper test = (
+      λ t. absurd (false≢true t),
+      λ out. absurd ((IsOutside-points rect (sym is) proper).1 out (test.0 refl)),
+    )
+    IsOutside-test rect false is proper test = (
+      λ t. (IsOutside-points rect (sym is) proper).0 (λ points. false≢true (test.1 points)),
+      λ out. refl,
+    )
+
+    -- nor is one without a place
+    pub IsOutside-unplaced : None ≡ box_of library component → IsOutside library design c → ⊥
+    IsOutside-unplaced is out = none-some out.box (is ∙ StandsIn-is c component out.box at out.stands)
+
+    -- one more box
+    pub boxes_more : (rect : Sides) (boxes : List PlacedBox) → Some rect ≡ box_of library component → AreBoxesBelow library design c boxes → AreBoxesBelow library design (c + 1) (boxes ++ record { component = c; rect = rect } ∷ [])
+    boxes_more rect boxes is done = record {
+      increasing = all_pairs_push HasLowerNumber boxes (record { component = c; rect = rect }) done.increasing done.below;
+      each =
+          All-push (λ box. StandsIn library design box.component box.rect) boxes (record { component = c; rect = rect })
+          done.each (record { component = component; there = at; placed = sym is });
+      below =
+          All-push (λ box. box.component < c + 1) boxes (record { component = c; rect = rect })
+          (All-weaker (λ box. box.component < c) (λ box. box.component < c + 1) (λ box below. omega arith) boxes done.below) (omega arith);
+      all = λ d other below stands. elim (cases_lt d c) [
+        | inl earlier ↦ Contains-append_left boxes _ _ (done.all d other earlier stands)
+        | inr late ↦
+            let here : d ≡ c = omega arith in
+            let same : other ≡ rect = same_Some other rect (sym (StandsIn-is c component other at (rw here at stands)) ∙ sym is) in
+            rw (here, same) (Contains-push boxes (record { component = c; rect = rect }))
+      ];
+    }
+
+    -- a component without a place has none
+    pub boxes_skip : (boxes : List PlacedBox) → None ≡ box_of library component → AreBoxesBelow library design c boxes → AreBoxesBelow library design (c + 1) boxes
+    boxes_skip boxes is done = record {
+      increasing = done.increasing;
+      each = done.each;
+      below = All-weaker (λ box. box.component < c) (λ box. box.component < c + 1) (λ box below. omega arith) boxes done.below;
+      all = λ d other below stands. elim (cases_lt d c) [
+        | inl earlier ↦ done.all d other earlier stands
+        | inr late ↦
+            let here : d ≡ c = omega arith in
+            absurd (none-some other (is ∙ StandsIn-is c component other at (rw here at stands)))
+      ];
+    }
+
+  pub boxes_none : AreBoxesBelow library design 0 []
+  boxes_none = record {
+    increasing = AllPairs-nil HasLowerNumber;
+    each = All-nil (λ box. StandsIn library design box.component box.rect);
+    below = All-nil (λ box. box.component < 0);
+    all = λ c rect below stands. absurd (omega arith);
+  }

@@ -1,0 +1,10 @@
+pub mod Places
+pub mod Cells
+pub mod Boxes
+pub mod FaultNumbers
+pub mod Listing
+pub mod Overlaps
+pub mod RowKeys
+pub mod Mirrors
+pub mod OnSites
+pub mod OnRows

@@ -1,0 +1,270 @@
+-- The rectangles whose cells are those of consecutive sites of a row.
+use Rattle.std.proofs.Common.{◌≡◌, ℕ, ◌+◌, ◌-◌, ◌*◌, ◌/◌, ◌%◌, ◌<◌, ◌≤◌, ℤ, pos, ◌+ℤ◌, ◌-ℤ◌, ◌*ℤ◌, ◌≤ℤ◌, ◌<ℤ◌, unsigned_abs, inl, inr, refl, sym, ap, ◌∙◌, arith}
+use Rattle.std.proofs.Math.IntN.{pos-*ℤ-pos}
+use Rattle.std.proofs.Math.Nat.{div-mul-le_self, lt-div-mul-add, mul-le-mul_right, mul-mod_left, mul-div_cancel}
+use Rattle.std.proofs.lemmas.Nat.{div-add-mod'}
+use Rattle.std.proofs.lemmas.Bool.{cases_lt}
+use Rattle.std.proofs.lemmas.Grind.{common_steps}
+use Rattle.std.proofs.lemmas.Int.{ints}
+use Rattle.leg_geom.specs.Plane.{Spot, Sides, HasCell}
+use Rattle.leg_lib.specs.Measure.{Lengths, HasArea}
+use Rattle.leg_design.specs.declared.records.Row.{Row}
+use Rattle.leg_place.specs.Sites.{site_box, SitesHave, IsOnSites}
+use Rattle.leg_place.specs.OnRow.{IsLevel, IsEdge}
+
+-- a rectangle has area
+pub record IsWide (box : Sides) : Type 0 where
+  pub wide : box.x1 <ℤ box.x2
+  pub high : box.y1 <ℤ box.y2
+
+-- so many sites on, one more site ends
+product_more : (k n : ℕ) → (k + 1) * n ≡ k * n + n
+product_more k n = grind (arith, common_steps)
+
+-- more sites reach no less far
+product_up : (j k n : ℕ) → j ≤ k → j * n ≤ k * n
+product_up j k n order = mul-le-mul_right n order
+
+-- the first of the sites with the number k lies at or before d, and the next one behind it, where k is d / n
+module _ (d n : ℕ) (some : 0 < n) where
+  site_begins : d / n * n ≤ d
+  site_begins = div-mul-le_self d n
+
+  site_ends : d < d / n * n + n
+  site_ends = lt-div-mul-add some
+
+  from_site : (f : ℕ) → f * n ≤ d → f ≤ d / n
+  from_site f upto =
+      elim (cases_lt (d / n) f) [
+        | inl low ↦ absurd (omega (arith, product_up (d / n + 1) f n (omega arith), product_more (d / n) n, site_ends, upto))
+        | inr high ↦ high
+      ]
+
+  below_site : (l : ℕ) → d < l * n → d / n < l
+  below_site l below =
+      elim (cases_lt (d / n) l) [
+        | inl low ↦ low
+        | inr high ↦ absurd (omega (arith, product_up l (d / n) n high, site_begins, below))
+      ]
+
+module _ (row : Row) (size : Lengths) (box : Sides) (n : ℕ) (width : size.width ≡ pos n) (some : 0 < n) where
+  -- the left edge of a site
+  edge_is : (k : ℕ) → pos k *ℤ size.width ≡ pos (k * n)
+  edge_is k = rw width (pos-*ℤ-pos k n)
+
+  module _ (f l : ℕ) (left : box.x1 ≡ row.at.x +ℤ pos (f * n)) (right : box.x2 ≡ row.at.x +ℤ pos (l * n))
+      (bottom : box.y1 ≡ row.at.y) (top : box.y2 ≡ row.at.y +ℤ size.height) (order : f < l) where
+    -- a cell of the rectangle is one of a site
+    site_of_cell : (cell : Spot) → HasCell box cell → SitesHave row size f (l - f) cell
+    site_of_cell cell c =
+        let d = unsigned_abs (cell.x -ℤ row.at.x) in
+        let apart : cell.x ≡ row.at.x +ℤ pos d = omega (arith, ints, c.left, left) in
+        let from : f * n ≤ d = omega (arith, ints, c.left, left, apart) in
+        let upto : d < l * n = omega (arith, ints, c.right, right, apart) in
+        let k = d / n in
+        record {
+          k = k;
+          from = from_site d n some f from;
+          below = omega (arith, below_site d n some l upto, order);
+          inside = record {
+            left = rw (edge_is k) (omega (arith, ints, apart, site_begins d n some));
+            right = rw (edge_is (k + 1)) (omega (arith, ints, apart, site_ends d n some, product_more k n));
+            bottom = omega (arith, ints, c.bottom, bottom);
+            top = omega (arith, ints, c.top, top);
+          };
+        }
+
+    -- and the other way round
+    cell_of_site : (cell : Spot) → SitesHave row size f (l - f) cell → HasCell box cell
+    cell_of_site cell s =
+        let inside_left = rw (edge_is s.k) at s.inside.left in
+        let inside_right = rw (edge_is (s.k + 1)) at s.inside.right in
+        let last : s.k + 1 ≤ l = omega (arith, s.below, order) in
+        record {
+          left = omega (arith, ints, inside_left, left, product_up f s.k n s.from);
+          right = omega (arith, ints, inside_right, right, product_up (s.k + 1) l n last);
+          bottom = omega (arith, ints, s.inside.bottom, bottom);
+          top = omega (arith, ints, s.inside.top, top);
+        }
+
+  -- edges of sites bound a rectangle that stands on them
+  pub sites_between : (f l : ℕ) → box.x1 ≡ row.at.x +ℤ pos (f * n) → box.x2 ≡ row.at.x +ℤ pos (l * n) → box.y1 ≡ row.at.y → box.y2 ≡ row.at.y +ℤ size.height → f < l → pos l ≤ℤ row.count → IsOnSites row size box
+  sites_between f l left right bottom top order within = record {
+    first = f;
+    many = l - f;
+    within = let all : f + (l - f) ≡ l = omega arith in rw all within;
+    cells = λ cell. (site_of_cell f l left right bottom top order cell, cell_of_site f l left right bottom top order cell);
+  }
+
+  module _ (proper : IsWide box) (on : IsOnSites row size box) where
+    abbrev corner : Spot
+    corner = record { x = box.x1; y = box.y1 }
+
+    abbrev opposite : Spot
+    opposite = record { x = box.x2 -ℤ pos 1; y = box.y2 -ℤ pos 1 }
+
+    in_sites : SitesHave row size on.first on.many corner
+    in_sites = (on.cells corner).0 (record { left = omega (arith, ints); right = proper.wide; bottom = omega (arith, ints); top = proper.high })
+
+    last_in_sites : SitesHave row size on.first on.many opposite
+    last_in_sites =
+        (on.cells opposite).0 (record {
+          left = omega (arith, ints, proper.wide);
+          right = omega (arith, ints);
+          bottom = omega (arith, ints, proper.high);
+          top = omega (arith, ints);
+        })
+
+    -- the first cell of the first site, and the last one of the last
+    first_cell : HasCell box (record { x = row.at.x +ℤ pos (on.first * n); y = row.at.y })
+    first_cell =
+        let s = in_sites in
+        (on.cells (record { x = row.at.x +ℤ pos (on.first * n); y = row.at.y })).1 (record {
+          k = on.first;
+          from = omega arith;
+          below = omega (arith, s.from, s.below);
+          inside = record {
+            left = rw (edge_is on.first) (omega (arith, ints));
+            right = rw (edge_is (on.first + 1)) (omega (arith, ints, product_more on.first n, some));
+            bottom = omega (arith, ints);
+            top = omega (arith, ints, s.inside.bottom, s.inside.top);
+          };
+        })
+
+    last_cell : (l : ℕ) → on.first + on.many ≡ l + 1 → HasCell box (record { x = row.at.x +ℤ pos (l * n) +ℤ pos n -ℤ pos 1; y = row.at.y +ℤ size.height -ℤ pos 1 })
+    last_cell l is =
+        let s = in_sites in
+        (on.cells (record { x = row.at.x +ℤ pos (l * n) +ℤ pos n -ℤ pos 1; y = row.at.y +ℤ size.height -ℤ pos 1 })).1 (record {
+          k = l;
+          from = omega (arith, s.from, s.below, is);
+          below = omega (arith, is);
+          inside = record {
+            left = rw (edge_is l) (omega (arith, ints, some));
+            right = rw (edge_is (l + 1)) (omega (arith, ints, product_more l n));
+            bottom = omega (arith, ints, s.inside.bottom, s.inside.top);
+            top = omega (arith, ints);
+          };
+        })
+
+    left_is : box.x1 ≡ row.at.x +ℤ pos (on.first * n)
+    left_is =
+        let s = in_sites in
+        let inside = rw (edge_is s.k) at s.inside.left in
+        omega (arith, ints, inside, product_up on.first s.k n s.from, first_cell.left)
+
+    right_is : (l : ℕ) → on.first + on.many ≡ l + 1 → box.x2 ≡ row.at.x +ℤ pos ((l + 1) * n)
+    right_is l is =
+        let s = last_in_sites in
+        let inside = rw (edge_is (s.k + 1)) at s.inside.right in
+        let last : s.k + 1 ≤ l + 1 = omega (arith, s.below, is) in
+        omega (arith, ints, inside, product_up (s.k + 1) (l + 1) n last, product_more l n, (last_cell l is).right)
+
+    pub left_edge : IsEdge row size box.x1
+    left_edge =
+        record { k = on.first; is = rw (edge_is on.first) left_is; within = omega (arith, ints, on.within) }
+
+    pub right_edge : IsEdge row size box.x2
+    right_edge =
+        let s = in_sites in
+        let l = on.first + on.many - 1 in
+        let is : on.first + on.many ≡ l + 1 = omega (arith, s.from, s.below) in
+        record {
+          k = on.first + on.many;
+          is = let right : box.x2 ≡ row.at.x +ℤ pos ((on.first + on.many) * n) = rw is (right_is l is) in rw (edge_is (on.first + on.many)) right;
+          within = on.within;
+        }
+
+    pub top_is : box.y2 ≡ row.at.y +ℤ size.height
+    top_is =
+        let s = in_sites in
+        let l = on.first + on.many - 1 in
+        let is : on.first + on.many ≡ l + 1 = omega (arith, s.from, s.below) in
+        omega (arith, ints, last_in_sites.inside.top, (last_cell l is).top)
+
+-- the lower edges are the same
+pub bottom_is : (row : Row) (size : Lengths) (box : Sides) → IsWide box → IsOnSites row size box → box.y1 ≡ row.at.y
+bottom_is row size box proper on =
+    let s =
+    (on.cells (record { x = box.x1; y = box.y1 })).0
+    (record { left = omega (arith, ints); right = proper.wide; bottom = omega (arith, ints); top = proper.high }) in
+    let lower =
+    (on.cells (record { x = box.x1; y = row.at.y })).1 (record {
+      k = s.k;
+      from = s.from;
+      below = s.below;
+      inside = record {
+        left = s.inside.left;
+        right = s.inside.right;
+        bottom = omega (arith, ints);
+        top = omega (arith, ints, s.inside.bottom, s.inside.top);
+      };
+    }) in
+    omega (arith, ints, s.inside.bottom, lower.bottom)
+
+-- a rectangle stands on sites just where its sides are those of sites
+module _ (row : Row) (size : Lengths) (box : Sides) (area : HasArea size) (proper : IsWide box) where
+  pub on_sites_from_edges : IsLevel row size box → IsEdge row size box.x1 → IsEdge row size box.x2 → IsOnSites row size box
+  on_sites_from_edges level left right =
+      let n = unsigned_abs size.width in
+      let width : size.width ≡ pos n = omega (arith, ints, area.wide) in
+      let some : 0 < n = omega (arith, ints, area.wide) in
+      let left_at = rw (edge_is row size box n width some left.k) at left.is in
+      let right_at = rw (edge_is row size box n width some right.k) at right.is in
+      let order : left.k < right.k =
+      elim (cases_lt left.k right.k) [
+        | inl low ↦ low
+        | inr high ↦ absurd (omega (arith, ints, left_at, right_at, proper.wide, product_up right.k left.k n high))
+      ] in
+      sites_between row size box n width some left.k right.k left_at right_at level.bottom level.top order right.within
+
+  pub level_from_on_sites : IsOnSites row size box → IsLevel row size box
+  level_from_on_sites on =
+      let n = unsigned_abs size.width in
+      record { bottom = bottom_is row size box proper on; top = top_is row size box n (omega (arith, ints, area.wide)) (omega (arith, ints, area.wide)) proper on }
+
+  pub left_from_on_sites : IsOnSites row size box → IsEdge row size box.x1
+  left_from_on_sites on =
+      let n = unsigned_abs size.width in
+      left_edge row size box n (omega (arith, ints, area.wide)) (omega (arith, ints, area.wide)) proper on
+
+  pub right_from_on_sites : IsOnSites row size box → IsEdge row size box.x2
+  right_from_on_sites on =
+      let n = unsigned_abs size.width in
+      right_edge row size box n (omega (arith, ints, area.wide)) (omega (arith, ints, area.wide)) proper on
+
+-- an edge by the quotient and the remainder
+module _ (row : Row) (size : Lengths) (area : HasArea size) (x : ℤ) (d n m : ℕ) (offset : d ≡ unsigned_abs (x -ℤ row.at.x)) (width : n ≡ unsigned_abs size.width)
+    (count : pos m ≡ row.count) where
+  width_is : size.width ≡ pos n
+  width_is = omega (arith, ints, width, area.wide)
+
+  some_width : 0 < n
+  some_width = omega (arith, ints, width, area.wide)
+
+  pub edge_right : IsEdge row size x → row.at.x ≤ℤ x
+  edge_right edge =
+      let at : x ≡ row.at.x +ℤ pos (edge.k * n) = edge.is ∙ ap (λ w. row.at.x +ℤ pos edge.k *ℤ w) width_is ∙ ap (λ p. row.at.x +ℤ p) (pos-*ℤ-pos edge.k n) in
+      omega (arith, ints, at)
+
+  edge_offset : (edge : IsEdge row size x) → d ≡ edge.k * n
+  edge_offset edge =
+      let at : x ≡ row.at.x +ℤ pos (edge.k * n) = edge.is ∙ ap (λ w. row.at.x +ℤ pos edge.k *ℤ w) width_is ∙ ap (λ p. row.at.x +ℤ p) (pos-*ℤ-pos edge.k n) in
+      omega (arith, ints, at, offset)
+
+  pub edge_exact : IsEdge row size x → d % n ≡ 0
+  edge_exact edge = rw (edge_offset edge) (mul-mod_left edge.k n)
+
+  pub edge_within : IsEdge row size x → d / n ≤ m
+  edge_within edge =
+      let quotient : d / n ≡ edge.k = rw (edge_offset edge) (mul-div_cancel edge.k some_width) in
+      omega (arith, ints, quotient, edge.within, count)
+
+  pub edge_from : row.at.x ≤ℤ x → d % n ≡ 0 → d / n ≤ m → IsEdge row size x
+  edge_from right exact within =
+      let whole : d / n * n ≡ d = omega (arith, div-add-mod' d n, exact) in
+      let at : x ≡ row.at.x +ℤ pos (d / n * n) = omega (arith, ints, right, offset, whole) in
+      record {
+        k = d / n;
+        is = at ∙ ap (λ p. row.at.x +ℤ p) (sym (pos-*ℤ-pos (d / n) n)) ∙ ap (λ w. row.at.x +ℤ pos (d / n) *ℤ w) (sym width_is);
+        within = omega (arith, ints, within, count);
+      }

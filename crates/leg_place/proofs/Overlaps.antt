@@ -1,0 +1,138 @@
+-- Overlaps by the pairs of boxes that share a cell.
+use Rattle.std.proofs.Common.{◌≡◌, ℕ, ◌<◌, List, ◌++◌, map, Option, Some, None, slice_get, length, Contains, refl, sym, ap, ◌∙◌, inl, inr, All, ◌+◌, ◌∷◌, [], get_or, take, arith}
+use Rattle.std.proofs.lemmas.Bool.{cases_lt}
+use Rattle.std.proofs.lemmas.List.{take_more, map-append, append_assoc}
+use Rattle.std.proofs.lemmas.List.Elements.{All-append, All-map, All-weaker, Contains-append_left, Contains-append_right}
+use Rattle.std.proofs.lemmas.Option.{same_Some, slice_get_within, get_or_from_slice_get}
+use Rattle.leg_geom.specs.Plane.{ShareCell}
+use Rattle.leg_sweep.specs.Pairs.{Before, IsPair, ArePairs}
+use Rattle.leg_sweep.proofs.Lists.{AllPairs-append_by, AllPairs-map_where, Contains-map}
+use Rattle.leg_lib.specs.Records.{Contents}
+use Rattle.leg_design.specs.Records.{DesignContents}
+use Rattle.leg_design.specs.declared.fault.Fault.{Fault}
+use Rattle.leg_design.specs.declared.fault.Fault.TheVariants.{Unplaced, Outside, OffSite, Overlap, Short, TooNear, OpenNet}
+use Rattle.leg_design.specs.Violation.{ComesBefore, kind_number, numbers_of, IsListOf}
+use Rattle.leg_place.specs.declared.placed_box.PlacedBox.{PlacedBox}
+use Rattle.leg_place.specs.Box.{StandsIn}
+use Rattle.leg_place.specs.Faults.{Holds}
+use Rattle.leg_place.specs.Before.{HoldsBefore, IsListBefore, AreBoxesBelow, HasLowerNumber}
+use Rattle.leg_place.proofs.Places.{place_of_contained, All-at, AllPairs-at, lower_first, same_place}
+
+-- two boxes share a cell
+abbrev pub Share : PlacedBox → PlacedBox → Type 0
+Share a b = ShareCell a.rect b.rect
+
+-- the component in the box at a place
+abbrev number_of : Option PlacedBox → ℕ
+number_of None = 0
+number_of (Some box) = box.component
+
+abbrev pub overlap_of : List PlacedBox → ℕ × ℕ → Fault
+overlap_of boxes p = Overlap (number_of (slice_get boxes p.0)) (number_of (slice_get boxes p.1))
+
+-- one more pair
+pub overlaps_more : (boxes : List PlacedBox) (pairs : List (ℕ × ℕ)) (i : ℕ) (first second : PlacedBox) (before found : List Fault)
+    → All (IsPair Share boxes) pairs → i < length pairs
+    → first ≡ get_or boxes (get_or pairs i (0, 0)).0 first → second ≡ get_or boxes (get_or pairs i (0, 0)).1 second
+    → found ≡ before ++ map (overlap_of boxes) (take i pairs)
+    → found ++ Overlap first.component second.component ∷ [] ≡ before ++ map (overlap_of boxes) (take (i + 1) pairs)
+overlaps_more boxes pairs i first second before found each within first_is second_is done =
+    let pair = each i (0, 0) within in
+    let a_is : first ≡ pair.a = first_is ∙ get_or_from_slice_get boxes _ pair.a first pair.a_at in
+    let b_is : second ≡ pair.b = second_is ∙ get_or_from_slice_get boxes _ pair.b second pair.b_at in
+    let next : overlap_of boxes (get_or pairs i (0, 0)) ≡ Overlap first.component second.component = rw (pair.a_at, pair.b_at, a_is, b_is) in
+    rw (take_more pairs i (0, 0), map-append, next, ← append_assoc, done)
+
+module _ (library : Contents) (design : DesignContents) (n : ℕ) (boxes : List PlacedBox) (are : AreBoxesBelow library design n boxes) where
+  -- the violation of a pair of boxes holds
+  Holds-overlap_of : (p : ℕ × ℕ) → IsPair Share boxes p → Holds library design (overlap_of boxes p)
+  Holds-overlap_of p pair =
+      rw (pair.a_at, pair.b_at) (record {
+        in_order = AllPairs-at HasLowerNumber boxes p.0 p.1 pair.a pair.b are.increasing pair.a_at pair.b_at pair.in_order;
+        box_a = pair.a.rect;
+        box_b = pair.b.rect;
+        stands_a = All-at (λ box. StandsIn library design box.component box.rect) boxes p.0 pair.a are.each pair.a_at;
+        stands_b = All-at (λ box. StandsIn library design box.component box.rect) boxes p.1 pair.b are.each pair.b_at;
+        shared = pair.holds;
+      })
+
+  -- pairs in order are overlaps in order
+  ComesBefore-overlap_of : (p q : ℕ × ℕ) → IsPair Share boxes p → IsPair Share boxes q → Before p q → ComesBefore (overlap_of boxes p) (overlap_of boxes q)
+  ComesBefore-overlap_of p q is_p is_q before =
+      rw (is_p.a_at, is_p.b_at, is_q.a_at, is_q.b_at) (record {
+        kind = omega arith;
+        first = λ _. elim (cases_lt p.0 q.0) [
+          | inl lower ↦ omega (arith, AllPairs-at HasLowerNumber boxes p.0 q.0 is_p.a is_q.a are.increasing is_p.a_at is_q.a_at lower)
+          | inr other ↦
+              let same : p.0 ≡ q.0 = omega (arith, before.first) in
+              let alike : is_p.a ≡ is_q.a = same_Some is_p.a is_q.a (sym is_p.a_at ∙ ap (slice_get boxes) same ∙ is_q.a_at) in
+              omega (arith, ap (λ (x : PlacedBox). x.component) alike)
+        ];
+        second = λ _ equal.
+            let same : p.0 ≡ q.0 = same_place (λ box. box.component) boxes are.increasing p.0 q.0 is_p.a is_q.a is_p.a_at is_q.a_at equal in
+            AllPairs-at HasLowerNumber boxes p.1 q.1 is_p.b is_q.b are.increasing is_p.b_at is_q.b_at (before.second same);
+      })
+
+  -- each overlap is that of a pair
+  overlap_from_pair : (found : List (ℕ × ℕ)) → ArePairs Share boxes found → (a b : ℕ) → (holds : Holds library design (Overlap a b)) → a < n → b < n → Contains (map (overlap_of boxes) found) (Overlap a b)
+  overlap_from_pair found pairs a b holds a_below b_below =
+      let first = place_of_contained boxes (record { component = a; rect = holds.box_a }) (are.all a holds.box_a a_below holds.stands_a) in
+      let second = place_of_contained boxes (record { component = b; rect = holds.box_b }) (are.all b holds.box_b b_below holds.stands_b) in
+      let pair : IsPair Share boxes (first.0, second.0) = record {
+        a = record { component = a; rect = holds.box_a };
+        b = record { component = b; rect = holds.box_b };
+        a_at = first.1;
+        b_at = second.1;
+        in_order = lower_first (λ box. box.component) boxes are.increasing first.0 second.0 _ _ first.1 second.1 holds.in_order;
+        holds = holds.shared;
+      } in
+      let has = Contains-map (overlap_of boxes) found (first.0, second.0) (pairs.all (first.0, second.0) pair) in
+      rw (first.1, second.1) at has
+
+-- overlaps behind the violations of the other kinds
+module _ (library : Contents) (design : DesignContents) (found : List Fault) (before : IsListBefore library design (Overlap 0 0) found) (boxes : List PlacedBox) (are : AreBoxesBelow library design (length design.components) boxes) where
+  pub listing_Overlap_end : (pairs : List (ℕ × ℕ)) → ArePairs Share boxes pairs → IsListOf (Holds library design) (found ++ map (overlap_of boxes) pairs)
+  listing_Overlap_end pairs are_pairs = record {
+    increasing =
+        AllPairs-append_by ComesBefore (HoldsBefore library design (Overlap 0 0)) (λ w. kind_number w ≡ 3) kinds_rise found (map (overlap_of boxes) pairs)
+        before.each (All-map (λ w. kind_number w ≡ 3) (overlap_of boxes) pairs (λ k d within. refl)) before.increasing
+        (AllPairs-map_where Before ComesBefore (overlap_of boxes) (IsPair Share boxes) (ComesBefore-overlap_of library design (length design.components) boxes are) pairs are_pairs.each are_pairs.increasing);
+    each =
+        All-append (Holds library design) found (map (overlap_of boxes) pairs)
+        (All-weaker (HoldsBefore library design (Overlap 0 0)) (Holds library design) (λ v held. held.holds) found before.each)
+        (All-map (Holds library design) (overlap_of boxes) pairs
+        (All-weaker (IsPair Share boxes) (λ p. Holds library design (overlap_of boxes p)) (Holds-overlap_of library design (length design.components) boxes are) pairs are_pairs.each));
+    all = λ v. found_in v;
+  }
+    where
+      kinds_rise : (v w : Fault) → HoldsBefore library design (Overlap 0 0) v → kind_number w ≡ 3 → ComesBefore v w
+      kinds_rise v w held kind =
+          let none : kind_number v ≡ 3 → ⊥ = λ last.
+          let start : (numbers_of v).0 ≡ 0 = omega (arith, held.before.first last) in
+          omega (arith, held.before.second last start) in
+          record {
+            kind = omega (arith, held.before.kind, kind);
+            first = λ same. absurd (none (same ∙ kind));
+            second = λ same. absurd (none (same ∙ kind));
+          }
+
+      earlier_in : (v : Fault) → kind_number v < 3 → Holds library design v → Contains (found ++ map (overlap_of boxes) pairs) v
+      earlier_in v few holds =
+          Contains-append_left found (map (overlap_of boxes) pairs) v
+          (before.all v (record {
+            holds = holds;
+            before = record { kind = omega (arith, few); first = λ e. absurd (omega (arith, few, e)); second = λ e. absurd (omega (arith, few, e)) };
+          }))
+
+      found_in : (v : Fault) → Holds library design v → Contains (found ++ map (overlap_of boxes) pairs) v
+      found_in (Unplaced c) holds = earlier_in (Unplaced c) (omega arith) holds
+      found_in (Outside c) holds = earlier_in (Outside c) (omega arith) holds
+      found_in (OffSite c) holds = earlier_in (OffSite c) (omega arith) holds
+      found_in (Overlap a b) holds =
+          Contains-append_right found (map (overlap_of boxes) pairs) (Overlap a b)
+          (overlap_from_pair library design (length design.components) boxes are pairs are_pairs a b holds
+          (slice_get_within design.components a holds.stands_a.component holds.stands_a.there)
+          (slice_get_within design.components b holds.stands_b.component holds.stands_b.there))
+      found_in (Short a b) holds = absurd holds
+      found_in (TooNear a b) holds = absurd holds
+      found_in (OpenNet n k) holds = absurd holds

@@ -1,0 +1,29 @@
+-- A component outside the die is one more violation, and one within it none.
+use Rattle.std.proofs.Common.{◌≡◌, ◌+◌, length, refl, arith}
+use Rattle.std.proofs.lemmas.Bool.{false≢true}
+use Rattle.leg_design.specs.declared.fault.Fault.TheVariants.{Outside, OffSite}
+use Rattle.leg_place.proofs.Listing.{Tells, listing_more, listing_skip, listing_end}
+use Rattle.leg_place.proofs.faults.push_outside.Goals as goal
+use Rattle.leg_place.proofs.faults.push_outside.Goals.{then-is_outside+in_ok-push, else-is_outside}
+
+pub loop-i-preserved : goal.loop-i-preserved
+loop-i-preserved g c =
+    let library = c.args.design.now.library in
+    let design = c.args.design.now in
+    let i = c.loop-i.i in
+    let this : Tells (Outside i) 1 i = record { is_kind = refl; first = refl; second = refl } in
+    let after : Tells (Outside (i + 1)) 1 (i + 1) = record { is_kind = refl; first = refl; second = refl } in
+    elim c.if-is_outside.branch [
+      | then-is_outside+in_ok-push w ↦
+          rw (w.found-is, w.in_ok-push.ensures.items)
+          (listing_more library design (Outside i) (Outside (i + 1)) 1 i (omega arith) this after c.loop-i.found.items (w.if-is_outside.ensures.0 refl) c.loop-i.invariant)
+      | else-is_outside w ↦
+          rw w.found-is
+          (listing_skip library design (Outside i) (Outside (i + 1)) 1 i (omega arith) this after c.loop-i.found.items (λ h. false≢true (w.if-is_outside.ensures.1 h)) c.loop-i.invariant)
+    ]
+
+pub returns : goal.returns
+returns g c =
+    let last : c.loop-i.i ≡ length c.args.design.now.components = rw (← c.components-i-end.ensures.is) (omega arith) in
+    listing_end c.args.design.now.library c.args.design.now (Outside c.loop-i.i) (OffSite 0) 1 c.loop-i.i
+    (record { is_kind = refl; first = refl; second = refl }) (record { is_kind = refl; first = refl; second = refl }) last c.loop-i.found.items c.loop-i.invariant

@@ -1,0 +1,7 @@
+-- The components so far that have no place are listed.
+use Rattle.leg_design.specs.declared.fault.Fault.TheVariants.{Unplaced}
+use Rattle.leg_place.specs.Before.{IsListBefore}
+use Rattle.leg_place.proofs.faults.push_unplaced.Given as goal
+
+abbrev pub invariant-loop-i : goal.invariant-loop-i
+invariant-loop-i g l = IsListBefore l.design.library l.design (Unplaced l.i) l.found.items

@@ -1,0 +1,44 @@
+-- What is not legal about where components stand (own rules): without a place, outside the die, off the sites of the
+-- rows, and on one another. A component is the box of its macro, of which the cells count.
+use Rattle.std.specs.Prelude.{◌≡◌, ℕ, ◌<◌, None, Some, slice_get}
+use Rattle.leg_geom.specs.Plane.{Spot, Sides, HasCell, ShareCell}
+use Rattle.leg_lib.specs.Records.{Contents}
+use Rattle.leg_design.specs.Records.{DesignContents}
+use Rattle.leg_design.specs.declared.records.Component.{Component}
+use Rattle.leg_design.specs.declared.fault.Fault.{Fault}
+use Rattle.leg_design.specs.declared.fault.Fault.TheVariants.{Unplaced, Outside, OffSite, Overlap, Short, TooNear, OpenNet}
+use Rattle.leg_place.specs.Box.{StandsIn}
+use Rattle.leg_place.specs.Sites.{IsOffSite}
+
+-- component c has no place
+pub record IsUnplaced (design : DesignContents) (c : ℕ) : Type 0 where
+  pub component : Component
+  pub there : slice_get design.components c ≡ Some component
+  pub unplaced : component.place ≡ None
+
+-- a cell of the placed component c isn't a cell of the die
+pub record IsOutside (library : Contents) (design : DesignContents) (c : ℕ) : Type 0 where
+  pub box : Sides
+  pub stands : StandsIn library design c box
+  pub cell : Spot
+  pub inside : HasCell box cell
+  pub outside : ¬ HasCell design.die cell
+
+-- two placed components share a cell; the lower number is told first
+pub record DoOverlap (library : Contents) (design : DesignContents) (a b : ℕ) : Type 0 where
+  pub in_order : a < b
+  pub box_a : Sides
+  pub box_b : Sides
+  pub stands_a : StandsIn library design a box_a
+  pub stands_b : StandsIn library design b box_b
+  pub shared : ShareCell box_a box_b
+
+-- a violation holds that speaks of where components stand
+abbrev pub Holds : Contents → DesignContents → Fault → Type 0
+Holds library design (Unplaced c) = IsUnplaced design c
+Holds library design (Outside c) = IsOutside library design c
+Holds library design (OffSite c) = IsOffSite library design c
+Holds library design (Overlap a b) = DoOverlap library design a b
+Holds library design (Short a b) = ⊥
+Holds library design (TooNear a b) = ⊥
+Holds library design (OpenNet n k) = ⊥

@@ -1,0 +1,95 @@
+//! The violations of where components stand.
+
+ghost use Rattle.std.specs.Prelude.{◌≡◌, ◌<◌, ◌↔◌, length, IsTrue, IfOk, OnOk};
+ghost use Rattle.leg_design.specs.Violation.{IsListOf};
+ghost use Rattle.leg_place.specs.Faults.{IsOutside, Holds};
+ghost use Rattle.leg_place.specs.Before.{IsListBefore};
+
+use crate::overlap::push_overlaps;
+use crate::placed_box::box_of;
+use crate::row_order::row_order;
+use crate::sites::is_off_site;
+use leg_design::{Design, Fault};
+use leg_lib::Library;
+use std::alloc::{AllocError, Allocator};
+
+/// The components without a place, those outside the die, those off the sites of the rows, and the pairs of components
+/// that overlap: all that hold, each once, in order (own rules).
+///
+/// The design was read with this library. Only want of memory is refused.
+pub fn place_faults<A: Allocator + Copy>(
+    alloc: A,
+    library: &Library<'_, A>,
+    design: &Design<'_, A>,
+) -> Result<Vec<Fault, A>, AllocError>
+    requires { library.now ≡ design.now.library }
+    ensures { IfOk result (λ found. IsListOf (Holds library.now design.now) found.items) }
+{
+    let mut found = Vec::new(alloc);
+    push_unplaced(design, &mut found)?;
+    push_outside(design, &mut found)?;
+    push_off_site(alloc, design, &mut found)?;
+    push_overlaps(alloc, design, &mut found)?;
+    Ok(found)
+}
+
+/// Adds the components that have no place to an empty list.
+fn push_unplaced<A: Allocator + Copy>(
+    design: &Design<'_, A>,
+    found: &mut Vec<Fault, A>,
+) -> Result<(), AllocError>
+    requires { IsListBefore design.now.library design.now (Fault.Unplaced 0) found.old.items }
+    ensures { OnOk result (IsListBefore design.now.library design.now (Fault.Outside 0) found.new.items) }
+{
+    for (i, component) in design.components().iter().enumerate() {
+        if component.place.is_none() {
+            found.push(Fault::Unplaced(i as u32))?;
+        }
+    }
+    Ok(())
+}
+
+/// Adds the components that lie outside the die to those that have no place.
+fn push_outside<A: Allocator + Copy>(
+    design: &Design<'_, A>,
+    found: &mut Vec<Fault, A>,
+) -> Result<(), AllocError>
+    requires { IsListBefore design.now.library design.now (Fault.Outside 0) found.old.items }
+    ensures { OnOk result (IsListBefore design.now.library design.now (Fault.OffSite 0) found.new.items) }
+{
+    for i in 0..design.components().len() {
+        if is_outside(design, i) {
+            found.push(Fault::Outside(i as u32))?;
+        }
+    }
+    Ok(())
+}
+
+/// Whether a cell of the component lies outside the die.
+fn is_outside<A: Allocator + Copy>(design: &Design<'_, A>, number: usize) -> bool
+    requires { number < length design.now.components }
+    ensures { IsTrue result ↔ IsOutside design.now.library design.now number }
+{
+    match box_of(design.library(), &design.components()[number]) {
+        Some(rect) => !design.die().contains(&rect),
+        None => false,
+    }
+}
+
+/// Adds the components that don't stand on the sites of a row to those without a place and those outside the die.
+fn push_off_site<A: Allocator + Copy>(
+    alloc: A,
+    design: &Design<'_, A>,
+    found: &mut Vec<Fault, A>,
+) -> Result<(), AllocError>
+    requires { IsListBefore design.now.library design.now (Fault.OffSite 0) found.old.items }
+    ensures { OnOk result (IsListBefore design.now.library design.now (Fault.Overlap 0 0) found.new.items) }
+{
+    let order = row_order(alloc, design.rows())?;
+    for i in 0..design.components().len() {
+        if is_off_site(design, &order, i) {
+            found.push(Fault::OffSite(i as u32))?;
+        }
+    }
+    Ok(())
+}

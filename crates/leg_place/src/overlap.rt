@@ -1,0 +1,86 @@
+//! Components on one another.
+
+ghost use Rattle.std.specs.Prelude.{◌≡◌, OnOk};
+ghost use Rattle.leg_geom.specs.Plane.{ShareCell};
+ghost use Rattle.leg_geom.proofs.Gaps.{ShareCell-symmetric, ShareCell-gaps};
+ghost use Rattle.leg_design.specs.Violation.{IsListOf};
+ghost use Rattle.leg_place.specs.Before.{IsListBefore};
+ghost use Rattle.leg_place.specs.Faults.{Holds};
+
+use crate::placed_box::{PlacedBox, placed_boxes};
+use leg_design::{Design, Fault};
+use leg_sweep::{PairRule, pairs};
+use std::alloc::{AllocError, Allocator};
+
+/// Holds of boxes that share a cell.
+#[derive(Drop)]
+struct OnOneAnother {
+    tests: u64,
+    looks: u64,
+}
+
+impl PairRule for OnOneAnother {
+    type Item = PlacedBox;
+
+    ghost fixed = { λ r. record { tests = 0; looks = 0 } };
+
+    ghost Holds = { λ r a b. ShareCell a.rect b.rect };
+
+    ghost rect_of = { λ r a. a.rect };
+
+    ghost reach_of = { λ r. 0 };
+
+    ghost tests_of = { λ r. r.tests };
+
+    ghost looks_of = { λ r. r.looks };
+
+    fn left(&self, item: &PlacedBox) -> i64 {
+        item.rect.x1()
+    }
+
+    fn reach(&self) -> i64 {
+        0
+    }
+
+    fn gaps(&mut self, a: &PlacedBox, b: &PlacedBox) -> (i64, i64) {
+        self.looks += 1;
+        (a.rect.x_gap(&b.rect) as i64, a.rect.y_gap(&b.rect) as i64)
+    }
+
+    fn meets(&mut self, a: &PlacedBox, b: &PlacedBox) -> bool {
+        self.tests += 1;
+        a.rect.overlaps(&b.rect)
+    }
+
+    fn tests(&self) -> u64 {
+        self.tests
+    }
+
+    fn looks(&self) -> u64 {
+        self.looks
+    }
+
+    ghost symmetric = { λ r a b h. ShareCell-symmetric _ _ h };
+
+    ghost near = { λ r a b h. ShareCell-gaps _ _ h };
+}
+
+/// Adds the pairs of placed components that share a cell to the violations of the other kinds.
+pub(crate) fn push_overlaps<A: Allocator + Copy>(
+    alloc: A,
+    design: &Design<'_, A>,
+    found: &mut Vec<Fault, A>,
+) -> Result<(), AllocError>
+    requires { IsListBefore design.now.library design.now (Fault.Overlap 0 0) found.old.items }
+    ensures { OnOk result (IsListOf (Holds design.now.library design.now) found.new.items) }
+{
+    let boxes = placed_boxes(alloc, design)?;
+    let mut rule = OnOneAnother { tests: 0, looks: 0 };
+    let overlaps = pairs(alloc, &boxes, &mut rule)?;
+    for (a, b) in &overlaps {
+        let first = boxes[*a as usize].component;
+        let second = boxes[*b as usize].component;
+        found.push(Fault::Overlap(first, second))?;
+    }
+    Ok(())
+}

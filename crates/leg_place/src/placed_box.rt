@@ -1,0 +1,65 @@
+//! The boxes of placed components.
+
+ghost use Rattle.std.specs.Prelude.{◌≡◌, ◌≤◌, length, IfOk, IfSome};
+ghost use Rattle.leg_geom.specs.Plane.{IsRect};
+ghost use Rattle.leg_design.specs.declared.limits.TheConstants.{ENTRY_LIMIT};
+ghost use Rattle.leg_design.specs.WellFormedParts.{IsPosition, IsComponent};
+ghost use Rattle.leg_place.specs.Box.{placed_box, box_of};
+ghost use Rattle.leg_place.specs.Before.{AreBoxesBelow};
+
+use leg_design::{Component, Design};
+use leg_geom::{Place, Rect};
+use leg_lib::{Extent, Library};
+use std::alloc::{AllocError, Allocator};
+
+/// A component that has a place, by its number, and its box.
+#[derive(Clone, Copy)]
+pub(crate) struct PlacedBox {
+    pub component: u32,
+    pub rect: Rect,
+}
+
+/// The box of a component of a macro of this size that has this place.
+pub(crate) fn placed_size(place: &Place, size: &Extent) -> Rect
+    requires { IsPosition place.now.at }
+    ensures is { result ≡ placed_box size.now place.now }
+    ensures proper { IsRect result }
+{
+    let (width, height) = (size.width(), size.height());
+    let drawn = Rect::new(0, 0, width, height).unwrap();
+    place.rect(width, height, &drawn)
+}
+
+/// The box of the component, where it has a place.
+pub(crate) fn box_of<A: Allocator + Copy>(
+    library: &Library<'_, A>,
+    component: &Component<'_>,
+) -> Option<Rect>
+    requires { IsComponent library.now component.now }
+    ensures is { result ≡ box_of library.now component.now }
+    ensures proper { IfSome result IsRect }
+{
+    let master = library.masters().get(component.master)?;
+    let place = component.place?;
+    Some(placed_size(&place, &master.size))
+}
+
+/// The boxes of the placed components, in file order.
+pub(crate) fn placed_boxes<A: Allocator + Copy>(
+    alloc: A,
+    design: &Design<'_, A>,
+) -> Result<Vec<PlacedBox, A>, AllocError>
+    ensures boxes { IfOk result (λ boxes. AreBoxesBelow design.now.library design.now (length design.now.components) boxes.items) }
+    ensures few { IfOk result (λ boxes. length boxes.items ≤ ENTRY_LIMIT) }
+{
+    let mut boxes = Vec::new(alloc);
+    for (i, component) in design.components().iter().enumerate() {
+        if let Some(rect) = box_of(design.library(), component) {
+            boxes.push(PlacedBox {
+                component: i as u32,
+                rect,
+            })?;
+        }
+    }
+    Ok(boxes)
+}
