@@ -3,7 +3,6 @@ use Rattle.std.specs.Prelude.{◌≡◌, ◌≢◌, ℕ, List, [], ◌++◌, ◌
 use Rattle.std.specs.Io.KnownBytes.{Appends}
 use Rattle.leg_lex.specs.declared.read_fault.ReadFault.{ReadFault}
 use Rattle.leg_lex.specs.declared.read_fault.FaultKind.TheVariants as kinds
-use Rattle.leg_app.specs.declared.violation.Violation.{Violation}
 use Rattle.leg_lib.specs.declared.scale_fault.ScaleKind.{ScaleKind}
 use Rattle.leg_lib.specs.declared.scale_fault.ScaleKind.TheVariants as scale
 use Rattle.leg_app.specs.declared.command.Command.{Command}
@@ -12,8 +11,10 @@ use Rattle.leg_app.specs.declared.status.Status.{Status}
 use Rattle.leg_app.specs.declared.status.Status.TheVariants.{Success, Violations, Refused, Memory}
 use Rattle.leg_lib.specs.Records.{Contents}
 use Rattle.leg_design.specs.Records.{DesignContents}
+use Rattle.leg_design.specs.declared.fault.Fault.{Fault}
+use Rattle.leg_design.specs.Violation.{IsListOf}
+use Rattle.leg_place.specs.Faults.{Holds}
 use Rattle.leg_app.specs.Say.{SayDesign, SayNothing}
-use Rattle.leg_app.specs.Faults.{IsListOf}
 use Rattle.leg_app.specs.Lines.{violations_text, legal_text, memory_text, refused_text, scale_text}
 
 -- the texts say a design without a violation
@@ -21,16 +22,16 @@ pub record SaysLegal (lefs : List (List ℕ)) (def text : List ℕ) : Type 0 whe
   pub library : Contents
   pub design : DesignContents
   pub say : SayDesign lefs def library design
-  pub none : IsListOf library design []
+  pub none : IsListOf (Holds library design) []
   pub is : text ≡ legal_text
 
 -- the texts say a design with violations, and these are they
 pub record ListsViolations (lefs : List (List ℕ)) (def text : List ℕ) : Type 0 where
   pub library : Contents
   pub design : DesignContents
-  pub violations : List Violation
+  pub violations : List Fault
   pub say : SayDesign lefs def library design
-  pub list : IsListOf library design violations
+  pub list : IsListOf (Holds library design) violations
   pub some : violations ≢ []
   pub is : text ≡ violations_text design violations
 

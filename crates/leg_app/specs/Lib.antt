@@ -1,7 +1,5 @@
 pub mod Say
 pub mod Refusal
-pub mod Faults
-pub mod FaultsBefore
 pub mod Lines
 pub mod Answer
 pub mod Line

@@ -4,12 +4,12 @@ use Rattle.std.specs.List.{flat_map}
 use Rattle.leg_lex.specs.declared.read_fault.ReadFault.{ReadFault}
 use Rattle.leg_lex.specs.declared.read_fault.FaultKind.{FaultKind}
 use Rattle.leg_lex.specs.declared.read_fault.FaultKind.TheVariants as kinds
-use Rattle.leg_app.specs.declared.violation.Violation.{Violation}
-use Rattle.leg_app.specs.declared.violation.Violation.TheVariants.{Unplaced, Outside, Overlap}
 use Rattle.leg_lib.specs.declared.scale_fault.ScaleKind.{ScaleKind}
 use Rattle.leg_lib.specs.declared.scale_fault.ScaleKind.TheVariants as scale
 use Rattle.leg_design.specs.Records.{DesignContents}
 use Rattle.leg_design.specs.declared.records.Component.{Component}
+use Rattle.leg_design.specs.declared.fault.Fault.{Fault}
+use Rattle.leg_design.specs.declared.fault.Fault.TheVariants.{Unplaced, Outside, OffSite, Overlap, Short, TooNear, OpenNet}
 
 abbrev pub name_at_number : List Component → ℕ → List ℕ
 name_at_number components c = name_if (slice_get components c)
@@ -18,14 +18,19 @@ name_at_number components c = name_if (slice_get components c)
     name_if None = []
     name_if (Some component) = component.name
 
-abbrev pub violation_line : DesignContents → Violation → List ℕ
+-- the kinds that only shapes can have get their lines with the crate that knows shapes: no command lists them yet
+abbrev pub violation_line : DesignContents → Fault → List ℕ
 violation_line design (Unplaced c) = codes "UNPLACED " ++ name_at_number design.components c ++ codes "\n"
 violation_line design (Outside c) = codes "OUTSIDE " ++ name_at_number design.components c ++ codes "\n"
+violation_line design (OffSite c) = codes "OFFSITE " ++ name_at_number design.components c ++ codes "\n"
 violation_line design (Overlap a b) =
     codes "OVERLAP " ++ name_at_number design.components a ++ codes " " ++ name_at_number design.components b ++ codes "\n"
+violation_line design (Short a b) = []
+violation_line design (TooNear a b) = []
+violation_line design (OpenNet n k) = []
 
 -- a line for each violation, and their number
-abbrev pub violations_text : DesignContents → List Violation → List ℕ
+abbrev pub violations_text : DesignContents → List Fault → List ℕ
 violations_text design violations =
     flat_map (violation_line design) violations ++ codes "violations " ++ decimal (length violations) ++ codes "\n"
 

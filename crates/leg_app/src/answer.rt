@@ -7,13 +7,13 @@ ghost use Rattle.leg_app.specs.Answer.{IsAnswer, IsPlaceCheck};
 
 use crate::command::Command;
 use crate::lines::{refused_text, scale_text, violations_text};
-use crate::place::place_violations;
 use crate::status::Status;
 use crate::text_fault::TextFault;
 use crate::texts::{behind_lefs, library_for};
 use leg_design::{Design, read_def};
 use leg_lex::FaultKind;
 use leg_lib::{Library, ScaleKind};
+use leg_place::place_faults;
 use std::alloc::{AllocError, Allocator};
 
 /// A text to be written, and the status that goes with it.
@@ -77,7 +77,7 @@ fn design_check<A: Allocator + Copy>(
         SayDesign lefs def design.now.library design.now →
         IsPlaceCheck lefs def answer.status answer.text.items) }
 {
-    let violations = place_violations(alloc, design)?;
+    let violations = place_faults(alloc, design.library(), design)?;
     if violations.is_empty() {
         let text = Vec::from_slice(alloc, b"legal\n")?;
         return Ok(Answer {

@@ -5,9 +5,6 @@ mod answer;
 mod command;
 mod line;
 mod lines;
-mod overlap;
-mod place;
-mod placed_box;
 mod run_command;
 mod status;
 mod stream;
@@ -15,7 +12,6 @@ mod stream;
 mod tests;
 mod text_fault;
 mod texts;
-mod violation;
 
 pub use command::Command;
 pub use line::{Line, line_of};

@@ -4,9 +4,8 @@ ghost use Rattle.std.specs.Prelude.{◌≡◌, ◌++◌, IfOk, OnOk, length, cod
 ghost use Rattle.std.specs.List.{flat_map};
 ghost use Rattle.leg_app.specs.Lines.{kind_name, name_at_number, refused_text, scale_kind_name, scale_text, violation_line, violations_text};
 
-use crate::violation::Violation;
 use itoa::Buffer;
-use leg_design::Design;
+use leg_design::{Design, Fault};
 use leg_lex::{FaultKind, ReadFault};
 use leg_lib::{ScaleFault, ScaleKind};
 use std::alloc::{AllocError, Allocator};
@@ -15,7 +14,7 @@ use std::alloc::{AllocError, Allocator};
 pub(crate) fn violations_text<A: Allocator + Copy>(
     alloc: A,
     design: &Design<'_, A>,
-    violations: &[Violation],
+    violations: &[Fault],
 ) -> Result<Vec<u8, A>, AllocError>
     ensures { IfOk result (λ text. text.items ≡ violations_text design.now violations.now) }
 {
@@ -30,7 +29,7 @@ pub(crate) fn violations_text<A: Allocator + Copy>(
 fn push_violations<A: Allocator + Copy>(
     text: &mut Vec<u8, A>,
     design: &Design<'_, A>,
-    violations: &[Violation],
+    violations: &[Fault],
 ) -> Result<(), AllocError>
     ensures { OnOk result (text.new.items
         ≡ text.old.items ++ flat_map (violation_line design.now) violations.now) }
@@ -44,25 +43,31 @@ fn push_violations<A: Allocator + Copy>(
 fn push_violation<A: Allocator + Copy>(
     text: &mut Vec<u8, A>,
     design: &Design<'_, A>,
-    violation: Violation,
+    violation: Fault,
 ) -> Result<(), AllocError>
     ensures { OnOk result (text.new.items ≡ text.old.items ++ violation_line design.now violation) }
 {
     match violation {
-        Violation::Unplaced(c) => {
+        Fault::Unplaced(c) => {
             text.extend_from_slice(b"UNPLACED ")?;
             text.extend_from_slice(component_name(design, c))?;
         }
-        Violation::Outside(c) => {
+        Fault::Outside(c) => {
             text.extend_from_slice(b"OUTSIDE ")?;
             text.extend_from_slice(component_name(design, c))?;
         }
-        Violation::Overlap(a, b) => {
+        Fault::OffSite(c) => {
+            text.extend_from_slice(b"OFFSITE ")?;
+            text.extend_from_slice(component_name(design, c))?;
+        }
+        Fault::Overlap(a, b) => {
             text.extend_from_slice(b"OVERLAP ")?;
             text.extend_from_slice(component_name(design, a))?;
             text.extend_from_slice(b" ")?;
             text.extend_from_slice(component_name(design, b))?;
         }
+        // No command lists these yet: their lines come with the crate that knows shapes.
+        Fault::Short(_, _) | Fault::TooNear(_, _) | Fault::OpenNet(_, _) => return Ok(()),
     }
     text.extend_from_slice(b"\n")
 }

@@ -42,7 +42,7 @@ fn words(alloc: Global, texts: &[&str]) -> Result<Vec<String>, AllocError> {
     Ok(words)
 }
 
-// A site and a macro, two components of it of which the second begins one unit before the first ends.
+// A site, a row of it, and a macro, two components of it of which the second begins one unit before the first ends.
 const LEF: &[u8] = b"SITE core SIZE 0.2 BY 2.0 ; END core
 MACRO INV SIZE 0.4 BY 2.0 ; SITE core ; END INV
 END LIBRARY
@@ -51,6 +51,7 @@ END LIBRARY
 const DEF: &[u8] = b"DESIGN top ;
 UNITS DISTANCE MICRONS 1000 ;
 DIEAREA ( 0 0 ) ( 800 2000 ) ;
+ROW r core 0 0 N DO 4 BY 1 STEP 200 0 ;
 COMPONENTS 2 ;
 - u1 INV + PLACED ( 0 0 ) N ;
 - u2 INV + PLACED ( 399 0 ) N ;
@@ -66,7 +67,7 @@ fn an_answer_is_written_up_to_the_fault(rt: HostRuntime) -> Result<(), Fail> {
     assert_eq!(rt; status, Status::Violations);
     assert_eq!(rt;
         whole.as_slice(),
-        b"OVERLAP u1 u2\nviolations 1\n".as_slice()
+        b"OFFSITE u2\nOVERLAP u1 u2\nviolations 2\n".as_slice()
     );
     for fails in [true, false] {
         for room in 0..whole.len() {

@@ -132,16 +132,16 @@ module _ (library : Contents) (design : DesignContents) where
         second = λ same. absurd (omega (arith, this.is_kind, after.is_kind, same));
       })
       (λ w below holds.
-          let within = component_below library design w holds in
-          elim (cases_eq (kind_number w) (kind + 1)) [
-            | inl same ↦
-                let alike : kind_number w ≡ kind_number later = omega (arith, same, after.is_kind) in
-                let first : (numbers_of w).0 ≡ (numbers_of later).0 = omega (arith, below.first alike, after.first) in
-                absurd (omega (arith, below.second alike first, after.second))
-            | inr apart ↦ record {
-              kind = omega (arith, below.kind, apart, this.is_kind, after.is_kind);
-              first = λ e. omega (arith, within, last, this.first);
-              second = λ e equal. absurd (omega (arith, within, last, this.first, equal));
-            }
-          ])
+      let within = component_below library design w holds in
+      elim (cases_eq (kind_number w) (kind + 1)) [
+        | inl same ↦
+            let alike : kind_number w ≡ kind_number later = omega (arith, same, after.is_kind) in
+            let first : (numbers_of w).0 ≡ (numbers_of later).0 = omega (arith, below.first alike, after.first) in
+            absurd (omega (arith, below.second alike first, after.second))
+        | inr apart ↦ record {
+          kind = omega (arith, below.kind, apart, this.is_kind, after.is_kind);
+          first = λ e. omega (arith, within, last, this.first);
+          second = λ e equal. absurd (omega (arith, within, last, this.first, equal));
+        }
+      ])
       done

@@ -1,5 +1,5 @@
 -- Which orientation is another one mirrored on the y axis.
-use Rattle.std.proofs.Common.{◌≡◌, pos, if◌then◌else◌, Bool, true, false, IsTrue, ◌↔◌, ◌⊎◌, inl, inr, refl, sym, ap, ◌∙◌}
+use Rattle.std.proofs.Common.{◌≡◌, pos, if◌then◌else◌, Bool, IsTrue, inl, inr, refl, sym, ap, ◌∙◌}
 use Rattle.std.specs.Ordering.{int_eq}
 use Rattle.leg_geom.specs.Plane.{Spot}
 use Rattle.leg_geom.specs.declared.orient.Orient.{Orient}

@@ -1,5 +1,5 @@
 -- The rectangles whose cells are those of consecutive sites of a row.
-use Rattle.std.proofs.Common.{◌≡◌, ℕ, ◌+◌, ◌-◌, ◌*◌, ◌/◌, ◌%◌, ◌<◌, ◌≤◌, ℤ, pos, ◌+ℤ◌, ◌-ℤ◌, ◌*ℤ◌, ◌≤ℤ◌, ◌<ℤ◌, unsigned_abs, inl, inr, refl, sym, ap, ◌∙◌, arith}
+use Rattle.std.proofs.Common.{◌≡◌, ℕ, ◌+◌, ◌-◌, ◌*◌, ◌/◌, ◌%◌, ◌<◌, ◌≤◌, ℤ, pos, ◌+ℤ◌, ◌-ℤ◌, ◌*ℤ◌, ◌≤ℤ◌, ◌<ℤ◌, unsigned_abs, inl, inr, sym, ap, ◌∙◌, arith}
 use Rattle.std.proofs.Math.IntN.{pos-*ℤ-pos}
 use Rattle.std.proofs.Math.Nat.{div-mul-le_self, lt-div-mul-add, mul-le-mul_right, mul-mod_left, mul-div_cancel}
 use Rattle.std.proofs.lemmas.Nat.{div-add-mod'}
@@ -9,7 +9,7 @@ use Rattle.std.proofs.lemmas.Int.{ints}
 use Rattle.leg_geom.specs.Plane.{Spot, Sides, HasCell}
 use Rattle.leg_lib.specs.Measure.{Lengths, HasArea}
 use Rattle.leg_design.specs.declared.records.Row.{Row}
-use Rattle.leg_place.specs.Sites.{site_box, SitesHave, IsOnSites}
+use Rattle.leg_place.specs.Sites.{SitesHave, IsOnSites}
 use Rattle.leg_place.specs.OnRow.{IsLevel, IsEdge}
 
 -- a rectangle has area

@@ -1,5 +1,5 @@
 -- The rows of a design by the y of their lower left corners.
-use Rattle.std.specs.Prelude.{◌≡◌, ℕ, ◌<◌, ◌≤◌, ℤ, pos, ◌≤ℤ◌, List, length, slice_get, slice_index_or, Some, All, Contains}
+use Rattle.std.specs.Prelude.{◌≡◌, ℕ, ◌<◌, ◌≤◌, ℤ, ◌≤ℤ◌, List, length, slice_get, slice_index_or, Some, All, Contains}
 use Rattle.leg_design.specs.declared.records.Row.{Row}
 
 -- a key of a row: the y of its lower left corner, and its number

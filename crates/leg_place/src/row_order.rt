@@ -19,10 +19,7 @@ pub(crate) fn row_order<A: Allocator>(
 }
 
 /// The same in file order.
-fn row_keys<A: Allocator>(
-    alloc: A,
-    rows: &[Row<'_>],
-) -> Result<Vec<(i64, usize), A>, AllocError>
+fn row_keys<A: Allocator>(alloc: A, rows: &[Row<'_>]) -> Result<Vec<(i64, usize), A>, AllocError>
     ensures { IfOk result (λ keys. AreKeysBelow rows.now (length rows.now) keys.items) }
 {
     let mut keys = Vec::with_capacity(alloc, rows.len())?;

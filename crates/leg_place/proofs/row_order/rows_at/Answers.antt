@@ -1,5 +1,5 @@
 -- The keys between those below the y and those above it.
-use Rattle.std.proofs.Common.{◌≡◌, refl, arith, rules}
+use Rattle.std.proofs.Common.{arith, rules}
 use Rattle.std.specs.Prelude.{int_lt, int_le}
 use Rattle.std.proofs.lemmas.List.Sorted.{IsPartitionPoint-from_clause}
 use Rattle.leg_place.proofs.RowKeys.{below_partitioned, upto_partitioned, first_upto_end, AreAt-between}

@@ -1,5 +1,5 @@
 -- So many whole sites lie to the left of an edge.
-use Rattle.std.proofs.Common.{◌≡◌, ◌≤◌, ◌%◌, ◌/◌, ◌-ℤ◌, ◌≤ℤ◌, pos, unsigned_abs, ◌∙◌, sym, leb, leb-true, arith, rules}
+use Rattle.std.proofs.Common.{◌≡◌, ◌≤◌, ◌%◌, ◌/◌, ◌-ℤ◌, ◌≤ℤ◌, pos, unsigned_abs, ◌∙◌, sym, arith, rules}
 use Rattle.std.proofs.lemmas.Bool.{false≢true}
 use Rattle.std.proofs.lemmas.Int.{ints}
 use Rattle.leg_place.proofs.OnSites.{edge_right, edge_exact, edge_within, edge_from}
@@ -20,8 +20,7 @@ returns-then-offset-width-eq0 c =
     elim c.if-left-x.branch [
       | then-left-x w ↦
           let right : row.at.x ≤ℤ c.args.x = omega (arith, ints, w.if-left-x.true, c.x-left.ensures.is) in
-          let exact : d % n ≡ 0 = search (rules, sym w.value-is ∙ c.if-offset-width-eq0.true) in
-          (
+          let exact : d % n ≡ 0 = search (rules, sym w.value-is ∙ c.if-offset-width-eq0.true) in (
             λ t. edge_from row size area c.args.x d n m offset width count right exact (search (rules, t)),
             λ edge. let within : d / n ≤ m = edge_within row size area c.args.x d n m offset width count edge in search (rules, within),
           )
@@ -38,8 +37,7 @@ returns-else-offset-width-eq0 c =
     let m = unsigned_abs row.count in
     let offset : d ≡ unsigned_abs (c.args.x -ℤ row.at.x) = omega (arith, ints, c.abs_diff-offset.ensures, c.x-left.ensures.is) in
     let width : n ≡ unsigned_abs size.width = omega (arith, ints, c.unsigned_abs-width.ensures.value, c.width.ensures.is) in
-    let count : pos m ≡ row.count = omega (arith, ints, c.requires.some) in
-    (
+    let count : pos m ≡ row.count = omega (arith, ints, c.requires.some) in (
       λ t. absurd (false≢true (sym c.if-offset-width-eq0.false ∙ t)),
       λ edge. elim c.if-left-x.branch [
         | then-left-x w ↦

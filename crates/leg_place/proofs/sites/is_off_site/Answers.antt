@@ -1,5 +1,5 @@
 -- A component is off its sites where no row holds it.
-use Rattle.std.proofs.Common.{◌≡◌, ◌<◌, length, slice_get, Some, None, refl, sym, ap, ◌∙◌, arith, rules}
+use Rattle.std.proofs.Common.{◌≡◌, ◌<◌, length, slice_get, Some, refl, sym, ap, ◌∙◌}
 use Rattle.std.proofs.lemmas.Bool.{false≢true}
 use Rattle.std.proofs.lemmas.Option.{slice_get_read}
 use Rattle.leg_design.specs.WellFormedParts.{IsComponent}

@@ -1,7 +1,7 @@
 -- A rectangle on sites has its sides on those of sites.
-use Rattle.std.proofs.Common.{◌≡◌, ◌∙◌, sym, FitsSigned, w64, refl, arith, rules}
+use Rattle.std.proofs.Common.{◌∙◌, sym, FitsSigned, w64, rules}
 use Rattle.std.proofs.lemmas.Bool.{false≢true}
-use Rattle.std.proofs.lemmas.Int.{ints, to_z-of_z}
+use Rattle.std.proofs.lemmas.Int.{to_z-of_z}
 use Rattle.leg_place.proofs.OnSites.{IsWide, on_sites_from_edges, level_from_on_sites, left_from_on_sites, right_from_on_sites}
 use Rattle.leg_place.proofs.sites.is_on_sites.Goals as goal
 use Rattle.leg_place.proofs.sites.is_on_sites.Goals.{then-is_level, else-is_level}
@@ -17,8 +17,7 @@ returns-then-is_edge c =
     elim c.if-is_level.branch [
       | then-is_level w ↦
           let fits_left : FitsSigned w64 w.x1.result = search rules in
-          let left = rw w.x1.ensures.is at (simp to_z-of_z at w.is_edge.ensures) in
-          (
+          let left = rw w.x1.ensures.is at (simp to_z-of_z at w.is_edge.ensures) in (
             λ t.
                 on_sites_from_edges row size box c.is_level.ensures.size proper (c.is_level.ensures.level.0 w.if-is_level.true)
                 (left.0 (sym w.value-is ∙ c.if-is_edge.true)) (right.0 t),
@@ -32,8 +31,7 @@ returns-else-is_edge c =
     let row = c.args.row.now in
     let size = c.args.size.now in
     let box = c.args.rect.now in
-    let proper : IsWide box = record { wide = c.is_level.ensures.rect.wide; high = c.is_level.ensures.rect.high } in
-    (
+    let proper : IsWide box = record { wide = c.is_level.ensures.rect.wide; high = c.is_level.ensures.rect.high } in (
       λ t. absurd (false≢true (sym c.if-is_edge.false ∙ t)),
       λ on. elim c.if-is_level.branch [
         | then-is_level w ↦

@@ -1,13 +1,13 @@
 -- Only rows of the y of the macro's box are looked at, and no other can hold it.
 use Rattle.std.proofs.Common.{◌≡◌, ◌<◌, pos, length, slice_get, get_or, Some, FitsSigned, w64, refl, sym, ap, ◌∙◌, arith, rules}
 use Rattle.std.proofs.lemmas.Bool.{false≢true}
-use Rattle.std.proofs.lemmas.Int.{ints, to_z-of_z}
+use Rattle.std.proofs.lemmas.Int.{to_z-of_z}
 use Rattle.std.proofs.lemmas.Option.{same_Some, slice_get_read, slice_get_within}
 use Rattle.leg_design.specs.WellFormedParts.{IsRow}
 use Rattle.leg_place.specs.Box.{placed_box}
 use Rattle.leg_place.proofs.Places.{All-at}
 use Rattle.leg_place.proofs.OnSites.{IsWide}
-use Rattle.leg_place.proofs.OnRows.{IsOffKeys, off_keys_more, on_no_row, on_some_row, key_of_row}
+use Rattle.leg_place.proofs.OnRows.{off_keys_more, on_no_row, on_some_row, key_of_row}
 use Rattle.leg_place.proofs.sites.is_on_some_row.Goals as goal
 
 pub offset_bounds-rows-key : goal.offset_bounds-rows-key
@@ -72,8 +72,7 @@ returns g c =
     let box_is : c.placed_size-rect.result ≡ placed_box c.args.master.now.size c.args.place.now = c.placed_size-rect.ensures.is ∙ ap (λ size. placed_box size c.args.place.now) size_is in
     let rect = c.placed_size-rect.ensures.proper in
     let proper : IsWide c.placed_size-rect.result = record { wide = rect.wide; high = rect.high } in
-    let last : c.loop-key.key-index ≡ length keys = omega arith in
-    (
+    let last : c.loop-key.key-index ≡ length keys = omega arith in (
       λ t. absurd (false≢true t),
       λ some.
           absurd (on_no_row design c.args.master.now c.args.site c.args.place.now c.args.order.now keys c.requires.order (rw box_is at proper) (rw box_is at at)

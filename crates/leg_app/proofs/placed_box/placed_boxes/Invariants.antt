@@ -1,7 +1,0 @@
--- The boxes of the components so far are listed.
-use Rattle.std.proofs.Common.{◌≤◌, length}
-use Rattle.leg_app.specs.FaultsBefore.{AreBoxesBelow}
-use Rattle.leg_app.proofs.placed_box.placed_boxes.Given as goal
-
-abbrev pub invariant-loop-i : goal.invariant-loop-i
-invariant-loop-i g l = AreBoxesBelow l.design.library l.design l.i l.boxes.items × (length l.boxes.items ≤ l.i)
