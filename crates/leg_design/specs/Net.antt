@@ -22,12 +22,18 @@ pub record NetParts : Type 0 where
 abbrev pub no_net_parts : NetParts
 no_net_parts = record { usage = None; wires = [] }
 
+-- words that wiring may not have, as clauses
+abbrev pub is_left_out_of_wiring : Words → Bool
+is_left_out_of_wiring clause =
+    is_at (codes "TAPERRULE") clause || is_at (codes "STYLE") clause || is_at (codes "MASK") clause
+    || is_at (codes "VIRTUAL") clause
+
 -- clauses that would change a shape or a rule
 abbrev pub is_left_out : Bool → Words → Bool
 is_left_out special clause =
     is_at (codes "NONDEFAULTRULE") clause || is_at (codes "SUBNET") clause || is_at (codes "VPIN") clause
-    || (special && (is_at (codes "RECT") clause || is_at (codes "POLYGON") clause || is_at (codes "VIA") clause
-    || is_at (codes "STYLE") clause))
+    || is_left_out_of_wiring clause
+    || (special && (is_at (codes "RECT") clause || is_at (codes "POLYGON") clause || is_at (codes "VIA") clause))
 
 -- USE word, at most once
 unfoldable pub use_clause : NetParts → Words → Option (NetParts × Words)

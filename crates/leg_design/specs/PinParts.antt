@@ -100,5 +100,5 @@ pin_clause library parts clause =
     else (if is_at (codes "PORT") clause then port_start parts clause
     else (if is_at (codes "LAYER") clause then port_rect library parts clause
     else (if says_place clause then port_place parts clause
-    else (if is_at (codes "POLYGON") clause || is_at (codes "VIA") clause then None
+    else (if is_at (codes "POLYGON") clause || is_at (codes "VIA") clause || is_at (codes "MASK") clause then None
     else (when (is_clause clause) >>= λ _. Some parts)))))))

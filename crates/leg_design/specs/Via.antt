@@ -23,10 +23,11 @@ via_rect library shapes clause = do
   end ← nothing_at rect.1
   Some (with_rect library layer.0 rect.0 shapes)
 
--- clauses that say what a via is in other ways than by rectangles
+-- clauses that say what a via is in other ways than by rectangles, or on which mask they lie
 abbrev pub is_other_via : Words → Bool
 is_other_via clause =
     is_at (codes "VIARULE") clause || is_at (codes "POLYGON") clause || is_at (codes "PATTERNNAME") clause
+    || is_at (codes "MASK") clause
 
 -- one more clause
 unfoldable pub via_clause : Contents → List Shape → Words → Option (List Shape)

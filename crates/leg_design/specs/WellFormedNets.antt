@@ -40,6 +40,7 @@ abbrev pub IsExtension : Contents → Bool → ℕ → ℤ → Type 0
 IsExtension library special layer extension =
     (IsNumber extension × (pos 0 ≤ℤ extension)) ⊎ (extension ≡ default_extension library (written special) layer)
 
+-- a segment of a routing layer: horizontal or vertical, not of length zero, with a width and two extensions
 pub record IsSegment (library : Contents) (special : Bool) (layer : ℕ) (from to : Spot) (width ext_from ext_to : ℤ) : Type 0 where
   pub routes : IsTrue (is_routing library layer)
   pub from_ : IsPosition from
@@ -59,6 +60,7 @@ IsWire library vias special (ViaAt number at) =
 IsWire library vias special (Patch layer at rect) =
     (special ≡ false) × IsTrue (is_routing library layer) × IsPosition at × IsArea rect
 
+-- an entry: its name, its terminals, each listed once, and its wires
 pub record IsNet (design : DesignContents) (special : Bool) (net : NetSaid) : Type 0 where
   pub name : IsTrue (is_name net.name)
   pub no_must_join : is_keyword (codes "MUSTJOIN") net.name ≡ false
@@ -67,6 +69,7 @@ pub record IsNet (design : DesignContents) (special : Bool) (net : NetSaid) : Ty
   pub once : AllPairs (λ t u. t ≢ u) net.terminals
   pub wires : All (IsWire design.library design.vias special) net.wires
 
+-- the entries of a section; no two have one name
 pub record AreNets (design : DesignContents) (special : Bool) (nets : List NetSaid) : Type 0 where
   pub each : All (IsNet design special) nets
   pub apart : AreApart (net_names nets)
@@ -83,6 +86,7 @@ IsInSomeNet nets p None = Unit {0}
 IsInSomeNet nets p (Some name) =
     place_of name (net_names nets) ≢ None → (net : NetSaid) × Contains nets net × Contains net.terminals (Pin p)
 
+-- The entries of both sections: a terminal is in one net at most, and there are no more than there may be.
 pub record HasNets (design : DesignContents) : Type 0 where
   pub nets : AreNets design false design.nets
   pub special : AreNets design true design.special

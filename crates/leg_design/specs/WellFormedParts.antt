@@ -50,6 +50,7 @@ pub record IsComponent (library : Contents) (component : Component) : Type 0 whe
   pub master : component.master < length library.masters
   pub placed : IsPlaced component.status component.place
 
+-- no two components have one name, and there are no more than there may be
 pub record AreComponents (library : Contents) (components : List Component) : Type 0 where
   pub each : All (IsComponent library) components
   pub apart : AreApart (component_names components)
@@ -89,6 +90,7 @@ pub record IsDesignVia (library : Contents) (via : ViaSaid) : Type 0 where
   pub good : via.good ≡ is_good_via library via.name via.shapes
   pub shapes : All (IsMetalShape library) via.shapes
 
+-- no two vias of the design have one name
 pub record AreVias (library : Contents) (vias : List ViaSaid) : Type 0 where
   pub each : All (IsDesignVia library) vias
   pub apart : AreApart (design_via_names vias)
@@ -98,14 +100,17 @@ abbrev pub IsKept : Option (List ℕ) → Type 0
 IsKept None = Unit {0}
 IsKept (Some word) = is_mark word ≡ false
 
+-- a name that is kept is one
 abbrev pub IsNameIfAny : Option (List ℕ) → Type 0
 IsNameIfAny None = Unit {0}
 IsNameIfAny (Some name) = IsTrue (is_name name)
 
+-- a port: its rectangles, and its place
 pub record IsPort (library : Contents) (port : PortSaid) : Type 0 where
   pub shapes : All (IsMetalShape library) port.shapes
   pub placed : IsPlaced port.status port.place
 
+-- a pin: its name, the words that are kept, and its ports
 pub record IsPin (library : Contents) (pin : PinSaid) : Type 0 where
   pub name : IsTrue (is_name pin.name)
   pub net_name : IsNameIfAny pin.net_name
@@ -113,6 +118,7 @@ pub record IsPin (library : Contents) (pin : PinSaid) : Type 0 where
   pub usage : IsKept pin.usage
   pub ports : All (IsPort library) pin.ports
 
+-- no two pins have one name, and there are no more than there may be
 pub record ArePins (library : Contents) (pins : List PinSaid) : Type 0 where
   pub each : All (IsPin library) pins
   pub apart : AreApart (pin_names pins)

@@ -9,7 +9,7 @@ ghost use Rattle.leg_design.specs.declared.limits.TheConstants.{ENTRY_LIMIT};
 ghost use Rattle.leg_design.specs.Guard.{is_over};
 ghost use Rattle.leg_design.specs.Records.{net_names};
 ghost use Rattle.leg_design.specs.Terminal.{add_terminal, terminal_form, at_no_terminal};
-ghost use Rattle.leg_design.specs.Net.{no_net_parts, is_left_out, use_clause, wiring_clause, from_plus, past_clause, clause_at, net_clause, net_name_at, net_in, net_entry, section_word, nets_at};
+ghost use Rattle.leg_design.specs.Net.{no_net_parts, is_left_out_of_wiring, is_left_out, use_clause, wiring_clause, from_plus, past_clause, clause_at, net_clause, net_name_at, net_in, net_entry, section_word, nets_at};
 
 use crate::known::Known;
 use crate::limits::ENTRY_LIMIT;
@@ -37,6 +37,16 @@ impl<'a, A: Allocator> Model for Parts<'a, A> {
     ghost view = { λ p. record { usage = p.usage; wires = p.wires.items } };
 }
 
+/// Whether a clause begins with a word that wiring may not have.
+fn is_left_out_of_wiring(clause: &Cursor<'_, '_>) -> bool
+    ensures { result ≡ is_left_out_of_wiring clause.now }
+{
+    clause.is_at(b"TAPERRULE")
+        || clause.is_at(b"STYLE")
+        || clause.is_at(b"MASK")
+        || clause.is_at(b"VIRTUAL")
+}
+
 /// Whether a clause is one that would change a shape or a rule.
 fn is_left_out(special: bool, clause: &Cursor<'_, '_>) -> bool
     ensures { result ≡ is_left_out special clause.now }
@@ -44,11 +54,8 @@ fn is_left_out(special: bool, clause: &Cursor<'_, '_>) -> bool
     clause.is_at(b"NONDEFAULTRULE")
         || clause.is_at(b"SUBNET")
         || clause.is_at(b"VPIN")
-        || (special
-            && (clause.is_at(b"RECT")
-                || clause.is_at(b"POLYGON")
-                || clause.is_at(b"VIA")
-                || clause.is_at(b"STYLE")))
+        || is_left_out_of_wiring(clause)
+        || (special && (clause.is_at(b"RECT") || clause.is_at(b"POLYGON") || clause.is_at(b"VIA")))
 }
 
 /// Reads past the words up to the next `+`.

@@ -194,7 +194,7 @@ impl<'a, A: Allocator + Copy> PinParts<'a, A> {
             self.port_rect(alloc, library, part)
         } else if says_place(part) {
             self.port_place(alloc, part)
-        } else if part.is_at(b"POLYGON") || part.is_at(b"VIA") {
+        } else if part.is_at(b"POLYGON") || part.is_at(b"VIA") || part.is_at(b"MASK") {
             Err(part.fault(FaultKind::Unsupported))
         } else {
             clause(part)

@@ -34,11 +34,14 @@ fn via_rect<A: Allocator + Copy>(
     Ok(())
 }
 
-/// Whether a clause says what a via is in another way than by a rectangle.
+/// Whether a clause says what a via is in another way than by a rectangle, or on which mask it lies.
 fn is_other_via(part: &Cursor<'_, '_>) -> bool
     ensures { result ≡ is_other_via part.now }
 {
-    part.is_at(b"VIARULE") || part.is_at(b"POLYGON") || part.is_at(b"PATTERNNAME")
+    part.is_at(b"VIARULE")
+        || part.is_at(b"POLYGON")
+        || part.is_at(b"PATTERNNAME")
+        || part.is_at(b"MASK")
 }
 
 /// One more clause, and whether `MASK` follows it.

@@ -16,7 +16,7 @@ returns-in-Some-site g c =
     let there : slice_get design.components c.args.number ≡ Some component =
     rw (← c.components.ensures.is) (slice_get_read c.components.result.now _ c.args.number component refl within c.index-components-number.is) in
     let below = (All-at (IsComponent design.library) design.components c.args.number component c.components.ensures.proper.components.each there).master in
-    let masters_are : c.masters.result.now ≡ design.library.masters = c.masters.ensures ∙ ap (λ library. library.masters) c.library.ensures.is in
+    let masters_are : c.masters.result.now ≡ design.library.masters = c.masters.ensures.is ∙ ap (λ library. library.masters) c.library.ensures.is in
     let below_read : component.master < length c.masters.result.now = rw masters_are below in
     let is_master : slice_get design.library.masters component.master ≡ Some master =
     rw (← masters_are) (slice_get_read c.masters.result.now _ component.master master refl below_read c.index-masters-component.is) in
@@ -32,7 +32,7 @@ returns-in-None g c =
     let there : slice_get design.components c.args.number ≡ Some component =
     rw (← c.components.ensures.is) (slice_get_read c.components.result.now _ c.args.number component refl within c.index-components-number.is) in
     let below = (All-at (IsComponent design.library) design.components c.args.number component c.components.ensures.proper.components.each there).master in
-    let masters_are : c.masters.result.now ≡ design.library.masters = c.masters.ensures ∙ ap (λ library. library.masters) c.library.ensures.is in
+    let masters_are : c.masters.result.now ≡ design.library.masters = c.masters.ensures.is ∙ ap (λ library. library.masters) c.library.ensures.is in
     let below_read : component.master < length c.masters.result.now = rw masters_are below in
     let is_master : slice_get design.library.masters component.master ≡ Some master =
     rw (← masters_are) (slice_get_read c.masters.result.now _ component.master master refl below_read c.index-masters-component.is) in
