@@ -1,9 +1,9 @@
--- Clauses that begin with a word that is no mark.
+-- Clauses that begin with a name or a quoted word.
 use Rattle.std.proofs.Common.{◌≡◌, ℕ, ◌+◌, ◌<◌, ◌≤◌, Bool, true, false, List, [], ◌∷◌, length, get_or, take, None, Some, refl, sym, ap, ◌∙◌}
 use Rattle.std.specs.List.{list_all}
 use Rattle.std.proofs.lemmas.List.{take_all}
 use Rattle.std.proofs.lemmas.List.Folds.{list_all_at, list_all_more}
-use Rattle.leg_lex.specs.Words.{Words, is_mark, next_at, word_at}
+use Rattle.leg_lex.specs.Words.{Words, is_word, next_at, word_at}
 use Rattle.leg_design.specs.Guard.{when}
 use Rattle.leg_design.specs.Clause.{is_clause}
 
@@ -11,18 +11,18 @@ use Rattle.leg_design.specs.Clause.{is_clause}
 pub is_one : (clause : Words) (word : List ℕ) (rest : Words) → word_at clause ≡ Some (word, rest) → when (is_clause clause) ≡ Some tt
 unfolding word_at next_at
 is_one [] word rest said = absurd (let e : ⊥ = cc in e)
-is_one (first ∷ words) word rest said = by (is_mark first) refl where
-  by : (mark : Bool) → is_mark first ≡ mark → when (is_clause (first ∷ words)) ≡ Some tt
-  by true mark = absurd (let e : ⊥ = cc (rw mark at said) in e)
-  by false plain = rw plain refl
+is_one (first ∷ words) word rest said = by (is_word first) refl where
+  by : (test : Bool) → is_word first ≡ test → when (is_clause (first ∷ words)) ≡ Some tt
+  by false is = absurd (let e : ⊥ = cc (rw is at said) in e)
+  by true is = rw is refl
 
 pub is_none : (clause : Words) → word_at clause ≡ None → when (is_clause clause) ≡ None
 unfolding word_at next_at
 is_none [] said = refl
-is_none (first ∷ words) said = by (is_mark first) refl where
-  by : (mark : Bool) → is_mark first ≡ mark → when (is_clause (first ∷ words)) ≡ None
-  by true mark = rw mark refl
-  by false plain = absurd (let e : ⊥ = cc (rw plain at said) in e)
+is_none (first ∷ words) said = by (is_word first) refl where
+  by : (test : Bool) → is_word first ≡ test → when (is_clause (first ∷ words)) ≡ None
+  by false is = rw is refl
+  by true is = absurd (let e : ⊥ = cc (rw is at said) in e)
 
 met : (test : Bool) → when test ≡ Some tt → test ≡ true
 met true said = refl

@@ -2,7 +2,7 @@
 use Rattle.std.proofs.Common.{◌≡◌, ℕ, ◌<◌, Bool, true, false, List, [], ◌∷◌, length, All, Option, None, Some, is_some, refl, map}
 use Rattle.std.proofs.lemmas.List.{length-map}
 use Rattle.std.proofs.lemmas.List.Elements.{All-head, All-tail}
-use Rattle.leg_lex.specs.Words.{Words, is_name, is_mark, next_at, name_at, word_at}
+use Rattle.leg_lex.specs.Words.{Words, is_name, is_word, next_at, name_at, word_at}
 use Rattle.leg_lex.specs.Until.{until, over}
 use Rattle.leg_lex.specs.Statements.{at_end}
 use Rattle.leg_lex.specs.Named.{place_of}
@@ -69,8 +69,8 @@ name_gives words =
     gives_skip (next_at words) (λ next.
     gives_choice (is_name next.0) (λ named. gives_some _ named) (λ none. gives_none))
 
-pub word_gives : (words : Words) → Gives (λ said. is_mark said.0 ≡ false) (word_at words)
+pub word_gives : (words : Words) → Gives (λ said. is_word said.0 ≡ true) (word_at words)
 unfolding word_at
 word_gives words =
     gives_skip (next_at words) (λ next.
-    gives_choice (is_mark next.0) (λ mark. gives_none) (λ word. gives_some _ word))
+    gives_choice (is_word next.0) (λ word. gives_some _ word) (λ none. gives_none))

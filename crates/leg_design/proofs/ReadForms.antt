@@ -1,7 +1,7 @@
 -- What the forms of a DEF say is well-formed; of nets other lemmas tell.
 use Rattle.std.proofs.Common.{◌≡◌, ℕ, true, false, ◌==◌, List, All, Option, None, Some, is_some, codes}
 use Rattle.std.proofs.lemmas.List.Elements.{All-push, All-nil}
-use Rattle.leg_lex.specs.Words.{Words, is_at, is_name, is_mark, keyword_at, mark_at}
+use Rattle.leg_lex.specs.Words.{Words, is_at, is_name, is_word, keyword_at, mark_at}
 use Rattle.leg_geom.specs.Plane.{Sides}
 use Rattle.leg_lib.specs.Records.{Contents, ViaSaid}
 use Rattle.leg_design.specs.declared.records.Component.{Component}
@@ -45,7 +45,7 @@ pub record AreSound (library : Contents) (name divider bus : Option (List ℕ)) 
 abbrev pub HasSoundParts : Contents → DesignParts → Type 0
 HasSoundParts library parts = AreSound library parts.name parts.divider parts.bus parts.die parts.components parts.rows parts.tracks parts.vias parts.pins
 
-word_after_gives : (keyword : List ℕ) (words : Words) → Gives (λ said. is_mark said.0 ≡ false) (word_after keyword words)
+word_after_gives : (keyword : List ℕ) (words : Words) → Gives (λ said. is_word said.0 ≡ true) (word_after keyword words)
 unfolding word_after
 word_after_gives keyword words =
     gives_skip (keyword_at keyword words) (λ start.

@@ -4,7 +4,7 @@ use Rattle.std.proofs.Common.{◌≡◌, ℕ, true, false, nat_le, List, [], ◌
 use Rattle.std.proofs.lemmas.Bool.Decides.{nat_tests}
 use Rattle.std.proofs.lemmas.List.{map_push, length_push}
 use Rattle.std.proofs.lemmas.List.Elements.{All-push, All-nil}
-use Rattle.leg_lex.specs.Words.{Words, is_at, keyword_at, mark_at, nothing_at, is_name, is_mark}
+use Rattle.leg_lex.specs.Words.{Words, is_at, keyword_at, mark_at, nothing_at, is_name, is_word}
 use Rattle.leg_lex.specs.Statements.{statement_at, clauses_of}
 use Rattle.leg_lex.specs.Named.{place_of}
 use Rattle.leg_lex.proofs.Named.{apart_push}
@@ -32,7 +32,7 @@ net_of_pin_gives clause =
     gives_skip (nothing_at name.1) (λ end.
     gives_some _ named)))
 
-word_in_gives : (keyword : List ℕ) (clause : Words) → Gives (λ word. is_mark word ≡ false) (word_in keyword clause)
+word_in_gives : (keyword : List ℕ) (clause : Words) → Gives (λ word. is_word word ≡ true) (word_in keyword clause)
 unfolding word_in
 word_in_gives keyword clause =
     gives_skip (keyword_at keyword clause) (λ start.

@@ -1,6 +1,6 @@
 -- What holds of the parts of a design that a DEF says under a library (own rules, after LEF/DEF 5.8, "DEF Syntax").
 use Rattle.std.specs.Prelude.{◌≡◌, ℕ, pos, ◌<◌, ◌≤◌, ◌≤ℤ◌, ◌+ℤ◌, ◌-ℤ◌, ◌*ℤ◌, false, List, length, All, Option, None, Some, slice_get, codes, IsTrue}
-use Rattle.leg_lex.specs.Words.{is_name, is_mark, is_keyword}
+use Rattle.leg_lex.specs.Words.{is_name, is_word, is_keyword}
 use Rattle.leg_lex.specs.Number.{IsNumber}
 use Rattle.leg_lex.specs.Named.{place_of, AreApart}
 use Rattle.leg_geom.specs.Plane.{Spot, Sides}
@@ -95,10 +95,10 @@ pub record AreVias (library : Contents) (vias : List ViaSaid) : Type 0 where
   pub each : All (IsDesignVia library) vias
   pub apart : AreApart (design_via_names vias)
 
--- a word that is kept is no mark
+-- a word that is kept is a name or a quoted word
 abbrev pub IsKept : Option (List ℕ) → Type 0
 IsKept None = Unit {0}
-IsKept (Some word) = is_mark word ≡ false
+IsKept (Some word) = IsTrue (is_word word)
 
 -- a name that is kept is one
 abbrev pub IsNameIfAny : Option (List ℕ) → Type 0

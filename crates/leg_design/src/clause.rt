@@ -10,7 +10,7 @@ use crate::placement::rect;
 use leg_geom::Rect;
 use leg_lex::{Cursor, FaultKind, ReadFault};
 
-/// That a clause begins with a word that is no mark.
+/// That a clause begins with a name or a quoted word.
 #[tactic(auto, using(crate::proofs::Clauses::is_one, crate::proofs::Clauses::is_none))]
 pub(crate) fn clause(clause: &Cursor<'_, '_>) -> Result<(), ReadFault>
     ensures { Means (λ x. x) result (when (is_clause clause.now)) }
@@ -39,7 +39,7 @@ pub(crate) fn rect_or_mask(is_masked: bool, clause: &mut Cursor<'_, '_>) -> Resu
     }
 }
 
-/// That each clause begins with a word that is no mark.
+/// That each clause begins with a name or a quoted word.
 #[tactic(auto, using(crate::proofs::Clauses::one_more, crate::proofs::Clauses::one_not, crate::proofs::Clauses::all_are))]
 pub(crate) fn all_clauses(clauses: &[Cursor<'_, '_>]) -> Result<(), ReadFault>
     ensures { Means (λ x. x) result (when (list_all is_clause clauses.now)) }

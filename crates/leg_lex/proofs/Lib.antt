@@ -2,6 +2,8 @@ pub mod Runs
 pub mod Quotes
 pub mod LineFeeds
 pub mod Cuts
+pub mod OneWord
+pub mod TextWords
 pub mod Digits
 pub mod Points
 pub mod Decimals

@@ -2,7 +2,7 @@
 use Rattle.std.proofs.Common.{ℕ, ◌<◌, List, [], ◌∷◌, length, Result, Ok, Err, ℤ, codes, arith}
 use Rattle.std.specs.Str.{bytes_eq}
 use Rattle.leg_lex.specs.Number.{whole_of, micron_of}
-use Rattle.leg_lex.specs.Words.{Words, is_keyword, is_name, is_mark, next_at, keyword_at, mark_at, name_at, word_at, said_number, whole_at, length_at, end_at, end_of}
+use Rattle.leg_lex.specs.Words.{Words, is_keyword, is_name, is_word, next_at, keyword_at, mark_at, name_at, word_at, said_number, whole_at, length_at, end_at, end_of}
 use Rattle.leg_lex.proofs.Until.{Below, below_none, below_some, below_bind, below_if, below_more}
 
 pub next_below : (words : Words) → Below (length words) (next_at words)
@@ -28,7 +28,7 @@ name_below words =
 pub word_below : (words : Words) → Below (length words) (word_at words)
 unfolding word_at
 word_below words =
-    below_bind (omega arith) (next_below words) (λ next less. below_if (is_mark next.0) (below_none (length words)) (below_some next.0 next.1 less))
+    below_bind (omega arith) (next_below words) (λ next less. below_if (is_word next.0) (below_some next.0 next.1 less) (below_none (length words)))
 
 -- a number leaves the words that it is given
 said_number_below : {E : Type 0} {n : ℕ} (number : Result ℤ E) (words : Words) → length words < n → Below n (said_number number words)

@@ -1,8 +1,10 @@
 -- What the words of a text say, form by form: a function from a list of words to what the form says and
 -- the words after it, or to nothing where the words aren't of the form.
-use Rattle.std.specs.Prelude.{◌≡◌, ◌≢◌, ℕ, ℤ, Bool, false, not, ◌&&◌, ◌||◌, ◌==◌, if◌then◌else◌, List, [], ◌∷◌, map, Option, None, Some, Result, Ok, Err, codes}
+use Rattle.std.specs.Prelude.{◌≡◌, ◌≢◌, ℕ, ℤ, Bool, true, false, not, ◌&&◌, ◌||◌, ◌==◌, if◌then◌else◌, List, [], ◌∷◌, length, map, Option, None, Some, Result, Ok, Err, codes}
 use Rattle.std.specs.Char.{to_ascii_lowercase}
+use Rattle.std.specs.List.{list_any}
 use Rattle.std.specs.Str.{bytes_eq}
+use Rattle.leg_lex.specs.Cut.{Kind, Plain, kind_of, is_white}
 use Rattle.leg_lex.specs.Number.{whole_of, micron_of}
 use Rattle.leg_lex.specs.declared.read_fault.ReadFault.{ReadFault}
 use Rattle.leg_lex.specs.declared.read_fault.FaultKind.TheVariants.{Memory}
@@ -40,14 +42,33 @@ abbrev pub is_mark : List ℕ → Bool
 is_mark (b ∷ []) = is_mark_byte b
 is_mark word = false
 
--- a quoted word begins with a quote (34), as no plain word does
-abbrev pub is_quoted : List ℕ → Bool
-is_quoted [] = false
-is_quoted (b ∷ bytes) = b == 34
+-- a plain word begins here
+abbrev pub is_plain_kind : Kind → Bool
+is_plain_kind Plain = true
+is_plain_kind kind = false
+
+-- a plain word has one byte at least: the first begins a plain word, and none of the others is white
+abbrev pub is_plain : List ℕ → Bool
+is_plain [] = false
+is_plain (b ∷ bytes) = is_plain_kind (kind_of b) && not (list_any is_white bytes)
+
+-- the first quote (34) that isn't directly after a backslash (92) is the last byte
+abbrev pub closes : ℕ → List ℕ → Bool
+closes before [] = false
+closes before (b ∷ bytes) = if b == 34 && not (before == 92) then length bytes == 0 else closes b bytes
+
+-- a quoted word begins with a quote, and the quote that closes it is its last byte
+abbrev pub is_closed : List ℕ → Bool
+is_closed [] = false
+is_closed (b ∷ bytes) = b == 34 && closes b bytes
 
 -- a name is a plain word that is no mark
 abbrev pub is_name : List ℕ → Bool
-is_name word = not (is_mark word) && not (is_quoted word)
+is_name word = is_plain word && not (is_mark word)
+
+-- a name or a quoted word
+abbrev pub is_word : List ℕ → Bool
+is_word word = is_name word || is_closed word
 
 -- whether the next word is this keyword
 abbrev pub is_at : List ℕ → Words → Bool
@@ -81,7 +102,7 @@ name_at words = do
 unfoldable pub word_at : Words → Option (List ℕ × Words)
 word_at words = do
   next ← next_at words
-  if is_mark next.0 then None else Some (next.0, next.1)
+  if is_word next.0 then Some (next.0, next.1) else None
 
 -- a number that a word says, and the words after it
 abbrev pub said_number : {E : Type 0} → Result ℤ E → Words → Option (ℤ × Words)

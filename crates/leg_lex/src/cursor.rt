@@ -223,13 +223,13 @@ impl<'t, 'a> Cursor<'t, 'a> {
         Ok(word)
     }
 
-    /// Reads a name or a quoted word, which keeps its quotes. A mark is `Unexpected`.
+    /// Reads a name or a quoted word, which keeps its quotes. Another word is `Unexpected`.
     #[tactic(auto, unfolding(crate::specs::Words::word_at))]
     pub fn word(&mut self) -> Result<&'a [u8], ReadFault>
         ensures { Reads (λ word. word.now) result self.new (word_at self.old) }
     {
         let word = self.next()?;
-        if word::is_mark(word) {
+        if !word::is_word(word) {
             return Err(self.fault(FaultKind::Unexpected));
         }
         self.skip();

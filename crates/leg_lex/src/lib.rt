@@ -28,6 +28,6 @@ pub use name::{Name, Names};
 pub use number::{micron, whole};
 pub use read_fault::{FaultKind, ReadFault};
 pub use token::Token;
-pub use word::{is_keyword, is_mark, is_name, is_quoted};
+pub use word::{is_keyword, is_mark, is_name, is_word};
 pub use words::tokens;
 pub use words_of_file::file_words;

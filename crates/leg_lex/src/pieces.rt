@@ -34,7 +34,7 @@ fn word_len(text: &[u8]) -> usize
 
 /// How long the quoted word is that the text begins with, or `None` where its quote isn't closed.
 #[tactic(auto, using(crate::proofs::Quotes::quoted_ends, crate::proofs::Quotes::escaped_more))]
-fn quoted_len(text: &[u8]) -> Option<usize>
+pub(crate) fn quoted_len(text: &[u8]) -> Option<usize>
     requires { slice_index text.now 0 ≡ 34 }
     ensures ends { MatchOption result ((n : ℕ) → ¬ IsPiece (take n text.now) (drop n text.now))
         (λ n. IsPiece (take n text.now) (drop n text.now)) }

@@ -1,7 +1,7 @@
 -- The shapes of ports and of obstructions: the words after a layer's name, and how many words are left.
 use Rattle.std.proofs.Common.{◌≡◌, ℕ, suc, ◌<◌, Bool, true, false, List, [], ◌∷◌, length, None, Some, codes, refl, arith}
 use Rattle.std.specs.List.{list_all}
-use Rattle.leg_lex.specs.Words.{Words, is_mark, is_at, next_at, word_at}
+use Rattle.leg_lex.specs.Words.{Words, is_word, is_at, next_at, word_at}
 use Rattle.leg_lex.specs.Until.{over}
 use Rattle.leg_lex.proofs.Said.{rest_is}
 use Rattle.leg_lex.proofs.Shorter.{word_below}
@@ -14,28 +14,28 @@ use Rattle.leg_lib.specs.Geometry.{says_nothing, nothing_drawn, geometry_part, g
 pub nothing_more_said : (words rest : Words) (word : List ℕ) (all : Bool) → word_at words ≡ Some (word, rest) → is_at (codes "EXCEPTPGNET") words ≡ false → list_all says_nothing words ≡ all → list_all says_nothing rest ≡ all
 unfolding word_at next_at
 nothing_more_said [] rest word all said other before = absurd (let e : ⊥ = cc in e)
-nothing_more_said (first ∷ words) rest word all said other before = by (is_mark first) refl where
-  by : (mark : Bool) → is_mark first ≡ mark → list_all says_nothing rest ≡ all
-  by true is = absurd (let e : ⊥ = cc (rw is at said) in e)
-  by false is =
+nothing_more_said (first ∷ words) rest word all said other before = by (is_word first) refl where
+  by : (test : Bool) → is_word first ≡ test → list_all says_nothing rest ≡ all
+  by false is = absurd (let e : ⊥ = cc (rw is at said) in e)
+  by true is =
       let same : words ≡ rest = rest_is first word words rest (rw is at said) in
       rw (← same) (rw (is, other) at before)
 
--- a mark, which may not stand there
-pub mark_said : (words : Words) → word_at words ≡ None → (words ≡ [] → ⊥) → list_all says_nothing words ≡ false
+-- a word that is no name and not quoted, which may not stand there
+pub other_said : (words : Words) → word_at words ≡ None → (words ≡ [] → ⊥) → list_all says_nothing words ≡ false
 unfolding word_at next_at
-mark_said [] said some = absurd (some refl)
-mark_said (first ∷ words) said some = by (is_mark first) refl where
-  by : (mark : Bool) → is_mark first ≡ mark → list_all says_nothing (first ∷ words) ≡ false
-  by true is = rw is refl
-  by false is = absurd (let e : ⊥ = cc (rw is at said) in e)
+other_said [] said some = absurd (some refl)
+other_said (first ∷ words) said some = by (is_word first) refl where
+  by : (test : Bool) → is_word first ≡ test → list_all says_nothing (first ∷ words) ≡ false
+  by false is = rw is refl
+  by true is = absurd (let e : ⊥ = cc (rw is at said) in e)
 
 pub exception_said : (words : Words) → is_at (codes "EXCEPTPGNET") words ≡ true → list_all says_nothing words ≡ false
 exception_said [] there = absurd (let e : ⊥ = cc in e)
-exception_said (first ∷ words) there = by (is_mark first) refl where
-  by : (mark : Bool) → is_mark first ≡ mark → list_all says_nothing (first ∷ words) ≡ false
-  by true is = rw is refl
-  by false is = rw (is, there) refl
+exception_said (first ∷ words) there = by (is_word first) refl where
+  by : (test : Bool) → is_word first ≡ test → list_all says_nothing (first ∷ words) ≡ false
+  by false is = rw is refl
+  by true is = rw (is, there) refl
 
 pub all_said_nothing : (words : Words) → words ≡ [] → list_all says_nothing words ≡ true
 all_said_nothing words none = rw none refl

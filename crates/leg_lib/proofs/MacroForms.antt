@@ -1,8 +1,8 @@
 -- Macros and their parts: each takes a word at least, and what their loop keeps.
-use Rattle.std.proofs.Common.{◌≡◌, ℕ, ◌<◌, Bool, true, false, not, ◌||◌, if◌then◌else◌, ◌++◌, List, [], ◌∷◌, length, map, Option, None, Some, is_none, codes, refl, ◌∙◌, arith}
+use Rattle.std.proofs.Common.{◌≡◌, ℕ, ◌<◌, Bool, true, false, ◌||◌, if◌then◌else◌, ◌++◌, List, [], ◌∷◌, length, map, Option, None, Some, is_none, codes, refl, ◌∙◌, arith}
 use Rattle.std.specs.List.{list_any, list_all}
 use Rattle.std.proofs.Math.Bool.{or_assoc, or-false}
-use Rattle.leg_lex.specs.Words.{Words, is_keyword, is_mark, is_at, next_at, keyword_at, word_at, end_at}
+use Rattle.leg_lex.specs.Words.{Words, is_keyword, is_word, is_at, next_at, keyword_at, word_at, end_at}
 use Rattle.leg_lex.specs.Until.{until}
 use Rattle.leg_lex.specs.Statements.{only, the, at_end}
 use Rattle.leg_lex.specs.Named.{place_of}
@@ -104,56 +104,56 @@ with_macro_below library words =
     (below_some (record library { masters = library.masters ++ master.0 ∷ [] }) master.1 less)
     (below_none (length words)))
 
--- a word that is no mark stands first
+-- a name or a quoted word stands first
 record Taken (words : Words) (word : List ℕ) (rest : Words) : Type 0 where
   is : words ≡ word ∷ rest
-  no_mark : is_mark word ≡ false
+  a_word : is_word word ≡ true
 
 word_taken : (words : Words) (word : List ℕ) (rest : Words) → word_at words ≡ Some (word, rest) → Taken words word rest
 unfolding word_at next_at
 word_taken [] word rest said = absurd (let e : ⊥ = cc in e)
-word_taken (first ∷ words) word rest said = by (is_mark first) refl where
-  by : (mark : Bool) → is_mark first ≡ mark → Taken (first ∷ words) word rest
-  by true is = absurd (let e : ⊥ = cc (rw is at said) in e)
-  by false is =
+word_taken (first ∷ words) word rest said = by (is_word first) refl where
+  by : (test : Bool) → is_word first ≡ test → Taken (first ∷ words) word rest
+  by false is = absurd (let e : ⊥ = cc (rw is at said) in e)
+  by true is =
       let same : ◌≡◌ {A = Option (List ℕ × Words)} (Some (first, words)) (Some (word, rest)) = rw is at said in
       let named : first ≡ word = made_is first word words rest same in
-      record { is = rw (named, rest_is first word words rest same) refl; no_mark = rw (← named) is }
+      record { is = rw (named, rest_is first word words rest same) refl; a_word = rw (← named) is }
 
-no_word_taken : (first : List ℕ) (words : Words) → word_at (first ∷ words) ≡ None → is_mark first ≡ true
+no_word_taken : (first : List ℕ) (words : Words) → word_at (first ∷ words) ≡ None → is_word first ≡ false
 unfolding word_at next_at
-no_word_taken first words said = by (is_mark first) refl where
-  by : (mark : Bool) → is_mark first ≡ mark → is_mark first ≡ true
-  by true is = is
-  by false is = absurd (let e : ⊥ = cc (rw is at said) in e)
+no_word_taken first words said = by (is_word first) refl where
+  by : (test : Bool) → is_word first ≡ test → is_word first ≡ false
+  by false is = is
+  by true is = absurd (let e : ⊥ = cc (rw is at said) in e)
 
 pub word_shorter : (words : Words) (word : List ℕ) (rest : Words) → word_at words ≡ Some (word, rest) → length rest < length words
 word_shorter words word rest said = (word_below words).left word rest said
 
--- whether Y stands among these words, none of which is a mark, or was found before them
+-- whether Y stands among these words, each a name or a quoted word, or was found before them
 abbrev pub with_y : Bool → Words → Option Bool
 with_y found words =
-    if list_all (λ word. not (is_mark word)) words then Some (found || list_any (is_keyword (codes "Y")) words) else None
+    if list_all is_word words then Some (found || list_any (is_keyword (codes "Y")) words) else None
 
 -- one more word
 pub symmetry_on : (found : Bool) (words : Words) (word : List ℕ) (rest : Words) → word_at words ≡ Some (word, rest) → with_y found words ≡ with_y (found || is_keyword (codes "Y") word) rest
 symmetry_on found words word rest said =
     let taken = word_taken words word rest said in
-    rw (taken.is, taken.no_mark, or_assoc found (is_keyword (codes "Y") word) (list_any (is_keyword (codes "Y")) rest)) refl
+    rw (taken.is, taken.a_word, or_assoc found (is_keyword (codes "Y") word) (list_any (is_keyword (codes "Y")) rest)) refl
 
 -- no word is left
 pub symmetry_ends : (found : Bool) (words : Words) → words ≡ [] → with_y found words ≡ Some found
 symmetry_ends found words none = rw (none, or-false found) refl
 
--- a mark stands there
+-- no name or quoted word stands there
 pub symmetry_fails : (found : Bool) (words : Words) → (words ≡ [] → ⊥) → word_at words ≡ None → with_y found words ≡ None
 symmetry_fails found [] some said = absurd (some refl)
 symmetry_fails found (word ∷ words) some said = rw (no_word_taken word words said) refl
 
--- what a SYMMETRY says, whose first word is no mark
-pub symmetry_said : (statement start : Words) (nothing : Unit {0}) (word : List ℕ) (rest : Words) (said : Option Bool) → keyword_at (codes "SYMMETRY") statement ≡ Some (nothing, start) → word_at start ≡ Some (word, rest) → (if list_all (λ word. not (is_mark word)) start then Some (list_any (is_keyword (codes "Y")) start) else None) ≡ said → symmetry_in statement ≡ said
+-- what a SYMMETRY says, whose first word is a name or a quoted word
+pub symmetry_said : (statement start : Words) (nothing : Unit {0}) (word : List ℕ) (rest : Words) (said : Option Bool) → keyword_at (codes "SYMMETRY") statement ≡ Some (nothing, start) → word_at start ≡ Some (word, rest) → (if list_all is_word start then Some (list_any (is_keyword (codes "Y")) start) else None) ≡ said → symmetry_in statement ≡ said
 unfolding symmetry_in
 symmetry_said statement start nothing word rest said begins first is =
     let taken = word_taken start word rest first in
-    let here : symmetry_in statement ≡ with_y false start = rw (begins, first, taken.is, taken.no_mark) refl in
+    let here : symmetry_in statement ≡ with_y false start = rw (begins, first, taken.is, taken.a_word) refl in
     here ∙ is

@@ -2,7 +2,7 @@
 -- layers carry metal is an own rule).
 use Rattle.std.specs.Prelude.{ℕ, Bool, true, false, not, ◌&&◌, ◌||◌, if◌then◌else◌, List, [], ◌∷◌, ◌++◌, Option, None, Some, codes, slice_get}
 use Rattle.std.specs.List.{list_all}
-use Rattle.leg_lex.specs.Words.{Words, ◌>>=◌, is_keyword, is_mark, is_at, keyword_at, name_at}
+use Rattle.leg_lex.specs.Words.{Words, ◌>>=◌, is_keyword, is_word, is_at, keyword_at, name_at}
 use Rattle.leg_lex.specs.Until.{over}
 use Rattle.leg_lex.specs.Statements.{statements_at}
 use Rattle.leg_lex.specs.Named.{place_of}
@@ -39,9 +39,9 @@ pub record Drawn : Type 0 where
 abbrev pub nothing_drawn : Drawn
 nothing_drawn = record { on = None; shapes = [] }
 
--- words that may follow a layer's name and say nothing: no marks, and not EXCEPTPGNET
+-- words that may follow a layer's name and say nothing: names and quoted words, and not EXCEPTPGNET
 abbrev pub says_nothing : List ℕ → Bool
-says_nothing word = not (is_mark word) && not (is_keyword (codes "EXCEPTPGNET") word)
+says_nothing word = is_word word && not (is_keyword (codes "EXCEPTPGNET") word)
 
 -- LAYER NAME words: the number of the layer
 unfoldable pub layer_of_geometry : RawContents → Words → Option ℕ

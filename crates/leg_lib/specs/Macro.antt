@@ -1,7 +1,7 @@
 -- Macros (LEF/DEF 5.8, "Macro"; that a macro has one site is an own rule).
-use Rattle.std.specs.Prelude.{ℕ, pos, Bool, false, not, if◌then◌else◌, List, [], ◌∷◌, ◌++◌, map, Option, None, Some, is_none, codes}
+use Rattle.std.specs.Prelude.{ℕ, pos, Bool, false, if◌then◌else◌, List, [], ◌∷◌, ◌++◌, map, Option, None, Some, is_none, codes}
 use Rattle.std.specs.List.{list_any, list_all}
-use Rattle.leg_lex.specs.Words.{Words, ◌>>=◌, is_keyword, is_mark, is_at, keyword_at, name_at, word_at, end_at, end_of, nothing_at}
+use Rattle.leg_lex.specs.Words.{Words, ◌>>=◌, is_keyword, is_word, is_at, keyword_at, name_at, word_at, end_at, end_of, nothing_at}
 use Rattle.leg_lex.specs.Until.{until}
 use Rattle.leg_lex.specs.Past.{past}
 use Rattle.leg_lex.specs.Statements.{statement_at, only, the, at_end}
@@ -82,7 +82,7 @@ unfoldable pub symmetry_in : Words → Option Bool
 symmetry_in statement = do
   start ← keyword_at (codes "SYMMETRY") statement
   first ← word_at start.1
-  if list_all (λ word. not (is_mark word)) first.1 then Some (list_any (is_keyword (codes "Y")) start.1) else None
+  if list_all is_word first.1 then Some (list_any (is_keyword (codes "Y")) start.1) else None
 
 abbrev pub symmetry_of_any : Option Words → Option Bool
 symmetry_of_any None = Some false

@@ -24,8 +24,9 @@ fn has_metal(layers: &[RawLayer<'_>], number: usize) -> bool
     }
 }
 
-/// That the words after a layer's name say nothing. `EXCEPTPGNET` is `Unsupported`, a mark `Unexpected`.
-#[tactic(auto, using(crate::proofs::Drawn::mark_said, crate::proofs::Drawn::exception_said, crate::proofs::Drawn::all_said_nothing, crate::proofs::Drawn::word_shorter))]
+/// That the words after a layer's name say nothing. `EXCEPTPGNET` is `Unsupported`; what is no
+/// name and not quoted is `Unexpected`.
+#[tactic(auto, using(crate::proofs::Drawn::other_said, crate::proofs::Drawn::exception_said, crate::proofs::Drawn::all_said_nothing, crate::proofs::Drawn::word_shorter))]
 fn nothing_said(words: &mut Cursor<'_, '_>) -> Result<(), ReadFault>
     ensures nothing { OnOk result (list_all says_nothing words.old ≡ true) }
     ensures something { IfErr result (λ fault. fault.kind ≢ Memory → list_all says_nothing words.old ≡ false) }

@@ -2,7 +2,7 @@
 
 ghost use Rattle.std.specs.Prelude.{codes, not, if◌then◌else◌, Some, None};
 ghost use Rattle.std.specs.List.{list_any, list_all};
-ghost use Rattle.leg_lex.specs.Words.{Reads, Means, is_mark, is_keyword};
+ghost use Rattle.leg_lex.specs.Words.{Reads, Means, is_word, is_keyword};
 ghost use Rattle.leg_lex.specs.Statements.{only};
 ghost use Rattle.leg_lib.specs.Macro.{origin_in, origin_of_any, symmetry_in, symmetry_of_any, site_in, site_of_any, macro_at, with_macro};
 
@@ -37,10 +37,10 @@ fn origin_of_any(statement: Option<Cursor<'_, '_>>) -> Result<RawPoint, ReadFaul
     }
 }
 
-/// Whether `Y` is among these words, none of which is a mark.
+/// Whether `Y` is among these words, each a name or a quoted word.
 #[tactic(auto, using(crate::proofs::MacroForms::symmetry_ends, crate::proofs::MacroForms::symmetry_on, crate::proofs::MacroForms::symmetry_fails, crate::proofs::MacroForms::word_shorter))]
 fn has_y(words: &mut Cursor<'_, '_>) -> Result<bool, ReadFault>
-    ensures { Means (λ y. y) result (if list_all (λ word. not (is_mark word)) words.old then Some (list_any (is_keyword (codes "Y")) words.old) else None) }
+    ensures { Means (λ y. y) result (if list_all is_word words.old then Some (list_any (is_keyword (codes "Y")) words.old) else None) }
 {
     let mut found = false;
     'words: while !words.is_at_end() {

@@ -1,6 +1,6 @@
 //! Forms read from words.
 
-use crate::{Cursor, FaultKind, Names, Token, clauses, only, the};
+use crate::{Cursor, FaultKind, Names, Token, clauses, is_name, is_word, only, the};
 use std::alloc::Global;
 use std::test::Fail;
 
@@ -40,6 +40,18 @@ fn reads_forms_word_by_word(rt: HostRuntime) -> Result<(), Fail> {
     cursor.end_of(b"Core")?;
     assert!(rt; cursor.is_at_end());
     cursor.nothing_more()?;
+    Ok(())
+}
+
+#[test]
+fn tells_names_and_words(rt: HostRuntime) -> Result<(), Fail> {
+    assert!(rt; is_name(b"a#b\"") && is_word(b"a;"));
+    assert!(rt; !is_name(b"") && !is_word(b""));
+    assert!(rt; !is_name(b"a b") && !is_word(b"a b"));
+    assert!(rt; !is_name(b"#a") && !is_word(b"#a"));
+    assert!(rt; !is_name(b"\"a\"") && is_word(b"\"a\""));
+    assert!(rt; !is_word(b"\"a") && !is_word(b"\"a\"b"));
+    assert!(rt; !is_word(b"\"a\\\"") && is_word(b"\"a\\\" b\""));
     Ok(())
 }
 
