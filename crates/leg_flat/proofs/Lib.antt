@@ -1,0 +1,23 @@
+mod Outlines
+mod OutlineLines
+mod NetIndexes
+mod PieceTables
+mod PlacesAmong
+mod NetNumbers
+mod NetOf
+mod NetOfTerminal
+mod PlacesAdded
+mod NetTerminals
+mod NetSizes
+mod NetPlaces
+mod NetMade
+mod NetDone
+mod MetalAdded
+mod MetalWalks
+mod MetalOwners
+mod MetalKnown
+mod MetalLines
+mod MetalSizes
+mod MetalKept
+mod Counted
+pub mod MetalWhole

@@ -1,0 +1,82 @@
+-- What is known of the metal of a well-formed design under a sound library.
+use Rattle.std.proofs.Common.{◌≡◌, ℕ, ◌*◌, ◌<◌, ℤ, List, ◌++◌, Option, None, Some, get_or, length, slice_get, All, sym, subst, arith}
+use Rattle.std.proofs.lemmas.List.Elements.{All-append}
+use Rattle.std.proofs.lemmas.Option.{slice_get_within, get_or_from_slice_get}
+use Rattle.leg_lex.specs.declared.limits.TheConstants.{NUMBER_LIMIT}
+use Rattle.leg_lex.specs.Number.{IsNumber}
+use Rattle.leg_geom.specs.Plane.{Sides}
+use Rattle.leg_geom.specs.declared.place.Place.{Place}
+use Rattle.leg_lib.specs.declared.records.Shape.{Shape}
+use Rattle.leg_lib.specs.Records.{Contents, ViaSaid}
+use Rattle.leg_design.specs.declared.records.Status.{Status}
+use Rattle.leg_design.specs.declared.records.Status.TheVariants.{Unplaced, Placed, Fixed, Cover}
+use Rattle.leg_design.specs.Records.{DesignContents, PortSaid}
+use Rattle.leg_design.specs.WellFormedParts.{IsPlaced, IsArea, IsMetalShape, IsDesignVia, IsPort}
+use Rattle.leg_design.specs.WellFormed.{IsWellFormed}
+use Rattle.leg_lib.specs.Sound.{AreWithin, AreShapesWithin, IsSoundVia, IsSound}
+use Rattle.leg_flat.specs.Bounds.{IsSumWithin, IsDrawnWithin}
+use Rattle.leg_flat.specs.Added.{AreDrawnWithin, IsPlaceWithin, IsPortWithin}
+
+-- what holds of each of a list, if something holds of each from which it follows
+pub all_follow : {X : Type 0} (P Q : X → Type 0) → ((x : X) → P x → Q x) → (xs : List X) → All P xs → All Q xs
+all_follow P Q follows xs all = λ k d less. follows (get_or xs k d) (all k d less)
+
+-- what holds of each of a list holds of the one at a place
+pub all_at : {X : Type 0} (P : X → Type 0) (xs : List X) (i : ℕ) (x : X) → slice_get xs i ≡ Some x → All P xs → P x
+all_at P xs i x is all = subst P (get_or_from_slice_get xs i x x is) (all i x (slice_get_within xs i x is))
+
+-- the same of an element that a loop reads
+pub all_read : {X : Type 0} (P : X → Type 0) (xs : List X) (i : ℕ) (x : X) → i < length xs → x ≡ get_or xs i x → All P xs → P x
+all_read P xs i x less is all = subst P (sym is) (all i x less)
+
+sum_of_number : (z : ℤ) → IsNumber z → IsSumWithin z
+sum_of_number z n = omega (arith, n)
+
+drawn_of_sums : (s : Shape) → AreWithin (2 * NUMBER_LIMIT) s.rect → IsDrawnWithin s.rect
+drawn_of_sums s w = record { x1 = w.x1; y1 = w.y1; x2 = w.x2; y2 = w.y2 }
+
+drawn_of_numbers : (s : Shape) → AreWithin NUMBER_LIMIT s.rect → IsDrawnWithin s.rect
+drawn_of_numbers s w = record { x1 = omega arith; y1 = omega arith; x2 = omega arith; y2 = omega arith }
+
+pub drawn_of_area : (r : Sides) → IsArea r → IsDrawnWithin r
+drawn_of_area r a = record {
+  x1 = sum_of_number r.x1 a.x1;
+  y1 = sum_of_number r.y1 a.y1;
+  x2 = sum_of_number r.x2 a.x2;
+  y2 = sum_of_number r.y2 a.y2;
+}
+
+drawn_of_metal : (library : Contents) (s : Shape) → IsMetalShape library s → IsDrawnWithin s.rect
+drawn_of_metal library s m = drawn_of_area s.rect m.rect
+
+-- shapes of a macro
+pub master_drawn : (shapes : List Shape) → AreShapesWithin (2 * NUMBER_LIMIT) shapes → AreDrawnWithin shapes
+master_drawn shapes all = all_follow (λ s. AreWithin (2 * NUMBER_LIMIT) s.rect) (λ s. IsDrawnWithin s.rect) drawn_of_sums shapes all
+
+library_via_drawn : (via : ViaSaid) → IsSoundVia via → AreDrawnWithin via.shapes
+library_via_drawn via all = all_follow (λ s. AreWithin NUMBER_LIMIT s.rect) (λ s. IsDrawnWithin s.rect) drawn_of_numbers via.shapes all
+
+design_via_drawn : (library : Contents) (via : ViaSaid) → IsDesignVia library via → AreDrawnWithin via.shapes
+design_via_drawn library via is = all_follow (IsMetalShape library) (λ s. IsDrawnWithin s.rect) (drawn_of_metal library) via.shapes is.shapes
+
+-- shapes of a via, of the library or of the design
+pub via_drawn : (design : DesignContents) (number : ℕ) (via : ViaSaid) → IsSound design.library → IsWellFormed design → slice_get (design.library.vias ++ design.vias) number ≡ Some via → AreDrawnWithin via.shapes
+via_drawn design number via sound proper is =
+    let drawn = λ (v : ViaSaid). AreDrawnWithin v.shapes in
+    all_at drawn (design.library.vias ++ design.vias) number via is
+    (All-append drawn design.library.vias design.vias
+    (all_follow IsSoundVia drawn library_via_drawn design.library.vias sound.vias)
+    (all_follow (IsDesignVia design.library) drawn (design_via_drawn design.library) design.vias proper.vias.each))
+
+pub placed_within : (status : Status) (place : Option Place) → IsPlaced status place → IsPlaceWithin place
+placed_within status None is = tt
+placed_within Unplaced (Some place) is = absurd is
+placed_within Placed (Some place) is = is
+placed_within Fixed (Some place) is = is
+placed_within Cover (Some place) is = is
+
+pub port_within : (library : Contents) (port : PortSaid) → IsPort library port → IsPortWithin port
+port_within library port is = record {
+  place = placed_within port.status port.place is.placed;
+  shapes = all_follow (IsMetalShape library) (λ s. IsDrawnWithin s.rect) (drawn_of_metal library) port.shapes is.shapes;
+}

@@ -1,0 +1,9 @@
+use Rattle.std.proofs.Common.{take}
+use Rattle.leg_flat.specs.Added.{AddsMetal}
+use Rattle.leg_flat.proofs.MetalAdded.{walk}
+use Rattle.leg_flat.proofs.MetalWalks.{one_special}
+use Rattle.leg_flat.proofs.metal_wires.add_specials.Given as goal
+
+abbrev pub invariant-loop-k : goal.invariant-loop-k
+invariant-loop-k g l =
+    AddsMetal (walk (one_special l.design) 0 (take l.k l.design.special)) l.initial.shapes.items l.shapes.items

@@ -1,0 +1,30 @@
+-- A flat design: the metal of a design as rectangles, and the pieces of its nets.
+use Rattle.std.specs.Prelude.{◌≡◌, ◌↔◌, ◌+◌, List, length, map}
+use Rattle.std.specs.List.{range_with_len}
+use Rattle.leg_geom.specs.Plane.{Spot, HasPoint}
+use Rattle.leg_lib.specs.Scale.{OneForOne}
+use Rattle.leg_design.specs.Records.{DesignContents}
+use Rattle.leg_flat.specs.declared.piece.Piece.{Piece}
+use Rattle.leg_flat.specs.declared.shape.Shape.{Shape}
+use Rattle.leg_flat.specs.Nets.{pieces_of}
+use Rattle.leg_flat.specs.Outline.{HasPointOf}
+use Rattle.leg_flat.specs.Metal.{Metal, metal_of}
+
+-- shapes, and the pieces of each net by its number
+pub record FlatSaid : Type 0 where
+  pub shapes : List Shape
+  pub pieces : List (List Piece)
+
+-- the shape has exactly the points of the metal, and its layer, owner, component and piece
+pub record IsShapeOf (metal : Metal) (shape : Shape) : Type 0 where
+  pub layer : shape.layer ≡ metal.metal.layer
+  pub points : (p : Spot) → HasPoint shape.rect p ↔ HasPointOf metal.metal.outline p
+  pub owner : shape.owner ≡ metal.belongs.owner
+  pub component : shape.component ≡ metal.belongs.component
+  pub piece : shape.piece ≡ metal.belongs.piece
+
+-- This is the design's metal, shape for shape, and these are the pieces of its nets: numbers of nets lie below those of
+-- the entries of NETS and SPECIALNETS together.
+pub record IsFlatOf (design : DesignContents) (flat : FlatSaid) : Type 0 where
+  pub shapes : OneForOne IsShapeOf (metal_of design) flat.shapes
+  pub pieces : flat.pieces ≡ map (pieces_of design) (range_with_len 0 (length design.nets + length design.special))

@@ -1,0 +1,10 @@
+pub mod Nets
+pub mod Owner
+pub mod Outline
+pub mod Metal
+pub mod Flat
+pub mod Bounds
+pub mod Places
+pub mod PlacesBelow
+pub mod Added
+pub mod Counted

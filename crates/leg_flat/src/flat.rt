@@ -1,0 +1,106 @@
+//! Flat designs.
+
+ghost use Rattle.std.specs.Prelude.{◌≡◌, ◌↔◌, ◌<◌, ◌≤◌, length, Some, IfOk, IfErr, slice_get};
+ghost use Rattle.leg_lib.specs.Scale.{OneForOne};
+ghost use Rattle.leg_lib.specs.Sound.{IsSound};
+ghost use Rattle.leg_design.specs.declared.limits.TheConstants.{PART_LIMIT};
+ghost use Rattle.leg_flat.specs.declared.fault.FlatFault.TheVariants.{TooMany};
+ghost use Rattle.leg_flat.specs.Metal.{metal_of};
+ghost use Rattle.leg_flat.specs.Places.{AreNetsOf};
+ghost use Rattle.leg_flat.specs.Flat.{IsShapeOf, IsFlatOf};
+
+use crate::fault::FlatFault;
+use crate::metal::{add_components, add_design_pins};
+use crate::metal_count::has_too_many;
+use crate::metal_wires::{add_nets, add_specials};
+use crate::nets::{Nets, nets_of};
+use crate::piece::Piece;
+use crate::shape::Shape;
+use leg_design::Design;
+use leg_lib::{Items, Library};
+use std::alloc::{AllocError, Allocator};
+use std::marker::Model;
+
+/// The metal of a design as rectangles, and the pieces of its nets.
+#[derive(Drop)]
+pub struct Flat<A: Allocator> {
+    shapes: Vec<Shape, A>,
+    pieces: Vec<Items<Piece, A>, A>,
+}
+
+impl<A: Allocator> Model for Flat<A> {
+    ghost use Rattle.leg_flat.specs.Flat.{FlatSaid};
+
+    ghost Value = { FlatSaid };
+
+    ghost view = { λ f. record { shapes = f.shapes.items; pieces = f.pieces.items } };
+}
+
+impl<A: Allocator + Copy> Flat<A> {
+    /// The shapes, in order: for each placed component in file order its pins and then its obstructions; the pins of the
+    /// design, port by port; the wires of `NETS`, net by net; the wires of `SPECIALNETS`. A via has the rectangles of its
+    /// definition, in their order.
+    pub fn shapes(&self) -> &[Shape]
+        ensures { result.now ≡ self.now.shapes }
+    {
+        self.shapes.as_slice()
+    }
+
+    /// The pieces of the net of this number, in order: the terminals of its entry of `NETS`, those of its entry of
+    /// `SPECIALNETS` that aren't among them, and the wires of both entries.
+    pub fn pieces(&self, net: u32) -> &[Piece]
+        requires { net < length self.now.pieces }
+        ensures { slice_get self.now.pieces net ≡ Some result.now }
+    {
+        self.pieces[net as usize].as_slice()
+    }
+}
+
+/// The metal of the design, which was read with this library.
+///
+/// `TooMany` is told exactly where it has more than `PART_LIMIT` shapes, which are counted before any memory is asked for.
+pub fn flatten<A: Allocator + Copy>(
+    alloc: A,
+    library: &Library<'_, A>,
+    design: &Design<'_, A>,
+) -> Result<Flat<A>, FlatFault>
+    requires { library.now ≡ design.now.library }
+    ensures ok { IfOk result (λ flat. IsFlatOf design.now flat) }
+    ensures few { IfOk result (λ flat. length (metal_of design.now) ≤ PART_LIMIT) }
+    ensures many { IfErr result (λ fault. fault ≡ TooMany ↔ PART_LIMIT < length (metal_of design.now)) }
+{
+    if has_too_many(design) {
+        return Err(FlatFault::TooMany);
+    }
+    let nets = nets_of(alloc, design)?;
+    let shapes = shapes_of(alloc, design, &nets)?;
+    Ok(Flat {
+        shapes,
+        pieces: nets.into_pieces(),
+    })
+}
+
+/// The shapes of the design, whose nets these are.
+fn shapes_of<A: Allocator + Copy>(
+    alloc: A,
+    design: &Design<'_, A>,
+    nets: &Nets<A>,
+) -> Result<Vec<Shape, A>, AllocError>
+    requires { AreNetsOf design.now nets.now }
+    ensures { IfOk result (λ shapes. OneForOne IsShapeOf (metal_of design.now) shapes.items) }
+{
+    library_is_sound(design);
+    let mut shapes = Vec::new(alloc);
+    add_components(&mut shapes, design, nets)?;
+    add_design_pins(&mut shapes, design, nets)?;
+    add_nets(&mut shapes, design, nets)?;
+    add_specials(&mut shapes, design, nets)?;
+    Ok(shapes)
+}
+
+/// What holds of the library of every design, as its readers say: nothing is done.
+fn library_is_sound<A: Allocator + Copy>(design: &Design<'_, A>)
+    ensures { IsSound design.now.library }
+{
+    let _layers = design.library().layers();
+}
