@@ -1,9 +1,10 @@
 -- What rules over pairs of rectangles need to know of cells and gaps.
-use Rattle.std.proofs.Common.{◌≡◌, ℕ, ◌+◌, ◌*◌, ◌≤◌, ◌≤ℤ◌, refl, arith}
+use Rattle.std.proofs.Common.{◌≡◌, ℕ, ◌+◌, ◌*◌, ◌<◌, ◌≤◌, ℤ, ◌≤ℤ◌, inl, inr, refl, arith}
 use Rattle.std.proofs.lemmas.Int.{ints}
 use Rattle.std.proofs.lemmas.Nat.{mul-le}
-use Rattle.leg_geom.specs.Plane.{Sides, IsRect, ShareCell}
-use Rattle.leg_geom.specs.Gap.{x_gap, y_gap, IsXGap, IsYGap, IsSquareGap}
+use Rattle.std.proofs.lemmas.Bool.{cases_lt}
+use Rattle.leg_geom.specs.Plane.{Spot, Sides, HasPoint, IsRect, ShareCell, SharePoint}
+use Rattle.leg_geom.specs.Gap.{apart, square_distance, x_gap, y_gap, IsXGap, IsYGap, IsSquareGap}
 use Rattle.leg_geom.proofs.Axes.{IsSpan-x_ends, IsSpan-y_ends, IsXGap-ends, IsYGap-ends}
 use Rattle.leg_geom.proofs.Intervals.{IsGap-gap_between}
 
@@ -16,6 +17,34 @@ ShareCell-gaps a b s =
     let in_a = s.in_a in
     let in_b = s.in_b in
     (grind (arith, ints), grind (arith, ints))
+
+pub SharePoint-symmetric : (a b : Sides) → SharePoint a b → SharePoint b a
+SharePoint-symmetric a b s = record { point = s.point; in_a = s.in_b; in_b = s.in_a }
+
+-- neither gap is more than the difference of two points along its axis
+pub x_gap-least : (a b : Sides) (p q : Spot) → HasPoint a p → HasPoint b q → x_gap a b ≤ apart p.x q.x
+x_gap-least a b p q in_a in_b = grind (arith, ints)
+
+pub y_gap-least : (a b : Sides) (p q : Spot) → HasPoint a p → HasPoint b q → y_gap a b ≤ apart p.y q.y
+y_gap-least a b p q in_a in_b = grind (arith, ints)
+
+-- rectangles that share a point have no gap along either axis
+pub SharePoint-gaps : (a b : Sides) → SharePoint a b → (x_gap a b ≤ 0) × (y_gap a b ≤ 0)
+SharePoint-gaps a b s =
+    let in_a = s.in_a in
+    let in_b = s.in_b in
+    (grind (arith, ints), grind (arith, ints))
+
+apart-symmetric : (a b : ℤ) → apart a b ≡ apart b a
+apart-symmetric a b = omega (arith, ints)
+
+pub square_distance-symmetric : (p q : Spot) → square_distance p q ≡ square_distance q p
+square_distance-symmetric p q = rw (apart-symmetric p.x q.x, apart-symmetric p.y q.y) refl
+
+-- a side is less than another one where its square and some more are less than the other's
+pub less_from_squares : (a n more : ℕ) → a * a + more < n * n → a < n
+less_from_squares a n more less =
+    elim (cases_lt a n) [ inl below ↦ below | inr above ↦ absurd (omega (arith, less, mul-le _ _ _ _ above above)) ]
 
 pub x_gap-symmetric : (a b : Sides) → IsRect a → IsRect b → x_gap a b ≡ x_gap b a
 x_gap-symmetric a b ra rb = grind (arith, ints)
