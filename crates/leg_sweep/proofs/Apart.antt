@@ -21,7 +21,7 @@ numbers_apart n order moved a b below within =
     ne_eqb _ _ (λ same. omega (arith, same, low, get_or-range_with_len 0 n i d (omega arith), get_or-range_with_len 0 n j d high_is))) in
     eqb-false _ _ (apart_from_distinct eqb order a b 0 (IsDistinct-IsPermutation eqb nat_eq_equiv.symm (range_with_len 0 n) order moved start) below within)
 
-pair_cmp_total : IsTotalOrder pair_cmp
+pub pair_cmp_total : IsTotalOrder pair_cmp
 pair_cmp_total = then_total (on_total (λ (p : ℕ × ℕ). p.0) nat_cmp_total) (on_total (λ (p : ℕ × ℕ). p.1) nat_cmp_total)
 
 same_pair : (p q : ℕ × ℕ) → is_eq (pair_cmp p q) ≡ true → p ≡ q

@@ -8,3 +8,6 @@ pub mod Progress
 pub mod Edges
 pub mod Places
 pub mod Listed
+pub mod SortedOnce
+pub mod SweptRuns
+pub mod CommonBands

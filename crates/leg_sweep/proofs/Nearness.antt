@@ -18,7 +18,7 @@ gap_grows a b c d e f long first second = grind (arith, ints)
 x_gap_symmetric : (a b : Sides) → IsRect a → IsRect b → x_gap a b ≡ x_gap b a
 x_gap_symmetric a b is_a is_b = gap_symmetric a.x1 a.x2 b.x1 b.x2 is_a.wide is_b.wide
 
-y_gap_symmetric : (a b : Sides) → IsRect a → IsRect b → y_gap a b ≡ y_gap b a
+pub y_gap_symmetric : (a b : Sides) → IsRect a → IsRect b → y_gap a b ≡ y_gap b a
 y_gap_symmetric a b is_a is_b = gap_symmetric a.y1 a.y2 b.y1 b.y2 is_a.high is_b.high
 
 module _ (rects : List Sides) (proper : All IsRect rects) where

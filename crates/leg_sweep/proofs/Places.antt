@@ -1,8 +1,9 @@
 -- What the order from left to right says of places in it.
-use Rattle.std.proofs.Common.{◌≡◌, ◌≢◌, ℕ, ◌+◌, ◌<◌, ◌≤◌, ◌*◌, ◌^◌, Bool, true, List, length, get_or, take, map, Some, slice_get, All, Contains, IsPermutation, inl, inr, refl, ap, subst, ◌∙◌, arith}
+use Rattle.std.proofs.Common.{◌≡◌, ◌≢◌, ℕ, ◌+◌, ◌<◌, ◌≤◌, ◌*◌, ◌^◌, Bool, true, List, length, get_or, take, map, Some, slice_get, All, Contains, IsPermutation, inl, inr, refl, sym, ap, subst, ◌∙◌, arith}
 use Rattle.std.specs.List.{range_with_len}
 use Rattle.std.specs.Option.{option_map}
 use Rattle.std.proofs.lemmas.Bool.{cases_lt, le-leb}
+use Rattle.std.proofs.lemmas.List.{get_or_default}
 use Rattle.std.proofs.lemmas.List.Elements.{All-from_get_or, All-contains, All-take, All-weaker}
 use Rattle.std.proofs.lemmas.List.FromFn.{length-range_with_len, get_or-range_with_len, fill_by_all}
 use Rattle.std.proofs.lemmas.List.Sorted.{All-permutation, length_permutation}
@@ -12,7 +13,7 @@ use Rattle.leg_geom.specs.Plane.{Sides, IsRect}
 use Rattle.leg_geom.specs.Gap.{x_gap, y_gap}
 use Rattle.leg_sweep.specs.Pairs.{IsPair}
 use Rattle.leg_sweep.specs.Counts.{near_along_x, near_along_both, count_pairs}
-use Rattle.leg_sweep.specs.Swept.{unit_square, rect_at, test_at, ordered, IsLeftToRight}
+use Rattle.leg_sweep.specs.Swept.{unit_square, rect_at, test_at, ordered, IsLeftToRight, RiseFromLeft}
 use Rattle.leg_sweep.proofs.Apart.{numbers_apart}
 use Rattle.leg_sweep.proofs.Counts.{count_pairs-map, count_pairs-IsPermutation}
 use Rattle.leg_sweep.proofs.Nearness.{near_between, near_along_x_symmetric, near_along_both_symmetric}
@@ -27,22 +28,19 @@ numbers_below n order moved =
     let below : i < n = omega (arith, length-range_with_len 0 n, within) in
     rw (get_or-range_with_len 0 n i 0 below) (omega arith)))
 
-module _ (rects : List Sides) (order : List ℕ) (sorted : IsLeftToRight rects order) where
+module _ (rects : List Sides) (order : List ℕ) (sorted : RiseFromLeft rects order) where
   pub order_differs : (a b : ℕ) → a < b → b < length order → get_or order a 0 ≡ get_or order b 0 → ⊥
-  order_differs = numbers_apart (length rects) order sorted.numbers
+  order_differs a b below within = sorted.differ a b 0 below within
 
   -- what is near the last of three is near the middle one
   pub order_between : (reach a b c : ℕ) → a ≤ b → b ≤ c → c < length order → test_at (near_along_x reach) rects (get_or order a 0) (get_or order c 0) ≡ true → test_at (near_along_x reach) rects (get_or order a 0) (get_or order b 0) ≡ true
   order_between reach a b c first second within near =
       near_between rects sorted.proper reach (get_or order a 0) (get_or order b 0) (get_or order c 0) (sorted.rising a b first (omega arith)) (sorted.rising b c second within) near
 
-  pub order_below : All (λ x. x < length rects) order
-  order_below = numbers_below (length rects) order sorted.numbers
-
   module _ (active : List ℕ) (i : ℕ) (come : All (Contains (take i order)) active) where
     pub active_below : All (λ x. x < length rects) active
     active_below = All-weaker (Contains (take i order)) (λ x. x < length rects)
-        (λ x c. All-contains (λ y. y < length rects) (take i order) x (All-take (λ y. y < length rects) i order order_below) c) active come
+        (λ x c. All-contains (λ y. y < length rects) (take i order) x (All-take (λ y. y < length rects) i order sorted.below) c) active come
 
     -- the item at the next place is not active
     pub active_others : i < length order → All (λ x. x ≢ get_or order i 0) active
@@ -50,6 +48,18 @@ module _ (rects : List Sides) (order : List ℕ) (sorted : IsLeftToRight rects o
         (λ x c same.
         let place = place_in_front order i x (omega arith) c in
         order_differs place.0 i place.1 within (place.2 ∙ same)) active come
+
+module _ (rects : List Sides) (order : List ℕ) (sorted : IsLeftToRight rects order) where
+  -- all the numbers are some of them
+  pub rise_from_left : RiseFromLeft rects order
+  rise_from_left = record {
+    proper = sorted.proper;
+    below = numbers_below (length rects) order sorted.numbers;
+    differ = λ a b d low within same.
+        numbers_apart (length rects) order sorted.numbers a b low within
+        (sym (get_or_default order a d 0 (omega arith)) ∙ same ∙ get_or_default order b d 0 within);
+    rising = sorted.rising;
+  }
 
   -- a count over the order is one over the rectangles
   count_in_order : (test : Sides → Sides → Bool) → ((i j : ℕ) → test_at test rects i j ≡ test_at test rects j i) → count_pairs (test_at test rects) order ≡ count_pairs test rects
@@ -92,10 +102,13 @@ module _ {Item : Type 0} (Holds : Item → Item → Type 0) (rect_of : Item → 
       ]
 
 -- the looks of a turn fit into a count
-pub looks_fit : (i n looks active : ℕ) → i < n → n < 2 ^ 32 → looks ≤ i * n → active ≤ i → looks + active < 2 ^ 64
-looks_fit i n looks active within few so_far short =
-    omega (arith, mul-add-lt i n i n within within, mul-le n n (2 ^ 32) (2 ^ 32) (omega arith) (omega arith))
+pub looks_fit : (i n old looks active : ℕ) → i < n → old + n * n < 2 ^ 64 → looks ≤ old + i * n → active ≤ i → looks + active < 2 ^ 64
+looks_fit i n old looks active within few so_far short = omega (arith, mul-add-lt i n i n within within)
 
--- after each turn there are at most as many looks as turns times items
-pub looks_more : (i n looks active : ℕ) → i < n → looks ≤ i * n → active ≤ i → looks + active ≤ (i + 1) * n
-looks_more i n looks active within so_far short = omega (arith, mul-add-lt i n i (i + 1) (omega arith) within)
+-- after each turn there are at most as many looks more as turns times items
+pub looks_more : (i n old looks active : ℕ) → i < n → looks ≤ old + i * n → active ≤ i → looks + active ≤ old + (i + 1) * n
+looks_more i n old looks active within so_far short = omega (arith, mul-add-lt i n i (i + 1) (omega arith) within)
+
+-- the looks at all items fit into a count
+pub square_fits : (n : ℕ) → n < 2 ^ 32 → n * n < 2 ^ 64
+square_fits n few = omega (arith, mul-le n n 4294967295 4294967295 (omega arith) (omega arith))

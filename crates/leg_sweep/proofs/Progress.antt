@@ -12,7 +12,7 @@ use Rattle.std.proofs.lemmas.List.Sorted.{Contains-permutation}
 use Rattle.std.proofs.lemmas.List.Sums.{sum_by_push}
 use Rattle.std.proofs.lemmas.Option.{slice_get_within}
 use Rattle.leg_sweep.specs.Pairs.{IsPair}
-use Rattle.leg_sweep.specs.Swept.{ordered, AreNewPairs, HasPairs}
+use Rattle.leg_sweep.specs.Swept.{ordered, AreNewPairs, HasPairs, HasPairsOf}
 use Rattle.leg_sweep.proofs.Lists.{Contains-here, Contains-there, Contains-cons_cases, AllPairs-nil, AllPairs-append_by}
 use Rattle.leg_sweep.proofs.Turns.{ordered_below, ordered_above}
 
@@ -150,21 +150,18 @@ module _ (near : ℕ → ℕ → Bool) (IsOne : ℕ × ℕ → Type 0) (order : 
       }
 
 -- a number of the order has a place in it
-place_of : (order : List ℕ) (n x : ℕ) → IsPermutation (range_with_len 0 n) order → x < n → (a : ℕ) × (a < length order) × (get_or order a 0 ≡ x)
-place_of order n x moved below =
-    let c : Contains (range_with_len 0 n) x = (x, omega (arith, length-range_with_len 0 n), get_or-range_with_len 0 n x x below ∙ omega arith) in
-    let (k, within, is) = Contains-permutation (range_with_len 0 n) order x moved c in
-    (k, within, get_or_default order k 0 x within ∙ is)
+pub place_of : (order : List ℕ) (x : ℕ) → Contains order x → (a : ℕ) × (a < length order) × (get_or order a 0 ≡ x)
+place_of order x (k, within, is) = (k, within, get_or_default order k 0 x within ∙ is)
 
 -- after the last item
 pub swept_all : {Item : Type 0} (Holds : Item → Item → Type 0) (items : List Item) (near : ℕ → ℕ → Bool) (order active : List ℕ) (found : List (ℕ × ℕ))
-    → IsPermutation (range_with_len 0 (length items)) order → SweptTo near (IsPair Holds items) order (length order) active found → HasPairs Holds items found
-swept_all Holds items near order active found moved swept = record {
+    → SweptTo near (IsPair Holds items) order (length order) active found → HasPairsOf Holds items order found
+swept_all Holds items near order active found swept = record {
   each = swept.each;
   distinct = swept.distinct;
-  all = λ p h.
-      let first = place_of order (length items) p.0 moved (slice_get_within items p.0 h.a h.a_at) in
-      let second = place_of order (length items) p.1 moved (slice_get_within items p.1 h.b h.b_at) in
+  all = λ p h named_first named_second.
+      let first = place_of order p.0 named_first in
+      let second = place_of order p.1 named_second in
       let low = h.in_order in
       elim (cases_lt first.0 second.0) [
         | inl onward ↦
@@ -178,4 +175,21 @@ swept_all Holds items near order active found moved swept = record {
             ] in
             rw same at (swept.all second.0 first.0 apart first.1 (rw same h))
       ];
+}
+
+-- all numbers in another order contain each of them
+pub numbers_contain : (order : List ℕ) (n x : ℕ) → IsPermutation (range_with_len 0 n) order → x < n → Contains order x
+numbers_contain order n x moved below =
+    let c : Contains (range_with_len 0 n) x = (x, omega (arith, length-range_with_len 0 n), get_or-range_with_len 0 n x x below ∙ omega arith) in
+    Contains-permutation (range_with_len 0 n) order x moved c
+
+-- the pairs of all items
+pub pairs_of_all : {Item : Type 0} (Holds : Item → Item → Type 0) (items : List Item) (order : List ℕ) (found : List (ℕ × ℕ))
+    → IsPermutation (range_with_len 0 (length items)) order → HasPairsOf Holds items order found → HasPairs Holds items found
+pairs_of_all Holds items order found moved has = record {
+  each = has.each;
+  distinct = has.distinct;
+  all = λ p h. has.all p h
+      (numbers_contain order (length items) p.0 moved (slice_get_within items p.0 h.a h.a_at))
+      (numbers_contain order (length items) p.1 moved (slice_get_within items p.1 h.b h.b_at));
 }

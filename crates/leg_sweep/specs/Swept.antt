@@ -36,6 +36,13 @@ pub record IsLeftToRight (rects : List Sides) (order : List ℕ) : Type 0 where
   pub numbers : IsPermutation (range_with_len 0 (length rects)) order
   pub rising : (a b : ℕ) → a ≤ b → b < length order → (rect_at rects (slice_index order a)).x1 ≤ℤ (rect_at rects (slice_index order b)).x1
 
+-- numbers of some of the rectangles, each once, in the order of their left edges
+pub record RiseFromLeft (rects : List Sides) (order : List ℕ) : Type 0 where
+  pub proper : All IsRect rects
+  pub below : All (λ x. x < length rects) order
+  pub differ : AllPairs (λ x y. x ≢ y) order
+  pub rising : (a b : ℕ) → a ≤ b → b < length order → (rect_at rects (slice_index order a)).x1 ≤ℤ (rect_at rects (slice_index order b)).x1
+
 -- the pairs that a new item makes with active ones, each once, stand behind those found before
 pub record AreNewPairs (IsOne : ℕ × ℕ → Type 0) (active : List ℕ) (new : ℕ) (before found : List (ℕ × ℕ)) : Type 0 where
   pub more : List (ℕ × ℕ)
@@ -49,4 +56,10 @@ pub record AreNewPairs (IsOne : ℕ × ℕ → Type 0) (active : List ℕ) (new 
 pub record HasPairs {Item : Type 0} (Holds : Item → Item → Type 0) (items : List Item) (found : List (ℕ × ℕ)) : Type 0 where
   pub each : All (IsPair Holds items) found
   pub all : (p : ℕ × ℕ) → IsPair Holds items p → Contains found p
+  pub distinct : AllPairs (λ p q. p ≢ q) found
+
+-- exactly the pairs of the items with these numbers for which a rule holds, each once, in any order
+pub record HasPairsOf {Item : Type 0} (Holds : Item → Item → Type 0) (items : List Item) (order : List ℕ) (found : List (ℕ × ℕ)) : Type 0 where
+  pub each : All (IsPair Holds items) found
+  pub all : (p : ℕ × ℕ) → IsPair Holds items p → Contains order p.0 → Contains order p.1 → Contains found p
   pub distinct : AllPairs (λ p q. p ≢ q) found

@@ -66,3 +66,25 @@ pub trait PairRule {
     ghost near: { (r : Self) (a b : Self.Item) → Holds r a b →
         (x_gap (rect_of r a) (rect_of r b) ≤ reach_of r) × (y_gap (rect_of r a) (rect_of r b) ≤ reach_of r) };
 }
+
+/// A rule whose items lie on layers, and which holds only of items of one layer.
+pub trait LayeredRule: PairRule {
+    ghost layer_of: { Self → Self.Item → ℕ };
+
+    /// The number of the item's layer.
+    fn layer(&self, item: &Self::Item) -> usize
+        ensures { result ≡ layer_of (Self.fixed self.now) item.now };
+
+    /// The bottom edge of the item's rectangle.
+    fn bottom(&self, item: &Self::Item) -> i64
+        ensures is { result ≡ (Self.rect_of (Self.fixed self.now) item.now).y1 }
+        ensures proper { IsRect (Self.rect_of (Self.fixed self.now) item.now) };
+
+    /// The top edge of the item's rectangle.
+    fn top(&self, item: &Self::Item) -> i64
+        ensures is { result ≡ (Self.rect_of (Self.fixed self.now) item.now).y2 }
+        ensures proper { IsRect (Self.rect_of (Self.fixed self.now) item.now) };
+
+    // Where the rule holds, both items lie on one layer.
+    ghost layered: { (r : Self) (a b : Self.Item) → Self.Holds r a b → layer_of r a ≡ layer_of r b };
+}

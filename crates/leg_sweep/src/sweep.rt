@@ -1,16 +1,16 @@
 //! A sweep over the items from left to right.
 
-ghost use Rattle.std.specs.Prelude.{◌≡◌, ◌≢◌, ◌≤◌, ◌<◌, ◌+◌, ◌-◌, ◌^◌, ◌↔◌, IsTrue, [], length, map, filter, count_by, All, AllPairs, IfOk, OnOk, if◌then◌else◌};
+ghost use Rattle.std.specs.Prelude.{◌≡◌, ◌≢◌, ◌≤◌, ◌<◌, ◌+◌, ◌*◌, ◌-◌, ◌^◌, ◌↔◌, IsTrue, [], length, map, filter, count_by, All, AllPairs, IfOk, OnOk, if◌then◌else◌};
 ghost use Rattle.leg_sweep.specs.Pairs.{IsPair};
 ghost use Rattle.leg_sweep.specs.Counts.{near_along_x, near_along_both, count_pairs};
-ghost use Rattle.leg_sweep.specs.Swept.{test_at, ordered, IsLeftToRight, AreNewPairs, HasPairs};
+ghost use Rattle.leg_sweep.specs.Swept.{test_at, ordered, RiseFromLeft, AreNewPairs, HasPairsOf};
 
 use crate::rule::PairRule;
 use std::alloc::{AllocError, Allocator};
 use std::mem::swap;
 
-/// The pairs of numbers of items for which the rule holds, in any order. An item stays active until an
-/// item comes whose x gap from it is beyond the reach.
+/// The pairs of the items with these numbers for which the rule holds, in any order. An item stays active until
+/// an item comes whose x gap from it is beyond the reach.
 pub(crate) fn sweep<R: PairRule, A: Allocator + Copy>(
     alloc: A,
     items: &[R::Item],
@@ -18,16 +18,17 @@ pub(crate) fn sweep<R: PairRule, A: Allocator + Copy>(
     order: &[u32],
 ) -> Result<Vec<(u32, u32), A>, AllocError>
     requires few { length items.now < 2 ^ 32 }
-    requires order { IsLeftToRight (map (R.rect_of (R.fixed rule.old)) items.now) order.now }
-    requires untested { R.tests_of rule.old ≡ 0 }
-    requires unseen { R.looks_of rule.old ≡ 0 }
-    ensures pairs { IfOk result (λ found. HasPairs (R.Holds (R.fixed rule.old)) items.now found.items) }
-    ensures tests { IfOk result (λ found. length found.items ≤ R.tests_of rule.new) }
+    requires order { RiseFromLeft (map (R.rect_of (R.fixed rule.old)) items.now) order.now }
+    requires counts { R.tests_of rule.old ≤ R.looks_of rule.old }
+    requires room { R.looks_of rule.old + length order.now * length order.now < 2 ^ 64 }
+    ensures pairs { IfOk result (λ found. HasPairsOf (R.Holds (R.fixed rule.old)) items.now order.now found.items) }
+    ensures tests { IfOk result (λ found. length found.items + R.tests_of rule.old ≤ R.tests_of rule.new) }
     ensures looks { OnOk result (R.tests_of rule.new ≤ R.looks_of rule.new) }
-    ensures few_tests { OnOk result (R.tests_of rule.new
-        ≤ count_pairs (near_along_both (R.reach_of (R.fixed rule.old))) (map (R.rect_of (R.fixed rule.old)) items.now)) }
-    ensures few_looks { OnOk result (R.looks_of rule.new
-        ≤ length items.now + count_pairs (near_along_x (R.reach_of (R.fixed rule.old))) (map (R.rect_of (R.fixed rule.old)) items.now)) }
+    ensures few_tests { OnOk result (R.tests_of rule.new ≤ R.tests_of rule.old
+        + count_pairs (test_at (near_along_both (R.reach_of (R.fixed rule.old))) (map (R.rect_of (R.fixed rule.old)) items.now)) order.now) }
+    ensures few_looks { OnOk result (R.looks_of rule.new ≤ R.looks_of rule.old + length order.now
+        + count_pairs (test_at (near_along_x (R.reach_of (R.fixed rule.old))) (map (R.rect_of (R.fixed rule.old)) items.now)) order.now) }
+    ensures bounded { OnOk result (R.looks_of rule.new ≤ R.looks_of rule.old + length order.now * length order.now) }
     ensures same { R.fixed rule.new ≡ R.fixed rule.old }
 {
     let mut found = Vec::new(alloc);

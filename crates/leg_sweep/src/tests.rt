@@ -4,7 +4,7 @@ mod rules;
 
 ghost use Rattle.std.specs.Prelude.{◌<◌, ◌^◌, length};
 
-use crate::{PairRule, pairs, pairs_counted};
+use crate::{PairRule, pairs, pairs_counted, pairs_in_bands};
 use leg_geom::Rect;
 use rules::{Overlap, Shape, Within};
 use std::alloc::{AllocError, Global};
@@ -31,8 +31,11 @@ fn one_by_one<T, F: Fn(&T, &T) -> bool>(
     Ok(found)
 }
 
-/// So many shapes with sides below 100 in a square with sides of 2000, by a fixed rule that looks random.
-fn scattered(alloc: Global, count: usize) -> Result<Vec<Shape>, Fail> {
+/// So many shapes with sides below 100 in a square with sides of 2000, on so many layers, by a fixed rule that looks
+/// random.
+fn scattered(alloc: Global, count: usize, layers: usize) -> Result<Vec<Shape>, Fail>
+    requires { 0 < layers }
+{
     let mut shapes = Vec::new(alloc);
     let mut seed = 12_345u32;
     for number in 0..count {
@@ -44,7 +47,12 @@ fn scattered(alloc: Global, count: usize) -> Result<Vec<Shape>, Fail> {
         let [x, y, width, height] = sides;
         let (x, y) = (x % 2000, y % 2000);
         let rect = Rect::new(x, y, x + 1 + width % 100, y + 1 + height % 100).ok_or("empty")?;
-        shapes.push(Shape { number, rect })?;
+        let layer = number % layers;
+        shapes.push(Shape {
+            number,
+            layer,
+            rect,
+        })?;
     }
     Ok(shapes)
 }
@@ -95,18 +103,22 @@ fn an_item_stays_for_the_reach_behind_its_right_edge(rt: HostRuntime) -> Result<
     let shapes = [
         Shape {
             number: 0,
+            layer: 0,
             rect: Rect::new(0, 0, 100, 100).ok_or("empty")?,
         },
         Shape {
             number: 1,
+            layer: 0,
             rect: Rect::new(150, 300, 160, 400).ok_or("empty")?,
         },
         Shape {
             number: 2,
+            layer: 0,
             rect: Rect::new(190, 0, 290, 100).ok_or("empty")?,
         },
         Shape {
             number: 3,
+            layer: 0,
             rect: Rect::new(391, 0, 400, 100).ok_or("empty")?,
         },
     ];
@@ -118,7 +130,7 @@ fn an_item_stays_for_the_reach_behind_its_right_edge(rt: HostRuntime) -> Result<
 
 #[test]
 fn the_same_overlaps_as_one_by_one(rt: HostRuntime) -> Result<(), Fail> {
-    let shapes = scattered(rt.alloc(), 400)?;
+    let shapes = scattered(rt.alloc(), 400, 1)?;
     let mut rects = Vec::new(rt.alloc());
     for shape in &shapes {
         rects.push(shape.rect)?;
@@ -134,7 +146,7 @@ fn the_same_overlaps_as_one_by_one(rt: HostRuntime) -> Result<(), Fail> {
 #[test]
 fn the_same_as_one_by_one(rt: HostRuntime) -> Result<(), Fail> {
     for (count, reach) in [(40, 0), (200, 0), (200, 30), (300, 500), (100, 5000)] {
-        let shapes = scattered(rt.alloc(), count)?;
+        let shapes = scattered(rt.alloc(), count, 1)?;
         assert!(rt; shapes.len() < 1000);
         let mut rule = Within::new(reach, 0, &[]);
         let found = pairs(rt.alloc(), &shapes, &mut rule)?;
@@ -146,7 +158,7 @@ fn the_same_as_one_by_one(rt: HostRuntime) -> Result<(), Fail> {
 
 #[test]
 fn asked_once(rt: HostRuntime) -> Result<(), Fail> {
-    let shapes = scattered(rt.alloc(), 150)?;
+    let shapes = scattered(rt.alloc(), 150, 1)?;
     assert!(rt; shapes.len() == 150);
     let mut asked = Vec::new(rt.alloc());
     for _ in 0..150 * 150 {
@@ -177,5 +189,84 @@ fn wide(rt: HostRuntime) -> Result<(), Fail> {
     assert!(rt; found.pairs.is_empty());
     assert_eq!(rt; found.tests, 0);
     assert!(rt; found.looks <= 20_000);
+    Ok(())
+}
+
+/// A row of 400 rectangles side by side at each of so many heights.
+fn rows(alloc: Global, count: u32) -> Result<Vec<Rect>, Fail> {
+    let mut rects = Vec::new(alloc);
+    for row in 0..count {
+        for place in 0..400u32 {
+            let (x, y) = (400 * i64::from(place), 2000 * i64::from(row));
+            rects.push(Rect::new(x, y, x + 400, y + 2000).ok_or("empty")?)?;
+        }
+    }
+    Ok(rects)
+}
+
+#[test]
+fn few_looks_in_rows(rt: HostRuntime) -> Result<(), Fail> {
+    for (count, tests, looks) in [(1, 399, 799), (20, 30_742, 243_600)] {
+        let rects = rows(rt.alloc(), count)?;
+        assert!(rt; rects.len() < 10_000);
+        let mut rule = Overlap::new();
+        let found = pairs(rt.alloc(), &rects, &mut rule)?;
+        assert!(rt; found.is_empty());
+        assert!(rt;
+            rule.tests() <= tests && rule.looks() <= looks,
+            "at {count}"
+        );
+    }
+    Ok(())
+}
+
+#[test]
+fn the_same_in_bands(rt: HostRuntime) -> Result<(), Fail> {
+    for (count, layers, reach) in [
+        (0, 1, 0),
+        (1, 1, 5),
+        (40, 2, 0),
+        (300, 3, 30),
+        (300, 1, 500),
+        (100, 5, 5000),
+    ] {
+        let shapes = scattered(rt.alloc(), count, layers)?;
+        assert!(rt; shapes.len() < 1000);
+        let found = pairs_in_bands(rt.alloc(), &shapes, &mut Within::new(reach, 0, &[]))?;
+        let wanted = pairs(rt.alloc(), &shapes, &mut Within::new(reach, 0, &[]))?;
+        assert_eq!(rt;
+            found.as_slice(),
+            wanted.as_slice(),
+            "at {count} {layers} {reach}"
+        );
+        assert!(rt; count < 100 || !found.is_empty());
+    }
+    Ok(())
+}
+
+/// So many slim shapes across the whole of a square, and as many small ones beside them.
+fn crossed(alloc: Global, count: usize) -> Result<Vec<Shape>, Fail> {
+    let mut shapes = scattered(alloc, count, 2)?;
+    for number in 0..count {
+        let x = (number % 40) as i64 * 50;
+        let rect = Rect::new(x, 0, x + 10, 2000).ok_or("empty")?;
+        shapes.push(Shape {
+            number,
+            layer: 0,
+            rect,
+        })?;
+    }
+    Ok(shapes)
+}
+
+#[test]
+fn the_same_where_items_stand_in_many_bands(rt: HostRuntime) -> Result<(), Fail> {
+    for count in [5, 100] {
+        let shapes = crossed(rt.alloc(), count)?;
+        assert!(rt; shapes.len() < 1000);
+        let found = pairs_in_bands(rt.alloc(), &shapes, &mut Within::new(20, 0, &[]))?;
+        let wanted = pairs(rt.alloc(), &shapes, &mut Within::new(20, 0, &[]))?;
+        assert_eq!(rt; found.as_slice(), wanted.as_slice(), "at {count}");
+    }
     Ok(())
 }

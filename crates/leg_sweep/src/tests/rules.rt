@@ -3,7 +3,7 @@
 ghost use Rattle.std.specs.Prelude.{◌≡◌, ◌≤◌, ◌↔◌, IsTrue};
 ghost use Rattle.leg_geom.specs.Gap.{x_gap, y_gap};
 
-use crate::PairRule;
+use crate::{LayeredRule, PairRule};
 use leg_geom::Rect;
 use std::cell::Cell;
 
@@ -71,14 +71,15 @@ impl PairRule for Overlap {
     ghost near = { λ r a b. ShareCell-gaps a b };
 }
 
-/// A rectangle with its number.
+/// A rectangle on a layer, with its number.
 #[derive(Drop)]
 pub(crate) struct Shape {
     pub(crate) number: usize,
+    pub(crate) layer: usize,
     pub(crate) rect: Rect,
 }
 
-/// Holds of shapes whose two gaps are at most the reach. It notes each pair of numbers that it was asked
+/// Holds of shapes of one layer whose two gaps are at most the reach. It notes each pair of numbers that it was asked
 /// about, in a table of so many columns, which is no part of its meaning.
 #[derive(Drop)]
 pub(crate) struct Within<'a> {
@@ -103,15 +104,15 @@ impl<'a> Within<'a> {
         }
     }
 
-    /// Whether both gaps are at most the reach, whichever shape is named first.
+    /// Whether the layers are one and both gaps are at most the reach, whichever shape is named first.
     pub(crate) fn holds(&self, a: &Shape, b: &Shape) -> bool
-        ensures { IsTrue result ↔ (x_gap a.now.rect b.now.rect ≤ self.now.reach) × (y_gap a.now.rect b.now.rect ≤ self.now.reach)
+        ensures { IsTrue result ↔ (a.now.layer ≡ b.now.layer) × (x_gap a.now.rect b.now.rect ≤ self.now.reach) × (y_gap a.now.rect b.now.rect ≤ self.now.reach)
             × (x_gap b.now.rect a.now.rect ≤ self.now.reach) × (y_gap b.now.rect a.now.rect ≤ self.now.reach) }
     {
         let reach = u64::from(self.reach);
         let there = a.rect.x_gap(&b.rect) <= reach && a.rect.y_gap(&b.rect) <= reach;
         let back = b.rect.x_gap(&a.rect) <= reach && b.rect.y_gap(&a.rect) <= reach;
-        there && back
+        a.layer == b.layer && there && back
     }
 
     /// Notes that the rule is asked about the two numbers, the lower one first.
@@ -127,11 +128,13 @@ impl<'a> Within<'a> {
 }
 
 impl<'a> PairRule for Within<'a> {
+    ghost use Rattle.std.proofs.Common.{sym};
+
     type Item = Shape;
 
     ghost fixed = { λ r. record r { tests = 0; looks = 0 } };
 
-    ghost Holds = { λ r a b. (x_gap a.rect b.rect ≤ r.reach) × (y_gap a.rect b.rect ≤ r.reach)
+    ghost Holds = { λ r a b. (a.layer ≡ b.layer) × (x_gap a.rect b.rect ≤ r.reach) × (y_gap a.rect b.rect ≤ r.reach)
         × (x_gap b.rect a.rect ≤ r.reach) × (y_gap b.rect a.rect ≤ r.reach) };
 
     ghost rect_of = { λ r a. a.rect };
@@ -169,7 +172,25 @@ impl<'a> PairRule for Within<'a> {
         self.looks
     }
 
-    ghost symmetric = { λ r a b h. (h.2, h.3, h.0, h.1) };
+    ghost symmetric = { λ r a b h. (sym h.0, h.3, h.4, h.1, h.2) };
 
-    ghost near = { λ r a b h. (h.0, h.1) };
+    ghost near = { λ r a b h. (h.1, h.2) };
+}
+
+impl<'a> LayeredRule for Within<'a> {
+    ghost layer_of = { λ r a. a.layer };
+
+    fn layer(&self, item: &Shape) -> usize {
+        item.layer
+    }
+
+    fn bottom(&self, item: &Shape) -> i64 {
+        item.rect.y1()
+    }
+
+    fn top(&self, item: &Shape) -> i64 {
+        item.rect.y2()
+    }
+
+    ghost layered = { λ r a b h. h.0 };
 }

@@ -5,14 +5,14 @@ use Rattle.leg_sweep.specs.Swept.{test_at}
 use Rattle.std.proofs.lemmas.List.{length-map, length_push, take_more, take_all}
 use Rattle.std.proofs.lemmas.List.Sums.{length-filter, count_by-le-length}
 use Rattle.leg_sweep.proofs.Counts.{count_pairs_push}
-use Rattle.leg_sweep.proofs.Places.{order_below, active_below, active_others, order_differs, order_between, pairs_close, near_in_order, both_in_order, length_order, looks_fit, looks_more}
+use Rattle.leg_sweep.proofs.Places.{active_below, active_others, order_differs, order_between, pairs_close, looks_fit, looks_more}
 use Rattle.leg_sweep.proofs.Progress.{swept_more, swept_all}
 use Rattle.leg_sweep.proofs.sweep.sweep.Goals as goal
 
 pub turn-requires-clause-new_in_range : goal.turn-requires-clause-new_in_range
 turn-requires-clause-new_in_range g c =
     let rects = map (g.R.PairRule.rect_of (g.R.PairRule.fixed c.args.rule.now)) c.args.items.now in
-    omega (arith, order_below rects c.args.order.now c.requires.order c.loop-new.new-index 0 (omega arith), length-map c.args.items.now (g.R.PairRule.rect_of (g.R.PairRule.fixed c.args.rule.now)))
+    omega (arith, c.requires.order.below c.loop-new.new-index 0 (omega arith), length-map c.args.items.now (g.R.PairRule.rect_of (g.R.PairRule.fixed c.args.rule.now)))
 
 pub turn-requires-clause-in_range : goal.turn-requires-clause-in_range
 turn-requires-clause-in_range g c =
@@ -27,12 +27,10 @@ turn-requires-clause-others g c =
 
 pub turn-requires-clause-room : goal.turn-requires-clause-room
 turn-requires-clause-room g c =
-    let rect_of = g.R.PairRule.rect_of (g.R.PairRule.fixed c.args.rule.now) in
-    let n : ℕ = length c.args.items.now in
+    let n : ℕ = length c.args.order.now in
     let i : ℕ = c.loop-new.new-index in
-    let all = length_order (map rect_of c.args.items.now) c.args.order.now c.requires.order in
     let active : length c.deref.result.now ≤ i = rw c.deref.ensures.value c.loop-new.invariant.short in
-    looks_fit i n (g.R.PairRule.looks_of c.loop-new.rule) (length c.deref.result.now) (omega (arith, all, length-map c.args.items.now rect_of)) (omega arith) c.loop-new.invariant.room active
+    looks_fit i n (g.R.PairRule.looks_of c.args.rule.now) (g.R.PairRule.looks_of c.loop-new.rule) (length c.deref.result.now) (omega arith) c.requires.room c.loop-new.invariant.room active
 
 pub loop-new-preserved : goal.loop-new-preserved
 loop-new-preserved g c =
@@ -53,7 +51,6 @@ loop-new-preserved g c =
     let so_far = c.loop-new.invariant in
     let turn = c.in_ok-turn.ensures in
     let within : i < length order = omega arith in
-    let in_items : i < length items = omega (arith, within, length_order rects order sorted, length-map items rect_of) in
     let kept = rw (so_far.same, c.deref.ensures.value) at turn.kept in
     let turned = rw (so_far.same, c.deref.ensures.value) at turn.found in
     let looks = rw c.deref.ensures.value at turn.looks in
@@ -76,7 +73,7 @@ loop-new-preserved g c =
       counts = omega (arith, looks, tests, so_far.counts, count_by-le-length (λ x. both x n) active);
       enough = omega (arith, turn.enough, so_far.enough);
       short = omega (arith, longer, so_far.short, count_by-le-length (λ x. near x n) active);
-      room = rw looks (looks_more i (length items) (rule.looks_of c.loop-new.rule) (length active) in_items so_far.room so_far.short);
+      room = rw looks (looks_more i (length order) (rule.looks_of c.args.rule.now) (rule.looks_of c.loop-new.rule) (length active) within so_far.room so_far.short);
       same = c.turn.ensures.same ∙ so_far.same;
     }
 
@@ -84,29 +81,22 @@ pub returns-clause-pairs : goal.returns-clause-pairs
 returns-clause-pairs g c =
     let rule = g.R.PairRule in
     let fixed = rule.fixed c.args.rule.now in
-    let rect_of = rule.rect_of fixed in
     let items = c.args.items.now in
     let order = c.args.order.now in
     let end : c.loop-new.new-index ≡ length order = omega arith in
-    swept_all (rule.Holds fixed) items (test_at (near_along_x (rule.reach_of fixed)) (map rect_of items)) order c.loop-new.active.items c.loop-new.found.items
-    (rw (length-map items rect_of) at c.requires.order.numbers) (rw end at c.loop-new.invariant.swept)
+    swept_all (rule.Holds fixed) items (test_at (near_along_x (rule.reach_of fixed)) (map (rule.rect_of fixed) items)) order c.loop-new.active.items c.loop-new.found.items
+    (rw end at c.loop-new.invariant.swept)
 
 pub returns-clause-few_tests : goal.returns-clause-few_tests
-returns-clause-few_tests g c =
-    let rule = g.R.PairRule in
-    let fixed = rule.fixed c.args.rule.now in
-    let rects = map (rule.rect_of fixed) c.args.items.now in
-    let order = c.args.order.now in
-    let tests = rw (take_all c.loop-new.new-index order (omega arith)) at c.loop-new.invariant.tests in
-    omega (arith, tests, both_in_order rects order c.requires.order (rule.reach_of fixed))
+returns-clause-few_tests g c = rw (take_all c.loop-new.new-index c.args.order.now (omega arith)) at c.loop-new.invariant.tests
 
 pub returns-clause-few_looks : goal.returns-clause-few_looks
 returns-clause-few_looks g c =
-    let rule = g.R.PairRule in
-    let fixed = rule.fixed c.args.rule.now in
-    let rect_of = rule.rect_of fixed in
-    let items = c.args.items.now in
-    let order = c.args.order.now in
-    let end : c.loop-new.new-index ≡ length order = omega arith in
-    let looks = rw (take_all c.loop-new.new-index order (omega arith)) at c.loop-new.invariant.looks in
-    omega (arith, looks, end, near_in_order (map rect_of items) order c.requires.order (rule.reach_of fixed), length_order (map rect_of items) order c.requires.order, length-map items rect_of)
+    let end : c.loop-new.new-index ≡ length c.args.order.now = omega arith in
+    let looks = rw (take_all c.loop-new.new-index c.args.order.now (omega arith)) at c.loop-new.invariant.looks in
+    omega (arith, looks, end)
+
+pub returns-clause-bounded : goal.returns-clause-bounded
+returns-clause-bounded g c =
+    let end : c.loop-new.new-index ≡ length c.args.order.now = omega arith in
+    rw end at c.loop-new.invariant.room

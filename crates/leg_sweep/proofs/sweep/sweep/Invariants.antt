@@ -14,11 +14,11 @@ invariant-loop-new g l =
     let reach = rule.reach_of fixed in
     let done = take l.new-index l.order in record {
       swept : SweptTo (test_at (near_along_x reach) rects) (IsPair (rule.Holds fixed) l.items) l.order l.new-index l.active.items l.found.items;
-      looks : rule.looks_of l.rule + length l.active.items ≤ l.new-index + count_pairs (test_at (near_along_x reach) rects) done;
-      tests : rule.tests_of l.rule ≤ count_pairs (test_at (near_along_both reach) rects) done;
+      looks : rule.looks_of l.rule + length l.active.items ≤ rule.looks_of l.fn.rule + l.new-index + count_pairs (test_at (near_along_x reach) rects) done;
+      tests : rule.tests_of l.rule ≤ rule.tests_of l.fn.rule + count_pairs (test_at (near_along_both reach) rects) done;
       counts : rule.tests_of l.rule ≤ rule.looks_of l.rule;
-      enough : length l.found.items ≤ rule.tests_of l.rule;
+      enough : length l.found.items + rule.tests_of l.fn.rule ≤ rule.tests_of l.rule;
       short : length l.active.items ≤ l.new-index;
-      room : rule.looks_of l.rule ≤ l.new-index * length l.items;
+      room : rule.looks_of l.rule ≤ rule.looks_of l.fn.rule + l.new-index * length l.order;
       same : rule.fixed l.rule ≡ fixed;
     }
