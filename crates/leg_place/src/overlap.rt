@@ -1,6 +1,7 @@
 //! Components on one another.
 
 ghost use Rattle.std.specs.Prelude.{◌≡◌, OnOk};
+ghost use Rattle.std.proofs.Common.{refl};
 ghost use Rattle.leg_geom.specs.Plane.{ShareCell};
 ghost use Rattle.leg_geom.proofs.Gaps.{ShareCell-symmetric, ShareCell-gaps};
 ghost use Rattle.leg_design.specs.Violation.{IsListOf};
@@ -9,7 +10,7 @@ ghost use Rattle.leg_place.specs.Faults.{Holds};
 
 use crate::placed_box::{PlacedBox, placed_boxes};
 use leg_design::{Design, Fault};
-use leg_sweep::{PairRule, pairs};
+use leg_sweep::{LayeredRule, PairRule, pairs_in_bands};
 use std::alloc::{AllocError, Allocator};
 
 /// Holds of boxes that share a cell.
@@ -65,6 +66,25 @@ impl PairRule for OnOneAnother {
     ghost near = { λ r a b h. ShareCell-gaps _ _ h };
 }
 
+// All boxes lie on one layer.
+impl LayeredRule for OnOneAnother {
+    ghost layer_of = { λ r a. 0 };
+
+    fn layer(&self, _item: &PlacedBox) -> usize {
+        0
+    }
+
+    fn bottom(&self, item: &PlacedBox) -> i64 {
+        item.rect.y1()
+    }
+
+    fn top(&self, item: &PlacedBox) -> i64 {
+        item.rect.y2()
+    }
+
+    ghost layered = { λ r a b h. refl };
+}
+
 /// Adds the pairs of placed components that share a cell to the violations of the other kinds.
 pub(crate) fn push_overlaps<A: Allocator + Copy>(
     alloc: A,
@@ -76,7 +96,7 @@ pub(crate) fn push_overlaps<A: Allocator + Copy>(
 {
     let boxes = placed_boxes(alloc, design)?;
     let mut rule = OnOneAnother { tests: 0, looks: 0 };
-    let overlaps = pairs(alloc, &boxes, &mut rule)?;
+    let overlaps = pairs_in_bands(alloc, &boxes, &mut rule)?;
     for (a, b) in &overlaps {
         let first = boxes[*a as usize].component;
         let second = boxes[*b as usize].component;
