@@ -68,3 +68,7 @@ counted_beyond n count is = (
       let more : PART_LIMIT < count = omega arith in
       grind (arith, nat_tests),
 )
+
+-- a count within the limit is of so few
+pub counted_within : (n count : ℕ) → count ≡ counted 0 n → count ≤ PART_LIMIT → n ≤ PART_LIMIT
+counted_within n count is within = omega arith

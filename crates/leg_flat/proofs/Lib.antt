@@ -21,3 +21,4 @@ mod MetalSizes
 mod MetalKept
 mod Counted
 pub mod MetalWhole
+mod FlatWithin

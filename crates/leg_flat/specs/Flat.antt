@@ -1,8 +1,9 @@
 -- A flat design: the metal of a design as rectangles, and the pieces of its nets.
-use Rattle.std.specs.Prelude.{◌≡◌, ◌↔◌, ◌+◌, List, length, map}
+use Rattle.std.specs.Prelude.{◌≡◌, ◌↔◌, ◌+◌, ◌^◌, ◌<◌, ◌≤◌, List, All, length, map}
 use Rattle.std.specs.List.{range_with_len}
 use Rattle.leg_geom.specs.Plane.{Spot, HasPoint}
 use Rattle.leg_lib.specs.Scale.{OneForOne}
+use Rattle.leg_design.specs.declared.limits.TheConstants.{PART_LIMIT}
 use Rattle.leg_design.specs.Records.{DesignContents}
 use Rattle.leg_flat.specs.declared.piece.Piece.{Piece}
 use Rattle.leg_flat.specs.declared.shape.Shape.{Shape}
@@ -14,6 +15,12 @@ use Rattle.leg_flat.specs.Metal.{Metal, metal_of}
 pub record FlatSaid : Type 0 where
   pub shapes : List Shape
   pub pieces : List (List Piece)
+
+-- a flat keeps the limit of shapes, and 32 bits tell its nets and their pieces
+pub record IsWithin (flat : FlatSaid) : Type 0 where
+  pub shapes : length flat.shapes ≤ PART_LIMIT
+  pub nets : length flat.pieces < 2 ^ 32
+  pub pieces : All (λ pieces. length pieces < 2 ^ 32) flat.pieces
 
 -- the shape has exactly the points of the metal, and its layer, owner, component and piece
 pub record IsShapeOf (metal : Metal) (shape : Shape) : Type 0 where

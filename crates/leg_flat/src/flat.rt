@@ -1,22 +1,22 @@
 //! Flat designs.
 
-ghost use Rattle.std.specs.Prelude.{◌≡◌, ◌↔◌, ◌<◌, ◌≤◌, length, Some, IfOk, IfErr, slice_get};
+ghost use Rattle.std.specs.Prelude.{◌≡◌, ◌↔◌, ◌<◌, ◌≤◌, length, Some, IfOk, IfErr, option_map, slice_get};
 ghost use Rattle.leg_lib.specs.Scale.{OneForOne};
 ghost use Rattle.leg_lib.specs.Sound.{IsSound};
 ghost use Rattle.leg_design.specs.declared.limits.TheConstants.{PART_LIMIT};
 ghost use Rattle.leg_flat.specs.declared.fault.FlatFault.TheVariants.{TooMany};
 ghost use Rattle.leg_flat.specs.Metal.{metal_of};
 ghost use Rattle.leg_flat.specs.Places.{AreNetsOf};
-ghost use Rattle.leg_flat.specs.Flat.{IsShapeOf, IsFlatOf};
+ghost use Rattle.leg_flat.specs.Flat.{IsShapeOf, IsFlatOf, IsWithin};
 
 use crate::fault::FlatFault;
 use crate::metal::{add_components, add_design_pins};
-use crate::metal_count::has_too_many;
+use crate::metal_count::shape_count;
 use crate::metal_wires::{add_nets, add_specials};
 use crate::nets::{Nets, nets_of};
 use crate::piece::Piece;
 use crate::shape::Shape;
-use leg_design::Design;
+use leg_design::{Design, PART_LIMIT};
 use leg_lib::{Items, Library};
 use std::alloc::{AllocError, Allocator};
 use std::marker::Model;
@@ -29,11 +29,13 @@ pub struct Flat<A: Allocator> {
 }
 
 impl<A: Allocator> Model for Flat<A> {
-    ghost use Rattle.leg_flat.specs.Flat.{FlatSaid};
+    ghost use Rattle.leg_flat.specs.Flat.{FlatSaid, IsWithin};
 
     ghost Value = { FlatSaid };
 
     ghost view = { λ f. record { shapes = f.shapes.items; pieces = f.pieces.items } };
+
+    ghost invariant = { λ f. IsWithin (record { shapes = f.shapes.items; pieces = f.pieces.items }) };
 }
 
 impl<A: Allocator + Copy> Flat<A> {
@@ -41,18 +43,36 @@ impl<A: Allocator + Copy> Flat<A> {
     /// design, port by port; the wires of `NETS`, net by net; the wires of `SPECIALNETS`. A via has the rectangles of its
     /// definition, in their order.
     pub fn shapes(&self) -> &[Shape]
-        ensures { result.now ≡ self.now.shapes }
+        ensures is { result.now ≡ self.now.shapes }
+        ensures proper { IsWithin self.now }
     {
         self.shapes.as_slice()
+    }
+
+    /// How many nets there are: their numbers lie below.
+    pub fn net_count(&self) -> u32
+        ensures is { result ≡ length self.now.pieces }
+        ensures proper { IsWithin self.now }
+    {
+        self.pieces.len() as u32
     }
 
     /// The pieces of the net of this number, in order: the terminals of its entry of `NETS`, those of its entry of
     /// `SPECIALNETS` that aren't among them, and the wires of both entries.
     pub fn pieces(&self, net: u32) -> &[Piece]
         requires { net < length self.now.pieces }
-        ensures { slice_get self.now.pieces net ≡ Some result.now }
+        ensures is { slice_get self.now.pieces net ≡ Some result.now }
     {
         self.pieces[net as usize].as_slice()
+    }
+
+    /// How many pieces the net of this number has.
+    pub fn pieces_of_net(&self, net: u32) -> u32
+        requires { net < length self.now.pieces }
+        ensures is { option_map length (slice_get self.now.pieces net) ≡ Some result }
+        ensures proper { IsWithin self.now }
+    {
+        self.pieces[net as usize].as_slice().len() as u32
     }
 }
 
@@ -69,28 +89,30 @@ pub fn flatten<A: Allocator + Copy>(
     ensures few { IfOk result (λ flat. length (metal_of design.now) ≤ PART_LIMIT) }
     ensures many { IfErr result (λ fault. fault ≡ TooMany ↔ PART_LIMIT < length (metal_of design.now)) }
 {
-    if has_too_many(design) {
+    let count = shape_count(design);
+    if count > PART_LIMIT {
         return Err(FlatFault::TooMany);
     }
     let nets = nets_of(alloc, design)?;
-    let shapes = shapes_of(alloc, design, &nets)?;
+    let shapes = shapes_of(alloc, design, &nets, count as usize)?;
     Ok(Flat {
         shapes,
         pieces: nets.into_pieces(),
     })
 }
 
-/// The shapes of the design, whose nets these are.
+/// The shapes of the design, whose nets these are, with room for so many from the start.
 fn shapes_of<A: Allocator + Copy>(
     alloc: A,
     design: &Design<'_, A>,
     nets: &Nets<A>,
+    count: usize,
 ) -> Result<Vec<Shape, A>, AllocError>
     requires { AreNetsOf design.now nets.now }
     ensures { IfOk result (λ shapes. OneForOne IsShapeOf (metal_of design.now) shapes.items) }
 {
     library_is_sound(design);
-    let mut shapes = Vec::new(alloc);
+    let mut shapes = Vec::with_capacity(alloc, count)?;
     add_components(&mut shapes, design, nets)?;
     add_design_pins(&mut shapes, design, nets)?;
     add_nets(&mut shapes, design, nets)?;

@@ -127,12 +127,12 @@ fn count_nets<A: Allocator + Copy>(before: u64, design: &Design<'_, A>, nets: &[
     count
 }
 
-/// Whether the design has more shapes than `PART_LIMIT`.
-pub(crate) fn has_too_many<A: Allocator + Copy>(design: &Design<'_, A>) -> bool
-    ensures { IsTrue result ↔ PART_LIMIT < length (metal_of design.now) }
+/// How many shapes the design has; what is beyond `PART_LIMIT` is counted as one beyond it.
+pub(crate) fn shape_count<A: Allocator + Copy>(design: &Design<'_, A>) -> u64
+    ensures { result ≡ counted 0 (length (metal_of design.now)) }
 {
     let with_components = count_components(0, design);
     let with_pins = count_design_pins(with_components, design);
     let with_nets = count_nets(with_pins, design, design.nets());
-    count_nets(with_nets, design, design.special()) > PART_LIMIT
+    count_nets(with_nets, design, design.special())
 }

@@ -1,6 +1,6 @@
 //! The nets of a design: their pieces, and where terminals are.
 
-ghost use Rattle.std.specs.Prelude.{◌≡◌, ◌≢◌, ◌<◌, ◌^◌, suc, ◌+◌, ◌++◌, length, map, Some, option_map, AllPairs, IfOk, OnOk, slice_get};
+ghost use Rattle.std.specs.Prelude.{◌≡◌, ◌≢◌, ◌<◌, ◌^◌, suc, ◌+◌, ◌++◌, length, map, Some, option_map, All, AllPairs, IfOk, OnOk, slice_get};
 ghost use Rattle.std.specs.List.{range_with_len};
 ghost use Rattle.leg_design.specs.declared.records.Terminal.{Terminal};
 ghost use Rattle.leg_flat.specs.declared.piece.Piece.TheVariants.{Term, Wire};
@@ -159,7 +159,9 @@ pub(crate) fn nets_of<A: Allocator + Copy>(
     alloc: A,
     design: &Design<'_, A>,
 ) -> Result<Nets<A>, AllocError>
-    ensures { IfOk result (λ nets. AreNetsOf design.now nets) }
+    ensures is { IfOk result (λ nets. AreNetsOf design.now nets) }
+    ensures nets { IfOk result (λ nets. length nets.pieces < 2 ^ 32) }
+    ensures pieces { IfOk result (λ nets. All (λ pieces. length pieces < 2 ^ 32) nets.pieces) }
 {
     let index = NetIndex::new(alloc, design)?;
     let special = special_numbers(alloc, &index)?;

@@ -4,4 +4,4 @@ use Rattle.leg_flat.proofs.flat.shapes_of.Goals as goal
 
 pub returns : goal.returns
 returns g c =
-    metal_from_parts c.args.design.now _ _ _ _ (rw c.new-shapes.ensures.items at c.in_ok-add_components.ensures) c.in_ok-add_design_pins.ensures c.in_ok-add_nets.ensures c.in_ok-add_specials.ensures
+    metal_from_parts c.args.design.now _ _ _ _ (rw c.in_ok-shapes.ensures.items at c.in_ok-add_components.ensures) c.in_ok-add_design_pins.ensures c.in_ok-add_nets.ensures c.in_ok-add_specials.ensures

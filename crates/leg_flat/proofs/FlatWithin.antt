@@ -1,0 +1,49 @@
+-- A flat keeps its limits.
+use Rattle.std.proofs.Common.{◌≡◌, ℕ, ◌+◌, ◌^◌, ◌<◌, List, [], ◌∷◌, length, length-append, map, All, refl, arith}
+use Rattle.std.specs.List.{range_with_len}
+use Rattle.std.proofs.lemmas.List.{length-map}
+use Rattle.std.proofs.lemmas.List.Elements.{All-map}
+use Rattle.std.proofs.lemmas.List.FromFn.{length-range_with_len, length-map-range_with_len}
+use Rattle.leg_lib.specs.Scale.{OneForOne}
+use Rattle.leg_design.specs.Records.{DesignContents}
+use Rattle.leg_design.specs.WellFormedNets.{HasNets}
+use Rattle.leg_flat.specs.declared.piece.Piece.{Piece}
+use Rattle.leg_flat.specs.declared.piece.Piece.TheVariants.{Term, Wire}
+use Rattle.leg_flat.specs.Nets.{regular_entry, special_entry, entry_wires, terminals_of, wires_of, pieces_of}
+use Rattle.leg_flat.specs.Places.{net_numbers}
+use Rattle.leg_flat.proofs.NetSizes.{few_wires}
+use Rattle.leg_flat.proofs.MetalSizes.{terminals_few}
+
+-- lists that stand one for one are of one length
+pub same_length : {X Y : Type 0} (R : X → Y → Type 0) (xs : List X) (ys : List Y) → OneForOne R xs ys → length xs ≡ length ys
+same_length R [] [] one = omega arith
+same_length R [] (y ∷ ys) one = absurd one
+same_length R (x ∷ xs) [] one = absurd one
+same_length R (x ∷ xs) (y ∷ ys) one = omega (arith, same_length R xs ys one.1)
+
+module _ (design : DesignContents) (has : HasNets design) where
+  few_pieces : (n : ℕ) → length (pieces_of design n) < 2 ^ 32
+  unfolding pieces_of wires_of
+  few_pieces n =
+      let terminals = map Term (terminals_of design n) in
+      let numbers = range_with_len 0 (length (wires_of design n)) in
+      omega (
+        arith,
+        length-append terminals (map Wire numbers),
+        length-map (terminals_of design n) Term,
+        length-map numbers Wire,
+        length-range_with_len 0 (length (wires_of design n)),
+        length-append (entry_wires (regular_entry design n)) (entry_wires (special_entry design n)),
+        terminals_few design has n,
+        few_wires design has n _ _ refl refl,
+      )
+
+  -- the pieces of each net of a design are few
+  pub all_few_pieces : (pieces : List (List Piece)) → pieces ≡ map (pieces_of design) (net_numbers design) → All (λ (of : List Piece). length of < 2 ^ 32) pieces
+  all_few_pieces pieces is =
+      rw is (All-map (λ (of : List Piece). length of < 2 ^ 32) (pieces_of design) (net_numbers design) (λ i n less. few_pieces _))
+
+  -- and so are its nets
+  pub few_nets : (pieces : List (List Piece)) → pieces ≡ map (pieces_of design) (net_numbers design) → length pieces < 2 ^ 32
+  few_nets pieces is =
+      rw is (omega (arith, length-map-range_with_len (pieces_of design) 0 (length design.nets + length design.special), has.few))
