@@ -1,0 +1,237 @@
+-- The pieces that aren't joined, listed net by net.
+use Rattle.std.proofs.Common.{◌≡◌, ℕ, zero, suc, ◌+◌, ◌<◌, ◌≤◌, Bool, true, false, List, [], ◌∷◌, ◌++◌, length, map, get_or, Some, slice_get, ◌⊎◌, inl, inr, refl, sym, ap, ◌∙◌, arith}
+use Rattle.std.specs.List.{range_with_len}
+use Rattle.std.proofs.lemmas.Bool.{false≢true, cases_lt, cases_Bool}
+use Rattle.std.proofs.lemmas.List.{append_assoc, append-nil}
+use Rattle.std.proofs.lemmas.List.Elements.{All-nil, All-push, All-append, All-weaker, Contains-append_left, Contains-append_right, Contains-push}
+use Rattle.std.proofs.lemmas.List.FromFn.{length-map-range_with_len}
+use Rattle.std.proofs.lemmas.List.Quantifiers.{all_pairs_push}
+use Rattle.std.proofs.lemmas.Option.{slice_get_within, slice_get-get_or, same_Some, none-some}
+use Rattle.leg_sweep.proofs.Lists.{AllPairs-nil, AllPairs-append_by}
+use Rattle.leg_design.specs.Records.{DesignContents}
+use Rattle.leg_design.specs.declared.fault.Fault.{Fault}
+use Rattle.leg_design.specs.declared.fault.Fault.TheVariants.{Unplaced, Outside, OffSite, Overlap, Short, TooNear, OpenNet}
+use Rattle.leg_design.specs.Violation.{numbers_of, ComesBefore, IsListOf}
+use Rattle.leg_flat.specs.Nets.{pieces_of}
+use Rattle.leg_flat.specs.Flat.{FlatSaid, IsFlatOf}
+use Rattle.leg_wire.specs.Touch.{piece_count, AreJoined, AreMarks}
+use Rattle.leg_wire.specs.Open.{IsOpen, Holds}
+use Rattle.leg_wire.specs.Unmarked.{TellsUnmarked, AreAdded}
+
+-- what stands at a place of a list stands there once more follows
+get_earlier : (marks : List Bool) (last : Bool) (k : ℕ) (mark : Bool) → slice_get marks k ≡ Some mark → slice_get (marks ++ last ∷ []) k ≡ Some mark
+get_earlier [] last k mark at = absurd (none-some mark at)
+get_earlier (m ∷ marks) last zero mark at = at
+get_earlier (m ∷ marks) last (suc k) mark at = get_earlier marks last k mark at
+
+get_last : (marks : List Bool) (last : Bool) → slice_get (marks ++ last ∷ []) (length marks) ≡ Some last
+get_last [] last = refl
+get_last (m ∷ marks) last = get_last marks last
+
+get_cases : (marks : List Bool) (last : Bool) (k : ℕ) (mark : Bool) → slice_get (marks ++ last ∷ []) k ≡ Some mark → (slice_get marks k ≡ Some mark) ⊎ ((k ≡ length marks) × (last ≡ mark))
+get_cases [] last zero mark at = inr (refl, same_Some last mark at)
+get_cases [] last (suc k) mark at = absurd (none-some mark at)
+get_cases (m ∷ marks) last zero mark at = inl at
+get_cases (m ∷ marks) last (suc k) mark at =
+    elim (get_cases marks last k mark at) [
+      | inl earlier ↦ inl earlier
+      | inr here ↦ inr (ap suc here.0, here.1)
+    ]
+
+module _ (net : ℕ) where
+  tells_earlier : (marks : List Bool) (last : Bool) (v : Fault) → TellsUnmarked net marks v → TellsUnmarked net (marks ++ last ∷ []) v
+  tells_earlier marks last (OpenNet n k) tells = (tells.0, get_earlier marks last k false tells.1)
+  tells_earlier marks last (Unplaced c) tells = tells
+  tells_earlier marks last (Outside c) tells = tells
+  tells_earlier marks last (OffSite c) tells = tells
+  tells_earlier marks last (Overlap a b) tells = tells
+  tells_earlier marks last (Short a b) tells = tells
+  tells_earlier marks last (TooNear a b) tells = tells
+
+  tells_cases : (marks : List Bool) (last : Bool) (v : Fault) → TellsUnmarked net (marks ++ last ∷ []) v → TellsUnmarked net marks v ⊎ ((v ≡ OpenNet net (length marks)) × (last ≡ false))
+  tells_cases marks last (OpenNet n k) tells =
+      elim (get_cases marks last k false tells.1) [
+        | inl earlier ↦ inl (tells.0, earlier)
+        | inr here ↦ inr (rw (tells.0, here.0) refl, here.1)
+      ]
+  tells_cases marks last (Unplaced c) tells = absurd tells
+  tells_cases marks last (Outside c) tells = absurd tells
+  tells_cases marks last (OffSite c) tells = absurd tells
+  tells_cases marks last (Overlap a b) tells = absurd tells
+  tells_cases marks last (Short a b) tells = absurd tells
+  tells_cases marks last (TooNear a b) tells = absurd tells
+
+  -- the pieces without a mark come before the next piece
+  tells_before : (marks : List Bool) (v : Fault) → TellsUnmarked net marks v → ComesBefore v (OpenNet net (length marks))
+  tells_before marks (OpenNet n k) tells =
+      let within : k < length marks = slice_get_within marks k false tells.1 in
+      record { kind = omega arith; first = λ _. omega (arith, tells.0); second = λ _ _. within }
+  tells_before marks (Unplaced c) tells = absurd tells
+  tells_before marks (Outside c) tells = absurd tells
+  tells_before marks (OffSite c) tells = absurd tells
+  tells_before marks (Overlap a b) tells = absurd tells
+  tells_before marks (Short a b) tells = absurd tells
+  tells_before marks (TooNear a b) tells = absurd tells
+
+  nothing_unmarked : (v : Fault) → TellsUnmarked net [] v → ⊥
+  nothing_unmarked (OpenNet n k) tells = none-some false tells.1
+  nothing_unmarked (Unplaced c) tells = tells
+  nothing_unmarked (Outside c) tells = tells
+  nothing_unmarked (OffSite c) tells = tells
+  nothing_unmarked (Overlap a b) tells = tells
+  nothing_unmarked (Short a b) tells = tells
+  nothing_unmarked (TooNear a b) tells = tells
+
+  -- no mark was looked at
+  pub added_none : (before : List Fault) → AreAdded (TellsUnmarked net []) before before
+  added_none before = record {
+    more = [];
+    is = sym (append-nil before);
+    list = record { increasing = AllPairs-nil ComesBefore; each = All-nil (TellsUnmarked net []); all = λ v tells. absurd (nothing_unmarked v tells) };
+  }
+
+  module _ (marks : List Bool) (before after : List Fault) (done : AreAdded (TellsUnmarked net marks) before after) where
+    -- one more piece that is marked
+    pub added_skip : AreAdded (TellsUnmarked net (marks ++ true ∷ [])) before after
+    added_skip = record {
+      more = done.more;
+      is = done.is;
+      list = record {
+        increasing = done.list.increasing;
+        each = All-weaker (TellsUnmarked net marks) (TellsUnmarked net (marks ++ true ∷ [])) (tells_earlier marks true) done.more done.list.each;
+        all = λ v tells. elim (tells_cases marks true v tells) [
+          | inl earlier ↦ done.list.all v earlier
+          | inr here ↦ absurd (false≢true (sym here.1))
+        ];
+      };
+    }
+
+    -- one more that isn't
+    pub added_more : AreAdded (TellsUnmarked net (marks ++ false ∷ [])) before (after ++ OpenNet net (length marks) ∷ [])
+    added_more = record {
+      more = done.more ++ OpenNet net (length marks) ∷ [];
+      is = ap (λ faults. faults ++ OpenNet net (length marks) ∷ []) done.is ∙ append_assoc before done.more (OpenNet net (length marks) ∷ []);
+      list = record {
+        increasing =
+            all_pairs_push ComesBefore done.more (OpenNet net (length marks)) done.list.increasing
+            (All-weaker (TellsUnmarked net marks) (λ v. ComesBefore v (OpenNet net (length marks))) (tells_before marks) done.more done.list.each);
+        each =
+            All-push (TellsUnmarked net (marks ++ false ∷ [])) done.more (OpenNet net (length marks))
+            (All-weaker (TellsUnmarked net marks) (TellsUnmarked net (marks ++ false ∷ [])) (tells_earlier marks false) done.more done.list.each)
+            (refl, get_last marks false);
+        all = λ v tells. elim (tells_cases marks false v tells) [
+          | inl earlier ↦ Contains-append_left done.more (OpenNet net (length marks) ∷ []) v (done.list.all v earlier)
+          | inr here ↦ rw here.0 (Contains-push done.more (OpenNet net (length marks)))
+        ];
+      };
+    }
+
+-- a violation holds, and tells one of the first nets
+pub record HoldsBelow (design : DesignContents) (flat : FlatSaid) (end : ℕ) (v : Fault) : Type 0 where
+  pub holds : Holds design flat v
+  pub below : (numbers_of v).0 < end
+
+module _ (design : DesignContents) (flat : FlatSaid) where
+  -- the flat has a list of pieces for each entry
+  pub nets_within : IsFlatOf design flat → length design.nets ≤ length flat.pieces
+  nets_within is =
+      let entries = length design.nets + length design.special in
+      let many : length (map (pieces_of design) (range_with_len 0 entries)) ≡ entries = length-map-range_with_len (pieces_of design) 0 entries in
+      rw is.pieces (omega (arith, many))
+
+  -- no net was looked at
+  pub open_none : IsListOf (HoldsBelow design flat 0) []
+  open_none = record { increasing = AllPairs-nil ComesBefore; each = All-nil (HoldsBelow design flat 0); all = λ v held. absurd (omega (arith, held.below)) }
+
+  below_nets : (v : Fault) → Holds design flat v → (numbers_of v).0 < length design.nets
+  below_nets (OpenNet n k) holds = holds.net
+  below_nets (Unplaced c) holds = absurd holds
+  below_nets (Outside c) holds = absurd holds
+  below_nets (OffSite c) holds = absurd holds
+  below_nets (Overlap a b) holds = absurd holds
+  below_nets (Short a b) holds = absurd holds
+  below_nets (TooNear a b) holds = absurd holds
+
+  -- all nets were looked at
+  pub open_end : (end : ℕ) (found : List Fault) → end ≡ length design.nets → IsListOf (HoldsBelow design flat end) found → IsListOf (Holds design flat) found
+  open_end end found last done = record {
+    increasing = done.increasing;
+    each = All-weaker (HoldsBelow design flat end) (Holds design flat) (λ v held. held.holds) found done.each;
+    all = λ v holds. done.all v (record { holds = holds; below = omega (arith, last, below_nets v holds) });
+  }
+
+  module _ (net : ℕ) (marks : List Bool) (entry : net < length design.nets) (marked : AreMarks (AreJoined flat net 0) (piece_count flat net) marks) where
+    -- a piece without a mark isn't joined
+    open_from_mark : (k : ℕ) → slice_get marks k ≡ Some false → IsOpen design flat net k
+    open_from_mark k at =
+        let within : k < length marks = slice_get_within marks k false at in
+        record { net = entry; piece = rw marked.count at within; open_piece = λ joined. false≢true ((marked.each k false at).1 joined) }
+
+    -- and one that isn't joined has none
+    mark_from_open : (k : ℕ) → IsOpen design flat net k → slice_get marks k ≡ Some false
+    mark_from_open k holds =
+        let within : k < length marks = rw marked.count holds.piece in
+        let at : slice_get marks k ≡ Some (get_or marks k false) = slice_get-get_or marks k false within in
+        elim (cases_Bool (get_or marks k false)) [
+          | inl yes_mark ↦ absurd (holds.open_piece ((marked.each k (get_or marks k false) at).0 yes_mark))
+          | inr no_mark ↦ at ∙ ap Some no_mark
+        ]
+
+    below_from_unmarked : (v : Fault) → TellsUnmarked net marks v → HoldsBelow design flat (net + 1) v
+    below_from_unmarked (OpenNet n k) tells =
+        record { holds = rw tells.0 (open_from_mark k tells.1); below = omega (arith, tells.0) }
+    below_from_unmarked (Unplaced c) tells = absurd tells
+    below_from_unmarked (Outside c) tells = absurd tells
+    below_from_unmarked (OffSite c) tells = absurd tells
+    below_from_unmarked (Overlap a b) tells = absurd tells
+    below_from_unmarked (Short a b) tells = absurd tells
+    below_from_unmarked (TooNear a b) tells = absurd tells
+
+    -- a piece that isn't joined is of an earlier net, or has no mark
+    below_cases : (v : Fault) → HoldsBelow design flat (net + 1) v → HoldsBelow design flat net v ⊎ TellsUnmarked net marks v
+    below_cases (OpenNet n k) held =
+        elim (cases_lt n net) [
+          | inl earlier ↦ inl (record { holds = held.holds; below = earlier })
+          | inr late ↦
+              let here : n ≡ net = omega (arith, held.below, late) in
+              inr (here, mark_from_open k (rw here at held.holds))
+        ]
+    below_cases (Unplaced c) held = absurd held.holds
+    below_cases (Outside c) held = absurd held.holds
+    below_cases (OffSite c) held = absurd held.holds
+    below_cases (Overlap a b) held = absurd held.holds
+    below_cases (Short a b) held = absurd held.holds
+    below_cases (TooNear a b) held = absurd held.holds
+
+    -- the pieces of a net stand behind those of the nets before
+    below_comes_before : (v w : Fault) → HoldsBelow design flat net v → TellsUnmarked net marks w → ComesBefore v w
+    below_comes_before (OpenNet m j) (OpenNet n k) held tells =
+        record { kind = omega arith; first = λ _. omega (arith, held.below, tells.0); second = λ _ same. absurd (omega (arith, held.below, tells.0, same)) }
+    below_comes_before (Unplaced c) w held tells = absurd held.holds
+    below_comes_before (Outside c) w held tells = absurd held.holds
+    below_comes_before (OffSite c) w held tells = absurd held.holds
+    below_comes_before (Overlap a b) w held tells = absurd held.holds
+    below_comes_before (Short a b) w held tells = absurd held.holds
+    below_comes_before (TooNear a b) w held tells = absurd held.holds
+    below_comes_before (OpenNet m j) (Unplaced c) held tells = absurd tells
+    below_comes_before (OpenNet m j) (Outside c) held tells = absurd tells
+    below_comes_before (OpenNet m j) (OffSite c) held tells = absurd tells
+    below_comes_before (OpenNet m j) (Overlap a b) held tells = absurd tells
+    below_comes_before (OpenNet m j) (Short a b) held tells = absurd tells
+    below_comes_before (OpenNet m j) (TooNear a b) held tells = absurd tells
+
+    -- the pieces of one more net
+    pub open_more : (before after : List Fault) → IsListOf (HoldsBelow design flat net) before → AreAdded (TellsUnmarked net marks) before after → IsListOf (HoldsBelow design flat (net + 1)) after
+    open_more before after done added = rw added.is (record {
+      increasing =
+          AllPairs-append_by ComesBefore (HoldsBelow design flat net) (TellsUnmarked net marks) below_comes_before before added.more
+          done.each added.list.each done.increasing added.list.increasing;
+      each =
+          All-append (HoldsBelow design flat (net + 1)) before added.more
+          (All-weaker (HoldsBelow design flat net) (HoldsBelow design flat (net + 1)) (λ v held. record { holds = held.holds; below = omega (arith, held.below) }) before done.each)
+          (All-weaker (TellsUnmarked net marks) (HoldsBelow design flat (net + 1)) below_from_unmarked added.more added.list.each);
+      all = λ v held. elim (below_cases v held) [
+        | inl earlier ↦ Contains-append_left before added.more v (done.all v earlier)
+        | inr here ↦ Contains-append_right before added.more v (added.list.all v here)
+      ];
+    })

@@ -1,0 +1,26 @@
+-- Which shapes are judged beside one another (own rules).
+use Rattle.std.specs.Prelude.{◌≡◌, ◌≢◌, ℕ, Some}
+use Rattle.leg_flat.specs.declared.owner.Owner.{Owner}
+use Rattle.leg_flat.specs.declared.owner.Owner.TheVariants.{Net, Lone, Power, Ground, Obs}
+use Rattle.leg_flat.specs.declared.shape.Shape.{Shape}
+
+abbrev pub IsObstruction : Owner → Type 0
+IsObstruction (Net n) = ⊥
+IsObstruction (Lone terminal) = ⊥
+IsObstruction Power = ⊥
+IsObstruction Ground = ⊥
+IsObstruction (Obs c) = Unit {0}
+
+-- both shapes belong to one component
+pub record AreOfOneComponent (a b : Shape) : Type 0 where
+  pub component : ℕ
+  pub of_a : a.component ≡ Some component
+  pub of_b : b.component ≡ Some component
+
+-- Two shapes are comparable if they lie on one layer, have different owners, are not of one component, and are not both
+-- obstructions.
+pub record AreComparable (a b : Shape) : Type 0 where
+  pub layer : a.layer ≡ b.layer
+  pub owners : a.owner ≢ b.owner
+  pub apart : ¬ AreOfOneComponent a b
+  pub metal : IsObstruction a.owner → ¬ IsObstruction b.owner

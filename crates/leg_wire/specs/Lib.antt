@@ -1,0 +1,11 @@
+pub mod Comparable
+pub mod Spacing
+pub mod Touch
+pub mod Open
+pub mod Close
+pub mod Meet
+pub mod Links
+pub mod Told
+pub mod Corners
+pub mod Reached
+pub mod Unmarked

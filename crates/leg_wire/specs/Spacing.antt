@@ -1,0 +1,43 @@
+-- Shorts, and shapes too near one another (own rules; LEF/DEF 5.8, "Layer (Routing)", "Layer (Cut)", on SPACING).
+use Rattle.std.specs.Prelude.{◌≡◌, ◌*◌, ◌<◌, ℕ, Some, slice_get, unsigned_abs}
+use Rattle.leg_geom.specs.Plane.{Spot, Sides, HasPoint, SharePoint}
+use Rattle.leg_geom.specs.Gap.{square_distance}
+use Rattle.leg_sweep.specs.Pairs.{IsPair}
+use Rattle.leg_lib.specs.declared.records.Layer.{Layer}
+use Rattle.leg_lib.specs.Records.{Contents}
+use Rattle.leg_design.specs.declared.fault.Fault.{Fault}
+use Rattle.leg_design.specs.declared.fault.Fault.TheVariants.{Unplaced, Outside, OffSite, Overlap, Short, TooNear, OpenNet}
+use Rattle.leg_flat.specs.declared.shape.Shape.{Shape}
+use Rattle.leg_flat.specs.Flat.{FlatSaid}
+use Rattle.leg_wire.specs.Comparable.{AreComparable}
+
+-- two comparable shapes share a point
+pub record AreShort (a b : Shape) : Type 0 where
+  pub comparable : AreComparable a b
+  pub shared : SharePoint a.rect b.rect
+
+-- some point of the one rectangle and some point of the other lie nearer than this
+pub record AreNearer (distance : ℕ) (a b : Sides) : Type 0 where
+  pub p : Spot
+  pub q : Spot
+  pub in_a : HasPoint a p
+  pub in_b : HasPoint b q
+  pub near : square_distance p q < distance * distance
+
+-- two comparable shapes share no point, and lie nearer than their layer's spacing, which is never below 0
+pub record AreTooNear (library : Contents) (a b : Shape) : Type 0 where
+  pub comparable : AreComparable a b
+  pub apart : ¬ SharePoint a.rect b.rect
+  pub layer : Layer
+  pub there : slice_get library.layers a.layer ≡ Some layer
+  pub near : AreNearer (unsigned_abs layer.spacing) a.rect b.rect
+
+-- A violation holds that speaks of two shapes of the flat. They are told by their numbers, the lower one first.
+abbrev pub Holds : Contents → FlatSaid → Fault → Type 0
+Holds library flat (Short i j) = IsPair AreShort flat.shapes (i, j)
+Holds library flat (TooNear i j) = IsPair (AreTooNear library) flat.shapes (i, j)
+Holds library flat (Unplaced c) = ⊥
+Holds library flat (Outside c) = ⊥
+Holds library flat (OffSite c) = ⊥
+Holds library flat (Overlap a b) = ⊥
+Holds library flat (OpenNet n k) = ⊥

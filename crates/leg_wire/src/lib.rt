@@ -1,0 +1,22 @@
+//! What is not legal about the metal of a design: shapes of different owners that touch or stand too near, and nets whose
+//! pieces aren't joined.
+//!
+//! `spacing_faults` and `open_faults` list exactly the violations of these kinds, each once, in order; `joined` says which
+//! pieces of a net are joined to its first one.
+#![tactic(auto)]
+
+mod comparable;
+mod corner;
+mod join;
+pub mod laws;
+mod link;
+mod mark;
+mod meeting;
+mod open_fault;
+mod piece_shape;
+mod spacing;
+mod too_close;
+
+pub use join::joined;
+pub use open_fault::open_faults;
+pub use spacing::spacing_faults;

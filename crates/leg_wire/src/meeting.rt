@@ -1,0 +1,88 @@
+//! Metal of pieces of one net that shares a point.
+
+ghost use Rattle.std.specs.Prelude.{◌≡◌};
+ghost use Rattle.leg_wire.specs.Meet.{DoMeet, DoMeet-symmetric, DoMeet-near};
+
+use crate::piece_shape::PieceShape;
+use leg_sweep::{LayeredRule, PairRule};
+
+/// Holds of metal of two pieces of one net that shares a point on one layer.
+#[derive(Drop)]
+pub(crate) struct Meeting {
+    tests: u64,
+    looks: u64,
+}
+
+impl Meeting {
+    /// The rule, of which nothing was asked yet.
+    pub(crate) fn new() -> Meeting
+        ensures untested { result.tests ≡ 0 }
+        ensures unseen { result.looks ≡ 0 }
+    {
+        Meeting { tests: 0, looks: 0 }
+    }
+}
+
+impl PairRule for Meeting {
+    type Item = PieceShape;
+
+    ghost fixed = { λ r. record { tests = 0; looks = 0 } };
+
+    ghost Holds = { λ r a b. DoMeet a b };
+
+    ghost rect_of = { λ r a. a.rect };
+
+    ghost reach_of = { λ r. 0 };
+
+    ghost tests_of = { λ r. r.tests };
+
+    ghost looks_of = { λ r. r.looks };
+
+    fn left(&self, item: &PieceShape) -> i64 {
+        item.rect.x1()
+    }
+
+    fn reach(&self) -> i64 {
+        0
+    }
+
+    fn gaps(&mut self, a: &PieceShape, b: &PieceShape) -> (i64, i64) {
+        self.looks += 1;
+        (a.rect.x_gap(&b.rect) as i64, a.rect.y_gap(&b.rect) as i64)
+    }
+
+    fn meets(&mut self, a: &PieceShape, b: &PieceShape) -> bool {
+        self.tests += 1;
+        a.net == b.net && a.layer == b.layer && a.piece != b.piece && a.rect.shares_point(&b.rect)
+    }
+
+    fn tests(&self) -> u64 {
+        self.tests
+    }
+
+    fn looks(&self) -> u64 {
+        self.looks
+    }
+
+    ghost symmetric = { λ r a b h. DoMeet-symmetric _ _ h };
+
+    ghost near = { λ r a b h. DoMeet-near _ _ h };
+}
+
+impl LayeredRule for Meeting {
+    ghost layer_of = { λ r a. a.layer };
+
+    fn layer(&self, item: &PieceShape) -> usize {
+        item.layer
+    }
+
+    fn bottom(&self, item: &PieceShape) -> i64 {
+        item.rect.y1()
+    }
+
+    fn top(&self, item: &PieceShape) -> i64 {
+        item.rect.y2()
+    }
+
+    ghost layered = { λ r a b h. h.layer };
+}

@@ -1,0 +1,59 @@
+//! Nets that are open.
+
+ghost use Rattle.std.specs.Prelude.{◌<◌, ◌^◌, length, IfOk, OnOk};
+ghost use Rattle.leg_design.specs.Violation.{IsListOf};
+ghost use Rattle.leg_flat.specs.Flat.{IsFlatOf};
+ghost use Rattle.leg_wire.specs.Open.{Holds};
+ghost use Rattle.leg_wire.specs.Unmarked.{TellsUnmarked, AreAdded};
+
+use crate::link::{links, links_of_net};
+use crate::mark::marks;
+use crate::piece_shape::piece_shapes;
+use leg_design::{Design, Fault};
+use leg_flat::Flat;
+use std::alloc::{AllocError, Allocator};
+
+/// The pieces of the nets of `NETS` that aren't joined to the net's first piece: all of them, each once, in order
+/// (own rule).
+///
+/// The flat is that of the design. Only want of memory is refused.
+pub fn open_faults<A: Allocator + Copy>(
+    alloc: A,
+    design: &Design<'_, A>,
+    flat: &Flat<A>,
+) -> Result<Vec<Fault, A>, AllocError>
+    requires { IsFlatOf design.now flat.now }
+    ensures { IfOk result (λ found. IsListOf (Holds design.now flat.now) found.items) }
+{
+    let nets = design.nets().len() as u32;
+    prove!(nets <= flat.net_count());
+    let shapes = piece_shapes(alloc, flat, 0, nets)?;
+    let links = links(alloc, &shapes)?;
+    let mut found = Vec::new(alloc);
+    for net in 0..nets {
+        let marks = marks(
+            alloc,
+            flat.pieces_of_net(net) as usize,
+            links_of_net(&links, net),
+        )?;
+        push_open(net, &marks, &mut found)?;
+    }
+    Ok(found)
+}
+
+/// Adds the pieces of the net that aren't marked.
+fn push_open<A: Allocator>(
+    net: u32,
+    marks: &[bool],
+    found: &mut Vec<Fault, A>,
+) -> Result<(), AllocError>
+    requires { length marks.now < 2 ^ 32 }
+    ensures { OnOk result (AreAdded (TellsUnmarked net marks.now) found.old.items found.new.items) }
+{
+    for (piece, joined) in marks.iter().enumerate() {
+        if !joined {
+            found.push(Fault::OpenNet(net, piece as u32))?;
+        }
+    }
+    Ok(())
+}

@@ -1,0 +1,76 @@
+//! Shorts, and shapes that stand too near one another.
+
+ghost use Rattle.std.specs.Prelude.{◌<◌, length, All, AllPairs, IfOk, OnOk};
+ghost use Rattle.leg_sweep.specs.Pairs.{Before};
+ghost use Rattle.leg_design.specs.Violation.{IsListOf};
+ghost use Rattle.leg_wire.specs.Spacing.{Holds};
+ghost use Rattle.leg_wire.specs.Told.{DoShare, AreApart, IsTold, AreAdded};
+
+use crate::too_close::TooClose;
+use leg_design::Fault;
+use leg_flat::{Flat, Shape};
+use leg_lib::Library;
+use leg_sweep::pairs_in_bands;
+use std::alloc::{AllocError, Allocator};
+
+/// The pairs of comparable shapes that share a point, and those that share none and lie nearer than their layer's spacing:
+/// all that hold, each once, in order (own rules). Shapes are told by their numbers in the flat, the lower one first.
+///
+/// The flat is of a design that was read with this library. Only want of memory is refused.
+pub fn spacing_faults<A: Allocator + Copy>(
+    alloc: A,
+    library: &Library<'_, A>,
+    flat: &Flat<A>,
+) -> Result<Vec<Fault, A>, AllocError>
+    ensures { IfOk result (λ found. IsListOf (Holds library.now flat.now) found.items) }
+{
+    let shapes = flat.shapes();
+    let mut rule = TooClose::new(library.layers());
+    let close = pairs_in_bands(alloc, shapes, &mut rule)?;
+    let mut found = Vec::new(alloc);
+    push_shorts(shapes, &close, &mut found)?;
+    push_too_near(shapes, &close, &mut found)?;
+    Ok(found)
+}
+
+/// Adds those of the pairs that share a point.
+fn push_shorts<A: Allocator>(
+    shapes: &[Shape],
+    close: &[(u32, u32)],
+    found: &mut Vec<Fault, A>,
+) -> Result<(), AllocError>
+    requires increasing { AllPairs Before close.now }
+    requires first { All (λ p. p.0 < length shapes.now) close.now }
+    requires second { All (λ p. p.1 < length shapes.now) close.now }
+    ensures { OnOk result (AreAdded (IsTold Fault.Short DoShare shapes.now close.now) found.old.items found.new.items) }
+{
+    for (i, j) in close {
+        let a = &shapes[*i as usize];
+        let b = &shapes[*j as usize];
+        if a.rect.shares_point(&b.rect) {
+            found.push(Fault::Short(*i, *j))?;
+        }
+    }
+    Ok(())
+}
+
+/// Adds those of the pairs that share no point.
+fn push_too_near<A: Allocator>(
+    shapes: &[Shape],
+    close: &[(u32, u32)],
+    found: &mut Vec<Fault, A>,
+) -> Result<(), AllocError>
+    requires increasing { AllPairs Before close.now }
+    requires first { All (λ p. p.0 < length shapes.now) close.now }
+    requires second { All (λ p. p.1 < length shapes.now) close.now }
+    ensures { OnOk result (AreAdded (IsTold Fault.TooNear AreApart shapes.now close.now) found.old.items found.new.items) }
+{
+    for (i, j) in close {
+        let a = &shapes[*i as usize];
+        let b = &shapes[*j as usize];
+        if !a.rect.shares_point(&b.rect) {
+            found.push(Fault::TooNear(*i, *j))?;
+        }
+    }
+    Ok(())
+}
