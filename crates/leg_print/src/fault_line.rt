@@ -1,0 +1,197 @@
+//! The lines of violations.
+
+ghost use Rattle.std.specs.Prelude.{◌≡◌, ◌++◌, None, IfOk, OnOk, option_map, codes};
+ghost use Rattle.std.specs.List.{flat_map};
+ghost use Rattle.std.specs.Fmt.{signed_decimal};
+ghost use Rattle.leg_design.specs.declared.fault.Fault.TheVariants.{Overlap};
+ghost use Rattle.leg_print.specs.Names.{component_name};
+ghost use Rattle.leg_print.specs.Lines.{sides_text, shape_text, shape_at, piece_at, pair_line, open_line, violation_line, violations_text};
+
+use crate::name::{component_name, layer_name, net_name, push_owner, push_piece};
+use itoa::Buffer;
+use leg_design::{Design, Fault};
+use leg_flat::{Flat, Piece, Shape};
+use leg_geom::Rect;
+use leg_lib::Library;
+use std::alloc::{AllocError, Allocator};
+
+/// A line for each violation, in their order.
+///
+/// The design was read with this library. The flat is given where a violation speaks of shapes or of a net's pieces, and is
+/// then the one that they are of. Only want of memory is refused.
+pub fn print_faults<A: Allocator + Copy>(
+    alloc: A,
+    library: &Library<'_, A>,
+    design: &Design<'_, A>,
+    flat: Option<&Flat<A>>,
+    violations: &[Fault],
+) -> Result<Vec<u8, A>, AllocError>
+    requires { library.now ≡ design.now.library }
+    ensures { IfOk result (λ text. text.items ≡ violations_text design.now (option_map (λ flat. flat.now) flat.entry) violations.now) }
+{
+    let mut text = Vec::new(alloc);
+    for violation in violations {
+        push_violation(&mut text, design, flat, *violation)?;
+    }
+    Ok(text)
+}
+
+/// Adds the line of a violation.
+fn push_violation<A: Allocator + Copy>(
+    text: &mut Vec<u8, A>,
+    design: &Design<'_, A>,
+    flat: Option<&Flat<A>>,
+    violation: Fault,
+) -> Result<(), AllocError>
+    ensures { OnOk result (text.new.items ≡ text.old.items ++ violation_line design.now (option_map (λ flat. flat.now) flat.entry) violation) }
+{
+    match violation {
+        Fault::Unplaced(c) => push_component(text, design, b"UNPLACED ", c),
+        Fault::Outside(c) => push_component(text, design, b"OUTSIDE ", c),
+        Fault::OffSite(c) => push_component(text, design, b"OFFSITE ", c),
+        Fault::Overlap(a, b) => push_overlap(text, design, a, b),
+        Fault::Short(i, j) => push_pair(
+            text,
+            design,
+            b"SHORT",
+            shape_at(flat, i),
+            shape_at(flat, j),
+        ),
+        Fault::TooNear(i, j) => push_pair(
+            text,
+            design,
+            b"TOONEAR",
+            shape_at(flat, i),
+            shape_at(flat, j),
+        ),
+        Fault::OpenNet(net, piece) => push_open(text, design, net, piece_at(flat, net, piece)),
+    }
+}
+
+/// The shape of this number, where a flat is given that has it.
+fn shape_at<'f, A: Allocator + Copy>(flat: Option<&'f Flat<A>>, number: u32) -> Option<&'f Shape>
+    ensures { option_map (λ shape. shape.now) result ≡ shape_at (option_map (λ flat. flat.now) flat.entry) number }
+{
+    flat?.shapes().get(number as usize)
+}
+
+/// The piece of this number of a net, where a flat is given that has it.
+fn piece_at<'f, A: Allocator + Copy>(
+    flat: Option<&'f Flat<A>>,
+    net: u32,
+    piece: u32,
+) -> Option<&'f Piece>
+    ensures { option_map (λ piece. piece.now) result ≡ piece_at (option_map (λ flat. flat.now) flat.entry) net piece }
+{
+    let flat = flat?;
+    if net >= flat.net_count() {
+        return None;
+    }
+    flat.pieces(net).get(piece as usize)
+}
+
+/// Adds the line of a violation that speaks of one component.
+fn push_component<A: Allocator + Copy>(
+    text: &mut Vec<u8, A>,
+    design: &Design<'_, A>,
+    word: &[u8],
+    component: u32,
+) -> Result<(), AllocError>
+    ensures { OnOk result (text.new.items ≡ text.old.items ++ word.now ++ component_name design.now component ++ codes "\n") }
+{
+    text.extend_from_slice(word)?;
+    text.extend_from_slice(component_name(design, component))?;
+    text.extend_from_slice(b"\n")
+}
+
+/// Adds the line of two components on one another.
+fn push_overlap<A: Allocator + Copy>(
+    text: &mut Vec<u8, A>,
+    design: &Design<'_, A>,
+    first: u32,
+    second: u32,
+) -> Result<(), AllocError>
+    ensures { OnOk result (text.new.items ≡ text.old.items ++ violation_line design.now None (Overlap first second)) }
+{
+    text.extend_from_slice(b"OVERLAP ")?;
+    text.extend_from_slice(component_name(design, first))?;
+    text.extend_from_slice(b" ")?;
+    text.extend_from_slice(component_name(design, second))?;
+    text.extend_from_slice(b"\n")
+}
+
+/// Adds the line of a violation that speaks of two shapes, if there are both.
+fn push_pair<A: Allocator + Copy>(
+    text: &mut Vec<u8, A>,
+    design: &Design<'_, A>,
+    word: &[u8],
+    first: Option<&Shape>,
+    second: Option<&Shape>,
+) -> Result<(), AllocError>
+    ensures { OnOk result (text.new.items ≡ text.old.items ++ pair_line design.now word.now (option_map (λ shape. shape.now) first.entry) (option_map (λ shape. shape.now) second.entry)) }
+{
+    let (Some(first), Some(second)) = (first, second) else {
+        return Ok(());
+    };
+    text.extend_from_slice(word)?;
+    text.extend_from_slice(b" ")?;
+    text.extend_from_slice(layer_name(design, first.layer))?;
+    text.extend_from_slice(b" ")?;
+    push_shape(text, design, first)?;
+    text.extend_from_slice(b" ")?;
+    push_shape(text, design, second)?;
+    text.extend_from_slice(b"\n")
+}
+
+/// Adds whose a shape is and where it lies.
+fn push_shape<A: Allocator + Copy>(
+    text: &mut Vec<u8, A>,
+    design: &Design<'_, A>,
+    shape: &Shape,
+) -> Result<(), AllocError>
+    ensures { OnOk result (text.new.items ≡ text.old.items ++ shape_text design.now shape.now) }
+{
+    push_owner(text, design, &shape.owner)?;
+    text.extend_from_slice(b" ")?;
+    push_sides(text, &shape.rect)
+}
+
+/// Adds the sides of a rectangle: left, lower, right, upper.
+fn push_sides<A: Allocator>(text: &mut Vec<u8, A>, rect: &Rect) -> Result<(), AllocError>
+    ensures { OnOk result (text.new.items ≡ text.old.items ++ sides_text rect.now) }
+{
+    push_number(text, rect.x1())?;
+    text.extend_from_slice(b" ")?;
+    push_number(text, rect.y1())?;
+    text.extend_from_slice(b" ")?;
+    push_number(text, rect.x2())?;
+    text.extend_from_slice(b" ")?;
+    push_number(text, rect.y2())
+}
+
+/// Adds a number in decimals, with its sign where it lies below 0.
+fn push_number<A: Allocator>(text: &mut Vec<u8, A>, number: i64) -> Result<(), AllocError>
+    ensures { OnOk result (text.new.items ≡ text.old.items ++ signed_decimal number) }
+{
+    let mut buffer = Buffer::new();
+    text.extend_from_slice(buffer.format(number).as_bytes())
+}
+
+/// Adds the line of a piece of a net that isn't joined to the first one, if there is such a piece.
+fn push_open<A: Allocator + Copy>(
+    text: &mut Vec<u8, A>,
+    design: &Design<'_, A>,
+    net: u32,
+    piece: Option<&Piece>,
+) -> Result<(), AllocError>
+    ensures { OnOk result (text.new.items ≡ text.old.items ++ open_line design.now net (option_map (λ piece. piece.now) piece.entry)) }
+{
+    let Some(piece) = piece else {
+        return Ok(());
+    };
+    text.extend_from_slice(b"OPEN ")?;
+    text.extend_from_slice(net_name(design, net))?;
+    text.extend_from_slice(b" ")?;
+    push_piece(text, design, piece)?;
+    text.extend_from_slice(b"\n")
+}
