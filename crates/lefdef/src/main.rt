@@ -1,7 +1,7 @@
 //! lefdef: is a placed block of standard cells legal?
 //!
 //! `lefdef COMMAND DEF LEF...` reads the files, asks `leg_app` and writes its answer. With no words it
-//! reads one LEF and after it one DEF from standard input, and checks the placement.
+//! reads one LEF and after it one DEF from standard input, and checks the block.
 #![tactic(auto)]
 
 mod input;
@@ -124,7 +124,7 @@ fn on_stream<R: Runtime + AllocGlobal>(rt: &R) -> Result<Status, Halt<'static>> 
         out.write_all(NO_LIBRARY).map_err(|_| Halt::NotWritten)?;
         return Ok(Status::Refused);
     };
-    Ok(run(rt.alloc(), Command::PlaceCheck, &[lef], def, &mut out)?)
+    Ok(run(rt.alloc(), Command::Check, &[lef], def, &mut out)?)
 }
 
 // Why an input ends the program.

@@ -1,16 +1,46 @@
 -- Answers of every command.
-use Rattle.std.proofs.Common.{ℕ, List, Result, Ok, Err, IfOk, refl}
+use Rattle.std.proofs.Common.{◌≡◌, ℕ, false, List, Option, None, Some, is_some, option_map, Result, Ok, Err, IfOk, IfErr, refl, sym}
+use Rattle.std.proofs.lemmas.Bool.{false≢true}
 use Rattle.leg_app.specs.declared.command.Command.{Command}
-use Rattle.leg_app.specs.declared.command.Command.TheVariants.{PlaceCheck}
-use Rattle.leg_app.specs.declared.status.Status.TheVariants.{Memory}
-use Rattle.leg_app.specs.Lines.{memory_text}
-use Rattle.leg_app.specs.Answer.{IsAnswer}
-
--- a command may answer that memory ran out
-pub IsAnswer-memory : (command : Command) (lefs : List (List ℕ)) (def : List ℕ) → IsAnswer command lefs def Memory memory_text
-IsAnswer-memory PlaceCheck lefs def = refl
+use Rattle.leg_app.specs.declared.status.Status.{Status}
+use Rattle.leg_app.specs.declared.status.Status.TheVariants.{Success, Violations, Refused, Memory}
+use Rattle.leg_app.specs.declared.text_fault.TextFault.{TextFault}
+use Rattle.leg_app.specs.declared.text_fault.TextFault.TheVariants as faults
+use Rattle.leg_app.specs.Refusal.{Refuses}
+use Rattle.leg_lib.specs.Records.{Contents}
+use Rattle.leg_design.specs.Records.{DesignContents}
+use Rattle.leg_design.specs.declared.fault.Fault.{Fault}
+use Rattle.leg_design.specs.Violation.{IsListOf}
+use Rattle.leg_flat.specs.Flat.{FlatSaid}
+use Rattle.leg_app.specs.Say.{SayDesign}
+use Rattle.leg_app.specs.Answer.{Lists, IsShown, IsListing, IsAnswer}
 
 -- what is weaker holds of what is answered too
 pub ok_weaker : {T E : Type 0} (P Q : T → Type 0) (r : Result T E) → ((t : T) → P t → Q t) → IfOk r P → IfOk r Q
 ok_weaker P Q (Ok t) weaker holds = weaker t holds
 ok_weaker P Q (Err e) weaker holds = tt
+
+-- why texts are refused tells no less where less is said by a refusal
+pub refuses_weaker : {nothing other much more : Type 0} (fault : TextFault) → (nothing → other) → (much → more) → Refuses nothing much fault → Refuses other more fault
+refuses_weaker (faults.Read fault) weaker greater h = λ not_memory. weaker (h not_memory)
+refuses_weaker (faults.Scale fault) weaker greater h = λ not_memory. weaker (h not_memory)
+refuses_weaker faults.TooMany weaker greater h = greater h
+refuses_weaker faults.Memory weaker greater h = tt
+
+pub err_weaker : {T E : Type 0} (P Q : E → Type 0) (r : Result T E) → ((e : E) → P e → Q e) → IfErr r P → IfErr r Q
+err_weaker P Q (Ok t) weaker holds = tt
+err_weaker P Q (Err e) weaker holds = weaker e holds
+
+-- what isn't there isn't seen
+pub nothing_there : {X Y : Type 0} (f : X → Y) (o : Option X) → is_some o ≡ false → option_map f o ≡ None
+nothing_there f None e = refl
+nothing_there f (Some x) e = absurd (false≢true (sym e))
+
+-- violations that are listed, or told to be none, are an answer where they are all that the command lists
+pub listed_answer : (command : Command) (lefs : List (List ℕ)) (def : List ℕ) (library : Contents) (design : DesignContents) (flat : Option FlatSaid) (violations : List Fault) (status : Status) (text : List ℕ) → SayDesign lefs def library design → IsShown command design flat → IsListOf (Lists command library design) violations → IsListing design flat violations status text → IsAnswer command lefs def status text
+listed_answer command lefs def library design flat violations Success text say shown list listed =
+    record { library = library; design = design; flat = flat; say = say; shown = shown; none = rw listed.0 at list; is = listed.1 }
+listed_answer command lefs def library design flat violations Violations text say shown list listed =
+    record { library = library; design = design; flat = flat; violations = violations; say = say; shown = shown; list = list; some = listed.0; is = listed.1 }
+listed_answer command lefs def library design flat violations Refused text say shown list listed = absurd listed
+listed_answer command lefs def library design flat violations Memory text say shown list listed = absurd listed

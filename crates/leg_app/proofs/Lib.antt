@@ -1,3 +1,4 @@
-pub mod Sayings
-pub mod SplitLemmas
-pub mod AnswerLemmas
+mod AnswerLemmas
+mod Sayings
+mod SplitLemmas
+mod KindsJoined

@@ -1,39 +1,57 @@
 -- What a command may answer: its text, and the status that goes with it.
-use Rattle.std.specs.Prelude.{◌≡◌, ◌≢◌, ℕ, List, [], ◌++◌, ◌⊎◌, Option}
+use Rattle.std.specs.Prelude.{◌≡◌, ◌≢◌, ℕ, List, [], ◌++◌, ◌⊎◌, Option, None, Some}
 use Rattle.std.specs.Io.KnownBytes.{Appends}
 use Rattle.leg_lex.specs.declared.read_fault.ReadFault.{ReadFault}
 use Rattle.leg_lex.specs.declared.read_fault.FaultKind.TheVariants as kinds
 use Rattle.leg_lib.specs.declared.scale_fault.ScaleKind.{ScaleKind}
 use Rattle.leg_lib.specs.declared.scale_fault.ScaleKind.TheVariants as scale
 use Rattle.leg_app.specs.declared.command.Command.{Command}
-use Rattle.leg_app.specs.declared.command.Command.TheVariants.{PlaceCheck}
+use Rattle.leg_app.specs.declared.command.Command.TheVariants.{PlaceCheck, Check}
 use Rattle.leg_app.specs.declared.status.Status.{Status}
 use Rattle.leg_app.specs.declared.status.Status.TheVariants.{Success, Violations, Refused, Memory}
 use Rattle.leg_lib.specs.Records.{Contents}
 use Rattle.leg_design.specs.Records.{DesignContents}
 use Rattle.leg_design.specs.declared.fault.Fault.{Fault}
 use Rattle.leg_design.specs.Violation.{IsListOf}
+use Rattle.leg_flat.specs.Flat.{FlatSaid, IsFlatOf}
 use Rattle.leg_place.specs.Faults.{Holds}
-use Rattle.leg_app.specs.Say.{SayDesign, SayNothing}
-use Rattle.leg_app.specs.Lines.{violations_text, legal_text, memory_text, refused_text, scale_text}
+use Rattle.leg_app.specs.Say.{SayDesign, SayNothing, SayTooMany}
+use Rattle.leg_app.specs.Violations.{IsViolation}
+use Rattle.leg_app.specs.Lines.{listing_text, legal_text, memory_text, refused_text, scale_text, too_many_text}
+
+-- the violations that the command lists: those of where components stand, or all
+abbrev pub Lists : Command → Contents → DesignContents → Fault → Type 0
+Lists PlaceCheck library design fault = Holds library design fault
+Lists Check library design fault = IsViolation library design fault
+
+-- the flat that is judged, and whose shapes and pieces the lines tell: none, or the design's own
+abbrev pub IsShown : Command → DesignContents → Option FlatSaid → Type 0
+IsShown PlaceCheck design None = Unit {0}
+IsShown PlaceCheck design (Some flat) = ⊥
+IsShown Check design None = ⊥
+IsShown Check design (Some flat) = IsFlatOf design flat
 
 -- the texts say a design without a violation
-pub record SaysLegal (lefs : List (List ℕ)) (def text : List ℕ) : Type 0 where
+pub record SaysLegal (command : Command) (lefs : List (List ℕ)) (def text : List ℕ) : Type 0 where
   pub library : Contents
   pub design : DesignContents
+  pub flat : Option FlatSaid
   pub say : SayDesign lefs def library design
-  pub none : IsListOf (Holds library design) []
+  pub shown : IsShown command design flat
+  pub none : IsListOf (Lists command library design) []
   pub is : text ≡ legal_text
 
 -- the texts say a design with violations, and these are they
-pub record ListsViolations (lefs : List (List ℕ)) (def text : List ℕ) : Type 0 where
+pub record ListsViolations (command : Command) (lefs : List (List ℕ)) (def text : List ℕ) : Type 0 where
   pub library : Contents
   pub design : DesignContents
+  pub flat : Option FlatSaid
   pub violations : List Fault
   pub say : SayDesign lefs def library design
-  pub list : IsListOf (Holds library design) violations
+  pub shown : IsShown command design flat
+  pub list : IsListOf (Lists command library design) violations
   pub some : violations ≢ []
-  pub is : text ≡ violations_text design violations
+  pub is : text ≡ listing_text design flat violations
 
 -- a fault of the texts is told
 pub record TellsFault (text : List ℕ) : Type 0 where
@@ -52,15 +70,25 @@ pub record TellsRefusal (lefs : List (List ℕ)) (def text : List ℕ) : Type 0 
   pub nothing : SayNothing lefs def
   pub reason : TellsFault text ⊎ TellsScale text
 
-abbrev pub IsPlaceCheck : List (List ℕ) → List ℕ → Status → List ℕ → Type 0
-IsPlaceCheck lefs def Success text = SaysLegal lefs def text
-IsPlaceCheck lefs def Violations text = ListsViolations lefs def text
-IsPlaceCheck lefs def Refused text = TellsRefusal lefs def text
-IsPlaceCheck lefs def Memory text = text ≡ memory_text
+-- they say one with more shapes than a flat may have
+pub record TellsTooMany (command : Command) (lefs : List (List ℕ)) (def text : List ℕ) : Type 0 where
+  pub flattens : command ≡ Check
+  pub many : SayTooMany lefs def
+  pub is : text ≡ too_many_text
+
+-- the text and the status for these violations: they are listed, or told to be none
+abbrev pub IsListing : DesignContents → Option FlatSaid → List Fault → Status → List ℕ → Type 0
+IsListing design flat violations Success text = (violations ≡ []) × (text ≡ legal_text)
+IsListing design flat violations Violations text = (violations ≢ []) × (text ≡ listing_text design flat violations)
+IsListing design flat violations Refused text = ⊥
+IsListing design flat violations Memory text = ⊥
 
 -- The text and the status are an answer of the command to these texts.
 abbrev pub IsAnswer : Command → List (List ℕ) → List ℕ → Status → List ℕ → Type 0
-IsAnswer PlaceCheck lefs def status text = IsPlaceCheck lefs def status text
+IsAnswer command lefs def Success text = SaysLegal command lefs def text
+IsAnswer command lefs def Violations text = ListsViolations command lefs def text
+IsAnswer command lefs def Refused text = TellsRefusal lefs def text ⊎ TellsTooMany command lefs def text
+IsAnswer command lefs def Memory text = text ≡ memory_text
 
 -- A writer took a whole answer of this status: what it holds, where it tells its bytes, grew by the text.
 pub record TakesAnswer (command : Command) (lefs : List (List ℕ)) (def : List ℕ) (status : Status) (before after : Option (List ℕ)) : Type 0 where

@@ -1,4 +1,5 @@
 pub mod Say
+pub mod Violations
 pub mod Refusal
 pub mod Lines
 pub mod Answer

@@ -2,11 +2,13 @@
 use Rattle.std.specs.Prelude.{ℕ, List, ◌∷◌, Option, None, Some, option_map, codes, if◌then◌else◌}
 use Rattle.std.specs.Str.{bytes_eq}
 use Rattle.leg_app.specs.declared.command.Command.{Command}
-use Rattle.leg_app.specs.declared.command.Command.TheVariants.{PlaceCheck}
+use Rattle.leg_app.specs.declared.command.Command.TheVariants.{PlaceCheck, Check}
 
 -- the command of exactly this name
 abbrev pub command_named : List ℕ → Option Command
-command_named name = if bytes_eq name (codes "place-check") then Some PlaceCheck else None
+command_named name =
+    if bytes_eq name (codes "check") then Some Check
+    else (if bytes_eq name (codes "place-check") then Some PlaceCheck else None)
 
 -- a command's name, a DEF, and one LEF or more
 abbrev pub line_of : List (List ℕ) → Option (Command × List ℕ × List (List ℕ))

@@ -1,41 +1,25 @@
 -- The lines that are printed: words separated by one blank, each line with a line feed at its end.
-use Rattle.std.specs.Prelude.{ℕ, List, [], ◌++◌, length, Option, None, Some, codes, decimal, slice_get}
-use Rattle.std.specs.List.{flat_map}
+use Rattle.std.specs.Prelude.{ℕ, List, ◌++◌, length, Option, codes, decimal}
 use Rattle.leg_lex.specs.declared.read_fault.ReadFault.{ReadFault}
 use Rattle.leg_lex.specs.declared.read_fault.FaultKind.{FaultKind}
 use Rattle.leg_lex.specs.declared.read_fault.FaultKind.TheVariants as kinds
 use Rattle.leg_lib.specs.declared.scale_fault.ScaleKind.{ScaleKind}
 use Rattle.leg_lib.specs.declared.scale_fault.ScaleKind.TheVariants as scale
 use Rattle.leg_design.specs.Records.{DesignContents}
-use Rattle.leg_design.specs.declared.records.Component.{Component}
 use Rattle.leg_design.specs.declared.fault.Fault.{Fault}
-use Rattle.leg_design.specs.declared.fault.Fault.TheVariants.{Unplaced, Outside, OffSite, Overlap, Short, TooNear, OpenNet}
+use Rattle.leg_flat.specs.Flat.{FlatSaid}
+use Rattle.leg_print.specs.Lines.{violations_text}
 
-abbrev pub name_at_number : List Component → ℕ → List ℕ
-name_at_number components c = name_if (slice_get components c)
-  where
-    name_if : Option Component → List ℕ
-    name_if None = []
-    name_if (Some component) = component.name
-
--- the kinds that only shapes can have get their lines with the crate that knows shapes: no command lists them yet
-abbrev pub violation_line : DesignContents → Fault → List ℕ
-violation_line design (Unplaced c) = codes "UNPLACED " ++ name_at_number design.components c ++ codes "\n"
-violation_line design (Outside c) = codes "OUTSIDE " ++ name_at_number design.components c ++ codes "\n"
-violation_line design (OffSite c) = codes "OFFSITE " ++ name_at_number design.components c ++ codes "\n"
-violation_line design (Overlap a b) =
-    codes "OVERLAP " ++ name_at_number design.components a ++ codes " " ++ name_at_number design.components b ++ codes "\n"
-violation_line design (Short a b) = []
-violation_line design (TooNear a b) = []
-violation_line design (OpenNet n k) = []
-
--- a line for each violation, and their number
-abbrev pub violations_text : DesignContents → List Fault → List ℕ
-violations_text design violations =
-    flat_map (violation_line design) violations ++ codes "violations " ++ decimal (length violations) ++ codes "\n"
+-- the lines of violations, and their number; those that speak of metal tell the shapes and pieces of the flat
+abbrev pub listing_text : DesignContents → Option FlatSaid → List Fault → List ℕ
+listing_text design flat violations =
+    violations_text design flat violations ++ codes "violations " ++ decimal (length violations) ++ codes "\n"
 
 abbrev pub legal_text : List ℕ
 legal_text = codes "legal\n"
+
+abbrev pub too_many_text : List ℕ
+too_many_text = codes "TOOMANY\n"
 
 abbrev pub memory_text : List ℕ
 memory_text = codes "MEMORY\n"

@@ -1,12 +1,14 @@
 -- What LEF and DEF texts say together.
-use Rattle.std.specs.Prelude.{◌≡◌, ℕ, List}
+use Rattle.std.specs.Prelude.{◌≡◌, ◌<◌, ℕ, List, length}
 use Rattle.leg_lex.specs.Say.{Says}
 use Rattle.leg_lib.specs.Records.{RawContents, Contents}
 use Rattle.leg_lib.specs.Say.{SayLibrary}
 use Rattle.leg_lib.specs.Scale.{IsLibraryAt}
 use Rattle.leg_design.specs.Records.{DesignContents}
+use Rattle.leg_design.specs.declared.limits.TheConstants.{PART_LIMIT}
 use Rattle.leg_design.specs.Header.{units_in}
 use Rattle.leg_design.specs.Form.{design_in}
+use Rattle.leg_flat.specs.Metal.{metal_of}
 
 -- The texts say this library, at the DEF's own units a micron.
 pub record SayLibraryFor (lefs : List (List ℕ)) (def : List ℕ) (library : Contents) : Type 0 where
@@ -33,3 +35,10 @@ SayNoLibrary lefs def = (library : Contents) → ¬ SayLibraryFor lefs def libra
 -- no library and no design are said
 abbrev pub SayNothing : List (List ℕ) → List ℕ → Type 0
 SayNothing lefs def = (library : Contents) (design : DesignContents) → ¬ SayDesign lefs def library design
+
+-- a design with more shapes than a flat may have is said
+pub record SayTooMany (lefs : List (List ℕ)) (def : List ℕ) : Type 0 where
+  pub library : Contents
+  pub design : DesignContents
+  pub say : SayDesign lefs def library design
+  pub many : PART_LIMIT < length (metal_of design)

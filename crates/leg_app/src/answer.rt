@@ -1,16 +1,19 @@
 //! What a command answers.
 
-ghost use Rattle.std.specs.Prelude.{ℕ, List, map, IfOk};
-ghost use Rattle.leg_app.specs.Say.{SaysJust, SayDesign, SayNothing};
-ghost use Rattle.leg_app.specs.Refusal.{IsForMemory};
-ghost use Rattle.leg_app.specs.Answer.{IsAnswer, IsPlaceCheck};
+ghost use Rattle.std.specs.Prelude.{◌≡◌, ℕ, List, map, option_map, IfOk};
+ghost use Rattle.leg_app.specs.declared.command.Command.TheVariants.{PlaceCheck, Check};
+ghost use Rattle.leg_app.specs.Say.{SaysJust, SayDesign, SayNothing, SayTooMany};
+ghost use Rattle.leg_app.specs.Refusal.{Refuses};
+ghost use Rattle.leg_app.specs.Answer.{IsAnswer, IsListing};
 
+use crate::check::check_design;
 use crate::command::Command;
-use crate::lines::{refused_text, scale_text, violations_text};
+use crate::lines::{listing_text, refused_text, scale_text};
 use crate::status::Status;
 use crate::text_fault::TextFault;
 use crate::texts::{behind_lefs, library_for};
-use leg_design::{Design, read_def};
+use leg_design::{Design, Fault, read_def};
+use leg_flat::{Flat, FlatFault};
 use leg_lex::FaultKind;
 use leg_lib::{Library, ScaleKind};
 use leg_place::place_faults;
@@ -33,51 +36,83 @@ pub(crate) fn answer_to<'a, A: Allocator + Copy>(
     ensures { IfOk result (λ answer.
         IsAnswer command (map (λ t. t.now) lefs.now) def.now answer.status answer.text.items) }
 {
-    match command {
-        Command::PlaceCheck => place_check(alloc, lefs, def),
-    }
-}
-
-fn place_check<'a, A: Allocator + Copy>(
-    alloc: A,
-    lefs: &[&'a [u8]],
-    def: &'a [u8],
-) -> Result<Answer<A>, AllocError>
-    ensures { IfOk result (λ answer.
-        IsPlaceCheck (map (λ t. t.now) lefs.now) def.now answer.status answer.text.items) }
-{
     match library_for(alloc, lefs, def) {
-        Ok(library) => library_check(alloc, lefs.len(), &library, def),
-        Err(fault) => refusal(alloc, &fault),
+        Ok(library) => library_answer(alloc, command, lefs.len(), &library, def),
+        Err(fault) => refusal(alloc, command, &fault),
     }
 }
 
 // What is answered to a DEF behind so many LEFs, where the texts say this library and no other.
-fn library_check<A: Allocator + Copy>(
+fn library_answer<A: Allocator + Copy>(
     alloc: A,
+    command: Command,
     count: usize,
     library: &Library<'_, A>,
     def: &[u8],
 ) -> Result<Answer<A>, AllocError>
     ensures { IfOk result (λ answer. (lefs : List (List ℕ)) →
-        SaysJust lefs def.now library.now → IsPlaceCheck lefs def.now answer.status answer.text.items) }
+        SaysJust lefs def.now library.now → IsAnswer command lefs def.now answer.status answer.text.items) }
 {
     match read_def(alloc, library, def) {
-        Ok(design) => design_check(alloc, &design),
-        Err(fault) => refusal(alloc, &TextFault::Read(behind_lefs(count, fault))),
+        Ok(design) => design_answer(alloc, command, &design),
+        Err(fault) => refusal(alloc, command, &TextFault::Read(behind_lefs(count, fault))),
     }
 }
 
 // What is answered to texts that say this design.
-fn design_check<A: Allocator + Copy>(
+fn design_answer<A: Allocator + Copy>(
+    alloc: A,
+    command: Command,
+    design: &Design<'_, A>,
+) -> Result<Answer<A>, AllocError>
+    ensures { IfOk result (λ answer. (lefs : List (List ℕ)) (def : List ℕ) →
+        SayDesign lefs def design.now.library design.now →
+        IsAnswer command lefs def answer.status answer.text.items) }
+{
+    match command {
+        Command::Check => whole_answer(alloc, design),
+        Command::PlaceCheck => placement_answer(alloc, design),
+    }
+}
+
+fn placement_answer<A: Allocator + Copy>(
     alloc: A,
     design: &Design<'_, A>,
 ) -> Result<Answer<A>, AllocError>
     ensures { IfOk result (λ answer. (lefs : List (List ℕ)) (def : List ℕ) →
         SayDesign lefs def design.now.library design.now →
-        IsPlaceCheck lefs def answer.status answer.text.items) }
+        IsAnswer PlaceCheck lefs def answer.status answer.text.items) }
 {
     let violations = place_faults(alloc, design.library(), design)?;
+    let no_flat: Option<Flat<A>> = None;
+    listing(alloc, design, no_flat.as_ref(), &violations)
+}
+
+fn whole_answer<A: Allocator + Copy>(
+    alloc: A,
+    design: &Design<'_, A>,
+) -> Result<Answer<A>, AllocError>
+    ensures { IfOk result (λ answer. (lefs : List (List ℕ)) (def : List ℕ) →
+        SayDesign lefs def design.now.library design.now →
+        IsAnswer Check lefs def answer.status answer.text.items) }
+{
+    match check_design(alloc, design) {
+        Ok(checked) => listing(alloc, design, Some(&checked.flat), &checked.violations),
+        Err(FlatFault::TooMany) => refusal(alloc, Command::Check, &TextFault::TooMany),
+        Err(FlatFault::Memory) => Err(AllocError),
+    }
+}
+
+// The violations are listed, or told to be none.
+fn listing<A: Allocator + Copy>(
+    alloc: A,
+    design: &Design<'_, A>,
+    flat: Option<&Flat<A>>,
+    violations: &[Fault],
+) -> Result<Answer<A>, AllocError>
+    ensures { IfOk result (λ answer.
+        IsListing design.now (option_map (λ flat. flat.now) flat.entry) violations.now answer.status answer.text.items) }
+{
     if violations.is_empty() {
         let text = Vec::from_slice(alloc, b"legal\n")?;
         return Ok(Answer {
@@ -85,7 +120,7 @@ fn design_check<A: Allocator + Copy>(
             text,
         });
     }
-    let text = violations_text(alloc, design, &violations)?;
+    let text = listing_text(alloc, design, flat, violations)?;
     Ok(Answer {
         status: Status::Violations,
         text,
@@ -93,14 +128,19 @@ fn design_check<A: Allocator + Copy>(
 }
 
 // What is answered to texts that are refused so.
-fn refusal<A: Allocator + Copy>(alloc: A, fault: &TextFault<'_>) -> Result<Answer<A>, AllocError>
+fn refusal<A: Allocator + Copy>(
+    alloc: A,
+    command: Command,
+    fault: &TextFault<'_>,
+) -> Result<Answer<A>, AllocError>
     ensures { IfOk result (λ answer. (lefs : List (List ℕ)) (def : List ℕ) →
-        (¬ IsForMemory fault.now → SayNothing lefs def) →
-        IsPlaceCheck lefs def answer.status answer.text.items) }
+        Refuses (SayNothing lefs def) (command ≡ Check × SayTooMany lefs def) fault.now →
+        IsAnswer command lefs def answer.status answer.text.items) }
 {
     let text = match fault {
         TextFault::Read(fault) if fault.kind != FaultKind::Memory => refused_text(alloc, fault)?,
         TextFault::Scale(fault) if fault.kind != ScaleKind::Memory => scale_text(alloc, fault)?,
+        TextFault::TooMany => Vec::from_slice(alloc, b"TOOMANY\n")?,
         _ => return Err(AllocError),
     };
     Ok(Answer {

@@ -3,6 +3,8 @@
 /// What lefdef is asked.
 #[derive(Clone, Copy, PartialEq, Eq, Debug)]
 pub enum Command {
-    /// Which components are unplaced, outside the die, or on one another.
+    /// What is not legal about the block: where components stand, and its metal.
+    Check,
+    /// Which components are unplaced, outside the die, off the sites of the rows, or on one another.
     PlaceCheck,
 }

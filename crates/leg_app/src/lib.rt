@@ -2,6 +2,7 @@
 #![tactic(auto)]
 
 mod answer;
+mod check;
 mod command;
 mod line;
 mod lines;
@@ -13,8 +14,10 @@ mod tests;
 mod text_fault;
 mod texts;
 
+pub use check::check_texts;
 pub use command::Command;
 pub use line::{Line, line_of};
 pub use run_command::{RunFault, run};
 pub use status::Status;
 pub use stream::split_stream;
+pub use text_fault::TextFault;

@@ -37,7 +37,9 @@ pub fn line_of<A: Allocator>(words: &[String<A>]) -> Option<Line<'_, A>>
 fn command_named(name: &str) -> Option<Command>
     ensures { result ≡ command_named name.now }
 {
-    if name == "place-check" {
+    if name == "check" {
+        Some(Command::Check)
+    } else if name == "place-check" {
         Some(Command::PlaceCheck)
     } else {
         None

@@ -1,85 +1,30 @@
 //! The lines that commands print.
 
-ghost use Rattle.std.specs.Prelude.{◌≡◌, ◌++◌, IfOk, OnOk, length, codes, decimal};
-ghost use Rattle.std.specs.List.{flat_map};
-ghost use Rattle.leg_app.specs.Lines.{kind_name, name_at_number, refused_text, scale_kind_name, scale_text, violation_line, violations_text};
+ghost use Rattle.std.specs.Prelude.{◌≡◌, ◌++◌, IfOk, OnOk, option_map, decimal};
+ghost use Rattle.leg_app.specs.Lines.{kind_name, listing_text, refused_text, scale_kind_name, scale_text};
 
 use itoa::Buffer;
 use leg_design::{Design, Fault};
+use leg_flat::Flat;
 use leg_lex::{FaultKind, ReadFault};
 use leg_lib::{ScaleFault, ScaleKind};
+use leg_print::print_faults;
 use std::alloc::{AllocError, Allocator};
 
-/// A line for each violation, and their number.
-pub(crate) fn violations_text<A: Allocator + Copy>(
+/// A line for each violation, and their number. The flat tells the shapes and pieces that violations speak of.
+pub(crate) fn listing_text<A: Allocator + Copy>(
     alloc: A,
     design: &Design<'_, A>,
+    flat: Option<&Flat<A>>,
     violations: &[Fault],
 ) -> Result<Vec<u8, A>, AllocError>
-    ensures { IfOk result (λ text. text.items ≡ violations_text design.now violations.now) }
+    ensures { IfOk result (λ text. text.items ≡ listing_text design.now (option_map (λ flat. flat.now) flat.entry) violations.now) }
 {
-    let mut text = Vec::new(alloc);
-    push_violations(&mut text, design, violations)?;
+    let mut text = print_faults(alloc, design.library(), design, flat, violations)?;
     text.extend_from_slice(b"violations ")?;
     push_number(&mut text, violations.len() as u64)?;
     text.extend_from_slice(b"\n")?;
     Ok(text)
-}
-
-fn push_violations<A: Allocator + Copy>(
-    text: &mut Vec<u8, A>,
-    design: &Design<'_, A>,
-    violations: &[Fault],
-) -> Result<(), AllocError>
-    ensures { OnOk result (text.new.items
-        ≡ text.old.items ++ flat_map (violation_line design.now) violations.now) }
-{
-    for violation in violations {
-        push_violation(text, design, *violation)?;
-    }
-    Ok(())
-}
-
-fn push_violation<A: Allocator + Copy>(
-    text: &mut Vec<u8, A>,
-    design: &Design<'_, A>,
-    violation: Fault,
-) -> Result<(), AllocError>
-    ensures { OnOk result (text.new.items ≡ text.old.items ++ violation_line design.now violation) }
-{
-    match violation {
-        Fault::Unplaced(c) => {
-            text.extend_from_slice(b"UNPLACED ")?;
-            text.extend_from_slice(component_name(design, c))?;
-        }
-        Fault::Outside(c) => {
-            text.extend_from_slice(b"OUTSIDE ")?;
-            text.extend_from_slice(component_name(design, c))?;
-        }
-        Fault::OffSite(c) => {
-            text.extend_from_slice(b"OFFSITE ")?;
-            text.extend_from_slice(component_name(design, c))?;
-        }
-        Fault::Overlap(a, b) => {
-            text.extend_from_slice(b"OVERLAP ")?;
-            text.extend_from_slice(component_name(design, a))?;
-            text.extend_from_slice(b" ")?;
-            text.extend_from_slice(component_name(design, b))?;
-        }
-        // No command lists these yet: their lines come with the crate that knows shapes.
-        Fault::Short(_, _) | Fault::TooNear(_, _) | Fault::OpenNet(_, _) => return Ok(()),
-    }
-    text.extend_from_slice(b"\n")
-}
-
-// Empty where the design has no component of this number.
-fn component_name<'d, A: Allocator + Copy>(design: &'d Design<'_, A>, number: u32) -> &'d [u8]
-    ensures { result.now ≡ name_at_number design.now.components number }
-{
-    match design.components().get(number as usize) {
-        Some(component) => component.name.bytes(),
-        None => b"",
-    }
 }
 
 /// The line for a text that isn't read.

@@ -1,5 +1,7 @@
 //! What no clause says: the words of lines, cuts of streams, and that writing goes on and stops.
 
+mod metal;
+
 ghost use Rattle.std.specs.Prelude.{Some};
 
 use crate::{Command, RunFault, Status, line_of, run, split_stream};

@@ -13,6 +13,8 @@ pub enum TextFault<'a> {
     Read(ReadFault),
     /// A length of the library isn't said in the DEF's units.
     Scale(ScaleFault<'a>),
+    /// The design has more shapes than a flat may have.
+    TooMany,
     /// A growth was refused.
     Memory,
 }

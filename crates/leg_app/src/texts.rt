@@ -3,7 +3,7 @@
 ghost use Rattle.std.specs.Prelude.{◌≡◌, map, IfOk, IfErr};
 ghost use Rattle.leg_lib.specs.Records.{Contents};
 ghost use Rattle.leg_app.specs.Say.{SayLibraryFor, SayNoLibrary};
-ghost use Rattle.leg_app.specs.Refusal.{IsForMemory};
+ghost use Rattle.leg_app.specs.Refusal.{Refuses};
 
 use crate::text_fault::TextFault;
 use leg_design::def_units;
@@ -31,7 +31,7 @@ pub(crate) fn library_for<'a, A: Allocator + Copy>(
     // The texts say no other library.
     ensures only { IfOk result (λ library. (said : Contents)
         → SayLibraryFor (map (λ t. t.now) lefs.now) def.now said → said ≡ library) }
-    ensures none { IfErr result (λ fault. ¬ IsForMemory fault → SayNoLibrary (map (λ t. t.now) lefs.now) def.now) }
+    ensures none { IfErr result (λ fault. Refuses (SayNoLibrary (map (λ t. t.now) lefs.now) def.now) ⊥ fault) }
 {
     let raw = read_lefs(alloc, lefs)?;
     let n = match def_units(alloc, def) {

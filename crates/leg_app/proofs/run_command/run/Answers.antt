@@ -1,7 +1,7 @@
+use Rattle.std.proofs.Common.{refl}
 use Rattle.std.proofs.lemmas.Result.{err_from_is_err_and}
 use Rattle.leg_app.specs.declared.status.Status.TheVariants.{Memory}
 use Rattle.leg_app.specs.Lines.{memory_text}
-use Rattle.leg_app.proofs.AnswerLemmas.{IsAnswer-memory}
 use Rattle.leg_app.proofs.run_command.run.Goals as goal
 
 pub returns-in_err-write_text-in-Err-clause-cut : goal.returns-in_err-write_text-in-Err-clause-cut
@@ -11,6 +11,6 @@ returns-in_err-write_text-in-Err-clause-cut g c =
     rw err.1 (record {
       status = Memory;
       text = memory_text;
-      answer = IsAnswer-memory c.args.command _ _;
+      answer = refl;
       front = c.in_err-write_text-in-Err.ensures.cut;
     })

@@ -1,0 +1,86 @@
+-- Lists of violations of some kinds, one behind the other, are the list of all.
+use Rattle.std.proofs.Common.{◌<◌, ◌≤◌, List, ◌++◌, ◌⊎◌, inl, inr, arith}
+use Rattle.std.proofs.lemmas.List.Elements.{All-append, All-weaker, Contains-append_left, Contains-append_right}
+use Rattle.leg_sweep.proofs.Lists.{AllPairs-append_by}
+use Rattle.leg_lib.specs.Records.{Contents}
+use Rattle.leg_design.specs.Records.{DesignContents}
+use Rattle.leg_design.specs.declared.fault.Fault.{Fault}
+use Rattle.leg_design.specs.declared.fault.Fault.TheVariants.{Unplaced, Outside, OffSite, Overlap, Short, TooNear, OpenNet}
+use Rattle.leg_design.specs.Violation.{kind_number, ComesBefore, IsListOf}
+use Rattle.leg_flat.specs.Flat.{FlatSaid, IsFlatOf}
+use Rattle.leg_place.specs.Faults as place
+use Rattle.leg_place.proofs.FaultNumbers.{kind_below}
+use Rattle.leg_wire.specs.Spacing as spacing
+use Rattle.leg_wire.specs.Open as joins
+use Rattle.leg_wire.proofs.SameMetal.{spacing_same, opens_same}
+use Rattle.leg_app.specs.Violations.{IsOfMetal, IsViolation}
+
+-- a violation of a lower kind stands first
+lower_kind_first : (v w : Fault) → kind_number v < kind_number w → ComesBefore v w
+lower_kind_first v w less = record {
+  kind = omega (arith, less);
+  first = λ same. absurd (omega (arith, less, same));
+  second = λ same. absurd (omega (arith, less, same));
+}
+
+-- two lists, of which the first has the lower kinds
+both_lists : (P Q : Fault → Type 0) (xs ys : List Fault) → ((v w : Fault) → P v → Q w → kind_number v < kind_number w) → IsListOf P xs → IsListOf Q ys → IsListOf (λ v. P v ⊎ Q v) (xs ++ ys)
+both_lists P Q xs ys lower first second = record {
+  increasing = AllPairs-append_by ComesBefore P Q (λ v w p q. lower_kind_first v w (lower v w p q)) xs ys first.each second.each first.increasing second.increasing;
+  each = All-append (λ v. P v ⊎ Q v) xs ys (All-weaker P (λ v. P v ⊎ Q v) (λ v p. inl p) xs first.each) (All-weaker Q (λ v. P v ⊎ Q v) (λ v q. inr q) ys second.each);
+  all = λ v h. elim h [ inl p ↦ Contains-append_left xs ys v (first.all v p) | inr q ↦ Contains-append_right xs ys v (second.all v q) ];
+}
+
+-- a list of what is the same in other words
+same_list : (P Q : Fault → Type 0) (xs : List Fault) → ((v : Fault) → P v → Q v) → ((v : Fault) → Q v → P v) → IsListOf P xs → IsListOf Q xs
+same_list P Q xs there back list = record {
+  increasing = list.increasing;
+  each = All-weaker P Q there xs list.each;
+  all = λ v q. list.all v (back v q);
+}
+
+spacing_kind : (library : Contents) (flat : FlatSaid) (v : Fault) → spacing.Holds library flat v → (4 ≤ kind_number v) × (kind_number v < 6)
+spacing_kind library flat (Short i j) h = (omega arith, omega arith)
+spacing_kind library flat (TooNear i j) h = (omega arith, omega arith)
+spacing_kind library flat (Unplaced c) h = absurd h
+spacing_kind library flat (Outside c) h = absurd h
+spacing_kind library flat (OffSite c) h = absurd h
+spacing_kind library flat (Overlap a b) h = absurd h
+spacing_kind library flat (OpenNet n k) h = absurd h
+
+open_kind : (design : DesignContents) (flat : FlatSaid) (v : Fault) → joins.Holds design flat v → 6 ≤ kind_number v
+open_kind design flat (OpenNet n k) h = omega arith
+open_kind design flat (Short i j) h = absurd h
+open_kind design flat (TooNear i j) h = absurd h
+open_kind design flat (Unplaced c) h = absurd h
+open_kind design flat (Outside c) h = absurd h
+open_kind design flat (OffSite c) h = absurd h
+open_kind design flat (Overlap a b) h = absurd h
+
+module _ (library : Contents) (design : DesignContents) (flat : FlatSaid) (is_flat : IsFlatOf design flat) where
+  abbrev Metal : Fault → Type 0
+  Metal v = spacing.Holds library flat v ⊎ joins.Holds design flat v
+
+  -- what holds in another flat of the design holds in this one
+  in_this_flat : (v : Fault) → IsOfMetal library design v → Metal v
+  in_this_flat v h =
+      elim h.holds [
+        | inl s ↦ inl (spacing_same library design h.flat flat h.is_flat is_flat v s)
+        | inr o ↦ inr (opens_same design h.flat flat h.is_flat is_flat v o)
+      ]
+
+  placement_first : (v w : Fault) → place.Holds library design v → Metal w → kind_number v < kind_number w
+  placement_first v w p m =
+      elim m [
+        | inl s ↦ omega (arith, kind_below library design v p, (spacing_kind library flat w s).0)
+        | inr o ↦ omega (arith, kind_below library design v p, open_kind design flat w o)
+      ]
+
+  -- the three lists are the list of all violations
+  pub all_violations : (xs ys zs : List Fault) → IsListOf (place.Holds library design) xs → IsListOf (spacing.Holds library flat) ys → IsListOf (joins.Holds design flat) zs → IsListOf (IsViolation library design) (xs ++ (ys ++ zs))
+  all_violations xs ys zs placed spaced opened =
+      let metal = both_lists (spacing.Holds library flat) (joins.Holds design flat) ys zs (λ v w s o. omega (arith, (spacing_kind library flat v s).1, open_kind design flat w o)) spaced opened in
+      same_list (λ v. place.Holds library design v ⊎ Metal v) (IsViolation library design) (xs ++ (ys ++ zs))
+      (λ v h. elim h [ inl p ↦ inl p | inr m ↦ inr (record { flat = flat; is_flat = is_flat; holds = m }) ])
+      (λ v h. elim h [ inl p ↦ inl p | inr m ↦ inr (in_this_flat v m) ])
+      (both_lists (place.Holds library design) Metal xs (ys ++ zs) placement_first placed metal)

@@ -1,0 +1,14 @@
+use Rattle.std.proofs.Common.{None}
+use Rattle.leg_app.specs.declared.command.Command.TheVariants.{PlaceCheck}
+use Rattle.leg_app.proofs.AnswerLemmas.{ok_weaker, nothing_there, listed_answer}
+use Rattle.leg_app.proofs.answer.placement_answer.Goals as goal
+
+pub returns : goal.returns
+returns g c =
+    let design = c.args.design.now in
+    let violations = c.in_ok-violations.violations.items in
+    let list = rw c.library.ensures.is at c.in_ok-violations.ensures in
+    let listed = rw (nothing_there (λ flat. flat.now) c.as_ref.result c.as_ref.ensures.variant, c.deref.ensures.value) at c.listing.ensures in
+    ok_weaker _ _ c.listing.result
+    (λ answer is lefs def say. listed_answer PlaceCheck lefs def design.library design None violations answer.status answer.text.items say tt list is)
+    listed

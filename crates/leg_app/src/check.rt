@@ -1,0 +1,95 @@
+//! All violations of a design.
+
+ghost use Rattle.std.specs.Prelude.{◌≡◌, ◌<◌, ℕ, List, length, map, IfOk, IfErr};
+ghost use Rattle.leg_design.specs.declared.limits.TheConstants.{PART_LIMIT};
+ghost use Rattle.leg_design.specs.Violation.{IsListOf};
+ghost use Rattle.leg_flat.specs.declared.fault.FlatFault.TheVariants.{TooMany};
+ghost use Rattle.leg_flat.specs.Flat.{IsFlatOf};
+ghost use Rattle.leg_flat.specs.Metal.{metal_of};
+ghost use Rattle.leg_app.specs.Say.{SaysJust, SayDesign, SayNothing, SayTooMany};
+ghost use Rattle.leg_app.specs.Violations.{IsViolation, AreAllViolations, AreViolationsOf};
+ghost use Rattle.leg_app.specs.Refusal.{Refuses};
+
+use crate::text_fault::TextFault;
+use crate::texts::{behind_lefs, library_for};
+use leg_design::{Design, Fault, read_def};
+use leg_flat::{Flat, FlatFault, flatten};
+use leg_lib::Library;
+use leg_place::place_faults;
+use leg_wire::{open_faults, spacing_faults};
+use std::alloc::Allocator;
+
+/// The flat of a design, and the design's violations in order.
+#[derive(Drop)]
+pub(crate) struct Checked<A: Allocator> {
+    pub(crate) flat: Flat<A>,
+    pub(crate) violations: Vec<Fault, A>,
+}
+
+/// Everything that is not legal about the design that the texts of the LEFs, in order, and of the DEF say: all violations
+/// that hold, each once, in order; so the block is legal just when there are none (own rules).
+///
+/// `Read` and `Scale` tell a text that isn't read, or for another cause than memory, only where the texts say no design;
+/// `TooMany` only where they say one with more than `leg_design::PART_LIMIT` shapes.
+pub fn check_texts<'a, A: Allocator + Copy>(
+    alloc: A,
+    lefs: &[&'a [u8]],
+    def: &[u8],
+) -> Result<Vec<Fault, A>, TextFault<'a>>
+    ensures found { IfOk result (λ found. AreViolationsOf (map (λ t. t.now) lefs.now) def.now found.items) }
+    ensures refused { IfErr result (λ fault. Refuses (SayNothing (map (λ t. t.now) lefs.now) def.now)
+        (SayTooMany (map (λ t. t.now) lefs.now) def.now) fault) }
+{
+    let library = library_for(alloc, lefs, def)?;
+    check_def(alloc, lefs.len(), &library, def)
+}
+
+/// The violations of the design that a DEF behind so many LEFs says under the library.
+fn check_def<'e, A: Allocator + Copy>(
+    alloc: A,
+    count: usize,
+    library: &Library<'_, A>,
+    def: &[u8],
+) -> Result<Vec<Fault, A>, TextFault<'e>>
+    ensures found { IfOk result (λ found. (lefs : List (List ℕ)) → SaysJust lefs def.now library.now → AreViolationsOf lefs def.now found.items) }
+    ensures refused { IfErr result (λ fault. (lefs : List (List ℕ)) → SaysJust lefs def.now library.now
+        → Refuses (SayNothing lefs def.now) (SayTooMany lefs def.now) fault) }
+{
+    match read_def(alloc, library, def) {
+        Ok(design) => violations_of(alloc, &design),
+        Err(fault) => Err(TextFault::Read(behind_lefs(count, fault))),
+    }
+}
+
+/// The violations of the design.
+fn violations_of<'e, A: Allocator + Copy>(
+    alloc: A,
+    design: &Design<'_, A>,
+) -> Result<Vec<Fault, A>, TextFault<'e>>
+    ensures found { IfOk result (λ found. AreAllViolations design.now.library design.now found.items) }
+    ensures refused { IfErr result (λ fault. (lefs : List (List ℕ)) (def : List ℕ) → SayDesign lefs def design.now.library design.now
+        → Refuses (SayNothing lefs def) (SayTooMany lefs def) fault) }
+{
+    match check_design(alloc, design) {
+        Ok(checked) => Ok(checked.violations),
+        Err(FlatFault::TooMany) => Err(TextFault::TooMany),
+        Err(FlatFault::Memory) => Err(TextFault::Memory),
+    }
+}
+
+/// The flat of the design, and all violations, kind by kind.
+pub(crate) fn check_design<A: Allocator + Copy>(
+    alloc: A,
+    design: &Design<'_, A>,
+) -> Result<Checked<A>, FlatFault>
+    ensures flat { IfOk result (λ checked. IsFlatOf design.now checked.flat) }
+    ensures list { IfOk result (λ checked. IsListOf (IsViolation design.now.library design.now) checked.violations.items) }
+    ensures many { IfErr result (λ fault. fault ≡ TooMany → PART_LIMIT < length (metal_of design.now)) }
+{
+    let library = design.library();
+    let flat = flatten(alloc, library, design)?;
+    let mut violations = place_faults(alloc, library, design)?;
+    violations.append(&mut spacing_faults(alloc, library, &flat)?)?;
+    violations.append(&mut open_faults(alloc, design, &flat)?)?;
+    Ok(Checked { flat, violations })
+}
