@@ -4,7 +4,7 @@ use Rattle.std.specs.List.{list_any, list_all}
 use Rattle.std.proofs.Math.Bool.{or_assoc, or-false}
 use Rattle.leg_lex.specs.Words.{Words, is_keyword, is_word, is_at, next_at, keyword_at, word_at, end_at}
 use Rattle.leg_lex.specs.Until.{until}
-use Rattle.leg_lex.specs.Statements.{only, the, at_end}
+use Rattle.leg_lex.specs.Statements.{at_end}
 use Rattle.leg_lex.specs.Named.{place_of}
 use Rattle.leg_lex.proofs.Said.{made_is, rest_is}
 use Rattle.leg_lex.proofs.Until as loops
@@ -13,8 +13,7 @@ use Rattle.leg_lex.proofs.Shorter.{keyword_below, name_below, word_below, end_be
 use Rattle.leg_lex.proofs.Statements.{statement_below}
 use Rattle.leg_lex.proofs.Passed.{past_below}
 use Rattle.leg_lib.specs.Records.{RawContents, raw_master_names}
-use Rattle.leg_lib.specs.Point.{size_in}
-use Rattle.leg_lib.specs.Macro.{MacroParts, no_macro_parts, macro_pin, macro_obstruction, macro_density, macro_timing, macro_statement, macro_part, origin_of_any, symmetry_in, symmetry_of_any, site_of_any, macro_at, with_macro}
+use Rattle.leg_lib.specs.Macro.{MacroParts, no_macro_parts, macro_pin, macro_obstruction, macro_density, macro_timing, macro_statement, macro_part, symmetry_in, macro_said, macro_at, with_macro}
 use Rattle.leg_lib.proofs.Drawn.{geometry_below}
 use Rattle.leg_lib.proofs.Pins.{pin_below}
 
@@ -85,16 +84,9 @@ macro_below library words =
     below_bind (omega arith) (keyword_below (codes "MACRO") words) (λ start less.
     below_bind (omega arith) (name_below start.1) (λ name fewer.
     below_bind (omega arith) (until_below at_end (macro_part library) (macro_part_shortens library) no_macro_parts name.1) (λ parts no_more.
-    below_ask (the (codes "SIZE") parts.0.statements) (λ of_size.
-    below_ask (size_in of_size) (λ size.
-    below_ask (only (codes "ORIGIN") parts.0.statements) (λ of_origin.
-    below_ask (origin_of_any of_origin) (λ origin.
-    below_ask (only (codes "SYMMETRY") parts.0.statements) (λ of_symmetry.
-    below_ask (symmetry_of_any of_symmetry) (λ y_symmetric.
-    below_ask (only (codes "SITE") parts.0.statements) (λ of_site.
-    below_ask (site_of_any library of_site) (λ site.
+    below_ask (macro_said library parts.0.statements) (λ said.
     below_bind (omega arith) (end_of_below name.0 parts.1) (λ end last.
-    below_some (record { name = name.0; size = size; origin = origin; y_symmetric = y_symmetric; site = site; pins = parts.0.pins; obstructions = parts.0.obstructions }) end.1 last))))))))))))
+    below_some (record { name = name.0; size = said.size; origin = said.origin; y_symmetric = said.y_symmetric; site = said.site; pins = parts.0.pins; obstructions = parts.0.obstructions }) end.1 last)))))
 
 pub with_macro_below : (library : RawContents) (words : Words) → Below (length words) (with_macro library words)
 unfolding with_macro

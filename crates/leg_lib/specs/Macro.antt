@@ -7,6 +7,7 @@ use Rattle.leg_lex.specs.Past.{past}
 use Rattle.leg_lex.specs.Statements.{statement_at, only, the, at_end}
 use Rattle.leg_lex.specs.Named.{place_of}
 use Rattle.leg_geom.specs.Plane.{Spot}
+use Rattle.leg_lib.specs.declared.macros.MacroSaid.{MacroSaid}
 use Rattle.leg_lib.specs.declared.raw.RawShape.{RawShape}
 use Rattle.leg_lib.specs.Records.{RawContents, RawPinSaid, RawMasterSaid, raw_site_names, raw_master_names}
 use Rattle.leg_lib.specs.Point.{point_at, size_in}
@@ -101,28 +102,34 @@ abbrev pub site_of_any : RawContents → Option Words → Option (Option ℕ)
 site_of_any library None = Some None
 site_of_any library (Some statement) = site_in library statement >>= λ k. Some (Some k)
 
--- MACRO NAME parts END NAME: the one SIZE, at most one ORIGIN, SYMMETRY and SITE, and the rest is read past
+-- what statements of a macro say: the one SIZE, at most one ORIGIN, SYMMETRY and SITE; the rest is read past
+unfoldable pub macro_said : RawContents → List Words → Option MacroSaid
+macro_said library statements = do
+  of_size ← the (codes "SIZE") statements
+  size ← size_in of_size
+  of_origin ← only (codes "ORIGIN") statements
+  origin ← origin_of_any of_origin
+  of_symmetry ← only (codes "SYMMETRY") statements
+  y_symmetric ← symmetry_of_any of_symmetry
+  of_site ← only (codes "SITE") statements
+  site ← site_of_any library of_site
+  Some (record { size = size; origin = origin; y_symmetric = y_symmetric; site = site })
+
+-- MACRO NAME parts END NAME
 unfoldable pub macro_at : RawContents → Words → Option (RawMasterSaid × Words)
 macro_at library words = do
   start ← keyword_at (codes "MACRO") words
   name ← name_at start.1
   parts ← until at_end (macro_part library) no_macro_parts name.1
-  of_size ← the (codes "SIZE") parts.0.statements
-  size ← size_in of_size
-  of_origin ← only (codes "ORIGIN") parts.0.statements
-  origin ← origin_of_any of_origin
-  of_symmetry ← only (codes "SYMMETRY") parts.0.statements
-  y_symmetric ← symmetry_of_any of_symmetry
-  of_site ← only (codes "SITE") parts.0.statements
-  site ← site_of_any library of_site
+  said ← macro_said library parts.0.statements
   end ← end_of name.0 parts.1
   Some (
     record {
       name = name.0;
-      size = size;
-      origin = origin;
-      y_symmetric = y_symmetric;
-      site = site;
+      size = said.size;
+      origin = said.origin;
+      y_symmetric = said.y_symmetric;
+      site = said.site;
       pins = parts.0.pins;
       obstructions = parts.0.obstructions;
     },

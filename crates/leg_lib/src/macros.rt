@@ -4,11 +4,11 @@ ghost use Rattle.std.specs.Prelude.{codes, not, if◌then◌else◌, Some, None}
 ghost use Rattle.std.specs.List.{list_any, list_all};
 ghost use Rattle.leg_lex.specs.Words.{Reads, Means, is_word, is_keyword};
 ghost use Rattle.leg_lex.specs.Statements.{only};
-ghost use Rattle.leg_lib.specs.Macro.{origin_in, origin_of_any, symmetry_in, symmetry_of_any, site_in, site_of_any, macro_at, with_macro};
+ghost use Rattle.leg_lib.specs.Macro.{origin_in, origin_of_any, symmetry_in, symmetry_of_any, site_in, site_of_any, macro_said, macro_at, with_macro};
 
 use crate::items::Items;
 use crate::macro_part::MacroParts;
-use crate::measure::RawPoint;
+use crate::measure::{RawExtent, RawPoint};
 use crate::named::second_definition;
 use crate::point;
 use crate::raw::RawMaster;
@@ -127,6 +127,37 @@ fn site_of_any<A: Allocator + Copy>(
     }
 }
 
+/// What the statements of a macro say of it.
+#[derive(Clone, Copy)]
+struct MacroSaid {
+    size: RawExtent,
+    origin: RawPoint,
+    y_symmetric: bool,
+    site: Option<usize>,
+}
+
+/// What these statements, which stand before the words, say of a macro.
+#[tactic(auto, unfolding(crate::specs::Macro::macro_said))]
+fn macro_said<A: Allocator + Copy>(
+    library: &RawLibrary<'_, A>,
+    statements: &[Cursor<'_, '_>],
+    words: &Cursor<'_, '_>,
+) -> Result<MacroSaid, ReadFault>
+    ensures { Means (λ said. said) result (macro_said library.now statements.now) }
+{
+    let mut of_size = the(statements, b"SIZE", words)?;
+    let size = point::size(&mut of_size)?;
+    let origin = origin_of_any(only(statements, b"ORIGIN")?)?;
+    let y_symmetric = symmetry_of_any(only(statements, b"SYMMETRY")?)?;
+    let site = site_of_any(library, site_statement(statements)?)?;
+    Ok(MacroSaid {
+        size,
+        origin,
+        y_symmetric,
+        site,
+    })
+}
+
 /// A macro, from `MACRO` to its `END`.
 #[tactic(auto, unfolding(crate::specs::Macro::macro_at))]
 fn master<'a, A: Allocator + Copy>(
@@ -140,18 +171,14 @@ fn master<'a, A: Allocator + Copy>(
     let name = words.name()?;
     let mut parts = MacroParts::new(alloc);
     parts.macro_parts(alloc, library, words)?;
-    let mut of_size = the(&parts.statements, b"SIZE", words)?;
-    let size = point::size(&mut of_size)?;
-    let origin = origin_of_any(only(&parts.statements, b"ORIGIN")?)?;
-    let y_symmetric = symmetry_of_any(only(&parts.statements, b"SYMMETRY")?)?;
-    let site = site_of_any(library, site_statement(&parts.statements)?)?;
+    let said = macro_said(library, &parts.statements, words)?;
     words.end_of(name)?;
     Ok(RawMaster {
         name: Name::new(name),
-        size,
-        origin,
-        y_symmetric,
-        site,
+        size: said.size,
+        origin: said.origin,
+        y_symmetric: said.y_symmetric,
+        site: said.site,
         pins: Items::from_vec(parts.pins),
         obstructions: Items::from_vec(parts.obstructions),
     })

@@ -16,7 +16,8 @@ use Rattle.leg_flat.specs.Nets.{pieces_of}
 use Rattle.leg_flat.specs.Flat.{FlatSaid, IsFlatOf}
 use Rattle.leg_wire.specs.Touch.{piece_count, AreJoined, AreMarks}
 use Rattle.leg_wire.specs.Open.{IsOpen, Holds}
-use Rattle.leg_wire.specs.Unmarked.{TellsUnmarked, AreAdded}
+use Rattle.leg_wire.specs.Unmarked.{TellsUnmarked}
+use Rattle.leg_wire.specs.Added.{AreAdded}
 
 -- what stands at a place of a list stands there once more follows
 get_earlier : (marks : List Bool) (last : Bool) (k : ℕ) (mark : Bool) → slice_get marks k ≡ Some mark → slice_get (marks ++ last ∷ []) k ≡ Some mark

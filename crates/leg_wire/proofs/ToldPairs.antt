@@ -9,7 +9,8 @@ use Rattle.leg_design.specs.declared.fault.Fault.{Fault}
 use Rattle.leg_design.specs.declared.fault.Fault.TheVariants.{Short, TooNear}
 use Rattle.leg_design.specs.Violation.{ComesBefore, IsListOf}
 use Rattle.leg_flat.specs.declared.shape.Shape.{Shape}
-use Rattle.leg_wire.specs.Told.{IsTold, AreAdded}
+use Rattle.leg_wire.specs.Told.{IsTold}
+use Rattle.leg_wire.specs.Added.{AreAdded}
 
 module _ (Told Next : Fault → Type 0) (into : (w : Fault) → Told w → Next w) where
   -- one more violation, which comes behind the others
@@ -80,7 +81,7 @@ module _ (fault_of : ℕ → ℕ → Fault) (keeps : (p q : ℕ × ℕ) → Befo
       record {
         more = done.more ++ fault_of told_here.0 told_here.1 ∷ [];
         is = rw (← append_assoc, done.is);
-        listed =
+        list =
             listing_push (IsTold fault_of Test shapes (take k close)) (IsTold fault_of Test shapes (take (k + 1) close)) told_earlier
             (fault_of told_here.0 told_here.1) done.more this
             (λ w told. rw told.is (keeps told.p told_here (All-contains (λ q. Before q told_here) (take k close) told.p all_before told.among)))
@@ -88,7 +89,7 @@ module _ (fault_of : ℕ → ℕ → Fault) (keeps : (p q : ℕ × ℕ) → Befo
               | inl earlier ↦ inl (record { p = told.p; is = told.is; among = earlier; a = told.a; b = told.b; a_at = told.a_at; b_at = told.b_at; test = told.test })
               | inr same ↦ inr (rw same (sym told.is))
             ])
-            done.listed;
+            done.list;
       }
 
   -- it doesn't
@@ -96,7 +97,7 @@ module _ (fault_of : ℕ → ℕ → Fault) (keeps : (p q : ℕ × ℕ) → Befo
   told_skip before after fails done = record {
     more = done.more;
     is = done.is;
-    listed =
+    list =
         listing_same (IsTold fault_of Test shapes (take k close)) (IsTold fault_of Test shapes (take (k + 1) close)) told_earlier done.more
         (λ w told. elim (Contains-push_cases (take k close) told_here told.p (rw grown at told.among)) [
           | inl earlier ↦ record { p = told.p; is = told.is; among = earlier; a = told.a; b = told.b; a_at = told.a_at; b_at = told.b_at; test = told.test }
@@ -105,5 +106,5 @@ module _ (fault_of : ℕ → ℕ → Fault) (keeps : (p q : ℕ × ℕ) → Befo
               let b_is : b ≡ told.b = same_Some b told.b (sym b_at ∙ ap (λ q. slice_get shapes q.1) same ∙ told.b_at) in
               absurd (fails (rw (a_is, b_is) told.test))
         ])
-        done.listed;
+        done.list;
   }

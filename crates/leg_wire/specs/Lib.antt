@@ -5,6 +5,7 @@ pub mod Open
 pub mod Close
 pub mod Meet
 pub mod Links
+pub mod Added
 pub mod Told
 pub mod Corners
 pub mod Reached

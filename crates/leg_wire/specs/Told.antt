@@ -1,8 +1,7 @@
 -- Pairs of shapes told as violations of one kind.
-use Rattle.std.specs.Prelude.{◌≡◌, ℕ, ◌++◌, List, Some, Contains, slice_get}
+use Rattle.std.specs.Prelude.{◌≡◌, ℕ, List, Some, Contains, slice_get}
 use Rattle.leg_geom.specs.Plane.{SharePoint}
 use Rattle.leg_design.specs.declared.fault.Fault.{Fault}
-use Rattle.leg_design.specs.Violation.{IsListOf}
 use Rattle.leg_flat.specs.declared.shape.Shape.{Shape}
 
 abbrev pub DoShare : Shape → Shape → Type 0
@@ -21,9 +20,3 @@ pub record IsTold (fault_of : ℕ → ℕ → Fault) (Test : Shape → Shape →
   pub a_at : slice_get shapes p.0 ≡ Some a
   pub b_at : slice_get shapes p.1 ≡ Some b
   pub test : Test a b
-
--- the violations of which this holds are added to a list: all of them, each once, in order
-pub record AreAdded (Told : Fault → Type 0) (before after : List Fault) : Type 0 where
-  pub more : List Fault
-  pub is : after ≡ before ++ more
-  pub listed : IsListOf Told more

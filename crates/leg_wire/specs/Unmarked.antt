@@ -1,8 +1,7 @@
 -- The pieces of a net without a mark, as violations.
-use Rattle.std.specs.Prelude.{◌≡◌, ℕ, Bool, false, List, ◌++◌, Some, slice_get}
+use Rattle.std.specs.Prelude.{◌≡◌, ℕ, Bool, false, List, Some, slice_get}
 use Rattle.leg_design.specs.declared.fault.Fault.{Fault}
 use Rattle.leg_design.specs.declared.fault.Fault.TheVariants.{Unplaced, Outside, OffSite, Overlap, Short, TooNear, OpenNet}
-use Rattle.leg_design.specs.Violation.{IsListOf}
 
 -- the violation tells the net of this number, and a piece whose mark isn't set
 abbrev pub TellsUnmarked : ℕ → List Bool → Fault → Type 0
@@ -13,9 +12,3 @@ TellsUnmarked net marks (OffSite c) = ⊥
 TellsUnmarked net marks (Overlap a b) = ⊥
 TellsUnmarked net marks (Short a b) = ⊥
 TellsUnmarked net marks (TooNear a b) = ⊥
-
--- behind the violations that were listed before stand those for which this holds: all of them, each once, in order
-pub record AreAdded (Added : Fault → Type 0) (before after : List Fault) : Type 0 where
-  pub more : List Fault
-  pub is : after ≡ before ++ more
-  pub list : IsListOf Added more

@@ -4,7 +4,8 @@ ghost use Rattle.std.specs.Prelude.{◌<◌, ◌^◌, length, IfOk, OnOk};
 ghost use Rattle.leg_design.specs.Violation.{IsListOf};
 ghost use Rattle.leg_flat.specs.Flat.{IsFlatOf};
 ghost use Rattle.leg_wire.specs.Open.{Holds};
-ghost use Rattle.leg_wire.specs.Unmarked.{TellsUnmarked, AreAdded};
+ghost use Rattle.leg_wire.specs.Unmarked.{TellsUnmarked};
+ghost use Rattle.leg_wire.specs.Added.{AreAdded};
 
 use crate::link::{links, links_of_net};
 use crate::mark::marks;

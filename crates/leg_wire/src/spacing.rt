@@ -4,7 +4,8 @@ ghost use Rattle.std.specs.Prelude.{◌<◌, length, All, AllPairs, IfOk, OnOk};
 ghost use Rattle.leg_sweep.specs.Pairs.{Before};
 ghost use Rattle.leg_design.specs.Violation.{IsListOf};
 ghost use Rattle.leg_wire.specs.Spacing.{Holds};
-ghost use Rattle.leg_wire.specs.Told.{DoShare, AreApart, IsTold, AreAdded};
+ghost use Rattle.leg_wire.specs.Told.{DoShare, AreApart, IsTold};
+ghost use Rattle.leg_wire.specs.Added.{AreAdded};
 
 use crate::too_close::TooClose;
 use leg_design::Fault;

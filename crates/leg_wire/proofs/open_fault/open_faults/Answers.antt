@@ -2,7 +2,8 @@
 use Rattle.std.proofs.Common.{◌≡◌, ◌<◌, length, ap, arith}
 use Rattle.leg_wire.specs.Links.{ArePieceShapes, AreLinks, AreOfNet}
 use Rattle.leg_wire.specs.Touch.{piece_count, AreJoined, AreMarks}
-use Rattle.leg_wire.specs.Unmarked.{TellsUnmarked, AreAdded}
+use Rattle.leg_wire.specs.Unmarked.{TellsUnmarked}
+use Rattle.leg_wire.specs.Added.{AreAdded}
 use Rattle.leg_wire.proofs.Touches.{piece_count-is, AreOfNet-one, links_within, marks_of_joined}
 use Rattle.leg_wire.proofs.OpenPieces.{nets_within, open_more, open_end}
 use Rattle.leg_wire.proofs.open_fault.open_faults.Goals as goal

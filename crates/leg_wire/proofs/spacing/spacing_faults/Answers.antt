@@ -33,7 +33,7 @@ returns g c =
     let are : ArePairs (AreClose library.layers reach) flat.shapes close = rw (c.new-rule.ensures.layers, c.layers.ensures.is, c.shapes-shapes.ensures.is) at c.in_ok-close.ensures.pairs in
     let s = c.in_ok-push_shorts.ensures in
     let n = c.in_ok-push_too_near.ensures in
-    let shorts : IsListOf (IsTold Short DoShare flat.shapes close) s.more = rw (c.deref.ensures.value, c.shapes-shapes.ensures.is) at s.listed in
-    let near : IsListOf (IsTold TooNear AreApart flat.shapes close) n.more = rw (c.deref-2.ensures.value, c.shapes-shapes.ensures.is) at n.listed in
+    let shorts : IsListOf (IsTold Short DoShare flat.shapes close) s.more = rw (c.deref.ensures.value, c.shapes-shapes.ensures.is) at s.list in
+    let near : IsListOf (IsTold TooNear AreApart flat.shapes close) n.more = rw (c.deref-2.ensures.value, c.shapes-shapes.ensures.is) at n.list in
     let found : c.push_too_near.new.found.items ≡ s.more ++ n.more = rw (n.is, s.is, c.new-found.ensures.items) in
     rw found (listing_told library reach within flat close are s.more n.more shorts near)
