@@ -1,10 +1,10 @@
 -- Wires of one design that another may get.
 use Rattle.std.proofs.Common.{◌≡◌, ℕ, ◌<◌, List, [], ◌∷◌, length, false, All, slice_index_or, arith}
 use Rattle.leg_lib.specs.Records.{Contents, ViaSaid}
-use Rattle.leg_design.specs.declared.records.Wire.{Wire}
-use Rattle.leg_design.specs.Records.{DesignContents, NetSaid, wire_count}
-use Rattle.leg_design.specs.WellFormed.{IsWellFormed}
-use Rattle.leg_design.specs.WellFormedNets.{IsWire}
+use Rattle.leg_block.specs.declared.records.Wire.{Wire}
+use Rattle.leg_block.specs.Records.{DesignContents, NetSaid, wire_count}
+use Rattle.leg_block.specs.WellFormed.{IsWellFormed}
+use Rattle.leg_block.specs.WellFormedNets.{IsWire}
 
 -- the wires of a net are spelled under the design's library and vias
 pub spelled_of : (design : DesignContents) → IsWellFormed design → (net : NetSaid) → 0 < length design.nets → net ≡ slice_index_or design.nets 0 net → (library : Contents) (vias : List ViaSaid) → design.library ≡ library → design.vias ≡ vias → All (IsWire library vias false) net.wires

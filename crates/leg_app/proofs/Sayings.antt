@@ -8,9 +8,9 @@ use Rattle.leg_lex.specs.Say.{Says}
 use Rattle.leg_lib.specs.Records.{RawContents, Contents}
 use Rattle.leg_lib.specs.Say.{SayLibrary}
 use Rattle.leg_lib.specs.Scale.{IsLibraryAt}
-use Rattle.leg_design.specs.declared.limits.TheConstants.{PART_LIMIT}
+use Rattle.leg_block.specs.declared.limits.TheConstants.{PART_LIMIT}
 use Rattle.leg_design.specs.Guard.{when, unless}
-use Rattle.leg_design.specs.Records.{DesignContents, terminal_count}
+use Rattle.leg_block.specs.Records.{DesignContents, terminal_count}
 use Rattle.leg_design.specs.Header.{units_in}
 use Rattle.leg_design.specs.Parts.{DesignParts, no_parts}
 use Rattle.leg_design.specs.Form.{form_at, all_nets, design_of, design_in}

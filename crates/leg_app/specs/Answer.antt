@@ -10,9 +10,9 @@ use Rattle.leg_app.specs.declared.command.Command.TheVariants.{PlaceCheck, Check
 use Rattle.leg_app.specs.declared.status.Status.{Status}
 use Rattle.leg_app.specs.declared.status.Status.TheVariants.{Success, Violations, Refused, Memory}
 use Rattle.leg_lib.specs.Records.{Contents}
-use Rattle.leg_design.specs.Records.{DesignContents}
-use Rattle.leg_design.specs.declared.fault.Fault.{Fault}
-use Rattle.leg_design.specs.Violation.{IsListOf}
+use Rattle.leg_block.specs.Records.{DesignContents}
+use Rattle.leg_block.specs.declared.fault.Fault.{Fault}
+use Rattle.leg_block.specs.Violation.{IsListOf}
 use Rattle.leg_flat.specs.Flat.{FlatSaid, IsFlatOf}
 use Rattle.leg_place.specs.Faults.{Holds}
 use Rattle.leg_app.specs.Say.{SayDesign, SayNothing, SayTooMany}

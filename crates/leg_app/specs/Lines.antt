@@ -5,8 +5,8 @@ use Rattle.leg_lex.specs.declared.read_fault.FaultKind.{FaultKind}
 use Rattle.leg_lex.specs.declared.read_fault.FaultKind.TheVariants as kinds
 use Rattle.leg_lib.specs.declared.scale_fault.ScaleKind.{ScaleKind}
 use Rattle.leg_lib.specs.declared.scale_fault.ScaleKind.TheVariants as scale
-use Rattle.leg_design.specs.Records.{DesignContents}
-use Rattle.leg_design.specs.declared.fault.Fault.{Fault}
+use Rattle.leg_block.specs.Records.{DesignContents}
+use Rattle.leg_block.specs.declared.fault.Fault.{Fault}
 use Rattle.leg_flat.specs.Flat.{FlatSaid}
 use Rattle.leg_print.specs.Lines.{violations_text}
 

@@ -4,8 +4,8 @@ use Rattle.leg_lex.specs.Say.{Says}
 use Rattle.leg_lib.specs.Records.{RawContents, Contents}
 use Rattle.leg_lib.specs.Say.{SayLibrary}
 use Rattle.leg_lib.specs.Scale.{IsLibraryAt}
-use Rattle.leg_design.specs.Records.{DesignContents}
-use Rattle.leg_design.specs.declared.limits.TheConstants.{PART_LIMIT}
+use Rattle.leg_block.specs.Records.{DesignContents}
+use Rattle.leg_block.specs.declared.limits.TheConstants.{PART_LIMIT}
 use Rattle.leg_design.specs.Header.{units_in}
 use Rattle.leg_design.specs.Form.{design_in}
 use Rattle.leg_flat.specs.Metal.{metal_of}

@@ -1,9 +1,9 @@
 -- Everything that is not legal about a design (own rules).
 use Rattle.std.specs.Prelude.{ℕ, List, ◌⊎◌}
 use Rattle.leg_lib.specs.Records.{Contents}
-use Rattle.leg_design.specs.Records.{DesignContents}
-use Rattle.leg_design.specs.declared.fault.Fault.{Fault}
-use Rattle.leg_design.specs.Violation.{IsListOf}
+use Rattle.leg_block.specs.Records.{DesignContents}
+use Rattle.leg_block.specs.declared.fault.Fault.{Fault}
+use Rattle.leg_block.specs.Violation.{IsListOf}
 use Rattle.leg_flat.specs.Flat.{FlatSaid, IsFlatOf}
 use Rattle.leg_place.specs.Faults as place
 use Rattle.leg_wire.specs.Spacing as spacing

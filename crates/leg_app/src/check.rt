@@ -1,8 +1,8 @@
 //! All violations of a design.
 
 ghost use Rattle.std.specs.Prelude.{◌≡◌, ◌<◌, ℕ, List, length, map, IfOk, IfErr};
-ghost use Rattle.leg_design.specs.declared.limits.TheConstants.{PART_LIMIT};
-ghost use Rattle.leg_design.specs.Violation.{IsListOf};
+ghost use Rattle.leg_block.specs.declared.limits.TheConstants.{PART_LIMIT};
+ghost use Rattle.leg_block.specs.Violation.{IsListOf};
 ghost use Rattle.leg_flat.specs.declared.fault.FlatFault.TheVariants.{TooMany};
 ghost use Rattle.leg_flat.specs.Flat.{IsFlatOf};
 ghost use Rattle.leg_flat.specs.Metal.{metal_of};
@@ -12,7 +12,8 @@ ghost use Rattle.leg_app.specs.Refusal.{Refuses};
 
 use crate::text_fault::TextFault;
 use crate::texts::{behind_lefs, library_for};
-use leg_design::{Design, Fault, read_def};
+use leg_block::{Design, Fault};
+use leg_design::read_def;
 use leg_flat::{Flat, FlatFault, flatten};
 use leg_lib::Library;
 use leg_place::place_faults;

@@ -4,7 +4,7 @@ ghost use Rattle.std.specs.Prelude.{◌≡◌, ◌++◌, IfOk, OnOk, option_map,
 ghost use Rattle.leg_app.specs.Lines.{kind_name, listing_text, refused_text, scale_kind_name, scale_text};
 
 use itoa::Buffer;
-use leg_design::{Design, Fault};
+use leg_block::{Design, Fault};
 use leg_flat::Flat;
 use leg_lex::{FaultKind, ReadFault};
 use leg_lib::{ScaleFault, ScaleKind};

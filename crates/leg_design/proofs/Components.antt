@@ -6,10 +6,10 @@ use Rattle.leg_lex.specs.Named.{place_of}
 use Rattle.leg_lex.proofs.Until.{Below, Shortens, below_some, below_bind, below_ask}
 use Rattle.leg_lex.proofs.Statements.{statement_below}
 use Rattle.leg_lib.specs.Records.{Contents}
-use Rattle.leg_design.specs.declared.limits.TheConstants.{ENTRY_LIMIT}
-use Rattle.leg_design.specs.declared.records.Component.{Component}
+use Rattle.leg_block.specs.declared.limits.TheConstants.{ENTRY_LIMIT}
+use Rattle.leg_block.specs.declared.records.Component.{Component}
 use Rattle.leg_design.specs.Guard.{unless}
-use Rattle.leg_design.specs.Records.{component_names}
+use Rattle.leg_block.specs.Records.{component_names}
 use Rattle.leg_design.specs.Component.{component_in, component_entry, components_at}
 use Rattle.leg_design.proofs.ReadComponents.{component_gives}
 use Rattle.leg_design.proofs.Sections.{section_below}

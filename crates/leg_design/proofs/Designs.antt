@@ -2,9 +2,9 @@
 use Rattle.std.proofs.Common.{◌≡◌, ℕ, ◌+◌, nat_lt, true, false, List, None, Some, refl}
 use Rattle.leg_geom.specs.Plane.{Sides}
 use Rattle.leg_lib.specs.Records.{Contents}
-use Rattle.leg_design.specs.declared.limits.TheConstants.{PART_LIMIT}
+use Rattle.leg_block.specs.declared.limits.TheConstants.{PART_LIMIT}
 use Rattle.leg_design.specs.LonePins.{with_lone_pins}
-use Rattle.leg_design.specs.Records.{NetSaid, terminal_count}
+use Rattle.leg_block.specs.Records.{NetSaid, terminal_count}
 use Rattle.leg_design.specs.Parts.{DesignParts}
 use Rattle.leg_design.specs.Form.{design_with, design_of}
 

@@ -8,7 +8,7 @@ use Rattle.leg_lex.proofs.Passed.{past_below}
 use Rattle.leg_lib.specs.Records.{Contents}
 use Rattle.leg_design.specs.Guard.{when, unless}
 use Rattle.leg_design.specs.Known.{KnownSaid}
-use Rattle.leg_design.specs.Records.{NetSaid}
+use Rattle.leg_block.specs.Records.{NetSaid}
 use Rattle.leg_design.specs.Net.{net_entry, section_word, nets_at}
 use Rattle.leg_design.specs.Parts.{DesignParts, known, divider_form, bus_form, name_form, units_form, die_form, row_form, track_form, vias_form, components_form, pins_form, nets_form, special_form}
 use Rattle.leg_design.specs.Skipped.{is_past_statement, is_past_section, past_section, past_extension, past_form}

@@ -9,7 +9,6 @@ pub mod Guards
 pub mod Sections
 pub mod Components
 pub mod Skips
-pub mod Moved
 pub mod PinNames
 pub mod Numbered
 pub mod NetClauses
@@ -32,17 +31,12 @@ pub mod LonePinsListed
 pub mod MoreKnown
 pub mod ReadNetForms
 pub mod ReadForms
-pub mod Changed
-pub mod NetsKept
-pub mod MovedNets
-pub mod Wired
 pub mod Microns
 pub mod Headers
 pub mod Dies
 pub mod Rows
 pub mod Tracks
 pub mod Pins
-pub mod SameTerminal
 pub mod ListedNets
 pub mod Paths
 pub mod ViaLayers

@@ -5,10 +5,11 @@ use Rattle.std.specs.HashMap.{HashMap, get_by}
 use Rattle.std.proofs.lemmas.Bool.{false_from_ne_true, false≢true, true≢false}
 use Rattle.std.proofs.lemmas.Bool.Decides.{nat_tests}
 use Rattle.std.proofs.lemmas.List.Folds.{list_any-append}
-use Rattle.leg_design.specs.declared.records.Terminal.{Terminal}
-use Rattle.leg_design.specs.declared.records.Terminal.TheVariants.{Comp, Pin}
-use Rattle.leg_design.specs.Terminal.{is_same_terminal, is_among}
-use Rattle.leg_design.specs.Records.{NetSaid}
+use Rattle.leg_block.specs.declared.records.Terminal.{Terminal}
+use Rattle.leg_block.specs.declared.records.Terminal.TheVariants.{Comp, Pin}
+use Rattle.leg_block.specs.Terminals.{is_same_terminal, is_among}
+use Rattle.leg_block.proofs.SameTerminal.{or-true, number_itself, same_is, same_itself}
+use Rattle.leg_block.specs.Records.{NetSaid}
 use Rattle.leg_design.specs.Index.{number_of, IsIndex}
 
 -- tests that agree find the same
@@ -28,33 +29,9 @@ module _ {S : Type 0} (eq : Terminal → Terminal → Bool) (agree : (a b : Term
   pushed_by m n t k updates q =
       number_by n q ∙ updates q ∙ rw (agree t q, number_by m q) refl
 
-both : (a b : Bool) → (a && b) ≡ true → (a ≡ true) × (b ≡ true)
-both true b e = (refl, e)
-both false b e = absurd (false≢true e)
-
 or-false : (a : Bool) → (a || false) ≡ a
 or-false true = refl
 or-false false = refl
-
--- a terminal is the same as itself alone
-pub same_is : (a b : Terminal) → is_same_terminal a b ≡ true → a ≡ b
-same_is (Comp c k) (Comp d l) same =
-    let parts = both (c == d) (k == l) same in
-    let first : c ≡ d = grind (arith, nat_tests, parts.0) in
-    let second : k ≡ l = grind (arith, nat_tests, parts.1) in
-    rw (first, second) refl
-same_is (Comp c k) (Pin q) same = absurd (false≢true same)
-same_is (Pin p) (Comp d l) same = absurd (false≢true same)
-same_is (Pin p) (Pin q) same =
-    let is : p ≡ q = grind (arith, nat_tests, same) in
-    rw is refl
-
-pub number_itself : (n : ℕ) → (n == n) ≡ true
-number_itself n = grind (arith, nat_tests)
-
-pub same_itself : (a : Terminal) → is_same_terminal a a ≡ true
-same_itself (Comp c k) = rw (number_itself c, number_itself k) refl
-same_itself (Pin p) = number_itself p
 
 other_way : (a b : Terminal) → is_same_terminal a b ≡ false → is_same_terminal b a ≡ false
 other_way a b apart =
@@ -63,10 +40,6 @@ other_way a b apart =
 -- one more terminal in a list
 among_more : (q t : Terminal) (ts : List Terminal) → is_among q (ts ++ t ∷ []) ≡ (is_among q ts || is_same_terminal q t)
 among_more q t ts = list_any-append (is_same_terminal q) ts (t ∷ []) ∙ ap (λ b. is_among q ts || b) (or-false (is_same_terminal q t))
-
-pub or-true : (a b : Bool) → b ≡ true → (a || b) ≡ true
-or-true true b e = refl
-or-true false b e = e
 
 or-neither : (a b : Bool) → b ≡ false → (a || b) ≡ a
 or-neither true b e = refl
@@ -119,9 +92,6 @@ module _ (number : Terminal → Option ℕ) (lists : List (List Terminal)) (inde
 
   pub none_at : (j : ℕ) → number t ≡ None → is_among t (get_or lists j []) ≡ false
   none_at j none = false_from_ne_true (is_among t (get_or lists j [])) (λ has. let e : ⊥ = cc (none, (index t j).1 has) in e)
-
-pub blank : NetSaid
-blank = record { name = []; usage = None; terminals = []; wires = [] }
 
 -- the index of no terminals
 pub no_index : (number : Terminal → Option ℕ) (lists : List (List Terminal)) → ((t : Terminal) → number t ≡ None) → ((k : ℕ) → get_or lists k [] ≡ []) → IsIndex number lists

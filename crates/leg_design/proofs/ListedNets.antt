@@ -9,12 +9,15 @@ use Rattle.std.proofs.lemmas.Option.{get_or_from_slice_get, slice_get_within, sl
 use Rattle.std.proofs.Math.Seq.{get_or-append_seam}
 use Rattle.leg_lex.specs.Named.{place_of}
 use Rattle.leg_lex.proofs.Named.{none_parts, same_other_way}
-use Rattle.leg_design.specs.declared.records.Terminal.{Terminal}
-use Rattle.leg_design.specs.Terminal.{is_same_terminal, is_among, is_of_other_net}
-use Rattle.leg_design.specs.Records.{NetSaid, net_names, terminal_count, wire_count}
+use Rattle.leg_block.specs.declared.records.Terminal.{Terminal}
+use Rattle.leg_block.specs.Terminals.{is_same_terminal, is_among}
+use Rattle.leg_design.specs.Terminal.{is_of_other_net}
+use Rattle.leg_block.specs.Records.{NetSaid, net_names, terminal_count, wire_count}
 use Rattle.leg_design.specs.LonePins.{is_listed}
 use Rattle.leg_design.specs.Index.{lists_of, IsIndex, IsKept}
-use Rattle.leg_design.proofs.Listed.{only_at, none_at, blank, number_itself, index_same, index_more}
+use Rattle.leg_design.proofs.Listed.{only_at, none_at, index_same, index_more}
+use Rattle.leg_block.proofs.Blank.{blank}
+use Rattle.leg_block.proofs.SameTerminal.{number_itself}
 
 lists_length : (nets : List NetSaid) → length (lists_of nets) ≡ length nets
 lists_length [] = refl

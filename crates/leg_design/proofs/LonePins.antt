@@ -3,12 +3,13 @@ use Rattle.std.proofs.Common.{◌≡◌, ◌≢◌, ℕ, zero, suc, ◌+◌, ◌
 use Rattle.std.proofs.lemmas.List.{drop_all, take_all, append-nil}
 use Rattle.std.proofs.lemmas.Option.{slice_get-get_or}
 use Rattle.leg_lex.proofs.Over.{at_front}
-use Rattle.leg_design.specs.declared.records.Terminal.{Terminal}
-use Rattle.leg_design.specs.Terminal.{is_same_terminal}
-use Rattle.leg_design.specs.Records.{PinSaid, NetSaid, net_names, terminal_count, wire_count}
+use Rattle.leg_block.specs.declared.records.Terminal.{Terminal}
+use Rattle.leg_block.specs.Terminals.{is_same_terminal}
+use Rattle.leg_block.specs.Records.{PinSaid, NetSaid, net_names, terminal_count, wire_count}
 use Rattle.leg_design.specs.LonePins.{NetLists, is_listed, with_terminal, with_lone_pin, with_lone_pins}
 use Rattle.leg_design.specs.Index.{lists_of, IsKept}
-use Rattle.leg_design.proofs.Listed.{index_more, index_by, blank}
+use Rattle.leg_design.proofs.Listed.{index_more, index_by}
+use Rattle.leg_block.proofs.Blank.{blank}
 use Rattle.leg_design.proofs.ListedNets.{not_listed}
 
 pub pin_added : (before after : NetLists) (pins : List PinSaid) (i : ℕ) (x : PinSaid) → i < length pins → x ≡ get_or pins i x → after ≡ with_lone_pin before i x → with_lone_pins before i (drop i pins) ≡ with_lone_pins after (i + 1) (drop (i + 1) pins)

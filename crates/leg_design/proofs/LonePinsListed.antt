@@ -6,12 +6,12 @@ use Rattle.std.proofs.lemmas.List.Elements.{Contains-append_left, Contains-appen
 use Rattle.std.proofs.lemmas.Option.{slice_get_within, same_Some}
 use Rattle.leg_lex.specs.Named.{place_of}
 use Rattle.leg_lex.proofs.Named.{none_parts}
-use Rattle.leg_design.specs.declared.records.Terminal.{Terminal}
-use Rattle.leg_design.specs.declared.records.Terminal.TheVariants.{Pin}
+use Rattle.leg_block.specs.declared.records.Terminal.{Terminal}
+use Rattle.leg_block.specs.declared.records.Terminal.TheVariants.{Pin}
 use Rattle.leg_design.specs.Known.{KnownSaid}
-use Rattle.leg_design.specs.Records.{PinSaid, NetSaid, net_names}
+use Rattle.leg_block.specs.Records.{PinSaid, NetSaid, net_names}
 use Rattle.leg_design.specs.LonePins.{NetLists, is_listed, to_entry, to_named, with_lone_pin, with_lone_pins}
-use Rattle.leg_design.specs.WellFormedNets.{IsInSomeNet}
+use Rattle.leg_block.specs.WellFormedNets.{IsInSomeNet}
 use Rattle.leg_design.proofs.Gives.{named_gives_within}
 use Rattle.leg_design.proofs.ReadListed.{Lists, listed, not_listed}
 use Rattle.leg_design.proofs.ReadLonePins.{both, HasEntries, AreGrown, to_nets, to_special}

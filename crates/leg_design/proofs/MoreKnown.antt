@@ -2,14 +2,14 @@
 use Rattle.std.proofs.Common.{◌≡◌, ℕ, zero, suc, ◌<◌, Bool, List, [], ◌∷◌, ◌++◌, append-nil, slice_get, All, Option, None, Some, sym, ap, ◌∙◌, arith}
 use Rattle.std.proofs.lemmas.List.Elements.{All-weaker}
 use Rattle.leg_lib.specs.Records.{ViaSaid}
-use Rattle.leg_design.specs.declared.records.Component.{Component}
-use Rattle.leg_design.specs.declared.records.Terminal.{Terminal}
-use Rattle.leg_design.specs.declared.records.Terminal.TheVariants.{Comp, Pin}
-use Rattle.leg_design.specs.declared.records.Wire.{Wire}
-use Rattle.leg_design.specs.declared.records.Wire.TheVariants.{Segment, ViaAt, Patch}
+use Rattle.leg_block.specs.declared.records.Component.{Component}
+use Rattle.leg_block.specs.declared.records.Terminal.{Terminal}
+use Rattle.leg_block.specs.declared.records.Terminal.TheVariants.{Comp, Pin}
+use Rattle.leg_block.specs.declared.records.Wire.{Wire}
+use Rattle.leg_block.specs.declared.records.Wire.TheVariants.{Segment, ViaAt, Patch}
 use Rattle.leg_design.specs.Known.{KnownSaid}
-use Rattle.leg_design.specs.Records.{PinSaid, NetSaid}
-use Rattle.leg_design.specs.WellFormedNets.{IsWire}
+use Rattle.leg_block.specs.Records.{PinSaid, NetSaid}
+use Rattle.leg_block.specs.WellFormedNets.{IsWire}
 use Rattle.leg_design.proofs.ReadTerminals.{IsKnownTerminal}
 use Rattle.leg_design.proofs.ReadNets.{IsKnownNet}
 

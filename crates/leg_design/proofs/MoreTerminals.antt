@@ -4,9 +4,9 @@ use Rattle.std.proofs.lemmas.Bool.{cases_eq}
 use Rattle.std.proofs.lemmas.List.{set-append_left, set-append_right, get_or_append_left, get_or_default}
 use Rattle.std.proofs.lemmas.List.Elements.{Contains-push, Contains-append_left, Contains-push_cases}
 use Rattle.std.proofs.lemmas.Option.{slice_get_within, get_or_from_slice_get}
-use Rattle.leg_design.specs.declared.records.Terminal.{Terminal}
-use Rattle.leg_design.specs.Records.{NetSaid, net_names, wire_count}
-use Rattle.leg_design.specs.WellFormedNets.{AreInOneNet}
+use Rattle.leg_block.specs.declared.records.Terminal.{Terminal}
+use Rattle.leg_block.specs.Records.{NetSaid, net_names, wire_count}
+use Rattle.leg_block.specs.WellFormedNets.{AreInOneNet}
 use Rattle.leg_design.proofs.ReadListed.{Lists}
 
 -- the entry with one more terminal

@@ -12,12 +12,12 @@ use Rattle.leg_lex.proofs.Until as loops
 use Rattle.leg_lex.proofs.Over.{over_ends, over_goes_on, over_fails}
 use Rattle.leg_lex.proofs.Shorter.{mark_below, keyword_below, name_below}
 use Rattle.leg_lex.proofs.Statements.{statement_below}
-use Rattle.leg_design.specs.declared.limits.TheConstants.{ENTRY_LIMIT, PART_LIMIT}
-use Rattle.leg_design.specs.declared.records.Terminal.{Terminal}
-use Rattle.leg_design.specs.declared.records.Terminal.TheVariants.{Comp}
+use Rattle.leg_block.specs.declared.limits.TheConstants.{ENTRY_LIMIT, PART_LIMIT}
+use Rattle.leg_block.specs.declared.records.Terminal.{Terminal}
+use Rattle.leg_block.specs.declared.records.Terminal.TheVariants.{Comp}
 use Rattle.leg_design.specs.Guard.{unless}
 use Rattle.leg_design.specs.Known.{KnownSaid}
-use Rattle.leg_design.specs.Records.{NetSaid, net_names, terminal_count, wire_count}
+use Rattle.leg_block.specs.Records.{NetSaid, net_names, terminal_count, wire_count}
 use Rattle.leg_design.specs.Terminal.{pin_terminal, component_terminal, pins_of_all, one_terminal_at, all_terminals_at, past_synthesized, terminals_at, add_terminal, terminal_form, at_no_terminal}
 use Rattle.leg_design.specs.Net.{net_in, are_too_many, net_entry}
 use Rattle.leg_design.proofs.Gives.{none_from}

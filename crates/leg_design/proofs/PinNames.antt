@@ -6,9 +6,9 @@ use Rattle.leg_lex.proofs.Over.{at_front}
 use Rattle.leg_lex.specs.Named.{place_of}
 use Rattle.leg_lex.proofs.Named.{same_other_way}
 use Rattle.leg_lib.specs.Records.{Contents, PinSaid}
-use Rattle.leg_design.specs.declared.records.Component.{Component}
-use Rattle.leg_design.specs.declared.records.Terminal.{Terminal}
-use Rattle.leg_design.specs.declared.records.Terminal.TheVariants.{Comp}
+use Rattle.leg_block.specs.declared.records.Component.{Component}
+use Rattle.leg_block.specs.declared.records.Terminal.{Terminal}
+use Rattle.leg_block.specs.declared.records.Terminal.TheVariants.{Comp}
 use Rattle.leg_design.specs.Terminal.{pin_of_component, pins_of_all}
 
 -- none of the first i pins has the name

@@ -10,14 +10,14 @@ use Rattle.leg_lex.specs.Statements.{at_most_one, clauses_of}
 use Rattle.leg_lex.specs.Named.{place_of}
 use Rattle.leg_lex.proofs.Named.{apart_push}
 use Rattle.leg_lib.specs.Records.{Contents, MasterSaid}
-use Rattle.leg_design.specs.declared.limits.TheConstants.{ENTRY_LIMIT}
-use Rattle.leg_design.specs.declared.records.Component.{Component}
+use Rattle.leg_block.specs.declared.limits.TheConstants.{ENTRY_LIMIT}
+use Rattle.leg_block.specs.declared.records.Component.{Component}
 use Rattle.leg_design.specs.Guard.{when}
 use Rattle.leg_design.specs.Placement.{says_place}
 use Rattle.leg_design.specs.Clause.{is_clause}
 use Rattle.leg_design.specs.Component.{is_placement, placement_in, placement_in_any, placement_of, new_name_at, master_at, component_head, component_in, component_entry, components_at}
-use Rattle.leg_design.specs.Records.{component_names}
-use Rattle.leg_design.specs.WellFormedParts.{IsPlaced, IsComponent, AreComponents}
+use Rattle.leg_block.specs.Records.{component_names}
+use Rattle.leg_block.specs.WellFormedParts.{IsPlaced, IsComponent, AreComponents}
 use Rattle.leg_design.proofs.Gives.{Gives, gives_none, gives_some, gives_bind, gives_skip, gives_if, unless_gives, none_from, named_gives_within, name_gives, section_gives}
 use Rattle.leg_design.proofs.ReadPlacement.{placed_gives}
 

@@ -8,15 +8,15 @@ use Rattle.leg_lex.specs.Until.{until}
 use Rattle.leg_lex.specs.Statements.{at_end}
 use Rattle.leg_geom.specs.Plane.{Sides}
 use Rattle.leg_lib.specs.Records.{Contents}
-use Rattle.leg_design.specs.declared.limits.TheConstants.{PART_LIMIT}
-use Rattle.leg_design.specs.declared.records.Terminal.{Terminal}
-use Rattle.leg_design.specs.declared.records.Terminal.TheVariants.{Comp, Pin}
+use Rattle.leg_block.specs.declared.limits.TheConstants.{PART_LIMIT}
+use Rattle.leg_block.specs.declared.records.Terminal.{Terminal}
+use Rattle.leg_block.specs.declared.records.Terminal.TheVariants.{Comp, Pin}
 use Rattle.leg_design.specs.Guard.{when}
-use Rattle.leg_design.specs.Records.{NetSaid, DesignContents, terminal_count}
+use Rattle.leg_block.specs.Records.{NetSaid, DesignContents, terminal_count}
 use Rattle.leg_design.specs.Parts.{DesignParts, no_parts, known}
 use Rattle.leg_design.specs.Form.{form_at, all_nets, design_with, design_of, design_in}
-use Rattle.leg_design.specs.WellFormedNets.{IsTerminal, IsNet, HasNets}
-use Rattle.leg_design.specs.WellFormed.{IsWellFormed}
+use Rattle.leg_block.specs.WellFormedNets.{IsTerminal, IsNet, HasNets}
+use Rattle.leg_block.specs.WellFormed.{IsWellFormed}
 use Rattle.leg_design.proofs.Gives.{Gives, gives_some, gives_bind, gives_skip, unless_gives, until_gives}
 use Rattle.leg_design.proofs.ReadTerminals.{IsKnownTerminal}
 use Rattle.leg_design.proofs.ReadNets.{IsKnownNet}

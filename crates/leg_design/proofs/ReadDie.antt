@@ -4,7 +4,7 @@ use Rattle.std.proofs.lemmas.List.Elements.{All-push, All-nil}
 use Rattle.leg_lex.specs.Words.{Words}
 use Rattle.leg_geom.specs.Plane.{Spot}
 use Rattle.leg_design.specs.Die.{one_spot, at_no_spot, go_round, die_of, die_at}
-use Rattle.leg_design.specs.WellFormedParts.{IsPosition, IsArea}
+use Rattle.leg_block.specs.WellFormedParts.{IsPosition, IsArea}
 use Rattle.leg_design.proofs.Gives.{Gives, gives_none, gives_some, gives_bind, gives_skip, gives_if, until_gives}
 use Rattle.leg_design.proofs.ReadPlacement.{spot_gives, between_gives}
 

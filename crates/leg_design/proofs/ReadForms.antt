@@ -4,16 +4,16 @@ use Rattle.std.proofs.lemmas.List.Elements.{All-push, All-nil}
 use Rattle.leg_lex.specs.Words.{Words, is_at, is_name, is_word, keyword_at, mark_at}
 use Rattle.leg_geom.specs.Plane.{Sides}
 use Rattle.leg_lib.specs.Records.{Contents, ViaSaid}
-use Rattle.leg_design.specs.declared.records.Component.{Component}
-use Rattle.leg_design.specs.declared.records.Row.{Row}
+use Rattle.leg_block.specs.declared.records.Component.{Component}
+use Rattle.leg_block.specs.declared.records.Row.{Row}
 use Rattle.leg_design.specs.Guard.{when, unless}
 use Rattle.leg_design.specs.Header.{word_after, design_name_at, units_at}
 use Rattle.leg_design.specs.Net.{nets_at}
-use Rattle.leg_design.specs.Records.{TrackSaid, PinSaid}
+use Rattle.leg_block.specs.Records.{TrackSaid, PinSaid}
 use Rattle.leg_design.specs.Parts.{DesignParts, no_parts, known, divider_form, bus_form, name_form, units_form, die_form, row_form, track_form, vias_form, components_form, pins_form, nets_form, special_form}
 use Rattle.leg_design.specs.Skipped.{past_form}
 use Rattle.leg_design.specs.Form.{header_form, form_at}
-use Rattle.leg_design.specs.WellFormedParts.{IsKept, IsNameIfAny, IsArea, AreComponents, IsRow, IsTrack, AreVias, ArePins}
+use Rattle.leg_block.specs.WellFormedParts.{IsKept, IsNameIfAny, IsArea, AreComponents, IsRow, IsTrack, AreVias, ArePins}
 use Rattle.leg_design.proofs.Gives.{Gives, gives_none, gives_some, gives_bind, gives_skip, gives_if, name_gives, word_gives}
 use Rattle.leg_design.proofs.ReadDie.{die_gives}
 use Rattle.leg_design.proofs.ReadComponents.{components_give, no_components}

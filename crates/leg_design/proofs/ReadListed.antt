@@ -6,46 +6,13 @@ use Rattle.std.proofs.lemmas.Bool.{true≢false, and_from, and_parts}
 use Rattle.std.proofs.lemmas.Bool.Decides.{Decides-eqb}
 use Rattle.std.proofs.lemmas.List.Folds.{list_any_at, Any-from_list_any}
 use Rattle.leg_lex.proofs.Named.{same_name}
-use Rattle.leg_design.specs.declared.records.Terminal.{Terminal}
-use Rattle.leg_design.specs.declared.records.Terminal.TheVariants.{Comp, Pin}
-use Rattle.leg_design.specs.Terminal.{is_same_terminal, is_among, is_of_other_net}
+use Rattle.leg_block.specs.declared.records.Terminal.{Terminal}
+use Rattle.leg_block.specs.declared.records.Terminal.TheVariants.{Comp, Pin}
+use Rattle.leg_block.specs.Terminals.{is_same_terminal, is_among}
+use Rattle.leg_block.proofs.SameTerminal.{passes_from, some_passes, same_itself, among_from, among_contains}
+use Rattle.leg_design.specs.Terminal.{is_of_other_net}
 use Rattle.leg_design.specs.LonePins.{is_listed}
-use Rattle.leg_design.specs.Records.{NetSaid}
-
--- an element that passes the test
-pub record Passes {X : Type 0} (test : X → Bool) (xs : List X) : Type 0 where
-  pub it : X
-  pub in_list : Contains xs it
-  pub passes : test it ≡ true
-
-pub passes_from : {X : Type 0} (test : X → Bool) (xs : List X) → list_any test xs ≡ true → Passes test xs
-passes_from test xs some =
-    let any = Any-from_list_any test xs some in
-    record { it = any.1; in_list = (any.0, any.2, any.3); passes = any.4 }
-
-pub some_passes : {X : Type 0} (test : X → Bool) (xs : List X) (x : X) → Contains xs x → test x ≡ true → list_any test xs ≡ true
-some_passes test xs x there passes = list_any_at test xs there.0 x there.1 (ap test there.2 ∙ passes)
-
-pub same_itself : (t : Terminal) → is_same_terminal t t ≡ true
-same_itself (Comp c k) = and_from (c == c) (k == k) ((Decides-eqb c c).1 refl) ((Decides-eqb k k).1 refl)
-same_itself (Pin p) = (Decides-eqb p p).1 refl
-
-pub same_terminal : (t u : Terminal) → is_same_terminal t u ≡ true → t ≡ u
-same_terminal (Comp c k) (Comp d l) same =
-    let parts = and_parts (c == d) (k == l) same in
-    ap₂ (λ (a b : ℕ). Comp a b) ((Decides-eqb c d).0 parts.0) ((Decides-eqb k l).0 parts.1)
-same_terminal (Comp c k) (Pin q) same = absurd (true≢false (sym same))
-same_terminal (Pin p) (Comp d l) same = absurd (true≢false (sym same))
-same_terminal (Pin p) (Pin q) same = ap (λ (a : ℕ). Pin a) ((Decides-eqb p q).0 same)
-
--- what is listed is among the terminals
-pub among_from : (t : Terminal) (terminals : List Terminal) → Contains terminals t → is_among t terminals ≡ true
-among_from t terminals there = some_passes (is_same_terminal t) terminals t there (same_itself t)
-
-pub among_contains : (t : Terminal) (terminals : List Terminal) → is_among t terminals ≡ true → Contains terminals t
-among_contains t terminals among =
-    let found = passes_from (is_same_terminal t) terminals among in
-    rw (same_terminal t found.it found.passes) found.in_list
+use Rattle.leg_block.specs.Records.{NetSaid}
 
 -- a terminal that isn't among others is none of them
 pub not_among : (t : Terminal) (terminals : List Terminal) → is_among t terminals ≡ false → (k : ℕ) (d : Terminal) → k < length terminals → get_or terminals k d ≢ t

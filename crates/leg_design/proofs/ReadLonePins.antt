@@ -3,19 +3,20 @@ use Rattle.std.proofs.Common.{◌≡◌, ◌≢◌, ℕ, zero, suc, ◌+◌, ◌
 use Rattle.std.proofs.lemmas.List.Elements.{All-set, All-push}
 use Rattle.std.proofs.lemmas.List.Quantifiers.{all_pairs_push}
 use Rattle.leg_lex.specs.Named.{AreApart}
-use Rattle.leg_design.specs.declared.limits.TheConstants.{ENTRY_LIMIT, PART_LIMIT}
-use Rattle.leg_design.specs.declared.records.Terminal.{Terminal}
-use Rattle.leg_design.specs.declared.records.Terminal.TheVariants.{Pin}
+use Rattle.leg_block.specs.declared.limits.TheConstants.{ENTRY_LIMIT, PART_LIMIT}
+use Rattle.leg_block.specs.declared.records.Terminal.{Terminal}
+use Rattle.leg_block.specs.declared.records.Terminal.TheVariants.{Pin}
 use Rattle.leg_design.specs.Known.{KnownSaid}
-use Rattle.leg_design.specs.Records.{NetSaid, net_names, wire_count}
+use Rattle.leg_block.specs.Records.{NetSaid, net_names, wire_count}
 use Rattle.leg_design.specs.LonePins.{NetLists, with_terminal}
-use Rattle.leg_design.specs.WellFormedNets.{AreInOneNet}
-use Rattle.leg_design.proofs.ReadListed.{Lists, not_among, among_contains}
+use Rattle.leg_block.specs.WellFormedNets.{AreInOneNet}
+use Rattle.leg_design.proofs.ReadListed.{Lists, not_among}
+use Rattle.leg_block.proofs.SameTerminal.{among_contains}
 use Rattle.leg_design.proofs.MoreTerminals as more_terminals
 use Rattle.leg_design.proofs.MoreTerminals.{more, StandsAt, stands_at, stands_left, stands_right, set_left, set_right}
 use Rattle.leg_design.proofs.ReadTerminals.{IsKnownTerminal}
 use Rattle.leg_design.proofs.ReadNets.{IsKnownNet}
-use Rattle.leg_design.specs.Terminal.{is_among}
+use Rattle.leg_block.specs.Terminals.{is_among}
 use Rattle.std.proofs.lemmas.Bool.{false_from_ne_true}
 
 -- the entries of both sections

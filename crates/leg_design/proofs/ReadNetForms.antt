@@ -4,7 +4,7 @@ use Rattle.std.proofs.lemmas.Bool.{true≢false}
 use Rattle.std.proofs.lemmas.List.Elements.{All-nil, Contains-append_left, Contains-append_right, Contains-append_cases}
 use Rattle.leg_lex.specs.Words.{Words, is_at}
 use Rattle.leg_lib.specs.Records.{Contents}
-use Rattle.leg_design.specs.declared.limits.TheConstants.{ENTRY_LIMIT, PART_LIMIT}
+use Rattle.leg_block.specs.declared.limits.TheConstants.{ENTRY_LIMIT, PART_LIMIT}
 use Rattle.leg_design.specs.Guard.{when, unless}
 use Rattle.leg_design.specs.Known.{KnownSaid}
 use Rattle.leg_design.specs.Header.{word_after, design_name_at, units_at}
@@ -15,11 +15,11 @@ use Rattle.leg_design.specs.Via.{vias_at}
 use Rattle.leg_design.specs.Component.{components_at}
 use Rattle.leg_design.specs.Pin.{pins_at}
 use Rattle.leg_design.specs.LonePins.{NetLists}
-use Rattle.leg_design.specs.Records.{NetSaid, wire_count}
+use Rattle.leg_block.specs.Records.{NetSaid, wire_count}
 use Rattle.leg_design.specs.Parts.{DesignParts, no_parts, known, divider_form, bus_form, name_form, units_form, die_form, row_form, track_form, vias_form, components_form, pins_form, nets_form, special_form}
 use Rattle.leg_design.specs.Skipped.{past_form}
 use Rattle.leg_design.specs.Form.{header_form, form_at}
-use Rattle.leg_design.specs.WellFormedNets.{AreInOneNet}
+use Rattle.leg_block.specs.WellFormedNets.{AreInOneNet}
 use Rattle.leg_design.proofs.Gives.{Gives, gives_some, gives_bind, gives_skip, gives_if, unless_gives}
 use Rattle.leg_design.proofs.ReadNets.{IsKnownNet, AreEntries, nets_give}
 use Rattle.leg_design.proofs.ReadLonePins.{HasEntries}

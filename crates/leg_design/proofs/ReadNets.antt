@@ -9,15 +9,15 @@ use Rattle.leg_lex.specs.Words.{Words, is_keyword, is_name, is_at, keyword_at, m
 use Rattle.leg_lex.specs.Statements.{statement_at}
 use Rattle.leg_lex.specs.Named.{place_of, AreApart}
 use Rattle.leg_lex.proofs.Named.{apart_push}
-use Rattle.leg_design.specs.declared.limits.TheConstants.{ENTRY_LIMIT, PART_LIMIT}
+use Rattle.leg_block.specs.declared.limits.TheConstants.{ENTRY_LIMIT, PART_LIMIT}
 use Rattle.leg_design.specs.Guard.{unless, is_over}
 use Rattle.leg_design.specs.Known.{KnownSaid}
 use Rattle.leg_design.specs.Terminal.{is_of_other_net, at_no_terminal, terminal_form}
 use Rattle.leg_design.specs.Wiring.{is_wiring}
-use Rattle.leg_design.specs.Records.{NetSaid, net_names, terminal_count, wire_count}
+use Rattle.leg_block.specs.Records.{NetSaid, net_names, terminal_count, wire_count}
 use Rattle.leg_design.specs.Net.{NetParts, no_net_parts, is_left_out, use_clause, wiring_clause, past_clause, clause_at, net_clause, net_name_at, net_in, are_too_many, net_entry, section_word, nets_at}
-use Rattle.leg_design.specs.WellFormedParts.{IsKept}
-use Rattle.leg_design.specs.WellFormedNets.{IsWire, AreInOneNet}
+use Rattle.leg_block.specs.WellFormedParts.{IsKept}
+use Rattle.leg_block.specs.WellFormedNets.{IsWire, AreInOneNet}
 use Rattle.leg_design.proofs.Gives.{Gives, gives_none, gives_some, gives_bind, gives_skip, gives_if, unless_gives, none_from, name_gives, word_gives, until_gives, section_gives}
 use Rattle.leg_design.proofs.ReadPaths.{AreWires}
 use Rattle.leg_design.proofs.ReadWiring.{wiring_gives}

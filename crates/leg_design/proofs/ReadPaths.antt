@@ -10,17 +10,18 @@ use Rattle.leg_lex.specs.Number.{IsNumber}
 use Rattle.leg_geom.specs.Plane.{Spot}
 use Rattle.leg_lib.specs.declared.records.Shape.{Shape}
 use Rattle.leg_lib.specs.Records.{ViaSaid}
-use Rattle.leg_design.specs.declared.records.Wire.{Wire}
-use Rattle.leg_design.specs.declared.records.Wire.TheVariants.{ViaAt, Patch}
+use Rattle.leg_block.specs.declared.records.Wire.{Wire}
+use Rattle.leg_block.specs.declared.records.Wire.TheVariants.{ViaAt, Patch}
 use Rattle.leg_design.specs.Guard.{when}
-use Rattle.leg_design.specs.Layers.{width_of_layer, is_routing}
+use Rattle.leg_block.specs.Layers.{width_of_layer, is_routing}
 use Rattle.leg_design.specs.Known.{KnownSaid, via_numbered}
-use Rattle.leg_design.specs.Wiring.{is_even}
+use Rattle.leg_block.specs.Wires.{is_even}
 use Rattle.leg_design.specs.declared.path.Item.{Item}
 use Rattle.leg_design.specs.declared.path.Item.TheVariants.{ToPoint, AtVia, AtRect}
-use Rattle.leg_design.specs.Path.{next_spot, is_same_spot, is_straight, last_given, extension_at, segment_to, segment_width, default_extension, other_layer, across, wires_from, path_wires}
-use Rattle.leg_design.specs.WellFormedParts.{IsPosition, IsArea}
-use Rattle.leg_design.specs.WellFormedNets.{IsWidth, written, IsExtension, IsWire}
+use Rattle.leg_design.specs.Path.{next_spot, is_same_spot, last_given, extension_at, segment_to, segment_width, other_layer, across, wires_from, path_wires}
+use Rattle.leg_block.specs.Wires.{is_straight, default_extension}
+use Rattle.leg_block.specs.WellFormedParts.{IsPosition, IsArea}
+use Rattle.leg_block.specs.WellFormedNets.{IsWidth, written, IsExtension, IsWire}
 use Rattle.leg_design.proofs.Gives.{Gives, gives_none, gives_some, gives_bind, gives_skip, gives_choice, gives_itself, when_gives, unless_gives}
 
 -- an extension that is given

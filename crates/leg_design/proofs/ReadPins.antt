@@ -9,19 +9,19 @@ use Rattle.leg_lex.specs.Statements.{statement_at, clauses_of}
 use Rattle.leg_lex.specs.Named.{place_of}
 use Rattle.leg_lex.proofs.Named.{apart_push}
 use Rattle.leg_lib.specs.Records.{Contents}
-use Rattle.leg_design.specs.declared.limits.TheConstants.{ENTRY_LIMIT}
+use Rattle.leg_block.specs.declared.limits.TheConstants.{ENTRY_LIMIT}
 use Rattle.leg_design.specs.Guard.{when, unless}
 use Rattle.leg_design.specs.Clause.{is_clause}
 use Rattle.leg_design.specs.Placement.{says_place}
 use Rattle.leg_design.specs.PinParts.{PinParts, no_pin_parts, net_of_pin, word_in, last_port, all_ports, port_start, port_rect, net_clause, direction_clause, use_clause, port_place, pin_clause}
 use Rattle.leg_design.specs.Port.{empty_port, past_rules, layer_rect}
 use Rattle.leg_design.specs.Pin.{pin_head, pin_in, pin_entry, pins_at}
-use Rattle.leg_design.specs.Records.{PortSaid, PinSaid, pin_names}
-use Rattle.leg_design.specs.WellFormedParts.{IsKept, IsNameIfAny, IsPort, IsPin, ArePins}
+use Rattle.leg_block.specs.Records.{PortSaid, PinSaid, pin_names}
+use Rattle.leg_block.specs.WellFormedParts.{IsKept, IsNameIfAny, IsPort, IsPin, ArePins}
 use Rattle.leg_design.proofs.Gives.{Gives, gives_none, gives_some, gives_bind, gives_skip, gives_if, unless_gives, none_from, name_gives, word_gives, over_gives, section_gives}
 use Rattle.leg_design.proofs.ReadPlacement.{rect_gives, placed_gives}
 use Rattle.leg_design.proofs.ReadVias.{with_rect_metal}
-use Rattle.leg_design.specs.WellFormedParts.{IsArea, IsMetalShape}
+use Rattle.leg_block.specs.WellFormedParts.{IsArea, IsMetalShape}
 use Rattle.leg_design.specs.Layers.{layer_at}
 
 net_of_pin_gives : (clause : Words) → Gives (λ name. is_name name ≡ true) (net_of_pin clause)

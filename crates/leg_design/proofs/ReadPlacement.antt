@@ -6,10 +6,10 @@ use Rattle.leg_lex.specs.Words.{Words, is_at, whole_at}
 use Rattle.leg_geom.specs.Plane.{Spot}
 use Rattle.leg_geom.specs.declared.place.Place.{Place}
 use Rattle.leg_lib.specs.Point.{between, rect_between}
-use Rattle.leg_design.specs.declared.records.Status.{Status}
-use Rattle.leg_design.specs.declared.records.Status.TheVariants.{Placed, Fixed, Cover}
+use Rattle.leg_block.specs.declared.records.Status.{Status}
+use Rattle.leg_block.specs.declared.records.Status.TheVariants.{Placed, Fixed, Cover}
 use Rattle.leg_design.specs.Placement.{spot_at, rect_at, place_at, place_as, placed_in}
-use Rattle.leg_design.specs.WellFormedParts.{IsPosition, IsArea, IsPlaced}
+use Rattle.leg_block.specs.WellFormedParts.{IsPosition, IsArea, IsPlaced}
 use Rattle.leg_design.proofs.Corners.{lt_is}
 use Rattle.leg_design.proofs.Numbers.{whole_is_number}
 use Rattle.leg_design.proofs.Gives.{Gives, gives_none, gives_some, gives_bind, gives_skip, gives_choice, gives_if}

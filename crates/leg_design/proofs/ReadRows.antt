@@ -10,8 +10,9 @@ use Rattle.leg_lex.specs.Named.{place_of}
 use Rattle.leg_lib.specs.Records.{Contents, site_names}
 use Rattle.leg_design.specs.Guard.{when, is_within}
 use Rattle.leg_design.specs.Placement.{orient_at}
-use Rattle.leg_design.specs.Row.{is_upright, site_at, step_in, sites_in, row_in, head_of, row_at}
-use Rattle.leg_design.specs.WellFormedParts.{IsRow}
+use Rattle.leg_block.specs.Rows.{is_upright}
+use Rattle.leg_design.specs.Row.{site_at, step_in, sites_in, row_in, head_of, row_at}
+use Rattle.leg_block.specs.WellFormedParts.{IsRow}
 use Rattle.leg_design.proofs.Gives.{Gives, gives_some, gives_bind, gives_skip, gives_itself, name_gives, when_gives}
 use Rattle.leg_design.proofs.ReadPlacement.{whole_gives}
 

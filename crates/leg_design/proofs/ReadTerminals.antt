@@ -6,12 +6,13 @@ use Rattle.leg_lex.specs.Words.{Words, is_keyword, is_at, mark_at, name_at}
 use Rattle.leg_lex.specs.Named.{place_of}
 use Rattle.leg_lib.specs.Records as library
 use Rattle.leg_lib.specs.Records.{Contents, MasterSaid}
-use Rattle.leg_design.specs.declared.records.Component.{Component}
-use Rattle.leg_design.specs.declared.records.Terminal.{Terminal}
-use Rattle.leg_design.specs.declared.records.Terminal.TheVariants.{Comp, Pin}
+use Rattle.leg_block.specs.declared.records.Component.{Component}
+use Rattle.leg_block.specs.declared.records.Terminal.{Terminal}
+use Rattle.leg_block.specs.declared.records.Terminal.TheVariants.{Comp, Pin}
 use Rattle.leg_design.specs.Known.{KnownSaid}
-use Rattle.leg_design.specs.Records.{PinSaid, NetSaid, component_names}
-use Rattle.leg_design.specs.Terminal.{is_among, pin_of_component, with_pin, pins_of_all, component_terminal, pin_terminal, one_terminal_at, all_terminals_at, past_synthesized, terminals_at, is_of_other_net, add_terminal, terminal_form}
+use Rattle.leg_block.specs.Records.{PinSaid, NetSaid, component_names}
+use Rattle.leg_block.specs.Terminals.{is_among}
+use Rattle.leg_design.specs.Terminal.{pin_of_component, with_pin, pins_of_all, component_terminal, pin_terminal, one_terminal_at, all_terminals_at, past_synthesized, terminals_at, is_of_other_net, add_terminal, terminal_form}
 use Rattle.leg_design.proofs.Gives.{Gives, gives_none, gives_some, gives_bind, gives_skip, gives_choice, gives_if, gives_itself, named_gives_within, each_gives}
 use Rattle.leg_design.proofs.ReadListed.{not_among}
 

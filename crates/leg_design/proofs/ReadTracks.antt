@@ -7,7 +7,7 @@ use Rattle.leg_lib.specs.declared.records.Layer.{Layer}
 use Rattle.leg_lib.specs.Records.{Contents}
 use Rattle.leg_design.specs.Guard.{is_over, is_within}
 use Rattle.leg_design.specs.Track.{axis_at, one_layer, layers_in, track_in, track_at}
-use Rattle.leg_design.specs.WellFormedParts.{IsTrack}
+use Rattle.leg_block.specs.WellFormedParts.{IsTrack}
 use Rattle.leg_design.proofs.Gives.{Gives, gives_some, gives_bind, gives_skip, named_gives_within, when_gives, until_gives}
 use Rattle.leg_design.proofs.ReadPlacement.{whole_gives}
 use Rattle.leg_design.proofs.ReadRows.{within_is, le_is}

@@ -12,10 +12,11 @@ use Rattle.leg_lib.specs.declared.records.Shape.{Shape}
 use Rattle.leg_lib.specs.Records.{Contents, ViaSaid, via_names}
 use Rattle.leg_design.specs.Guard.{when}
 use Rattle.leg_design.specs.Clause.{is_clause}
-use Rattle.leg_design.specs.Layers.{layer_at, has_metal, with_rect}
+use Rattle.leg_design.specs.Layers.{layer_at, with_rect}
+use Rattle.leg_block.specs.Layers.{has_metal}
 use Rattle.leg_design.specs.Via.{via_rect, is_other_via, via_clause, via_head, via_in, via_entry, vias_at}
-use Rattle.leg_design.specs.Records.{design_via_names}
-use Rattle.leg_design.specs.WellFormedParts.{IsArea, IsMetalShape, IsDesignVia, AreVias}
+use Rattle.leg_block.specs.Records.{design_via_names}
+use Rattle.leg_block.specs.WellFormedParts.{IsArea, IsMetalShape, IsDesignVia, AreVias}
 use Rattle.leg_design.proofs.Gives.{Gives, gives_none, gives_some, gives_bind, gives_skip, gives_if, unless_gives, none_from, name_gives, over_gives, section_gives}
 use Rattle.leg_design.proofs.ReadPlacement.{rect_gives}
 

@@ -9,16 +9,17 @@ use Rattle.leg_lex.specs.Named.{place_of}
 use Rattle.leg_geom.specs.Plane.{Spot}
 use Rattle.leg_lib.specs.Joins.{is_wiring_word}
 use Rattle.leg_lib.specs.Records.{layer_names}
-use Rattle.leg_design.specs.declared.records.Wire.{Wire}
+use Rattle.leg_block.specs.declared.records.Wire.{Wire}
 use Rattle.leg_design.specs.Guard.{unless}
-use Rattle.leg_design.specs.Layers.{is_routing}
+use Rattle.leg_block.specs.Layers.{is_routing}
 use Rattle.leg_design.specs.Known.{KnownSaid, via_named}
 use Rattle.leg_design.specs.declared.path.Item.{Item}
 use Rattle.leg_design.specs.Path.{}
 use Rattle.leg_design.specs.PathItem.{count_at, coordinate_at, extension_in_point, point_item, first_point_at, rect_item, past_north, via_item, item_at, one_item, at_path_end}
-use Rattle.leg_design.specs.Wiring.{routing_at, past_taper, is_even, written_width_at, at_no_shape, past_shape, written_at, path_at, at_no_new, new_path, paths_at, wiring_start, wiring_at}
-use Rattle.leg_design.specs.WellFormedParts.{IsPosition}
-use Rattle.leg_design.specs.WellFormedNets.{IsWire}
+use Rattle.leg_design.specs.Wiring.{routing_at, past_taper, written_width_at, at_no_shape, past_shape, written_at, path_at, at_no_new, new_path, paths_at, wiring_start, wiring_at}
+use Rattle.leg_block.specs.Wires.{is_even}
+use Rattle.leg_block.specs.WellFormedParts.{IsPosition}
+use Rattle.leg_block.specs.WellFormedNets.{IsWire}
 use Rattle.leg_design.proofs.Gives.{Gives, gives_some, gives_bind, gives_skip, gives_choice, gives_if, when_gives, unless_gives, until_gives}
 use Rattle.leg_design.proofs.ReadPlacement.{whole_gives, between_gives}
 use Rattle.leg_design.proofs.ReadPaths.{IsGiven, IsNumberIfAny, IsItem, IsWritten, AreWires, path_gives}

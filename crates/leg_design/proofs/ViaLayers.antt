@@ -5,7 +5,7 @@ use Rattle.std.proofs.lemmas.List.{drop_all}
 use Rattle.leg_lex.proofs.Over.{at_front}
 use Rattle.leg_lib.specs.declared.records.Shape.{Shape}
 use Rattle.leg_lib.specs.Records.{Contents, ViaSaid}
-use Rattle.leg_design.specs.Layers.{is_routing}
+use Rattle.leg_block.specs.Layers.{is_routing}
 use Rattle.leg_design.specs.Known.{KnownSaid, via_numbered}
 use Rattle.leg_design.specs.Path.{other_layer, across}
 

@@ -3,7 +3,7 @@ use Rattle.std.proofs.Common.{◌≡◌, ℕ, zero, suc, ◌+◌, ◌<◌, ◌�
 use Rattle.leg_lex.specs.Named.{place_of}
 use Rattle.leg_lex.proofs.Named.{place_stands}
 use Rattle.leg_lib.specs.Records.{Contents, ViaSaid, via_names}
-use Rattle.leg_design.specs.Records.{design_via_names}
+use Rattle.leg_block.specs.Records.{design_via_names}
 use Rattle.std.specs.Option.{is_some, IfSome, option_or, option_copied}
 use Rattle.std.proofs.lemmas.List.{length-map}
 use Rattle.std.proofs.lemmas.Bool.Decides.{nat_tests}

@@ -6,7 +6,7 @@ use Rattle.leg_lex.specs.Named.{place_of}
 use Rattle.leg_lex.proofs.Until.{Below, Shortens, below_some, below_bind, below_ask}
 use Rattle.leg_lex.proofs.Statements.{statement_below}
 use Rattle.leg_lib.specs.Records.{Contents, ViaSaid}
-use Rattle.leg_design.specs.Records.{design_via_names}
+use Rattle.leg_block.specs.Records.{design_via_names}
 use Rattle.leg_design.specs.Via.{via_in, via_entry, vias_at}
 use Rattle.leg_design.proofs.ReadVias.{via_in_gives}
 use Rattle.leg_design.proofs.Sections.{section_below}

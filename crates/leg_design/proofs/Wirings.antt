@@ -5,13 +5,14 @@ use Rattle.leg_lex.specs.Named.{place_of}
 use Rattle.leg_lex.proofs.Until.{Below, Shortens, below_some, below_bind, below_ask, below_if, below_more, until_below}
 use Rattle.leg_lex.proofs.Shorter.{next_below, keyword_below, mark_below, name_below, word_below}
 use Rattle.leg_lib.specs.Records.{Contents, layer_names}
-use Rattle.leg_design.specs.declared.records.Wire.{Wire}
+use Rattle.leg_block.specs.declared.records.Wire.{Wire}
 use Rattle.leg_design.specs.Guard.{when}
-use Rattle.leg_design.specs.Layers.{is_routing}
+use Rattle.leg_block.specs.Layers.{is_routing}
 use Rattle.leg_design.specs.Known.{KnownSaid}
 use Rattle.leg_design.specs.Path.{path_wires}
 use Rattle.leg_design.specs.PathItem.{one_item, at_path_end}
-use Rattle.leg_design.specs.Wiring.{routing_at, past_taper, is_even, written_width_at, at_no_shape, past_shape, written_at, path_at, at_no_new, new_path, paths_at, wiring_start, wiring_at}
+use Rattle.leg_design.specs.Wiring.{routing_at, past_taper, written_width_at, at_no_shape, past_shape, written_at, path_at, at_no_new, new_path, paths_at, wiring_start, wiring_at}
+use Rattle.leg_block.specs.Wires.{is_even}
 use Rattle.leg_design.proofs.PathItems.{count_below, first_point_below, one_item_shortens}
 
 routing_below : (library : Contents) (words : Words) → Below (length words) (routing_at library words)

@@ -6,15 +6,15 @@ use Rattle.leg_lex.specs.Statements.{statement_at, at_most_one, clauses_of}
 use Rattle.leg_lex.specs.Named.{place_of}
 use Rattle.leg_geom.specs.declared.place.Place.{Place}
 use Rattle.leg_lib.specs.Records.{Contents, master_names}
-use Rattle.leg_design.specs.declared.limits.TheConstants.{ENTRY_LIMIT}
-use Rattle.leg_design.specs.declared.records.Status.{Status}
-use Rattle.leg_design.specs.declared.records.Status.TheVariants.{Unplaced}
-use Rattle.leg_design.specs.declared.records.Component.{Component}
+use Rattle.leg_block.specs.declared.limits.TheConstants.{ENTRY_LIMIT}
+use Rattle.leg_block.specs.declared.records.Status.{Status}
+use Rattle.leg_block.specs.declared.records.Status.TheVariants.{Unplaced}
+use Rattle.leg_block.specs.declared.records.Component.{Component}
 use Rattle.leg_design.specs.Guard.{when, unless}
 use Rattle.leg_design.specs.Placement.{says_place, placed_in}
 use Rattle.leg_design.specs.Clause.{is_clause}
 use Rattle.leg_design.specs.Section.{section_at}
-use Rattle.leg_design.specs.Records.{component_names}
+use Rattle.leg_block.specs.Records.{component_names}
 
 -- whether a clause says where the component stands
 abbrev pub is_placement : Words → Bool

@@ -5,10 +5,10 @@ use Rattle.leg_lex.specs.Until.{until}
 use Rattle.leg_lex.specs.Statements.{at_end}
 use Rattle.leg_geom.specs.Plane.{Sides}
 use Rattle.leg_lib.specs.Records.{Contents}
-use Rattle.leg_design.specs.declared.limits.TheConstants.{PART_LIMIT}
+use Rattle.leg_block.specs.declared.limits.TheConstants.{PART_LIMIT}
 use Rattle.leg_design.specs.Guard.{when, unless}
 use Rattle.leg_design.specs.LonePins.{NetLists, with_lone_pins}
-use Rattle.leg_design.specs.Records.{DesignContents, terminal_count}
+use Rattle.leg_block.specs.Records.{DesignContents, terminal_count}
 use Rattle.leg_design.specs.Parts.{DesignParts, no_parts, divider_form, bus_form, name_form, units_form, die_form, row_form, track_form, vias_form, components_form, pins_form, nets_form, special_form}
 use Rattle.leg_design.specs.Skipped.{past_form}
 

@@ -1,9 +1,9 @@
 -- Which entry of a section lists a terminal, as a table of terminals tells it.
 use Rattle.std.specs.Prelude.{◌≡◌, ◌↔◌, ℕ, true, List, [], map, get_or, Option, Some}
 use Rattle.std.specs.HashMap.{HashMap, get_by}
-use Rattle.leg_design.specs.declared.records.Terminal.{Terminal}
-use Rattle.leg_design.specs.Terminal.{is_same_terminal, is_among}
-use Rattle.leg_design.specs.Records.{NetSaid, net_names, terminal_count, wire_count}
+use Rattle.leg_block.specs.declared.records.Terminal.{Terminal}
+use Rattle.leg_block.specs.Terminals.{is_same_terminal, is_among}
+use Rattle.leg_block.specs.Records.{NetSaid, net_names, terminal_count, wire_count}
 
 -- the number that the table has for the terminal
 abbrev pub number_of : {S : Type 0} → HashMap Terminal ℕ S → Terminal → Option ℕ

@@ -3,8 +3,8 @@ use Rattle.std.specs.Prelude.{ℕ, ◌+◌, List, ◌++◌, length, Option, opti
 use Rattle.std.specs.Option.{option_or}
 use Rattle.leg_lex.specs.Named.{place_of}
 use Rattle.leg_lib.specs.Records.{Contents, ViaSaid, via_names}
-use Rattle.leg_design.specs.declared.records.Component.{Component}
-use Rattle.leg_design.specs.Records.{PinSaid, design_via_names}
+use Rattle.leg_block.specs.declared.records.Component.{Component}
+use Rattle.leg_block.specs.Records.{PinSaid, design_via_names}
 
 pub record KnownSaid : Type 0 where
   pub library : Contents

@@ -1,14 +1,11 @@
--- What the layers of a library are for (LEF/DEF 5.8, "Layer"; that only routing and cut layers carry metal is an own
--- rule).
-use Rattle.std.specs.Prelude.{ℕ, ℤ, Bool, true, false, if◌then◌else◌, List, [], ◌∷◌, ◌++◌, Option, None, Some, is_some, slice_get}
+-- Layers that are named, and rectangles on them (that a rectangle on a layer without metal is dropped is an own rule).
+use Rattle.std.specs.Prelude.{ℕ, if◌then◌else◌, List, [], ◌∷◌, ◌++◌, Option, Some}
 use Rattle.leg_lex.specs.Words.{Words, ◌>>=◌, name_at}
 use Rattle.leg_lex.specs.Named.{place_of}
 use Rattle.leg_geom.specs.Plane.{Sides}
-use Rattle.leg_lib.specs.declared.records.LayerKind.{LayerKind}
-use Rattle.leg_lib.specs.declared.records.LayerKind.TheVariants.{Routing, Cut, Other}
-use Rattle.leg_lib.specs.declared.records.Layer.{Layer}
 use Rattle.leg_lib.specs.declared.records.Shape.{Shape}
 use Rattle.leg_lib.specs.Records.{Contents, layer_names}
+use Rattle.leg_block.specs.Layers.{has_metal}
 
 -- a layer of the library, by its number
 unfoldable pub layer_at : Contents → Words → Option (ℕ × Words)
@@ -17,33 +14,7 @@ layer_at library words = do
   number ← place_of name.0 (layer_names library)
   Some (number, name.1)
 
--- the width of the wires on a layer of this kind, if there are wires
-abbrev pub wire_width : LayerKind → Option ℤ
-wire_width (Routing direction width) = Some width
-wire_width Cut = None
-wire_width Other = None
-
-abbrev pub is_metal_kind : LayerKind → Bool
-is_metal_kind (Routing direction width) = true
-is_metal_kind Cut = true
-is_metal_kind Other = false
-
--- the width of the wires on the routing layer of this number
-abbrev pub width_of_layer : Contents → ℕ → Option ℤ
-width_of_layer library number = slice_get library.layers number >>= λ layer. wire_width layer.kind
-
-abbrev pub is_metal : Option Layer → Bool
-is_metal None = false
-is_metal (Some layer) = is_metal_kind layer.kind
-
-abbrev pub has_metal : Contents → ℕ → Bool
-has_metal library number = is_metal (slice_get library.layers number)
-
 -- one more rectangle, on a layer with metal; on another layer it is dropped
 abbrev pub with_rect : Contents → ℕ → Sides → List Shape → List Shape
 with_rect library number rect shapes =
     if has_metal library number then shapes ++ record { layer = number; rect = rect } ∷ [] else shapes
-
--- wires run on the layer of this number
-abbrev pub is_routing : Contents → ℕ → Bool
-is_routing library number = is_some (width_of_layer library number)

@@ -1,5 +1,9 @@
+pub use Rattle.leg_block.specs.Records
+pub use Rattle.leg_block.specs.WellFormedParts
+pub use Rattle.leg_block.specs.WellFormedNets
+pub use Rattle.leg_block.specs.WellFormed
+pub use Rattle.leg_block.specs.Violation
 pub mod Guard
-pub mod Records
 pub mod Placement
 pub mod Clause
 pub mod Layers
@@ -25,7 +29,3 @@ pub mod LonePins
 pub mod Parts
 pub mod Skipped
 pub mod Form
-pub mod WellFormedParts
-pub mod WellFormedNets
-pub mod WellFormed
-pub mod Violation

@@ -2,10 +2,10 @@
 use Rattle.std.specs.Prelude.{ℕ, suc, Bool, ◌||◌, if◌then◌else◌, List, [], ◌∷◌, ◌++◌, Option, None, Some, slice_get, slice_set}
 use Rattle.std.specs.List.{list_any}
 use Rattle.leg_lex.specs.Named.{place_of}
-use Rattle.leg_design.specs.declared.records.Terminal.{Terminal}
-use Rattle.leg_design.specs.declared.records.Terminal.TheVariants.{Pin}
-use Rattle.leg_design.specs.Terminal.{is_among}
-use Rattle.leg_design.specs.Records.{PinSaid, NetSaid, net_names}
+use Rattle.leg_block.specs.declared.records.Terminal.{Terminal}
+use Rattle.leg_block.specs.declared.records.Terminal.TheVariants.{Pin}
+use Rattle.leg_block.specs.Terminals.{is_among}
+use Rattle.leg_block.specs.Records.{PinSaid, NetSaid, net_names}
 
 -- the entries of NETS and those of SPECIALNETS
 pub record NetLists : Type 0 where

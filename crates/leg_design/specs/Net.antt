@@ -5,14 +5,14 @@ use Rattle.leg_lex.specs.Words.{Words, ◌>>=◌, is_keyword, is_at, keyword_at,
 use Rattle.leg_lex.specs.Until.{until}
 use Rattle.leg_lex.specs.Statements.{statement_at, is_plus}
 use Rattle.leg_lex.specs.Named.{place_of}
-use Rattle.leg_design.specs.declared.limits.TheConstants.{ENTRY_LIMIT, PART_LIMIT}
-use Rattle.leg_design.specs.declared.records.Wire.{Wire}
+use Rattle.leg_block.specs.declared.limits.TheConstants.{ENTRY_LIMIT, PART_LIMIT}
+use Rattle.leg_block.specs.declared.records.Wire.{Wire}
 use Rattle.leg_design.specs.Guard.{unless, is_over}
 use Rattle.leg_design.specs.Known.{KnownSaid}
 use Rattle.leg_design.specs.Terminal.{terminal_form, at_no_terminal}
 use Rattle.leg_design.specs.Wiring.{is_wiring, wiring_at}
 use Rattle.leg_design.specs.Section.{section_at}
-use Rattle.leg_design.specs.Records.{NetSaid, net_names, terminal_count, wire_count}
+use Rattle.leg_block.specs.Records.{NetSaid, net_names, terminal_count, wire_count}
 
 -- what the clauses before said
 pub record NetParts : Type 0 where

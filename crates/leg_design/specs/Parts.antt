@@ -3,8 +3,8 @@ use Rattle.std.specs.Prelude.{ℕ, Bool, true, false, ◌==◌, List, [], ◌∷
 use Rattle.leg_lex.specs.Words.{Words, ◌>>=◌}
 use Rattle.leg_geom.specs.Plane.{Sides}
 use Rattle.leg_lib.specs.Records.{Contents, ViaSaid}
-use Rattle.leg_design.specs.declared.records.Row.{Row}
-use Rattle.leg_design.specs.declared.records.Component.{Component}
+use Rattle.leg_block.specs.declared.records.Row.{Row}
+use Rattle.leg_block.specs.declared.records.Component.{Component}
 use Rattle.leg_design.specs.Guard.{when, unless}
 use Rattle.leg_design.specs.Known.{KnownSaid}
 use Rattle.leg_design.specs.Header.{word_after, design_name_at, units_at}
@@ -15,7 +15,7 @@ use Rattle.leg_design.specs.Via.{vias_at}
 use Rattle.leg_design.specs.Component.{components_at}
 use Rattle.leg_design.specs.Pin.{pins_at}
 use Rattle.leg_design.specs.Net.{nets_at}
-use Rattle.leg_design.specs.Records.{TrackSaid, PinSaid, NetSaid}
+use Rattle.leg_block.specs.Records.{TrackSaid, PinSaid, NetSaid}
 
 -- which forms stood that stand at most once
 pub record Stood : Type 0 where

@@ -9,10 +9,11 @@ use Rattle.leg_lib.specs.declared.records.Shape.{Shape}
 use Rattle.leg_lib.specs.Records.{Contents}
 use Rattle.leg_design.specs.declared.path.Item.{Item}
 use Rattle.leg_design.specs.declared.path.Item.TheVariants.{ToPoint, AtVia, AtRect}
-use Rattle.leg_design.specs.declared.records.Wire.{Wire}
-use Rattle.leg_design.specs.declared.records.Wire.TheVariants.{Segment, ViaAt, Patch}
+use Rattle.leg_block.specs.declared.records.Wire.{Wire}
+use Rattle.leg_block.specs.declared.records.Wire.TheVariants.{Segment, ViaAt, Patch}
 use Rattle.leg_design.specs.Guard.{when, unless}
-use Rattle.leg_design.specs.Layers.{width_of_layer, is_routing}
+use Rattle.leg_block.specs.Layers.{width_of_layer, is_routing}
+use Rattle.leg_block.specs.Wires.{is_straight, default_extension}
 use Rattle.leg_design.specs.Known.{KnownSaid, via_numbered}
 
 -- An item of a path leads to a point, of which a coordinate that isn't written is that of the point before, with an
@@ -24,10 +25,6 @@ next_spot at x y = record { x = unwrap_or x at.x; y = unwrap_or y at.y }
 
 abbrev pub is_same_spot : Spot → Spot → Bool
 is_same_spot p q = int_eq p.x q.x && int_eq p.y q.y
-
--- a segment is horizontal or vertical
-abbrev pub is_straight : Spot → Spot → Bool
-is_straight p q = int_eq p.x q.x || int_eq p.y q.y
 
 -- an extension that is given replaces the one before
 abbrev pub last_given : Option ℤ → Option ℤ → Option ℤ
@@ -48,12 +45,6 @@ extension_at at given (AtRect rect ∷ items) = extension_at at given items
 unfoldable pub segment_width : Contents → Option ℤ → ℕ → Option ℤ
 segment_width library None layer = width_of_layer library layer
 segment_width library (Some width) layer = unless (int_eq width (pos 0)) >>= λ _. Some width
-
--- How far a segment reaches past an end of which nothing is said: in NETS half the width of the layer's wires, in
--- SPECIALNETS nothing.
-unfoldable pub default_extension : Contents → Option ℤ → ℕ → ℤ
-default_extension library None layer = halfway (pos 0) (unwrap_or (width_of_layer library layer) (pos 0))
-default_extension library (Some width) layer = pos 0
 
 -- the segment of a step from one point to another, each with its extension
 unfoldable pub segment_to : Contents → Option ℤ → ℕ → Spot → Option ℤ → Spot → Option ℤ → Option Wire

@@ -5,10 +5,10 @@ use Rattle.leg_lex.specs.Until.{over}
 use Rattle.leg_lex.specs.Statements.{statement_at, clauses_of}
 use Rattle.leg_lex.specs.Named.{place_of}
 use Rattle.leg_lib.specs.Records.{Contents}
-use Rattle.leg_design.specs.declared.limits.TheConstants.{ENTRY_LIMIT}
+use Rattle.leg_block.specs.declared.limits.TheConstants.{ENTRY_LIMIT}
 use Rattle.leg_design.specs.Guard.{unless}
 use Rattle.leg_design.specs.Section.{section_at}
-use Rattle.leg_design.specs.Records.{PinSaid, pin_names}
+use Rattle.leg_block.specs.Records.{PinSaid, pin_names}
 use Rattle.leg_design.specs.PinParts.{no_pin_parts, all_ports, pin_clause}
 
 -- - NAME, a new one (45 is the dash)

@@ -6,7 +6,7 @@ use Rattle.leg_design.specs.Guard.{when, unless}
 use Rattle.leg_design.specs.Placement.{says_place, placed_in}
 use Rattle.leg_design.specs.Clause.{is_clause}
 use Rattle.leg_design.specs.Layers.{with_rect}
-use Rattle.leg_design.specs.Records.{PortSaid}
+use Rattle.leg_block.specs.Records.{PortSaid}
 use Rattle.leg_design.specs.Port.{empty_port, layer_rect}
 
 -- what the clauses before said: words that stand at most once, the ports that are whole, and the last port

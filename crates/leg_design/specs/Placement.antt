@@ -6,8 +6,8 @@ use Rattle.leg_geom.specs.declared.orient.Orient.{Orient}
 use Rattle.leg_geom.specs.declared.orient.Orient.TheVariants.{N, S, W, E, FN, FS, FW, FE}
 use Rattle.leg_geom.specs.declared.place.Place.{Place}
 use Rattle.leg_lib.specs.Point.{rect_between}
-use Rattle.leg_design.specs.declared.records.Status.{Status}
-use Rattle.leg_design.specs.declared.records.Status.TheVariants.{Placed, Fixed, Cover}
+use Rattle.leg_block.specs.declared.records.Status.{Status}
+use Rattle.leg_block.specs.declared.records.Status.TheVariants.{Placed, Fixed, Cover}
 
 -- ( x y ): 40 and 41 are the parentheses
 unfoldable pub spot_at : Words → Option (Spot × Words)

@@ -3,10 +3,10 @@ use Rattle.std.specs.Prelude.{ℕ, if◌then◌else◌, List, [], Option, None, 
 use Rattle.leg_lex.specs.Words.{Words, ◌>>=◌, is_at, keyword_at, whole_at, nothing_at}
 use Rattle.leg_geom.specs.Plane.{Sides}
 use Rattle.leg_lib.specs.Records.{Contents}
-use Rattle.leg_design.specs.declared.records.Status.TheVariants.{Unplaced}
+use Rattle.leg_block.specs.declared.records.Status.TheVariants.{Unplaced}
 use Rattle.leg_design.specs.Placement.{rect_at}
 use Rattle.leg_design.specs.Layers.{layer_at}
-use Rattle.leg_design.specs.Records.{PortSaid}
+use Rattle.leg_block.specs.Records.{PortSaid}
 
 abbrev pub empty_port : PortSaid
 empty_port = record { shapes = []; status = Unplaced; place = None }

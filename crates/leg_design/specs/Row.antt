@@ -4,24 +4,12 @@ use Rattle.std.specs.Ordering.{int_eq}
 use Rattle.leg_lex.specs.Words.{Words, ◌>>=◌, keyword_at, name_at, whole_at, nothing_at}
 use Rattle.leg_lex.specs.Statements.{statement_at, clauses_of}
 use Rattle.leg_lex.specs.Named.{place_of}
-use Rattle.leg_geom.specs.declared.orient.Orient.{Orient}
-use Rattle.leg_geom.specs.declared.orient.Orient.TheVariants.{N, S, W, E, FN, FS, FW, FE}
 use Rattle.leg_lib.specs.declared.records.Site.{Site}
 use Rattle.leg_lib.specs.Records.{Contents, site_names}
 use Rattle.leg_design.specs.Guard.{when, is_within}
 use Rattle.leg_design.specs.Placement.{orient_at}
-use Rattle.leg_design.specs.declared.records.Row.{Row}
-
--- a row isn't turned: it may be mirrored
-abbrev pub is_upright : Orient → Bool
-is_upright N = true
-is_upright S = true
-is_upright FN = true
-is_upright FS = true
-is_upright W = false
-is_upright E = false
-is_upright FW = false
-is_upright FE = false
+use Rattle.leg_block.specs.declared.records.Row.{Row}
+use Rattle.leg_block.specs.Rows.{is_upright}
 
 -- a site of the library: its number, and the site
 unfoldable pub site_at : Contents → Words → Option ((ℕ × Site) × Words)

@@ -7,20 +7,12 @@ use Rattle.leg_lex.specs.Words.{Words, ◌>>=◌, is_keyword, is_at, keyword_at,
 use Rattle.leg_lex.specs.Until.{over}
 use Rattle.leg_lex.specs.Named.{place_of}
 use Rattle.leg_lib.specs.Records.{Contents}
-use Rattle.leg_design.specs.declared.records.Component.{Component}
-use Rattle.leg_design.specs.declared.records.Terminal.{Terminal}
-use Rattle.leg_design.specs.declared.records.Terminal.TheVariants.{Comp, Pin}
+use Rattle.leg_block.specs.declared.records.Component.{Component}
+use Rattle.leg_block.specs.declared.records.Terminal.{Terminal}
+use Rattle.leg_block.specs.declared.records.Terminal.TheVariants.{Comp, Pin}
+use Rattle.leg_block.specs.Terminals.{is_among}
 use Rattle.leg_design.specs.Known.{KnownSaid}
-use Rattle.leg_design.specs.Records.{NetSaid, component_names, pin_names}
-
-abbrev pub is_same_terminal : Terminal → Terminal → Bool
-is_same_terminal (Comp c k) (Comp d l) = c == d && k == l
-is_same_terminal (Pin p) (Pin q) = p == q
-is_same_terminal (Comp c k) (Pin p) = false
-is_same_terminal (Pin p) (Comp c k) = false
-
-abbrev pub is_among : Terminal → List Terminal → Bool
-is_among terminal terminals = list_any (is_same_terminal terminal) terminals
+use Rattle.leg_block.specs.Records.{NetSaid, component_names, pin_names}
 
 -- the number of the pin of this name of the component's macro
 abbrev pub pin_of_component : Contents → Component → List ℕ → Option ℕ

@@ -6,9 +6,9 @@ use Rattle.leg_lex.specs.Statements.{statement_at}
 use Rattle.leg_lex.specs.Named.{place_of}
 use Rattle.leg_lib.specs.Records.{Contents, layer_names}
 use Rattle.leg_design.specs.Guard.{when, is_over, is_within}
-use Rattle.leg_design.specs.Records.{TrackSaid}
-use Rattle.leg_design.specs.declared.records.Axis.{Axis}
-use Rattle.leg_design.specs.declared.records.Axis.TheVariants.{X, Y}
+use Rattle.leg_block.specs.Records.{TrackSaid}
+use Rattle.leg_block.specs.declared.records.Axis.{Axis}
+use Rattle.leg_block.specs.declared.records.Axis.TheVariants.{X, Y}
 
 -- X or Y
 unfoldable pub axis_at : Words → Option (Axis × Words)

@@ -12,7 +12,7 @@ use Rattle.leg_design.specs.Placement.{rect_at}
 use Rattle.leg_design.specs.Clause.{is_clause}
 use Rattle.leg_design.specs.Layers.{layer_at, with_rect}
 use Rattle.leg_design.specs.Section.{section_at}
-use Rattle.leg_design.specs.Records.{design_via_names}
+use Rattle.leg_block.specs.Records.{design_via_names}
 
 -- RECT NAME corners
 unfoldable pub via_rect : Contents → List Shape → Words → Option (List Shape)

@@ -4,8 +4,8 @@ use Rattle.leg_lex.specs.Words.{◌>>=◌}
 use Rattle.leg_geom.specs.Plane.{Spot}
 use Rattle.leg_design.specs.declared.path.Item.{Item}
 use Rattle.leg_design.specs.declared.path.Item.TheVariants.{ToPoint, AtVia, AtRect}
-use Rattle.leg_design.specs.declared.records.Wire.{Wire}
-use Rattle.leg_design.specs.declared.records.Wire.TheVariants.{ViaAt, Patch}
+use Rattle.leg_block.specs.declared.records.Wire.{Wire}
+use Rattle.leg_block.specs.declared.records.Wire.TheVariants.{ViaAt, Patch}
 use Rattle.leg_design.specs.Known.{KnownSaid}
 use Rattle.leg_design.specs.Path.{next_spot, is_same_spot, extension_at, segment_to, across, wires_from}
 

@@ -7,9 +7,10 @@ use Rattle.leg_lex.specs.Until.{until}
 use Rattle.leg_lex.specs.Named.{place_of}
 use Rattle.leg_geom.specs.Plane.{halfway}
 use Rattle.leg_lib.specs.Records.{Contents, layer_names}
-use Rattle.leg_design.specs.declared.records.Wire.{Wire}
+use Rattle.leg_block.specs.declared.records.Wire.{Wire}
 use Rattle.leg_design.specs.Guard.{when}
-use Rattle.leg_design.specs.Layers.{is_routing}
+use Rattle.leg_block.specs.Layers.{is_routing}
+use Rattle.leg_block.specs.Wires.{is_even}
 use Rattle.leg_design.specs.Known.{KnownSaid}
 use Rattle.leg_design.specs.Path.{path_wires}
 use Rattle.leg_design.specs.PathItem.{count_at, first_point_at, one_item, at_path_end}
@@ -25,9 +26,6 @@ routing_at library words = do
 -- TAPER says nothing
 unfoldable pub past_taper : Words → Option (Unit {0} × Words)
 past_taper words = if is_at (codes "TAPER") words then keyword_at (codes "TAPER") words else Some (tt, words)
-
-abbrev pub is_even : ℤ → Bool
-is_even z = int_eq (halfway (pos 0) z +ℤ halfway (pos 0) z) z
 
 -- the width of a special path: at least 0, and even
 unfoldable pub written_width_at : Words → Option (ℤ × Words)

@@ -4,15 +4,14 @@ ghost use Rattle.std.specs.Prelude.{◌≡◌, [], Some, None, filter};
 ghost use Rattle.leg_lex.specs.Words.{Reads, Means};
 ghost use Rattle.leg_lex.specs.Until.{until};
 ghost use Rattle.leg_lex.specs.Statements.{at_most_one, at_end};
-ghost use Rattle.leg_design.specs.Records.{component_names};
+ghost use Rattle.leg_block.specs.Records.{component_names};
 ghost use Rattle.leg_design.specs.Component.{is_placement, unplaced_in, placement_in, placement_in_any, placement_of, new_name_at, master_at, component_head, component_in, component_entry, components_at};
 
 use crate::clause::all_clauses;
 use crate::component_table::ComponentTable;
-use crate::limits::ENTRY_LIMIT;
 use crate::placement::{placed, says_place};
-use crate::records::{Component, Status};
 use crate::section::section_start;
+use leg_block::{Component, ENTRY_LIMIT, Status};
 use leg_geom::Place;
 use leg_lex::{Cursor, FaultKind, Name, ReadFault, clauses, is_keyword};
 use leg_lib::Library;

@@ -2,10 +2,10 @@
 
 ghost use Rattle.std.specs.Prelude.{◌≡◌, ◌<◌, ◌≤◌, ◌∷◌, ◌++◌, [], length, None, OnOk, OnErr, IfSome};
 ghost use Rattle.leg_lex.specs.Named.{place_of};
-ghost use Rattle.leg_design.specs.declared.limits.TheConstants.{ENTRY_LIMIT};
-ghost use Rattle.leg_design.specs.Records.{component_names};
+ghost use Rattle.leg_block.specs.declared.limits.TheConstants.{ENTRY_LIMIT};
+ghost use Rattle.leg_block.specs.Records.{component_names};
 
-use crate::records::Component;
+use leg_block::Component;
 use leg_lex::Names;
 use std::alloc::{AllocError, Allocator};
 use std::marker::Model;
@@ -20,9 +20,9 @@ pub(crate) struct ComponentTable<'a, A: Allocator + Copy> {
 
 impl<'a, A: Allocator + Copy> Model for ComponentTable<'a, A> {
     ghost use Rattle.std.specs.Prelude.{◌≡◌, ◌≤◌, List, length};
-    ghost use Rattle.leg_design.specs.declared.limits.TheConstants.{ENTRY_LIMIT};
-    ghost use Rattle.leg_design.specs.declared.records.Component.{Component};
-    ghost use Rattle.leg_design.specs.Records.{component_names};
+    ghost use Rattle.leg_block.specs.declared.limits.TheConstants.{ENTRY_LIMIT};
+    ghost use Rattle.leg_block.specs.declared.records.Component.{Component};
+    ghost use Rattle.leg_block.specs.Records.{component_names};
 
     ghost Value = { List Component };
 

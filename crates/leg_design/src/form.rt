@@ -7,9 +7,9 @@ ghost use Rattle.leg_lex.specs.Statements.{at_end};
 ghost use Rattle.leg_design.specs.Parts.{no_parts};
 ghost use Rattle.leg_design.specs.Form.{header_form, form_at, design_in};
 
-use crate::design::{Design, Fields};
 use crate::parts::Parts;
 use crate::skipped::past_form;
+use leg_block::{Design, DesignFields};
 use leg_lex::{Cursor, ReadFault};
 use leg_lib::Library;
 use std::alloc::Allocator;
@@ -90,7 +90,7 @@ fn design_fields<'a, A: Allocator + Copy>(
     alloc: A,
     library: &'a Library<'a, A>,
     words: &mut Cursor<'_, 'a>,
-) -> Result<Fields<'a, A>, ReadFault>
+) -> Result<DesignFields<'a, A>, ReadFault>
     ensures { Means (λ d. d) result (design_in library.now words.old) }
 {
     let parts = forms(alloc, library, words)?;

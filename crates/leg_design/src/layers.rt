@@ -3,7 +3,8 @@
 
 ghost use Rattle.std.specs.Prelude.{◌≡◌, OnOk};
 ghost use Rattle.leg_lex.specs.Words.{Reads};
-ghost use Rattle.leg_design.specs.Layers.{layer_at, wire_width, width_of_layer, is_routing, has_metal, with_rect};
+ghost use Rattle.leg_design.specs.Layers.{layer_at, with_rect};
+ghost use Rattle.leg_block.specs.Layers.{wire_width, width_of_layer, is_routing, has_metal};
 
 use leg_geom::Rect;
 use leg_lex::{Cursor, FaultKind, ReadFault};

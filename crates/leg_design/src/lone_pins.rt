@@ -1,11 +1,11 @@
 //! Pins of the design that no net lists (own rule).
 
 ghost use Rattle.std.specs.Prelude.{◌≡◌, ◌<◌, ◌≤◌, length, OnOk};
-ghost use Rattle.leg_design.specs.declared.limits.TheConstants.{ENTRY_LIMIT};
+ghost use Rattle.leg_block.specs.declared.limits.TheConstants.{ENTRY_LIMIT};
 ghost use Rattle.leg_design.specs.LonePins.{with_lone_pin, with_lone_pins};
 
 use crate::net_table::NetTable;
-use crate::records::{Pin, Terminal};
+use leg_block::{Pin, Terminal};
 use std::alloc::{AllocError, Allocator};
 
 /// Appends the pin of this number, if no entry lists it, to the entry of the net that its `+ NET` names.

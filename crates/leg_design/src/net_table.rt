@@ -3,14 +3,14 @@
 ghost use Rattle.std.specs.Prelude.{◌≡◌, ◌++◌, ◌∷◌, [], ◌+◌, ◌<◌, ◌≤◌, ◌||◌, false, length, is_some, None, OnOk, OnErr, nat_lt};
 ghost use Rattle.leg_lex.specs.Words.{Means};
 ghost use Rattle.leg_lex.specs.Named.{place_of};
-ghost use Rattle.leg_design.specs.declared.limits.TheConstants.{PART_LIMIT};
-ghost use Rattle.leg_design.specs.Terminal.{is_among, is_of_other_net, add_terminal};
+ghost use Rattle.leg_block.specs.declared.limits.TheConstants.{PART_LIMIT};
+ghost use Rattle.leg_block.specs.Terminals.{is_among};
+ghost use Rattle.leg_design.specs.Terminal.{is_of_other_net, add_terminal};
 ghost use Rattle.leg_design.specs.LonePins.{is_listed, with_terminal};
-ghost use Rattle.leg_design.specs.Records.{net_names, terminal_count, wire_count};
+ghost use Rattle.leg_block.specs.Records.{net_names, terminal_count, wire_count};
 
-use crate::limits::PART_LIMIT;
-use crate::records::{Net, Terminal, Wire};
 use crate::terminal_index::TerminalIndex;
+use leg_block::{Net, PART_LIMIT, Terminal, Wire};
 use leg_lex::{Cursor, FaultKind, Name, Names, ReadFault};
 use leg_lib::Items;
 use std::alloc::{AllocError, Allocator};
@@ -30,7 +30,7 @@ pub(crate) struct NetTable<'a, A: Allocator + Copy> {
 
 impl<'a, A: Allocator + Copy> Model for NetTable<'a, A> {
     ghost use Rattle.std.specs.Prelude.{List};
-    ghost use Rattle.leg_design.specs.Records.{NetSaid};
+    ghost use Rattle.leg_block.specs.Records.{NetSaid};
     ghost use Rattle.leg_design.specs.Index.{number_of, lists_of, IsKept};
 
     ghost Value = { List NetSaid };

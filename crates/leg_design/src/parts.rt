@@ -2,26 +2,24 @@
 
 ghost use Rattle.std.specs.Prelude.{◌≡◌, ◌+◌, nat_lt};
 ghost use Rattle.leg_lex.specs.Words.{Reads, Means};
-ghost use Rattle.leg_design.specs.declared.limits.TheConstants.{PART_LIMIT};
+ghost use Rattle.leg_block.specs.declared.limits.TheConstants.{PART_LIMIT};
 ghost use Rattle.leg_design.specs.Guard.{unless};
-ghost use Rattle.leg_design.specs.Records.{terminal_count};
+ghost use Rattle.leg_block.specs.Records.{terminal_count};
 ghost use Rattle.leg_design.specs.Parts.{no_parts, divider_form, bus_form, name_form, units_form, die_form, row_form, track_form};
 ghost use Rattle.leg_design.specs.Form.{design_of};
 
 mod sections;
 
 use crate::component_table::ComponentTable;
-use crate::design::Fields;
 use crate::die::die;
 use crate::header::{design_name, units, word_after};
-use crate::limits::PART_LIMIT;
 use crate::lone_pins::add_lone_pins;
 use crate::net_table::NetTable;
 use crate::pin_table::PinTable;
-use crate::records::{Row, Track};
 use crate::row::row;
 use crate::track::track;
 use crate::via_table::ViaTable;
+use leg_block::{DesignFields, PART_LIMIT, Row, Track};
 use leg_geom::Rect;
 use leg_lex::{Cursor, FaultKind, Name, ReadFault};
 use leg_lib::Library;
@@ -189,7 +187,7 @@ impl<'a, A: Allocator + Copy> Parts<'a, A> {
         self,
         library: &'a Library<'a, A>,
         end: &Cursor<'_, 'a>,
-    ) -> Result<Fields<'a, A>, ReadFault>
+    ) -> Result<DesignFields<'a, A>, ReadFault>
         ensures { Means (λ d. d) result (design_of library.now self.entry) }
     {
         let Parts {
@@ -219,7 +217,7 @@ impl<'a, A: Allocator + Copy> Parts<'a, A> {
         if are_too_many(&nets, &special) {
             return Err(end.fault(FaultKind::TooMany));
         }
-        Ok(Fields {
+        Ok(DesignFields {
             library,
             name,
             divider,

@@ -4,13 +4,14 @@ ghost use Rattle.std.specs.Prelude.{◌≡◌, ◌==◌, pos};
 ghost use Rattle.std.specs.List.{list_any};
 ghost use Rattle.leg_lex.specs.Words.{Means};
 ghost use Rattle.leg_geom.specs.Plane.{halfway};
-ghost use Rattle.leg_design.specs.Path.{next_spot, is_same_spot, is_straight, last_given, extension_at, segment_width, default_extension, segment_to, other_layer, across, path_wires};
+ghost use Rattle.leg_design.specs.Path.{next_spot, is_same_spot, last_given, extension_at, segment_width, segment_to, other_layer, across, path_wires};
+ghost use Rattle.leg_block.specs.Wires.{is_straight, default_extension};
 ghost use Rattle.leg_design.specs.Walk.{wires_with, walked_to, walked_past};
 
 use crate::coordinate::{Coordinate, coordinate_or};
 use crate::known::Known;
 use crate::layers::{is_routing, width_of_layer};
-use crate::records::Wire;
+use leg_block::Wire;
 use leg_geom::{Point, Rect};
 use leg_lex::{Cursor, FaultKind, ReadFault};
 use leg_lib::{Library, Shape};
@@ -148,7 +149,7 @@ pub(crate) fn half(width: i64) -> i64
 }
 
 /// How far a segment reaches past an end of which nothing is said.
-#[tactic(auto, unfolding(crate::specs::Path::default_extension))]
+#[tactic(auto, unfolding(leg_block::specs::Wires::default_extension))]
 fn default_extension<A: Allocator + Copy>(
     library: &Library<'_, A>,
     written: Option<i64>,

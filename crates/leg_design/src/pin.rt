@@ -4,14 +4,13 @@ ghost use Rattle.std.specs.Prelude.{◌≡◌, []};
 ghost use Rattle.leg_lex.specs.Words.{Reads, Means};
 ghost use Rattle.leg_lex.specs.Until.{until};
 ghost use Rattle.leg_lex.specs.Statements.{at_end};
-ghost use Rattle.leg_design.specs.Records.{pin_names};
+ghost use Rattle.leg_block.specs.Records.{pin_names};
 ghost use Rattle.leg_design.specs.Pin.{pin_head, pin_in, pin_entry, pins_at};
 
-use crate::limits::ENTRY_LIMIT;
 use crate::pin_parts::all_parts;
 use crate::pin_table::PinTable;
-use crate::records::Pin;
 use crate::section::section_start;
+use leg_block::{ENTRY_LIMIT, Pin};
 use leg_lex::{Cursor, FaultKind, Name, ReadFault, clauses};
 use leg_lib::{Items, Library};
 use std::alloc::Allocator;

@@ -9,7 +9,7 @@ use crate::clause::clause;
 use crate::layers::push_rect;
 use crate::placement::{placed, says_place};
 use crate::port::{OpenPort, layer_rect};
-use crate::records::Port;
+use leg_block::Port;
 use leg_lex::{Cursor, FaultKind, Name, ReadFault};
 use leg_lib::Library;
 use std::alloc::{AllocError, Allocator};

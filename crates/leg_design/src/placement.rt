@@ -5,7 +5,7 @@ ghost use Rattle.leg_lex.specs.Words.{Reads, Means};
 ghost use Rattle.leg_lib.specs.Point.{rect_between};
 ghost use Rattle.leg_design.specs.Placement.{spot_at, rect_at, orient_of, orient_at, place_at, place_as, says_place, placed_in};
 
-use crate::records::Status;
+use leg_block::Status;
 use leg_geom::{Orient, Place, Point, Rect};
 use leg_lex::{Cursor, FaultKind, ReadFault, is_keyword};
 

@@ -6,7 +6,7 @@ ghost use Rattle.leg_design.specs.Port.{empty_port, past_number, past_rules, lay
 
 use crate::clause::rect_or_mask;
 use crate::layers::layer;
-use crate::records::{Port, Status};
+use leg_block::{Port, Status};
 use leg_geom::{Place, Rect};
 use leg_lex::{Cursor, ReadFault};
 use leg_lib::{Items, Library, Shape};
@@ -22,7 +22,7 @@ pub(crate) struct OpenPort<A: Allocator> {
 }
 
 impl<A: Allocator> Model for OpenPort<A> {
-    ghost use Rattle.leg_design.specs.Records.{PortSaid};
+    ghost use Rattle.leg_block.specs.Records.{PortSaid};
 
     ghost Value = { PortSaid };
 

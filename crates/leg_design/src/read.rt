@@ -4,13 +4,13 @@ ghost use Rattle.std.specs.Prelude.{ℕ, ◌≡◌, ◌≢◌, ◌<◌, ◌≤�
 ghost use Rattle.leg_lex.specs.declared.limits.TheConstants.{TEXT_LIMIT, UNITS_LIMIT};
 ghost use Rattle.leg_lex.specs.declared.read_fault.FaultKind.TheVariants.{Memory};
 ghost use Rattle.leg_lex.specs.Say.{Says};
-ghost use Rattle.leg_design.specs.Records.{DesignContents};
+ghost use Rattle.leg_block.specs.Records.{DesignContents};
 ghost use Rattle.leg_design.specs.Header.{units_in};
 ghost use Rattle.leg_design.specs.Form.{design_in};
 
-use crate::design::Design;
 use crate::form::design_words;
 use crate::header::units_anywhere;
+use leg_block::Design;
 use leg_lex::{Cursor, ReadFault, file_words};
 use leg_lib::Library;
 use std::alloc::Allocator;

@@ -4,10 +4,11 @@ ghost use Rattle.std.specs.Prelude.{◌≡◌, ◌+ℤ◌, ◌*ℤ◌, IfOk};
 ghost use Rattle.leg_lex.specs.Number.{IsNumber};
 ghost use Rattle.leg_lex.specs.Words.{Reads, Means};
 ghost use Rattle.leg_design.specs.Guard.{is_within};
-ghost use Rattle.leg_design.specs.Row.{is_upright, site_at, step_in, sites_in, row_in, head_of, row_at};
+ghost use Rattle.leg_block.specs.Rows.{is_upright};
+ghost use Rattle.leg_design.specs.Row.{site_at, step_in, sites_in, row_in, head_of, row_at};
 
 use crate::placement::orient;
-use crate::records::Row;
+use leg_block::Row;
 use leg_geom::{Orient, Point};
 use leg_lex::{Cursor, FaultKind, NUMBER_LIMIT, Name, ReadFault, clauses};
 use leg_lib::{Library, Site};

@@ -3,11 +3,11 @@
 ghost use Rattle.std.specs.Prelude.{◌≡◌, ◌≤◌, ◌∷◌, [], ◌&&◌, if◌then◌else◌, codes, length, map, IfOk};
 ghost use Rattle.leg_lex.specs.Words.{Reads, Means, is_at};
 ghost use Rattle.leg_lex.specs.Named.{place_of};
-ghost use Rattle.leg_design.specs.declared.limits.TheConstants.{ENTRY_LIMIT};
+ghost use Rattle.leg_block.specs.declared.limits.TheConstants.{ENTRY_LIMIT};
 ghost use Rattle.leg_design.specs.Terminal.{pin_of_component, pins_of_all, component_terminal, pin_terminal, one_terminal_at, all_terminals_at, past_synthesized, terminals_at};
 
 use crate::known::Known;
-use crate::records::{Component, Terminal};
+use leg_block::{Component, Terminal};
 use leg_lex::{Cursor, FaultKind, ReadFault, is_keyword};
 use leg_lib::{Library, MasterPin};
 use std::alloc::{AllocError, Allocator};

@@ -2,11 +2,11 @@
 
 ghost use Rattle.std.specs.Prelude.{◌≡◌, ◌<◌, ℕ, cond, None, Some, OnOk, OnErr};
 ghost use Rattle.std.specs.HashMap.{spare};
-ghost use Rattle.leg_design.specs.declared.records.Terminal.{Terminal};
-ghost use Rattle.leg_design.specs.Terminal.{is_same_terminal};
+ghost use Rattle.leg_block.specs.declared.records.Terminal.{Terminal};
+ghost use Rattle.leg_block.specs.Terminals.{is_same_terminal};
 ghost use Rattle.leg_design.specs.Index.{number_of};
 
-use crate::records::Terminal;
+use leg_block::Terminal;
 use std::alloc::{AllocError, Allocator};
 use std::collections::HashMap;
 use std::hash::{BuildHasherDefault, FoldHasher};

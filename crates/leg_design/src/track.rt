@@ -5,8 +5,8 @@ ghost use Rattle.leg_lex.specs.Until.{until};
 ghost use Rattle.leg_design.specs.Guard.{is_over};
 ghost use Rattle.leg_design.specs.Track.{axis_at, one_layer, layers_in, track_in, track_at};
 
-use crate::records::{Axis, Track};
 use crate::row::ends_within;
+use leg_block::{Axis, Track};
 use leg_lex::{Cursor, FaultKind, ReadFault};
 use leg_lib::{Items, Library};
 use std::alloc::Allocator;

@@ -2,7 +2,7 @@
 
 ghost use Rattle.std.specs.Prelude.{◌≡◌, ◌∷◌, ◌++◌, [], length, None, OnOk, OnErr};
 ghost use Rattle.leg_lex.specs.Named.{place_of};
-ghost use Rattle.leg_design.specs.Records.{design_via_names};
+ghost use Rattle.leg_block.specs.Records.{design_via_names};
 
 use leg_lex::Names;
 use leg_lib::Via;
@@ -19,7 +19,7 @@ pub(crate) struct ViaTable<'a, A: Allocator + Copy> {
 impl<'a, A: Allocator + Copy> Model for ViaTable<'a, A> {
     ghost use Rattle.std.specs.Prelude.{◌≡◌, List};
     ghost use Rattle.leg_lib.specs.Records.{ViaSaid};
-    ghost use Rattle.leg_design.specs.Records.{design_via_names};
+    ghost use Rattle.leg_block.specs.Records.{design_via_names};
 
     ghost Value = { List ViaSaid };
 

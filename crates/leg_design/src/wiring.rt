@@ -3,13 +3,14 @@
 ghost use Rattle.std.specs.Prelude.{◌≡◌, ◌&&◌, drop, Some, codes};
 ghost use Rattle.leg_lex.specs.Words.{Reads, Means, is_at};
 ghost use Rattle.leg_lex.specs.Until.{until};
-ghost use Rattle.leg_design.specs.Wiring.{routing_at, past_taper, is_even, written_width_at, at_no_shape, past_shape, written_at, path_at, at_no_new, new_path, paths_at, is_wiring, wiring_start, wiring_at};
+ghost use Rattle.leg_design.specs.Wiring.{routing_at, past_taper, written_width_at, at_no_shape, past_shape, written_at, path_at, at_no_new, new_path, paths_at, is_wiring, wiring_start, wiring_at};
+ghost use Rattle.leg_block.specs.Wires.{is_even};
 
 use crate::known::Known;
 use crate::layers::is_routing;
 use crate::path::{half, path_wires};
 use crate::path_item::{add_items, count, first_point};
-use crate::records::Wire;
+use leg_block::Wire;
 use leg_lex::{Cursor, FaultKind, ReadFault};
 use leg_lib::Library;
 use std::alloc::Allocator;

@@ -6,8 +6,8 @@ use Rattle.std.proofs.lemmas.Option.{slice_get_within, get_or_from_slice_get}
 use Rattle.leg_geom.specs.declared.place.Place.{Place}
 use Rattle.leg_lib.specs.declared.records.Shape.{Shape}
 use Rattle.leg_lib.specs.Measure.{Lengths}
-use Rattle.leg_design.specs.declared.limits.TheConstants.{PART_LIMIT}
-use Rattle.leg_design.specs.Records.{DesignContents}
+use Rattle.leg_block.specs.declared.limits.TheConstants.{PART_LIMIT}
+use Rattle.leg_block.specs.Records.{DesignContents}
 use Rattle.leg_flat.specs.Outline.Outline.{Drawn}
 use Rattle.leg_flat.specs.Metal.{OnLayer, Belonging, belonging, drawn, components_metal, design_pins_metal, nets_metal, specials_metal, metal_of}
 use Rattle.leg_flat.specs.Counted.{counted}

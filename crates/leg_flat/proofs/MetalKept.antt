@@ -4,8 +4,8 @@ use Rattle.std.proofs.lemmas.Int.{ints, to_z-of_z}
 use Rattle.leg_lex.specs.Number.{IsNumber}
 use Rattle.leg_geom.specs.Plane.{Spot, Sides, HasPoint}
 use Rattle.leg_lib.specs.Measure.{Lengths, IsExtent}
-use Rattle.leg_design.specs.declared.records.Wire.TheVariants.{Segment}
-use Rattle.leg_design.specs.Records.{DesignContents}
+use Rattle.leg_block.specs.declared.records.Wire.TheVariants.{Segment}
+use Rattle.leg_block.specs.Records.{DesignContents}
 use Rattle.leg_flat.specs.declared.shape.Shape.{Shape}
 use Rattle.leg_flat.specs.Outline.{HasPointOf}
 use Rattle.leg_flat.specs.Outline.Outline.{Line}

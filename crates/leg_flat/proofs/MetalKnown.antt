@@ -8,11 +8,11 @@ use Rattle.leg_geom.specs.Plane.{Sides}
 use Rattle.leg_geom.specs.declared.place.Place.{Place}
 use Rattle.leg_lib.specs.declared.records.Shape.{Shape}
 use Rattle.leg_lib.specs.Records.{Contents, ViaSaid}
-use Rattle.leg_design.specs.declared.records.Status.{Status}
-use Rattle.leg_design.specs.declared.records.Status.TheVariants.{Unplaced, Placed, Fixed, Cover}
-use Rattle.leg_design.specs.Records.{DesignContents, PortSaid}
-use Rattle.leg_design.specs.WellFormedParts.{IsPlaced, IsArea, IsMetalShape, IsDesignVia, IsPort}
-use Rattle.leg_design.specs.WellFormed.{IsWellFormed}
+use Rattle.leg_block.specs.declared.records.Status.{Status}
+use Rattle.leg_block.specs.declared.records.Status.TheVariants.{Unplaced, Placed, Fixed, Cover}
+use Rattle.leg_block.specs.Records.{DesignContents, PortSaid}
+use Rattle.leg_block.specs.WellFormedParts.{IsPlaced, IsArea, IsMetalShape, IsDesignVia, IsPort}
+use Rattle.leg_block.specs.WellFormed.{IsWellFormed}
 use Rattle.leg_lib.specs.Sound.{AreWithin, AreShapesWithin, IsSoundVia, IsSound}
 use Rattle.leg_flat.specs.Bounds.{IsSumWithin, IsDrawnWithin}
 use Rattle.leg_flat.specs.Added.{AreDrawnWithin, IsPlaceWithin, IsPortWithin}

@@ -9,12 +9,12 @@ use Rattle.leg_lib.specs.declared.records.LayerKind.TheVariants.{Routing, Cut, O
 use Rattle.leg_lib.specs.declared.records.Layer.{Layer}
 use Rattle.leg_lib.specs.Scale.{IsEven}
 use Rattle.leg_lib.specs.Records.{Contents, ViaSaid}
-use Rattle.leg_design.specs.declared.records.Wire.{Wire}
-use Rattle.leg_design.specs.declared.records.Wire.TheVariants.{Segment, ViaAt, Patch}
-use Rattle.leg_design.specs.Layers.{wire_width, width_of_layer}
-use Rattle.leg_design.specs.Path.{is_straight, default_extension}
-use Rattle.leg_design.specs.Wiring.{is_even}
-use Rattle.leg_design.specs.WellFormedNets.{IsWidth, IsExtension, IsWire, written}
+use Rattle.leg_block.specs.declared.records.Wire.{Wire}
+use Rattle.leg_block.specs.declared.records.Wire.TheVariants.{Segment, ViaAt, Patch}
+use Rattle.leg_block.specs.Layers.{wire_width, width_of_layer}
+use Rattle.leg_block.specs.Wires.{is_straight, default_extension}
+use Rattle.leg_block.specs.Wires.{is_even}
+use Rattle.leg_block.specs.WellFormedNets.{IsWidth, IsExtension, IsWire, written}
 use Rattle.leg_lib.specs.Sound.{HasWidth, IsSoundLayer, IsSound}
 use Rattle.leg_flat.specs.Bounds.{IsReach, IsWidthWithin}
 use Rattle.leg_flat.specs.Added.{IsWireWithin}

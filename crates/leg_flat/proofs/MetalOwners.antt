@@ -2,10 +2,10 @@
 use Rattle.std.proofs.Common.{◌≡◌, ℕ, List, Option, None, Some, slice_get, refl, subst}
 use Rattle.leg_lex.specs.Words.{◌>>=◌}
 use Rattle.leg_lib.specs.Records as library
-use Rattle.leg_design.specs.declared.records.Component.{Component}
-use Rattle.leg_design.specs.declared.records.Terminal.{Terminal}
-use Rattle.leg_design.specs.declared.records.Terminal.TheVariants.{Comp}
-use Rattle.leg_design.specs.Records.{DesignContents}
+use Rattle.leg_block.specs.declared.records.Component.{Component}
+use Rattle.leg_block.specs.declared.records.Terminal.{Terminal}
+use Rattle.leg_block.specs.declared.records.Terminal.TheVariants.{Comp}
+use Rattle.leg_block.specs.Records.{DesignContents}
 use Rattle.leg_flat.specs.declared.owner.Owner.{Owner}
 use Rattle.leg_flat.specs.declared.owner.Owner.TheVariants.{Net}
 use Rattle.leg_flat.specs.Owner.{master_pin, owner_by_use, lone_owner, owner_of, piece_of}

@@ -3,12 +3,12 @@ use Rattle.std.proofs.Common.{◌≡◌, ℕ, ◌+◌, ◌<◌, ◌≤◌, Bool,
 use Rattle.std.proofs.lemmas.List.FromFn.{get_or-map-range_with_len, length-map-range_with_len}
 use Rattle.std.proofs.lemmas.List.Sums.{length-filter, count_by-le-length}
 use Rattle.std.proofs.lemmas.Option.{get_or_from_slice_get, slice_get_read, slice_get_within}
-use Rattle.leg_design.specs.declared.limits.TheConstants.{PART_LIMIT}
-use Rattle.leg_design.specs.declared.records.Terminal.{Terminal}
-use Rattle.leg_design.specs.declared.records.Wire.{Wire}
-use Rattle.leg_design.specs.Terminal.{is_among}
-use Rattle.leg_design.specs.Records.{DesignContents, NetSaid}
-use Rattle.leg_design.specs.WellFormedNets.{HasNets, IsNet, IsWire}
+use Rattle.leg_block.specs.declared.limits.TheConstants.{PART_LIMIT}
+use Rattle.leg_block.specs.declared.records.Terminal.{Terminal}
+use Rattle.leg_block.specs.declared.records.Wire.{Wire}
+use Rattle.leg_block.specs.Terminals.{is_among}
+use Rattle.leg_block.specs.Records.{DesignContents, NetSaid}
+use Rattle.leg_block.specs.WellFormedNets.{HasNets, IsNet, IsWire}
 use Rattle.leg_lib.specs.Sound.{IsSound}
 use Rattle.leg_flat.specs.Nets.{number_of_special, terminals_of, regular_entry, special_entry, entry_terminals, entry_wires}
 use Rattle.leg_flat.specs.Places.{NetsSaid, AreNetsOf}

@@ -6,10 +6,10 @@ use Rattle.leg_geom.specs.declared.place.Place.{Place}
 use Rattle.leg_lib.specs.declared.records.Shape.{Shape}
 use Rattle.leg_lib.specs.Measure.{Lengths}
 use Rattle.leg_lib.specs.Records as library
-use Rattle.leg_design.specs.declared.records.Component.{Component}
-use Rattle.leg_design.specs.declared.records.Terminal.TheVariants.{Comp, Pin}
-use Rattle.leg_design.specs.declared.records.Wire.{Wire}
-use Rattle.leg_design.specs.Records.{DesignContents, PortSaid, PinSaid, NetSaid}
+use Rattle.leg_block.specs.declared.records.Component.{Component}
+use Rattle.leg_block.specs.declared.records.Terminal.TheVariants.{Comp, Pin}
+use Rattle.leg_block.specs.declared.records.Wire.{Wire}
+use Rattle.leg_block.specs.Records.{DesignContents, PortSaid, PinSaid, NetSaid}
 use Rattle.leg_flat.specs.declared.owner.Owner.TheVariants.{Net}
 use Rattle.leg_flat.specs.Nets.{number_of_special, terminals_of}
 use Rattle.leg_flat.specs.Outline.Outline.{Drawn, Shifted}

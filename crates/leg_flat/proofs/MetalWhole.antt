@@ -1,7 +1,7 @@
 -- The metal of a design, part by part.
 use Rattle.std.proofs.Common.{List, []}
 use Rattle.leg_lib.specs.Scale.{OneForOne}
-use Rattle.leg_design.specs.Records.{DesignContents}
+use Rattle.leg_block.specs.Records.{DesignContents}
 use Rattle.leg_flat.specs.declared.shape.Shape.{Shape}
 use Rattle.leg_flat.specs.Metal.{components_metal, design_pins_metal, nets_metal, specials_metal, metal_of}
 use Rattle.leg_flat.specs.Flat.{IsShapeOf}

@@ -6,11 +6,11 @@ use Rattle.std.proofs.lemmas.List.Folds.{list_any-append}
 use Rattle.std.proofs.lemmas.List.FromFn.{map-range_with_len_more}
 use Rattle.std.proofs.lemmas.Option.{slice_get_within, slice_get_past}
 use Rattle.leg_lex.specs.Named.{place_of}
-use Rattle.leg_design.specs.declared.records.Terminal.{Terminal}
-use Rattle.leg_design.specs.Terminal.{is_same_terminal, is_among}
-use Rattle.leg_design.specs.Records.{DesignContents, NetSaid, net_names}
-use Rattle.leg_design.specs.WellFormedNets.{HasNets}
-use Rattle.leg_design.proofs.Listed.{same_is, or-true}
+use Rattle.leg_block.specs.declared.records.Terminal.{Terminal}
+use Rattle.leg_block.specs.Terminals.{is_same_terminal, is_among}
+use Rattle.leg_block.specs.Records.{DesignContents, NetSaid, net_names}
+use Rattle.leg_block.specs.WellFormedNets.{HasNets}
+use Rattle.leg_block.proofs.SameTerminal.{same_is, or-true}
 use Rattle.leg_flat.specs.declared.piece.Piece.{Piece}
 use Rattle.leg_flat.specs.Nets.{number_of_special, special_entry, regular_entry, entry_terminals, terminals_of, pieces_of}
 use Rattle.leg_flat.specs.Owner.{listing_place, net_of, piece_of}

@@ -3,7 +3,7 @@ use Rattle.std.proofs.Common.{◌≡◌, ℕ, zero, suc, ◌+◌, ◌<◌, List,
 use Rattle.std.proofs.lemmas.List.{get_or-map, length-map}
 use Rattle.leg_lex.specs.Named.{place_of, AreApart}
 use Rattle.leg_lex.proofs.Named.{not_yet_there}
-use Rattle.leg_design.specs.Records.{NetSaid, net_names}
+use Rattle.leg_block.specs.Records.{NetSaid, net_names}
 
 -- the name of an entry isn't among those before it
 pub new_name : (nets : List NetSaid) (i : ℕ) (net : NetSaid) (name : List ℕ) (names : List (List ℕ)) → AreApart (net_names nets) → i < length nets → net ≡ get_or nets i net → name ≡ net.name → names ≡ take i (net_names nets) → place_of name names ≡ None

@@ -2,12 +2,12 @@
 use Rattle.std.proofs.Common.{◌≡◌, ℕ, suc, ◌+◌, ◌≤◌, Bool, true, false, not, List, [], ◌∷◌, ◌++◌, length, length-append, map, filter, Option, None, Some, is_none, option_map, Fits, w32, refl, sym, ap, ◌∙◌, arith}
 use Rattle.std.specs.List.{range_with_len}
 use Rattle.std.proofs.lemmas.List.{map-append, length-map}
-use Rattle.leg_design.specs.declared.limits.TheConstants.{PART_LIMIT}
-use Rattle.leg_design.specs.declared.records.Terminal.{Terminal}
-use Rattle.leg_design.specs.Terminal.{is_same_terminal, is_among}
-use Rattle.leg_design.specs.Records.{DesignContents}
-use Rattle.leg_design.specs.WellFormedNets.{HasNets}
-use Rattle.leg_design.proofs.Listed.{same_itself, or-true}
+use Rattle.leg_block.specs.declared.limits.TheConstants.{PART_LIMIT}
+use Rattle.leg_block.specs.declared.records.Terminal.{Terminal}
+use Rattle.leg_block.specs.Terminals.{is_same_terminal, is_among}
+use Rattle.leg_block.specs.Records.{DesignContents}
+use Rattle.leg_block.specs.WellFormedNets.{HasNets}
+use Rattle.leg_block.proofs.SameTerminal.{same_itself, or-true}
 use Rattle.leg_flat.specs.declared.piece.Piece.{Piece}
 use Rattle.leg_flat.specs.declared.piece.Piece.TheVariants.{Term, Wire}
 use Rattle.leg_flat.specs.Nets.{special_entry, regular_entry, entry_terminals, entry_wires, terminals_of, wires_of, pieces_of}

@@ -4,10 +4,10 @@ use Rattle.std.proofs.lemmas.List.{get_or-map, length-map}
 use Rattle.std.proofs.lemmas.Option.{get_or_from_slice_get, slice_get_within, slice_get-get_or}
 use Rattle.leg_lex.specs.Named.{place_of, AreApart}
 use Rattle.leg_lex.proofs.Named.{place_stands}
-use Rattle.leg_design.specs.declared.records.Terminal.{Terminal}
-use Rattle.leg_design.specs.Terminal.{is_among}
-use Rattle.leg_design.specs.Records.{NetSaid, net_names}
-use Rattle.leg_design.proofs.Listed.{blank}
+use Rattle.leg_block.specs.declared.records.Terminal.{Terminal}
+use Rattle.leg_block.specs.Terminals.{is_among}
+use Rattle.leg_block.specs.Records.{NetSaid, net_names}
+use Rattle.leg_block.proofs.Blank.{blank}
 use Rattle.leg_flat.specs.Owner.{listing_place}
 
 -- an entry that lists the terminal, and none before it does

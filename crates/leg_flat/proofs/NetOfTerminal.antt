@@ -3,11 +3,11 @@ use Rattle.std.proofs.Common.{◌≡◌, ℕ, true, ◌++◌, slice_get, Contain
 use Rattle.std.proofs.lemmas.Bool.{false≢true}
 use Rattle.std.proofs.lemmas.List.Elements.{Contains-append_left, Contains-append_right}
 use Rattle.leg_lex.specs.Named.{place_of}
-use Rattle.leg_design.specs.declared.records.Terminal.{Terminal}
-use Rattle.leg_design.specs.Terminal.{is_among}
-use Rattle.leg_design.specs.Records.{DesignContents, NetSaid, net_names}
-use Rattle.leg_design.specs.WellFormedNets.{HasNets}
-use Rattle.leg_design.proofs.ReadListed.{among_contains}
+use Rattle.leg_block.specs.declared.records.Terminal.{Terminal}
+use Rattle.leg_block.specs.Terminals.{is_among}
+use Rattle.leg_block.specs.Records.{DesignContents, NetSaid, net_names}
+use Rattle.leg_block.specs.WellFormedNets.{HasNets}
+use Rattle.leg_block.proofs.SameTerminal.{among_contains}
 use Rattle.leg_flat.specs.Nets.{number_of_special}
 use Rattle.leg_flat.specs.Owner.{listing_place, net_of}
 use Rattle.leg_flat.proofs.NetOf.{listed_at, not_listed_at, contains_at, name_place, one_of_name}

@@ -3,10 +3,10 @@ use Rattle.std.proofs.Common.{◌≡◌, ℕ, zero, suc, ◌+◌, ◌<◌, ◌==
 use Rattle.std.proofs.lemmas.Bool.{true≢false}
 use Rattle.std.proofs.lemmas.Bool.Decides.{nat_tests}
 use Rattle.std.proofs.lemmas.List.Folds.{list_any-append}
-use Rattle.leg_design.specs.declared.records.Terminal.{Terminal}
-use Rattle.leg_design.specs.Terminal.{is_same_terminal, is_among}
-use Rattle.leg_design.specs.Records.{DesignContents}
-use Rattle.leg_design.specs.WellFormedNets.{HasNets}
+use Rattle.leg_block.specs.declared.records.Terminal.{Terminal}
+use Rattle.leg_block.specs.Terminals.{is_same_terminal, is_among}
+use Rattle.leg_block.specs.Records.{DesignContents}
+use Rattle.leg_block.specs.WellFormedNets.{HasNets}
 use Rattle.leg_flat.specs.Nets.{special_entry, regular_entry, entry_terminals, terminals_of}
 use Rattle.leg_flat.specs.Owner.{net_of, place_among}
 use Rattle.leg_flat.specs.PlacesBelow.{place_below}

@@ -1,10 +1,10 @@
 -- No net has more terminals or wires than the entries have together.
 use Rattle.std.proofs.Common.{◌≡◌, ◌≢◌, ℕ, zero, suc, ◌+◌, ◌<◌, ◌≤◌, List, [], ◌∷◌, Bool, true, false, length, All, AllPairs, slice_get, Option, None, Some, refl, arith}
 use Rattle.std.proofs.lemmas.Option.{slice_get_within, get_or_from_slice_get}
-use Rattle.leg_design.specs.declared.limits.TheConstants.{PART_LIMIT}
-use Rattle.leg_design.specs.declared.records.Terminal.{Terminal}
-use Rattle.leg_design.specs.Records.{DesignContents, NetSaid, terminal_count, wire_count}
-use Rattle.leg_design.specs.WellFormedNets.{HasNets, IsNet}
+use Rattle.leg_block.specs.declared.limits.TheConstants.{PART_LIMIT}
+use Rattle.leg_block.specs.declared.records.Terminal.{Terminal}
+use Rattle.leg_block.specs.Records.{DesignContents, NetSaid, terminal_count, wire_count}
+use Rattle.leg_block.specs.WellFormedNets.{HasNets, IsNet}
 use Rattle.leg_flat.specs.Nets.{special_entry, regular_entry, entry_terminals, entry_wires}
 use Rattle.leg_flat.proofs.NetTerminals.{special_is}
 

@@ -4,11 +4,11 @@ use Rattle.std.proofs.lemmas.Bool.{false≢true}
 use Rattle.std.proofs.lemmas.Bool.Decides.{nat_tests}
 use Rattle.std.proofs.lemmas.Option.{slice_get-get_or}
 use Rattle.leg_lex.specs.Named.{place_of}
-use Rattle.leg_design.specs.declared.records.Terminal.{Terminal}
-use Rattle.leg_design.specs.Terminal.{is_among}
-use Rattle.leg_design.specs.Records.{DesignContents, NetSaid, net_names}
-use Rattle.leg_design.specs.WellFormedNets.{HasNets}
-use Rattle.leg_design.proofs.Listed.{blank}
+use Rattle.leg_block.specs.declared.records.Terminal.{Terminal}
+use Rattle.leg_block.specs.Terminals.{is_among}
+use Rattle.leg_block.specs.Records.{DesignContents, NetSaid, net_names}
+use Rattle.leg_block.specs.WellFormedNets.{HasNets}
+use Rattle.leg_block.proofs.Blank.{blank}
 use Rattle.leg_flat.specs.Nets.{number_of_special, special_named, special_alone, special_entry, regular_entry, entry_terminals}
 use Rattle.leg_flat.specs.Owner.{net_of}
 use Rattle.leg_flat.proofs.NetOf.{name_place, named_at}

@@ -6,7 +6,7 @@ use Rattle.leg_geom.specs.declared.orient.Orient.{Orient}
 use Rattle.leg_geom.specs.declared.orient.Orient.TheVariants.{N, S, W, E, FN, FS, FW, FE}
 use Rattle.leg_geom.specs.Plane.{Spot, Sides, IsSpot, HasPoint}
 use Rattle.leg_geom.specs.Orientation.{placed, StaysWithin}
-use Rattle.leg_design.specs.WellFormedParts.{IsPosition}
+use Rattle.leg_block.specs.WellFormedParts.{IsPosition}
 use Rattle.leg_flat.specs.Bounds.{IsSumWithin, IsDrawnWithin}
 
 -- a point of sums of two numbers

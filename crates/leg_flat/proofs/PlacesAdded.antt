@@ -4,9 +4,9 @@ use Rattle.std.proofs.lemmas.Bool.{false_from_ne_true, false≢true, true≢fals
 use Rattle.std.proofs.lemmas.List.{map-append, append-nil, length-map, length-take, get_or-take, get_or_default}
 use Rattle.std.proofs.lemmas.List.Elements.{filter_more}
 use Rattle.std.proofs.lemmas.List.Folds.{list_any_none}
-use Rattle.leg_design.specs.declared.records.Terminal.{Terminal}
-use Rattle.leg_design.specs.Terminal.{is_same_terminal, is_among}
-use Rattle.leg_design.proofs.Listed.{same_is}
+use Rattle.leg_block.specs.declared.records.Terminal.{Terminal}
+use Rattle.leg_block.specs.Terminals.{is_same_terminal, is_among}
+use Rattle.leg_block.proofs.SameTerminal.{same_is}
 use Rattle.leg_flat.specs.declared.piece.Piece.{Piece}
 use Rattle.leg_flat.specs.declared.piece.Piece.TheVariants.{Term}
 use Rattle.leg_flat.specs.Owner.{place_among}

@@ -5,10 +5,10 @@ use Rattle.leg_geom.specs.declared.place.Place.{Place}
 use Rattle.leg_lib.specs.declared.records.Shape as library
 use Rattle.leg_lib.specs.Scale.{OneForOne}
 use Rattle.leg_lib.specs.Records.{MasterSaid}
-use Rattle.leg_design.specs.declared.records.Wire.{Wire}
-use Rattle.leg_design.specs.declared.records.Wire.TheVariants.{Segment, ViaAt, Patch}
-use Rattle.leg_design.specs.Records.{DesignContents, PortSaid}
-use Rattle.leg_design.specs.WellFormedParts.{IsPosition}
+use Rattle.leg_block.specs.declared.records.Wire.{Wire}
+use Rattle.leg_block.specs.declared.records.Wire.TheVariants.{Segment, ViaAt, Patch}
+use Rattle.leg_block.specs.Records.{DesignContents, PortSaid}
+use Rattle.leg_block.specs.WellFormedParts.{IsPosition}
 use Rattle.leg_flat.specs.declared.shape.Shape.{Shape}
 use Rattle.leg_flat.specs.Metal.{Metal}
 use Rattle.leg_flat.specs.Flat.{IsShapeOf}

@@ -4,7 +4,7 @@ use Rattle.leg_lex.specs.declared.limits.TheConstants.{NUMBER_LIMIT}
 use Rattle.leg_lex.specs.Number.{IsNumber}
 use Rattle.leg_geom.specs.Plane.{Spot, Sides}
 use Rattle.leg_lib.specs.Scale.{IsEven}
-use Rattle.leg_design.specs.WellFormedParts.{IsPosition}
+use Rattle.leg_block.specs.WellFormedParts.{IsPosition}
 
 -- two different points on a horizontal or vertical line
 pub record IsStraight (from to : Spot) : Type 0 where

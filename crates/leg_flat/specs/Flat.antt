@@ -3,8 +3,8 @@ use Rattle.std.specs.Prelude.{◌≡◌, ◌↔◌, ◌+◌, ◌^◌, ◌<◌, �
 use Rattle.std.specs.List.{range_with_len}
 use Rattle.leg_geom.specs.Plane.{Spot, HasPoint}
 use Rattle.leg_lib.specs.Scale.{OneForOne}
-use Rattle.leg_design.specs.declared.limits.TheConstants.{PART_LIMIT}
-use Rattle.leg_design.specs.Records.{DesignContents}
+use Rattle.leg_block.specs.declared.limits.TheConstants.{PART_LIMIT}
+use Rattle.leg_block.specs.Records.{DesignContents}
 use Rattle.leg_flat.specs.declared.piece.Piece.{Piece}
 use Rattle.leg_flat.specs.declared.shape.Shape.{Shape}
 use Rattle.leg_flat.specs.Nets.{pieces_of}

@@ -5,12 +5,12 @@ use Rattle.leg_geom.specs.declared.place.Place.{Place}
 use Rattle.leg_lib.specs.declared.records.Shape.{Shape}
 use Rattle.leg_lib.specs.Measure.{Lengths}
 use Rattle.leg_lib.specs.Records as library
-use Rattle.leg_design.specs.declared.records.Component.{Component}
-use Rattle.leg_design.specs.declared.records.Terminal.{Terminal}
-use Rattle.leg_design.specs.declared.records.Terminal.TheVariants.{Comp, Pin}
-use Rattle.leg_design.specs.declared.records.Wire.{Wire}
-use Rattle.leg_design.specs.declared.records.Wire.TheVariants.{Segment, ViaAt, Patch}
-use Rattle.leg_design.specs.Records.{DesignContents, PortSaid, PinSaid, NetSaid}
+use Rattle.leg_block.specs.declared.records.Component.{Component}
+use Rattle.leg_block.specs.declared.records.Terminal.{Terminal}
+use Rattle.leg_block.specs.declared.records.Terminal.TheVariants.{Comp, Pin}
+use Rattle.leg_block.specs.declared.records.Wire.{Wire}
+use Rattle.leg_block.specs.declared.records.Wire.TheVariants.{Segment, ViaAt, Patch}
+use Rattle.leg_block.specs.Records.{DesignContents, PortSaid, PinSaid, NetSaid}
 use Rattle.leg_flat.specs.declared.owner.Owner.{Owner}
 use Rattle.leg_flat.specs.declared.owner.Owner.TheVariants.{Net, Obs}
 use Rattle.leg_flat.specs.Nets.{number_of_special, regular_entry, entry_wires, terminals_of}

@@ -4,10 +4,10 @@ use Rattle.std.specs.Prelude.{ℕ, ◌+◌, ◌-◌, not, List, [], ◌++◌, le
 use Rattle.std.specs.List.{range_with_len}
 use Rattle.leg_lex.specs.Words.{◌>>=◌}
 use Rattle.leg_lex.specs.Named.{place_of}
-use Rattle.leg_design.specs.declared.records.Terminal.{Terminal}
-use Rattle.leg_design.specs.declared.records.Wire as design
-use Rattle.leg_design.specs.Terminal.{is_among}
-use Rattle.leg_design.specs.Records.{DesignContents, NetSaid, net_names}
+use Rattle.leg_block.specs.declared.records.Terminal.{Terminal}
+use Rattle.leg_block.specs.declared.records.Wire as design
+use Rattle.leg_block.specs.Terminals.{is_among}
+use Rattle.leg_block.specs.Records.{DesignContents, NetSaid, net_names}
 use Rattle.leg_flat.specs.declared.piece.Piece.{Piece}
 use Rattle.leg_flat.specs.declared.piece.Piece.TheVariants.{Term, Wire}
 

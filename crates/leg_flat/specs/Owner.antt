@@ -5,10 +5,10 @@ use Rattle.leg_lex.specs.Words.{◌>>=◌}
 use Rattle.leg_lib.specs.declared.records.Supply.{Supply}
 use Rattle.leg_lib.specs.declared.records.Supply.TheVariants.{NoSupply, Power, Ground}
 use Rattle.leg_lib.specs.Records as library
-use Rattle.leg_design.specs.declared.records.Terminal.{Terminal}
-use Rattle.leg_design.specs.declared.records.Terminal.TheVariants.{Comp, Pin}
-use Rattle.leg_design.specs.Terminal.{is_same_terminal, is_among}
-use Rattle.leg_design.specs.Records.{DesignContents, NetSaid}
+use Rattle.leg_block.specs.declared.records.Terminal.{Terminal}
+use Rattle.leg_block.specs.declared.records.Terminal.TheVariants.{Comp, Pin}
+use Rattle.leg_block.specs.Terminals.{is_same_terminal, is_among}
+use Rattle.leg_block.specs.Records.{DesignContents, NetSaid}
 use Rattle.leg_flat.specs.declared.owner.Owner.{Owner}
 use Rattle.leg_flat.specs.declared.owner.Owner.TheVariants as owners
 use Rattle.leg_flat.specs.Nets.{number_of_special, terminals_of}

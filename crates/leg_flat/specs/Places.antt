@@ -3,9 +3,9 @@
 use Rattle.std.specs.Prelude.{◌≡◌, ℕ, ◌+◌, List, length, map, Option, None, Some, slice_get}
 use Rattle.std.specs.List.{range_with_len}
 use Rattle.std.specs.Map.{lookup}
-use Rattle.leg_design.specs.declared.records.Terminal.{Terminal}
-use Rattle.leg_design.specs.Terminal.{is_same_terminal}
-use Rattle.leg_design.specs.Records.{DesignContents, NetSaid}
+use Rattle.leg_block.specs.declared.records.Terminal.{Terminal}
+use Rattle.leg_block.specs.Terminals.{is_same_terminal}
+use Rattle.leg_block.specs.Records.{DesignContents, NetSaid}
 use Rattle.leg_flat.specs.declared.piece.Piece.{Piece}
 use Rattle.leg_flat.specs.Nets.{number_of_special, terminals_of, pieces_of}
 use Rattle.leg_flat.specs.Owner.{net_of, piece_of}

@@ -1,7 +1,7 @@
 -- Where terminals are in the nets below a number, as they are found net by net.
 use Rattle.std.specs.Prelude.{◌≡◌, ℕ, zero, suc, ◌+◌, List, ◌++◌, length, map, filter, Option, None, Some, is_none, option_map}
-use Rattle.leg_design.specs.declared.records.Terminal.{Terminal}
-use Rattle.leg_design.specs.Records.{DesignContents}
+use Rattle.leg_block.specs.declared.records.Terminal.{Terminal}
+use Rattle.leg_block.specs.Records.{DesignContents}
 use Rattle.leg_flat.specs.declared.piece.Piece.{Piece}
 use Rattle.leg_flat.specs.declared.piece.Piece.TheVariants.{Term}
 use Rattle.leg_flat.specs.Nets.{terminals_of}

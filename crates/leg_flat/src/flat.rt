@@ -3,7 +3,7 @@
 ghost use Rattle.std.specs.Prelude.{◌≡◌, ◌↔◌, ◌<◌, ◌≤◌, length, Some, IfOk, IfErr, option_map, slice_get};
 ghost use Rattle.leg_lib.specs.Scale.{OneForOne};
 ghost use Rattle.leg_lib.specs.Sound.{IsSound};
-ghost use Rattle.leg_design.specs.declared.limits.TheConstants.{PART_LIMIT};
+ghost use Rattle.leg_block.specs.declared.limits.TheConstants.{PART_LIMIT};
 ghost use Rattle.leg_flat.specs.declared.fault.FlatFault.TheVariants.{TooMany};
 ghost use Rattle.leg_flat.specs.Metal.{metal_of};
 ghost use Rattle.leg_flat.specs.Places.{AreNetsOf};
@@ -16,7 +16,7 @@ use crate::metal_wires::{add_nets, add_specials};
 use crate::nets::{Nets, nets_of};
 use crate::piece::Piece;
 use crate::shape::Shape;
-use leg_design::{Design, PART_LIMIT};
+use leg_block::{Design, PART_LIMIT};
 use leg_lib::{Items, Library};
 use std::alloc::{AllocError, Allocator};
 use std::marker::Model;

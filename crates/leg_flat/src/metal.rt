@@ -1,8 +1,8 @@
 //! The metal of the components of a design and of its pins.
 
 ghost use Rattle.std.specs.Prelude.{◌≡◌, All, OnOk, None, Some, option_map, slice_get};
-ghost use Rattle.leg_design.specs.Records.{DesignContents};
-ghost use Rattle.leg_design.specs.WellFormedParts.{IsPosition};
+ghost use Rattle.leg_block.specs.Records.{DesignContents};
+ghost use Rattle.leg_block.specs.WellFormedParts.{IsPosition};
 ghost use Rattle.leg_flat.specs.declared.owner.Owner.TheVariants.{Obs};
 ghost use Rattle.leg_lib.specs.Sound.{IsSoundMaster, IsSound};
 ghost use Rattle.leg_flat.specs.Metal.{belonging, drawn, pins_metal, component_metal, components_metal, port_outlines, ports_outlines, design_pins_metal};
@@ -13,7 +13,7 @@ use crate::metal_parts::{Belongs, add_drawn, of_component_pin, of_design_pin};
 use crate::nets::Nets;
 use crate::owner::Owner;
 use crate::shape::Shape;
-use leg_design::{Component, Design, Port};
+use leg_block::{Component, Design, Port};
 use leg_geom::Place;
 use leg_lib::Master;
 use std::alloc::{AllocError, Allocator};

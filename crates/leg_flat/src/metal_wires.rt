@@ -1,9 +1,9 @@
 //! The metal of the wires of a design.
 
 ghost use Rattle.std.specs.Prelude.{◌≡◌, ◌+◌, ◌++◌, ◌<◌, ◌^◌, length, All, OnOk, option_map, slice_get};
-ghost use Rattle.leg_design.specs.declared.records.Wire.TheVariants.{ViaAt};
-ghost use Rattle.leg_design.specs.WellFormed.{IsWellFormed};
-ghost use Rattle.leg_design.specs.WellFormedParts.{IsPosition};
+ghost use Rattle.leg_block.specs.declared.records.Wire.TheVariants.{ViaAt};
+ghost use Rattle.leg_block.specs.WellFormed.{IsWellFormed};
+ghost use Rattle.leg_block.specs.WellFormedParts.{IsPosition};
 ghost use Rattle.leg_lib.specs.Sound.{IsSound};
 ghost use Rattle.leg_flat.specs.Metal.{belonging, wire_outlines, wires_metal, nets_metal, specials_metal};
 ghost use Rattle.leg_flat.specs.Nets.{entry_wires, regular_entry};
@@ -15,7 +15,7 @@ use crate::nets::Nets;
 use crate::outline::{line_rect, shifted_rect};
 use crate::owner::Owner;
 use crate::shape::Shape;
-use leg_design::{Design, Wire};
+use leg_block::{Design, Wire};
 use leg_geom::Point;
 use leg_lib::Via;
 use std::alloc::{AllocError, Allocator};

@@ -2,11 +2,11 @@
 
 ghost use Rattle.std.specs.Prelude.{◌≡◌, ◌<◌, length, option_map, IfOk};
 ghost use Rattle.leg_lex.specs.Named.{AreApart};
-ghost use Rattle.leg_design.specs.Records.{net_names};
-ghost use Rattle.leg_design.specs.WellFormedNets.{HasNets};
+ghost use Rattle.leg_block.specs.Records.{net_names};
+ghost use Rattle.leg_block.specs.WellFormedNets.{HasNets};
 ghost use Rattle.leg_flat.specs.Nets.{number_of_special, regular_entry, special_named, special_alone, special_entry};
 
-use leg_design::{Design, Net};
+use leg_block::{Design, Net};
 use leg_lex::Names;
 use std::alloc::{AllocError, Allocator};
 use std::marker::Model;
@@ -21,7 +21,7 @@ pub(crate) struct NetIndex<'d, 'a, A: Allocator + Copy> {
 
 impl<'d, 'a, A: Allocator + Copy> Model for NetIndex<'d, 'a, A> {
     ghost use Rattle.std.specs.Prelude.{◌≡◌};
-    ghost use Rattle.leg_design.specs.Records.{DesignContents, net_names};
+    ghost use Rattle.leg_block.specs.Records.{DesignContents, net_names};
 
     ghost Value = { DesignContents };
 

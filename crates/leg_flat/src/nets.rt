@@ -2,7 +2,7 @@
 
 ghost use Rattle.std.specs.Prelude.{◌≡◌, ◌≢◌, ◌<◌, ◌^◌, suc, ◌+◌, ◌++◌, length, map, Some, option_map, All, AllPairs, IfOk, OnOk, slice_get};
 ghost use Rattle.std.specs.List.{range_with_len};
-ghost use Rattle.leg_design.specs.declared.records.Terminal.{Terminal};
+ghost use Rattle.leg_block.specs.declared.records.Terminal.{Terminal};
 ghost use Rattle.leg_flat.specs.declared.piece.Piece.TheVariants.{Term, Wire};
 ghost use Rattle.leg_flat.specs.Nets.{entry_terminals, entry_wires, terminals_of, pieces_of};
 ghost use Rattle.leg_flat.specs.Places.{AreSpecialNumbers, AreNetsOf, place_in};
@@ -11,7 +11,7 @@ ghost use Rattle.leg_flat.specs.PlacesBelow.{place_below, AreAdded};
 use crate::net_index::NetIndex;
 use crate::piece::Piece;
 use crate::piece_numbers::PieceNumbers;
-use leg_design::{Design, Net, Terminal};
+use leg_block::{Design, Net, Terminal};
 use leg_lib::Items;
 use std::alloc::{AllocError, Allocator};
 use std::marker::Model;

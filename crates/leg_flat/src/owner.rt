@@ -1,6 +1,6 @@
 //! Whose metal a shape is.
 
-use leg_design::Terminal;
+use leg_block::Terminal;
 
 /// Whose metal a shape is. Shapes of one owner may touch.
 #[derive(Clone, Copy, PartialEq, Eq, Debug)]

@@ -1,6 +1,6 @@
 //! The pieces of a net.
 
-use leg_design::Terminal;
+use leg_block::Terminal;
 
 /// A part of a net that is metal by itself.
 #[derive(Clone, Copy, PartialEq, Eq, Debug)]

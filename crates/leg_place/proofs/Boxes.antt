@@ -6,10 +6,10 @@ use Rattle.std.proofs.lemmas.List.Quantifiers.{all_pairs_push}
 use Rattle.std.proofs.lemmas.Option.{same_Some, none-some}
 use Rattle.leg_geom.specs.Plane.{Sides, IsRect, HasAllPoints}
 use Rattle.leg_sweep.proofs.Lists.{AllPairs-nil}
-use Rattle.leg_design.specs.declared.records.Component.{Component}
+use Rattle.leg_block.specs.declared.records.Component.{Component}
 use Rattle.leg_place.specs.declared.placed_box.PlacedBox.{PlacedBox}
 use Rattle.leg_lib.specs.Records.{Contents}
-use Rattle.leg_design.specs.Records.{DesignContents}
+use Rattle.leg_block.specs.Records.{DesignContents}
 use Rattle.leg_place.specs.Box.{box_of, StandsIn}
 use Rattle.leg_place.specs.Faults.{IsOutside}
 use Rattle.leg_place.specs.Before.{AreBoxesBelow, HasLowerNumber}

@@ -5,10 +5,10 @@ use Rattle.std.proofs.lemmas.List.Elements.{All-nil, All-push, All-weaker, Conta
 use Rattle.std.proofs.lemmas.List.Quantifiers.{all_pairs_push}
 use Rattle.leg_sweep.proofs.Lists.{AllPairs-nil}
 use Rattle.leg_lib.specs.Records.{Contents}
-use Rattle.leg_design.specs.Records.{DesignContents}
-use Rattle.leg_design.specs.declared.fault.Fault.{Fault}
-use Rattle.leg_design.specs.declared.fault.Fault.TheVariants.{Unplaced}
-use Rattle.leg_design.specs.Violation.{kind_number, numbers_of, ComesBefore}
+use Rattle.leg_block.specs.Records.{DesignContents}
+use Rattle.leg_block.specs.declared.fault.Fault.{Fault}
+use Rattle.leg_block.specs.declared.fault.Fault.TheVariants.{Unplaced}
+use Rattle.leg_block.specs.Violation.{kind_number, numbers_of, ComesBefore}
 use Rattle.leg_place.specs.Faults.{Holds}
 use Rattle.leg_place.specs.Before.{HoldsBefore, IsListBefore}
 use Rattle.leg_place.proofs.FaultNumbers.{same_fault, no_second_number, component_below}

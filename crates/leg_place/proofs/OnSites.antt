@@ -8,7 +8,7 @@ use Rattle.std.proofs.lemmas.Grind.{common_steps}
 use Rattle.std.proofs.lemmas.Int.{ints}
 use Rattle.leg_geom.specs.Plane.{Spot, Sides, HasCell}
 use Rattle.leg_lib.specs.Measure.{Lengths, HasArea}
-use Rattle.leg_design.specs.declared.records.Row.{Row}
+use Rattle.leg_block.specs.declared.records.Row.{Row}
 use Rattle.leg_place.specs.Sites.{SitesHave, IsOnSites}
 use Rattle.leg_place.specs.OnRow.{IsLevel, IsEdge}
 

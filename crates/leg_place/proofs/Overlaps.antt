@@ -8,10 +8,10 @@ use Rattle.leg_geom.specs.Plane.{ShareCell}
 use Rattle.leg_sweep.specs.Pairs.{Before, IsPair, ArePairs}
 use Rattle.leg_sweep.proofs.Lists.{AllPairs-append_by, AllPairs-map_where, Contains-map}
 use Rattle.leg_lib.specs.Records.{Contents}
-use Rattle.leg_design.specs.Records.{DesignContents}
-use Rattle.leg_design.specs.declared.fault.Fault.{Fault}
-use Rattle.leg_design.specs.declared.fault.Fault.TheVariants.{Unplaced, Outside, OffSite, Overlap, Short, TooNear, OpenNet}
-use Rattle.leg_design.specs.Violation.{ComesBefore, kind_number, numbers_of, IsListOf}
+use Rattle.leg_block.specs.Records.{DesignContents}
+use Rattle.leg_block.specs.declared.fault.Fault.{Fault}
+use Rattle.leg_block.specs.declared.fault.Fault.TheVariants.{Unplaced, Outside, OffSite, Overlap, Short, TooNear, OpenNet}
+use Rattle.leg_block.specs.Violation.{ComesBefore, kind_number, numbers_of, IsListOf}
 use Rattle.leg_place.specs.declared.placed_box.PlacedBox.{PlacedBox}
 use Rattle.leg_place.specs.Box.{StandsIn}
 use Rattle.leg_place.specs.Faults.{Holds}

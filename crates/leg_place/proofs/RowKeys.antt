@@ -11,7 +11,7 @@ use Rattle.std.proofs.lemmas.List.Elements.{All-nil, All-push, Contains-append_l
 use Rattle.std.proofs.lemmas.List.Sorted.{ranks_by, sorted_far, All-permutation, Contains-permutation}
 use Rattle.std.proofs.lemmas.Option.{same_Some}
 use Rattle.leg_sweep.proofs.Edges.{key_cmp, key_cmp_total, edges_rise}
-use Rattle.leg_design.specs.declared.records.Row.{Row}
+use Rattle.leg_block.specs.declared.records.Row.{Row}
 use Rattle.leg_place.specs.RowOrder.{IsKey, AreKeysBelow, IsRising, IsRowOrder, AreAt}
 
 pub keys_none : (rows : List Row) → AreKeysBelow rows 0 []

@@ -2,9 +2,9 @@
 use Rattle.std.specs.Prelude.{ℕ, ◌<◌, List, All, AllPairs, Contains}
 use Rattle.leg_geom.specs.Plane.{Sides}
 use Rattle.leg_lib.specs.Records.{Contents}
-use Rattle.leg_design.specs.Records.{DesignContents}
-use Rattle.leg_design.specs.declared.fault.Fault.{Fault}
-use Rattle.leg_design.specs.Violation.{ComesBefore, IsListOf}
+use Rattle.leg_block.specs.Records.{DesignContents}
+use Rattle.leg_block.specs.declared.fault.Fault.{Fault}
+use Rattle.leg_block.specs.Violation.{ComesBefore, IsListOf}
 use Rattle.leg_place.specs.declared.placed_box.PlacedBox.{PlacedBox}
 use Rattle.leg_place.specs.Box.{StandsIn}
 use Rattle.leg_place.specs.Faults.{Holds}

@@ -6,8 +6,8 @@ use Rattle.leg_geom.specs.Orientation.{placed_rect}
 use Rattle.leg_geom.specs.declared.place.Place.{Place}
 use Rattle.leg_lib.specs.Measure.{Lengths}
 use Rattle.leg_lib.specs.Records.{Contents}
-use Rattle.leg_design.specs.Records.{DesignContents}
-use Rattle.leg_design.specs.declared.records.Component.{Component}
+use Rattle.leg_block.specs.Records.{DesignContents}
+use Rattle.leg_block.specs.declared.records.Component.{Component}
 
 -- the box of a macro of this size, as it is drawn
 abbrev pub box_of_size : Lengths → Sides

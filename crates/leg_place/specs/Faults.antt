@@ -3,10 +3,10 @@
 use Rattle.std.specs.Prelude.{◌≡◌, ℕ, ◌<◌, None, Some, slice_get}
 use Rattle.leg_geom.specs.Plane.{Spot, Sides, HasCell, ShareCell}
 use Rattle.leg_lib.specs.Records.{Contents}
-use Rattle.leg_design.specs.Records.{DesignContents}
-use Rattle.leg_design.specs.declared.records.Component.{Component}
-use Rattle.leg_design.specs.declared.fault.Fault.{Fault}
-use Rattle.leg_design.specs.declared.fault.Fault.TheVariants.{Unplaced, Outside, OffSite, Overlap, Short, TooNear, OpenNet}
+use Rattle.leg_block.specs.Records.{DesignContents}
+use Rattle.leg_block.specs.declared.records.Component.{Component}
+use Rattle.leg_block.specs.declared.fault.Fault.{Fault}
+use Rattle.leg_block.specs.declared.fault.Fault.TheVariants.{Unplaced, Outside, OffSite, Overlap, Short, TooNear, OpenNet}
 use Rattle.leg_place.specs.Box.{StandsIn}
 use Rattle.leg_place.specs.Sites.{IsOffSite}
 

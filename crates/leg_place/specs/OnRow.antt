@@ -4,8 +4,8 @@ use Rattle.leg_geom.specs.Plane.{Sides}
 use Rattle.leg_geom.specs.declared.place.Place.{Place}
 use Rattle.leg_lib.specs.Measure.{Lengths}
 use Rattle.leg_lib.specs.Records.{MasterSaid}
-use Rattle.leg_design.specs.Records.{DesignContents}
-use Rattle.leg_design.specs.declared.records.Row.{Row}
+use Rattle.leg_block.specs.Records.{DesignContents}
+use Rattle.leg_block.specs.declared.records.Row.{Row}
 use Rattle.leg_place.specs.Sites.{IsOnRow}
 
 -- the box reaches from the lower edge of the row's sites to their upper one

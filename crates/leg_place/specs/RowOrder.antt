@@ -1,6 +1,6 @@
 -- The rows of a design by the y of their lower left corners.
 use Rattle.std.specs.Prelude.{◌≡◌, ℕ, ◌<◌, ◌≤◌, ℤ, ◌≤ℤ◌, List, length, slice_get, slice_index_or, Some, All, Contains}
-use Rattle.leg_design.specs.declared.records.Row.{Row}
+use Rattle.leg_block.specs.declared.records.Row.{Row}
 
 -- a key of a row: the y of its lower left corner, and its number
 pub record IsKey (rows : List Row) (key : ℤ × ℕ) : Type 0 where

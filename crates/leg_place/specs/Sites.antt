@@ -7,9 +7,9 @@ use Rattle.leg_geom.specs.declared.place.Place.{Place}
 use Rattle.leg_lib.specs.Measure.{Lengths}
 use Rattle.leg_lib.specs.Records.{Contents, MasterSaid}
 use Rattle.leg_lib.specs.declared.records.Site.{Site}
-use Rattle.leg_design.specs.Records.{DesignContents}
-use Rattle.leg_design.specs.declared.records.Component.{Component}
-use Rattle.leg_design.specs.declared.records.Row.{Row}
+use Rattle.leg_block.specs.Records.{DesignContents}
+use Rattle.leg_block.specs.declared.records.Component.{Component}
+use Rattle.leg_block.specs.declared.records.Row.{Row}
 use Rattle.leg_place.specs.Box.{placed_box}
 
 -- site k of a row of sites of this size, from 0; rows aren't turned, so a site's width lies along x

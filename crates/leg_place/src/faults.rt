@@ -1,7 +1,7 @@
 //! The violations of where components stand.
 
 ghost use Rattle.std.specs.Prelude.{◌≡◌, ◌<◌, ◌↔◌, length, IsTrue, IfOk, OnOk};
-ghost use Rattle.leg_design.specs.Violation.{IsListOf};
+ghost use Rattle.leg_block.specs.Violation.{IsListOf};
 ghost use Rattle.leg_place.specs.Faults.{IsOutside, Holds};
 ghost use Rattle.leg_place.specs.Before.{IsListBefore};
 
@@ -9,7 +9,7 @@ use crate::overlap::push_overlaps;
 use crate::placed_box::box_of;
 use crate::row_order::row_order;
 use crate::sites::is_off_site;
-use leg_design::{Design, Fault};
+use leg_block::{Design, Fault};
 use leg_lib::Library;
 use std::alloc::{AllocError, Allocator};
 

@@ -4,12 +4,12 @@ ghost use Rattle.std.specs.Prelude.{◌≡◌, OnOk};
 ghost use Rattle.std.proofs.Common.{refl};
 ghost use Rattle.leg_geom.specs.Plane.{ShareCell};
 ghost use Rattle.leg_geom.proofs.Gaps.{ShareCell-symmetric, ShareCell-gaps};
-ghost use Rattle.leg_design.specs.Violation.{IsListOf};
+ghost use Rattle.leg_block.specs.Violation.{IsListOf};
 ghost use Rattle.leg_place.specs.Before.{IsListBefore};
 ghost use Rattle.leg_place.specs.Faults.{Holds};
 
 use crate::placed_box::{PlacedBox, placed_boxes};
-use leg_design::{Design, Fault};
+use leg_block::{Design, Fault};
 use leg_sweep::{LayeredRule, PairRule, pairs_in_bands};
 use std::alloc::{AllocError, Allocator};
 

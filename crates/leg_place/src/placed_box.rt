@@ -2,12 +2,12 @@
 
 ghost use Rattle.std.specs.Prelude.{◌≡◌, ◌≤◌, length, IfOk, IfSome};
 ghost use Rattle.leg_geom.specs.Plane.{IsRect};
-ghost use Rattle.leg_design.specs.declared.limits.TheConstants.{ENTRY_LIMIT};
-ghost use Rattle.leg_design.specs.WellFormedParts.{IsPosition, IsComponent};
+ghost use Rattle.leg_block.specs.declared.limits.TheConstants.{ENTRY_LIMIT};
+ghost use Rattle.leg_block.specs.WellFormedParts.{IsPosition, IsComponent};
 ghost use Rattle.leg_place.specs.Box.{placed_box, box_of};
 ghost use Rattle.leg_place.specs.Before.{AreBoxesBelow};
 
-use leg_design::{Component, Design};
+use leg_block::{Component, Design};
 use leg_geom::{Place, Rect};
 use leg_lib::{Extent, Library};
 use std::alloc::{AllocError, Allocator};

@@ -3,7 +3,7 @@
 ghost use Rattle.std.specs.Prelude.{length, IfOk};
 ghost use Rattle.leg_place.specs.RowOrder.{AreKeysBelow, IsRising, IsRowOrder, AreAt};
 
-use leg_design::Row;
+use leg_block::Row;
 use std::alloc::{AllocError, Allocator};
 
 /// The y of the lower left corner of each row, with the row's number, in increasing order.

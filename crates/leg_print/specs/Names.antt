@@ -2,10 +2,10 @@
 use Rattle.std.specs.Prelude.{ℕ, suc, List, [], ◌++◌, Option, None, Some, codes, decimal, slice_get}
 use Rattle.leg_lib.specs.Records as library
 use Rattle.leg_lib.specs.declared.records.Layer.{Layer}
-use Rattle.leg_design.specs.declared.records.Component.{Component}
-use Rattle.leg_design.specs.declared.records.Terminal.{Terminal}
-use Rattle.leg_design.specs.declared.records.Terminal.TheVariants.{Comp, Pin}
-use Rattle.leg_design.specs.Records.{DesignContents, PinSaid, NetSaid}
+use Rattle.leg_block.specs.declared.records.Component.{Component}
+use Rattle.leg_block.specs.declared.records.Terminal.{Terminal}
+use Rattle.leg_block.specs.declared.records.Terminal.TheVariants.{Comp, Pin}
+use Rattle.leg_block.specs.Records.{DesignContents, PinSaid, NetSaid}
 use Rattle.leg_flat.specs.declared.owner.Owner.{Owner}
 use Rattle.leg_flat.specs.declared.owner.Owner.TheVariants.{Net, Lone, Power, Ground, Obs}
 use Rattle.leg_flat.specs.declared.piece.Piece.{Piece}

@@ -3,13 +3,13 @@
 ghost use Rattle.std.specs.Prelude.{◌≡◌, ◌++◌, None, IfOk, OnOk, option_map, codes};
 ghost use Rattle.std.specs.List.{flat_map};
 ghost use Rattle.std.specs.Fmt.{signed_decimal};
-ghost use Rattle.leg_design.specs.declared.fault.Fault.TheVariants.{Overlap};
+ghost use Rattle.leg_block.specs.declared.fault.Fault.TheVariants.{Overlap};
 ghost use Rattle.leg_print.specs.Names.{component_name};
 ghost use Rattle.leg_print.specs.Lines.{sides_text, shape_text, shape_at, piece_at, pair_line, open_line, violation_line, violations_text};
 
 use crate::name::{component_name, layer_name, net_name, push_owner, push_piece};
 use itoa::Buffer;
-use leg_design::{Design, Fault};
+use leg_block::{Design, Fault};
 use leg_flat::{Flat, Piece, Shape};
 use leg_geom::Rect;
 use leg_lib::Library;

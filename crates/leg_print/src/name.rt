@@ -4,7 +4,7 @@ ghost use Rattle.std.specs.Prelude.{◌≡◌, ◌++◌, OnOk};
 ghost use Rattle.leg_print.specs.Names.{layer_name, component_name, net_name, component_pin_name, design_pin_name, terminal_text, owner_text, piece_text};
 
 use itoa::Buffer;
-use leg_design::{Design, Terminal};
+use leg_block::{Design, Terminal};
 use leg_flat::{Owner, Piece};
 use std::alloc::{AllocError, Allocator};
 

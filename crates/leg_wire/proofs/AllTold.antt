@@ -6,9 +6,9 @@ use Rattle.leg_sweep.specs.Pairs.{IsPair, ArePairs}
 use Rattle.leg_sweep.proofs.Lists.{AllPairs-append_by}
 use Rattle.leg_lib.specs.declared.records.Layer.{Layer}
 use Rattle.leg_lib.specs.Records.{Contents}
-use Rattle.leg_design.specs.declared.fault.Fault.{Fault}
-use Rattle.leg_design.specs.declared.fault.Fault.TheVariants.{Unplaced, Outside, OffSite, Overlap, Short, TooNear, OpenNet}
-use Rattle.leg_design.specs.Violation.{ComesBefore, IsListOf}
+use Rattle.leg_block.specs.declared.fault.Fault.{Fault}
+use Rattle.leg_block.specs.declared.fault.Fault.TheVariants.{Unplaced, Outside, OffSite, Overlap, Short, TooNear, OpenNet}
+use Rattle.leg_block.specs.Violation.{ComesBefore, IsListOf}
 use Rattle.leg_flat.specs.declared.shape.Shape.{Shape}
 use Rattle.leg_flat.specs.Flat.{FlatSaid}
 use Rattle.leg_wire.specs.Spacing.{AreShort, AreNearer, AreTooNear, Holds}

@@ -8,10 +8,10 @@ use Rattle.std.proofs.lemmas.List.FromFn.{length-map-range_with_len}
 use Rattle.std.proofs.lemmas.List.Quantifiers.{all_pairs_push}
 use Rattle.std.proofs.lemmas.Option.{slice_get_within, slice_get-get_or, same_Some, none-some}
 use Rattle.leg_sweep.proofs.Lists.{AllPairs-nil, AllPairs-append_by}
-use Rattle.leg_design.specs.Records.{DesignContents}
-use Rattle.leg_design.specs.declared.fault.Fault.{Fault}
-use Rattle.leg_design.specs.declared.fault.Fault.TheVariants.{Unplaced, Outside, OffSite, Overlap, Short, TooNear, OpenNet}
-use Rattle.leg_design.specs.Violation.{numbers_of, ComesBefore, IsListOf}
+use Rattle.leg_block.specs.Records.{DesignContents}
+use Rattle.leg_block.specs.declared.fault.Fault.{Fault}
+use Rattle.leg_block.specs.declared.fault.Fault.TheVariants.{Unplaced, Outside, OffSite, Overlap, Short, TooNear, OpenNet}
+use Rattle.leg_block.specs.Violation.{numbers_of, ComesBefore, IsListOf}
 use Rattle.leg_flat.specs.Nets.{pieces_of}
 use Rattle.leg_flat.specs.Flat.{FlatSaid, IsFlatOf}
 use Rattle.leg_wire.specs.Touch.{piece_count, AreJoined, AreMarks}

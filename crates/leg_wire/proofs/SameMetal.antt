@@ -5,9 +5,9 @@ use Rattle.leg_geom.specs.Plane.{Spot, HasPoint, SharePoint}
 use Rattle.leg_sweep.specs.Pairs.{IsPair}
 use Rattle.leg_lib.specs.Scale.{OneForOne}
 use Rattle.leg_lib.specs.Records.{Contents}
-use Rattle.leg_design.specs.Records.{DesignContents}
-use Rattle.leg_design.specs.declared.fault.Fault.{Fault}
-use Rattle.leg_design.specs.declared.fault.Fault.TheVariants.{Unplaced, Outside, OffSite, Overlap, Short, TooNear, OpenNet}
+use Rattle.leg_block.specs.Records.{DesignContents}
+use Rattle.leg_block.specs.declared.fault.Fault.{Fault}
+use Rattle.leg_block.specs.declared.fault.Fault.TheVariants.{Unplaced, Outside, OffSite, Overlap, Short, TooNear, OpenNet}
 use Rattle.leg_flat.specs.declared.piece.Piece.{Piece}
 use Rattle.leg_flat.specs.declared.shape.Shape.{Shape}
 use Rattle.leg_flat.specs.Metal.{Metal, metal_of}

@@ -5,9 +5,9 @@ use Rattle.std.proofs.lemmas.List.Elements.{All-push, All-weaker, All-contains, 
 use Rattle.std.proofs.lemmas.List.Quantifiers.{all_pairs_push}
 use Rattle.std.proofs.lemmas.Option.{same_Some}
 use Rattle.leg_sweep.specs.Pairs.{Before}
-use Rattle.leg_design.specs.declared.fault.Fault.{Fault}
-use Rattle.leg_design.specs.declared.fault.Fault.TheVariants.{Short, TooNear}
-use Rattle.leg_design.specs.Violation.{ComesBefore, IsListOf}
+use Rattle.leg_block.specs.declared.fault.Fault.{Fault}
+use Rattle.leg_block.specs.declared.fault.Fault.TheVariants.{Short, TooNear}
+use Rattle.leg_block.specs.Violation.{ComesBefore, IsListOf}
 use Rattle.leg_flat.specs.declared.shape.Shape.{Shape}
 use Rattle.leg_wire.specs.Told.{IsTold}
 use Rattle.leg_wire.specs.Added.{AreAdded}

@@ -1,7 +1,7 @@
 -- Violations put behind others.
 use Rattle.std.specs.Prelude.{◌≡◌, ◌++◌, List}
-use Rattle.leg_design.specs.declared.fault.Fault.{Fault}
-use Rattle.leg_design.specs.Violation.{IsListOf}
+use Rattle.leg_block.specs.declared.fault.Fault.{Fault}
+use Rattle.leg_block.specs.Violation.{IsListOf}
 
 -- behind the violations that were listed before stand those for which this holds: all of them, each once, in order
 pub record AreAdded (Added : Fault → Type 0) (before after : List Fault) : Type 0 where

@@ -1,8 +1,8 @@
 -- Nets that are open (own rule).
 use Rattle.std.specs.Prelude.{◌<◌, ℕ, length}
-use Rattle.leg_design.specs.Records.{DesignContents}
-use Rattle.leg_design.specs.declared.fault.Fault.{Fault}
-use Rattle.leg_design.specs.declared.fault.Fault.TheVariants.{Unplaced, Outside, OffSite, Overlap, Short, TooNear, OpenNet}
+use Rattle.leg_block.specs.Records.{DesignContents}
+use Rattle.leg_block.specs.declared.fault.Fault.{Fault}
+use Rattle.leg_block.specs.declared.fault.Fault.TheVariants.{Unplaced, Outside, OffSite, Overlap, Short, TooNear, OpenNet}
 use Rattle.leg_flat.specs.Flat.{FlatSaid}
 use Rattle.leg_wire.specs.Touch.{piece_count, AreJoined}
 

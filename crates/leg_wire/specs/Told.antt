@@ -1,7 +1,7 @@
 -- Pairs of shapes told as violations of one kind.
 use Rattle.std.specs.Prelude.{◌≡◌, ℕ, List, Some, Contains, slice_get}
 use Rattle.leg_geom.specs.Plane.{SharePoint}
-use Rattle.leg_design.specs.declared.fault.Fault.{Fault}
+use Rattle.leg_block.specs.declared.fault.Fault.{Fault}
 use Rattle.leg_flat.specs.declared.shape.Shape.{Shape}
 
 abbrev pub DoShare : Shape → Shape → Type 0

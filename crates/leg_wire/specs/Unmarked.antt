@@ -1,7 +1,7 @@
 -- The pieces of a net without a mark, as violations.
 use Rattle.std.specs.Prelude.{◌≡◌, ℕ, Bool, false, List, Some, slice_get}
-use Rattle.leg_design.specs.declared.fault.Fault.{Fault}
-use Rattle.leg_design.specs.declared.fault.Fault.TheVariants.{Unplaced, Outside, OffSite, Overlap, Short, TooNear, OpenNet}
+use Rattle.leg_block.specs.declared.fault.Fault.{Fault}
+use Rattle.leg_block.specs.declared.fault.Fault.TheVariants.{Unplaced, Outside, OffSite, Overlap, Short, TooNear, OpenNet}
 
 -- the violation tells the net of this number, and a piece whose mark isn't set
 abbrev pub TellsUnmarked : ℕ → List Bool → Fault → Type 0

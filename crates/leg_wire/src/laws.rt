@@ -2,8 +2,8 @@
 
 ghost use Rattle.std.specs.Prelude.{ℕ};
 ghost use Rattle.leg_lib.specs.Records.{Contents};
-ghost use Rattle.leg_design.specs.Records.{DesignContents};
-ghost use Rattle.leg_design.specs.declared.fault.Fault.{Fault};
+ghost use Rattle.leg_block.specs.Records.{DesignContents};
+ghost use Rattle.leg_block.specs.declared.fault.Fault.{Fault};
 ghost use Rattle.leg_flat.specs.Flat.{FlatSaid, IsFlatOf};
 ghost use Rattle.leg_wire.specs.Touch.{AreJoined};
 ghost use Rattle.leg_wire.specs.Spacing as spacing;

@@ -1,7 +1,7 @@
 //! Nets that are open.
 
 ghost use Rattle.std.specs.Prelude.{◌<◌, ◌^◌, length, IfOk, OnOk};
-ghost use Rattle.leg_design.specs.Violation.{IsListOf};
+ghost use Rattle.leg_block.specs.Violation.{IsListOf};
 ghost use Rattle.leg_flat.specs.Flat.{IsFlatOf};
 ghost use Rattle.leg_wire.specs.Open.{Holds};
 ghost use Rattle.leg_wire.specs.Unmarked.{TellsUnmarked};
@@ -10,7 +10,7 @@ ghost use Rattle.leg_wire.specs.Added.{AreAdded};
 use crate::link::{links, links_of_net};
 use crate::mark::marks;
 use crate::piece_shape::piece_shapes;
-use leg_design::{Design, Fault};
+use leg_block::{Design, Fault};
 use leg_flat::Flat;
 use std::alloc::{AllocError, Allocator};
 

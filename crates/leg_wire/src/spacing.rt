@@ -2,13 +2,13 @@
 
 ghost use Rattle.std.specs.Prelude.{◌<◌, length, All, AllPairs, IfOk, OnOk};
 ghost use Rattle.leg_sweep.specs.Pairs.{Before};
-ghost use Rattle.leg_design.specs.Violation.{IsListOf};
+ghost use Rattle.leg_block.specs.Violation.{IsListOf};
 ghost use Rattle.leg_wire.specs.Spacing.{Holds};
 ghost use Rattle.leg_wire.specs.Told.{DoShare, AreApart, IsTold};
 ghost use Rattle.leg_wire.specs.Added.{AreAdded};
 
 use crate::too_close::TooClose;
-use leg_design::Fault;
+use leg_block::Fault;
 use leg_flat::{Flat, Shape};
 use leg_lib::Library;
 use leg_sweep::pairs_in_bands;

@@ -1,7 +1,7 @@
 //! A design with a form of every kind, each field of its record written down by hand.
 
 use super::frame::{has_sides, is_at, is_shape, says};
-use leg_design::{Axis, Component, Design, Pin, Port, Row, Status, Track};
+use leg_block::{Axis, Component, Design, Pin, Port, Row, Status, Track};
 use leg_geom::Orient;
 use leg_lex::Name;
 use leg_lib::Via;

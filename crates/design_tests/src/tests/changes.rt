@@ -1,7 +1,8 @@
 //! Designs that change: a component gets a place, and a net gets wires.
 
 use super::frame::{is_at, under_library};
-use leg_design::{Component, Design, Status, Wire, read_def};
+use leg_block::{Component, Design, Status, Wire};
+use leg_design::read_def;
 use leg_geom::{Orient, Place, Point};
 use leg_lib::Library;
 use std::alloc::Global;

@@ -1,6 +1,7 @@
 //! The library that the tests read their designs under, and how they do it.
 
-use leg_design::{Design, read_def};
+use leg_block::Design;
+use leg_design::read_def;
 use leg_geom::{Point, Rect};
 use leg_lib::{Library, RawLibrary, Shape, read_lefs};
 use std::alloc::Global;

@@ -1,7 +1,7 @@
 //! Nets: their terminals, and the pins of a design that no net lists.
 
 use super::frame::says;
-use leg_design::{Design, Net, Terminal};
+use leg_block::{Design, Net, Terminal};
 use std::alloc::Global;
 use std::test::Fail;
 

@@ -1,7 +1,7 @@
 //! The wires of paths.
 
 use super::frame::{has_sides, is_at, says};
-use leg_design::{Design, Wire};
+use leg_block::{Design, Wire};
 use std::alloc::Global;
 use std::test::Fail;
 

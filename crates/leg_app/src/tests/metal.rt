@@ -1,7 +1,8 @@
 //! Metal from its texts to its violations and their lines.
 
 use crate::check_texts;
-use leg_design::{Fault, read_def};
+use leg_block::Fault;
+use leg_design::read_def;
 use leg_flat::flatten;
 use leg_lib::{Library, read_lefs};
 use leg_print::print_faults;

@@ -1,5 +1,5 @@
 use Rattle.std.proofs.Common.{◌≡◌, sym, zero-add, rules}
-use Rattle.leg_design.specs.WellFormedParts.{IsPin, IsPort}
+use Rattle.leg_block.specs.WellFormedParts.{IsPin, IsPort}
 use Rattle.leg_flat.specs.Added.{IsPortWithin}
 use Rattle.leg_flat.proofs.MetalAdded.{adds_at, adds_all}
 use Rattle.leg_flat.proofs.MetalWalks.{design_pin_metal, design_pins_walk}

@@ -1,5 +1,5 @@
 use Rattle.std.proofs.Common.{◌≡◌, Some, take}
-use Rattle.leg_design.specs.Records.{DesignContents}
+use Rattle.leg_block.specs.Records.{DesignContents}
 use Rattle.leg_flat.specs.Places.{AreNetsOf}
 use Rattle.leg_flat.specs.Added.{AddsMetal, master_of}
 use Rattle.leg_flat.proofs.MetalAdded.{walk}

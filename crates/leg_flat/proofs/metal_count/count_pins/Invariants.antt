@@ -1,7 +1,7 @@
 use Rattle.std.proofs.Common.{◌≡◌, ℕ, length, take}
 use Rattle.leg_geom.specs.declared.place.Place.{Place}
 use Rattle.leg_lib.specs.Measure.{Lengths}
-use Rattle.leg_design.specs.Records.{DesignContents}
+use Rattle.leg_block.specs.Records.{DesignContents}
 use Rattle.leg_flat.specs.Counted.{counted}
 use Rattle.leg_flat.proofs.MetalAdded.{walk}
 use Rattle.leg_flat.proofs.MetalWalks.{pin_metal}

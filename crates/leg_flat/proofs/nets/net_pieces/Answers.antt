@@ -1,5 +1,5 @@
 use Rattle.std.proofs.Common.{◌≡◌, ◌≤◌, ◌+◌, length, refl, ap, ◌∙◌, arith}
-use Rattle.leg_design.specs.declared.limits.TheConstants.{PART_LIMIT}
+use Rattle.leg_block.specs.declared.limits.TheConstants.{PART_LIMIT}
 use Rattle.leg_flat.specs.Nets.{special_entry, regular_entry, entry_terminals, entry_wires}
 use Rattle.leg_flat.proofs.NetSizes.{once_special, few_terminals, few_wires}
 use Rattle.leg_flat.proofs.NetMade.{first_count, all_pieces, net_made, net_counted, net_fits, net_placed}

@@ -1,6 +1,6 @@
 use Rattle.std.proofs.Common.{◌≡◌, length, ◌<◌, get_or, ◌∙◌, ap, arith}
 use Rattle.std.proofs.lemmas.Option.{slice_get_within}
-use Rattle.leg_design.specs.Records.{DesignContents}
+use Rattle.leg_block.specs.Records.{DesignContents}
 use Rattle.leg_flat.proofs.NetNumbers.{number_fits, number_more}
 use Rattle.leg_flat.proofs.nets.special_numbers.Goals as goal
 

@@ -1,5 +1,5 @@
 use Rattle.std.proofs.Common.{◌≡◌, ℕ, ◌<◌, length, Some, slice_get}
-use Rattle.leg_design.specs.Records.{NetSaid}
+use Rattle.leg_block.specs.Records.{NetSaid}
 use Rattle.leg_flat.specs.Nets.{number_of_special}
 use Rattle.leg_flat.proofs.nets.special_numbers.Given as goal
 

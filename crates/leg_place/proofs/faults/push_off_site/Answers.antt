@@ -1,7 +1,7 @@
 -- A component off the sites is one more violation, and one on sites none.
 use Rattle.std.proofs.Common.{◌≡◌, ◌+◌, length, refl, arith}
 use Rattle.std.proofs.lemmas.Bool.{false≢true}
-use Rattle.leg_design.specs.declared.fault.Fault.TheVariants.{OffSite, Overlap}
+use Rattle.leg_block.specs.declared.fault.Fault.TheVariants.{OffSite, Overlap}
 use Rattle.leg_place.proofs.Listing.{Tells, listing_more, listing_skip, listing_end}
 use Rattle.leg_place.proofs.faults.push_off_site.Goals as goal
 use Rattle.leg_place.proofs.faults.push_off_site.Goals.{then-is_off_site+in_ok-push, else-is_off_site}

@@ -1,7 +1,7 @@
 -- A component outside the die is one more violation, and one within it none.
 use Rattle.std.proofs.Common.{◌≡◌, ◌+◌, length, refl, arith}
 use Rattle.std.proofs.lemmas.Bool.{false≢true}
-use Rattle.leg_design.specs.declared.fault.Fault.TheVariants.{Outside, OffSite}
+use Rattle.leg_block.specs.declared.fault.Fault.TheVariants.{Outside, OffSite}
 use Rattle.leg_place.proofs.Listing.{Tells, listing_more, listing_skip, listing_end}
 use Rattle.leg_place.proofs.faults.push_outside.Goals as goal
 use Rattle.leg_place.proofs.faults.push_outside.Goals.{then-is_outside+in_ok-push, else-is_outside}

@@ -1,5 +1,5 @@
 -- The components so far that lie outside the die are listed.
-use Rattle.leg_design.specs.declared.fault.Fault.TheVariants.{Outside}
+use Rattle.leg_block.specs.declared.fault.Fault.TheVariants.{Outside}
 use Rattle.leg_place.specs.Before.{IsListBefore}
 use Rattle.leg_place.proofs.faults.push_outside.Given as goal
 

@@ -3,7 +3,7 @@ use Rattle.std.proofs.Common.{◌≡◌, ◌+◌, length, slice_get, Option, Non
 use Rattle.std.specs.Option.{is_some}
 use Rattle.std.proofs.lemmas.Bool.{false≢true}
 use Rattle.std.proofs.lemmas.Option.{same_Some, slice_get_read}
-use Rattle.leg_design.specs.declared.fault.Fault.TheVariants.{Unplaced, Outside}
+use Rattle.leg_block.specs.declared.fault.Fault.TheVariants.{Unplaced, Outside}
 use Rattle.leg_place.specs.Faults.{IsUnplaced}
 use Rattle.leg_place.proofs.Listing.{Tells, listing_more, listing_skip, listing_end}
 use Rattle.leg_place.proofs.faults.push_unplaced.Goals as goal

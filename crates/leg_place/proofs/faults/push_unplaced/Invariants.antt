@@ -1,5 +1,5 @@
 -- The components so far that have no place are listed.
-use Rattle.leg_design.specs.declared.fault.Fault.TheVariants.{Unplaced}
+use Rattle.leg_block.specs.declared.fault.Fault.TheVariants.{Unplaced}
 use Rattle.leg_place.specs.Before.{IsListBefore}
 use Rattle.leg_place.proofs.faults.push_unplaced.Given as goal
 

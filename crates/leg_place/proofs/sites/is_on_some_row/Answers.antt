@@ -3,7 +3,7 @@ use Rattle.std.proofs.Common.{◌≡◌, ◌<◌, pos, length, slice_get, get_or
 use Rattle.std.proofs.lemmas.Bool.{false≢true}
 use Rattle.std.proofs.lemmas.Int.{to_z-of_z}
 use Rattle.std.proofs.lemmas.Option.{same_Some, slice_get_read, slice_get_within}
-use Rattle.leg_design.specs.WellFormedParts.{IsRow}
+use Rattle.leg_block.specs.WellFormedParts.{IsRow}
 use Rattle.leg_place.specs.Box.{placed_box}
 use Rattle.leg_place.proofs.Places.{All-at}
 use Rattle.leg_place.proofs.OnSites.{IsWide}

@@ -2,7 +2,7 @@
 use Rattle.std.proofs.Common.{◌≡◌, ◌↔◌, IsTrue, refl, sym, ◌∙◌, Some, slice_get, get_or}
 use Rattle.std.proofs.lemmas.Bool.{false≢true}
 use Rattle.std.proofs.lemmas.Option.{slice_get_read}
-use Rattle.leg_design.specs.declared.fault.Fault.TheVariants.{Short}
+use Rattle.leg_block.specs.declared.fault.Fault.TheVariants.{Short}
 use Rattle.leg_wire.specs.Told.{DoShare, AreApart}
 use Rattle.leg_wire.proofs.ToldPairs.{Short-keeps, told_more, told_skip}
 use Rattle.leg_wire.proofs.spacing.push_shorts.Goals as goal

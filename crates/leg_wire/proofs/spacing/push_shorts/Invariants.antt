@@ -1,6 +1,6 @@
 -- Those of the pairs so far that share a point are added.
 use Rattle.std.proofs.Common.{take}
-use Rattle.leg_design.specs.declared.fault.Fault.TheVariants.{Short}
+use Rattle.leg_block.specs.declared.fault.Fault.TheVariants.{Short}
 use Rattle.leg_wire.specs.Told.{DoShare, IsTold}
 use Rattle.leg_wire.specs.Added.{AreAdded}
 use Rattle.leg_wire.proofs.spacing.push_shorts.Given as goal

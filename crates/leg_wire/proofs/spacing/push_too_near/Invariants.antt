@@ -1,6 +1,6 @@
 -- Those of the pairs so far that share no point are added.
 use Rattle.std.proofs.Common.{take}
-use Rattle.leg_design.specs.declared.fault.Fault.TheVariants.{TooNear}
+use Rattle.leg_block.specs.declared.fault.Fault.TheVariants.{TooNear}
 use Rattle.leg_wire.specs.Told.{AreApart, IsTold}
 use Rattle.leg_wire.specs.Added.{AreAdded}
 use Rattle.leg_wire.proofs.spacing.push_too_near.Given as goal

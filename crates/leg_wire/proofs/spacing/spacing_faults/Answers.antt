@@ -1,8 +1,8 @@
 -- The pairs that the search finds are the shorts and the shapes too near one another.
 use Rattle.std.proofs.Common.{◌≡◌, ◌++◌, All, unsigned_abs, ◌≤◌}
 use Rattle.leg_sweep.specs.Pairs.{ArePairs}
-use Rattle.leg_design.specs.declared.fault.Fault.TheVariants.{Short, TooNear}
-use Rattle.leg_design.specs.Violation.{IsListOf}
+use Rattle.leg_block.specs.declared.fault.Fault.TheVariants.{Short, TooNear}
+use Rattle.leg_block.specs.Violation.{IsListOf}
 use Rattle.leg_wire.specs.Close.{AreClose}
 use Rattle.leg_wire.specs.Told.{DoShare, AreApart, IsTold}
 use Rattle.leg_wire.proofs.AllTold.{first_within, second_within, listing_told}

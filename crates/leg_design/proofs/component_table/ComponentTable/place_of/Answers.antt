@@ -1,7 +1,7 @@
 use Rattle.std.proofs.Common.{arith}
 use Rattle.std.proofs.lemmas.List.{length-map}
-use Rattle.leg_design.specs.declared.limits.TheConstants.{ENTRY_LIMIT}
-use Rattle.leg_design.specs.Records.{component_names}
+use Rattle.leg_block.specs.declared.limits.TheConstants.{ENTRY_LIMIT}
+use Rattle.leg_block.specs.Records.{component_names}
 use Rattle.leg_design.proofs.Numbered.{number_below}
 use Rattle.leg_design.proofs.component_table.ComponentTable.place_of.Goals as goal
 

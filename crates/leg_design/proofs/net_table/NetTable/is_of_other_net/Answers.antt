@@ -1,7 +1,7 @@
 use Rattle.std.proofs.Common.{◌≡◌, not, refl, sym, ap, ◌∙◌}
 use Rattle.std.proofs.lemmas.Option.{slice_get_read, slice_get_past}
 use Rattle.std.specs.Str.{bytes_eq}
-use Rattle.leg_design.specs.Records.{NetSaid}
+use Rattle.leg_block.specs.Records.{NetSaid}
 use Rattle.leg_design.specs.Index.{number_of}
 use Rattle.leg_design.proofs.ListedNets.{other_found, no_other, surely_there}
 use Rattle.leg_design.proofs.net_table.NetTable.is_of_other_net.Goals as goal

@@ -1,7 +1,7 @@
 use Rattle.std.proofs.Common.{◌≡◌, ◌+◌, ◌<◌, false, List, length, ap, ◌∙◌, arith}
 use Rattle.std.proofs.lemmas.Grind.{common_steps}
 use Rattle.leg_design.specs.LonePins.{is_listed, with_terminal}
-use Rattle.leg_design.specs.Records.{NetSaid}
+use Rattle.leg_block.specs.Records.{NetSaid}
 use Rattle.leg_design.specs.Index.{number_of}
 use Rattle.leg_design.proofs.LonePins.{kept_reserved, kept_listed, kept_unlisted}
 use Rattle.leg_design.proofs.net_table.NetTable.push_terminal.Goals as goal

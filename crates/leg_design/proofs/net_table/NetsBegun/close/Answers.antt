@@ -1,6 +1,6 @@
 use Rattle.std.proofs.Common.{◌≡◌, ◌++◌, ◌∷◌, [], length, refl, arith}
 use Rattle.std.proofs.lemmas.Grind.{common_steps}
-use Rattle.leg_design.specs.Records.{NetSaid}
+use Rattle.leg_block.specs.Records.{NetSaid}
 use Rattle.leg_design.specs.Index.{number_of}
 use Rattle.leg_design.proofs.ListedNets.{kept_closed}
 use Rattle.leg_design.proofs.net_table.NetsBegun.close.Goals as goal

@@ -1,5 +1,5 @@
 use Rattle.std.proofs.Common.{◌≡◌, [], ◌∷◌, ℕ, zero, suc, get_or, List, refl}
-use Rattle.leg_design.specs.declared.records.Terminal.{Terminal}
+use Rattle.leg_block.specs.declared.records.Terminal.{Terminal}
 use Rattle.leg_design.specs.Index.{number_of}
 use Rattle.leg_design.proofs.Listed.{no_index}
 use Rattle.leg_design.proofs.net_table.NetsBegun.new.Goals as goal

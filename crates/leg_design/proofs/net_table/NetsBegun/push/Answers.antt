@@ -1,6 +1,6 @@
 use Rattle.std.proofs.Common.{◌≡◌, ◌++◌, ◌∷◌, [], false, length, ap, ◌∙◌, arith}
 use Rattle.std.proofs.lemmas.Grind.{common_steps}
-use Rattle.leg_design.specs.Terminal.{is_among}
+use Rattle.leg_block.specs.Terminals.{is_among}
 use Rattle.leg_design.specs.LonePins.{is_listed}
 use Rattle.leg_design.specs.Index.{number_of, BegunNets}
 use Rattle.leg_design.proofs.ListedNets.{index_begun}

@@ -1,7 +1,7 @@
 use Rattle.std.proofs.Common.{arith}
 use Rattle.std.proofs.lemmas.List.{length-map}
-use Rattle.leg_design.specs.declared.limits.TheConstants.{ENTRY_LIMIT}
-use Rattle.leg_design.specs.Records.{pin_names}
+use Rattle.leg_block.specs.declared.limits.TheConstants.{ENTRY_LIMIT}
+use Rattle.leg_block.specs.Records.{pin_names}
 use Rattle.leg_design.proofs.Numbered.{number_below}
 use Rattle.leg_design.proofs.pin_table.PinTable.place_of.Goals as goal
 

@@ -1,5 +1,5 @@
 use Rattle.leg_design.proofs.Listed.{pushed_by}
-use Rattle.leg_design.proofs.SameTerminal.{terminal_eq_is}
+use Rattle.leg_block.proofs.SameTerminal.{terminal_eq_is}
 use Rattle.leg_design.proofs.terminal_index.TerminalIndex.push.Goals as goal
 
 pub returns : goal.returns

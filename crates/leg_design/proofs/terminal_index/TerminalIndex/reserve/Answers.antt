@@ -1,5 +1,5 @@
 use Rattle.leg_design.proofs.Listed.{kept_by}
-use Rattle.leg_design.proofs.SameTerminal.{terminal_eq_is}
+use Rattle.leg_block.proofs.SameTerminal.{terminal_eq_is}
 use Rattle.leg_design.proofs.terminal_index.TerminalIndex.reserve.Goals as goal
 
 pub returns-clause-same : goal.returns-clause-same

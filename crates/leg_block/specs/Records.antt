@@ -4,12 +4,12 @@ use Rattle.leg_geom.specs.Plane.{Sides}
 use Rattle.leg_geom.specs.declared.place.Place.{Place}
 use Rattle.leg_lib.specs.declared.records.Shape.{Shape}
 use Rattle.leg_lib.specs.Records.{Contents, ViaSaid}
-use Rattle.leg_design.specs.declared.records.Status.{Status}
-use Rattle.leg_design.specs.declared.records.Axis.{Axis}
-use Rattle.leg_design.specs.declared.records.Row.{Row}
-use Rattle.leg_design.specs.declared.records.Component.{Component}
-use Rattle.leg_design.specs.declared.records.Terminal.{Terminal}
-use Rattle.leg_design.specs.declared.records.Wire.{Wire}
+use Rattle.leg_block.specs.declared.records.Status.{Status}
+use Rattle.leg_block.specs.declared.records.Axis.{Axis}
+use Rattle.leg_block.specs.declared.records.Row.{Row}
+use Rattle.leg_block.specs.declared.records.Component.{Component}
+use Rattle.leg_block.specs.declared.records.Terminal.{Terminal}
+use Rattle.leg_block.specs.declared.records.Wire.{Wire}
 
 -- tracks at start + k * step for k from 0 below the count, on these layers or on all
 pub record TrackSaid : Type 0 where

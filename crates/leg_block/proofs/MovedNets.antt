@@ -3,16 +3,16 @@ use Rattle.std.proofs.Common.{◌≡◌, ℕ, zero, suc, List, [], ◌∷◌, So
 use Rattle.std.proofs.lemmas.List.Elements.{All-weaker}
 use Rattle.std.proofs.lemmas.Option.{same_Some, none-some}
 use Rattle.leg_geom.specs.declared.place.Place.{Place}
-use Rattle.leg_design.specs.declared.records.Component.{Component}
-use Rattle.leg_design.specs.declared.records.Terminal.{Terminal}
-use Rattle.leg_design.specs.declared.records.Terminal.TheVariants.{Comp, Pin}
-use Rattle.leg_design.specs.Records.{DesignContents}
-use Rattle.leg_design.specs.WellFormedParts.{IsPosition}
-use Rattle.leg_design.specs.WellFormedNets.{IsTerminal, IsNet, HasNets}
-use Rattle.leg_design.specs.WellFormed.{IsWellFormed}
-use Rattle.leg_design.proofs.Changed.{StandsAt}
-use Rattle.leg_design.proofs.Moved.{moved, with_moved, design_moved, components_stay}
-use Rattle.leg_design.proofs.NetsKept.{Keeps, net_kept}
+use Rattle.leg_block.specs.declared.records.Component.{Component}
+use Rattle.leg_block.specs.declared.records.Terminal.{Terminal}
+use Rattle.leg_block.specs.declared.records.Terminal.TheVariants.{Comp, Pin}
+use Rattle.leg_block.specs.Records.{DesignContents}
+use Rattle.leg_block.specs.WellFormedParts.{IsPosition}
+use Rattle.leg_block.specs.WellFormedNets.{IsTerminal, IsNet, HasNets}
+use Rattle.leg_block.specs.WellFormed.{IsWellFormed}
+use Rattle.leg_block.proofs.Changed.{StandsAt}
+use Rattle.leg_block.proofs.Moved.{moved, with_moved, design_moved, components_stay}
+use Rattle.leg_block.proofs.NetsKept.{Keeps, net_kept}
 
 -- at this number there is a component of that master
 pub record HasMaster (components : List Component) (k master : ℕ) : Type 0 where

@@ -1,9 +1,9 @@
 use Rattle.std.proofs.Common.{◌≡◌, ◌+◌, ◌<◌, ◌≤◌, All, length, get_or, false, sym, subst}
-use Rattle.leg_design.specs.declared.limits.TheConstants.{PART_LIMIT}
-use Rattle.leg_design.specs.Records.{DesignContents, NetSaid, wire_count}
-use Rattle.leg_design.specs.WellFormedNets.{IsWire}
-use Rattle.leg_design.proofs.Wired.{stays_well_formed}
-use Rattle.leg_design.proofs.design.Design.with_wires.Goals as goal
+use Rattle.leg_block.specs.declared.limits.TheConstants.{PART_LIMIT}
+use Rattle.leg_block.specs.Records.{DesignContents, NetSaid, wire_count}
+use Rattle.leg_block.specs.WellFormedNets.{IsWire}
+use Rattle.leg_block.proofs.Wired.{stays_well_formed}
+use Rattle.leg_block.proofs.design.Design.with_wires.Goals as goal
 
 pub invariant_of-self : goal.invariant_of-self
 invariant_of-self g c =

@@ -10,14 +10,14 @@ use Rattle.leg_lib.specs.declared.records.Shape.{Shape}
 use Rattle.leg_lib.specs.Measure.{IsProper}
 use Rattle.leg_lib.specs.GoodVia.{is_good_via}
 use Rattle.leg_lib.specs.Records.{Contents, ViaSaid, via_names}
-use Rattle.leg_design.specs.declared.limits.TheConstants.{ENTRY_LIMIT}
-use Rattle.leg_design.specs.declared.records.Status.{Status}
-use Rattle.leg_design.specs.declared.records.Status.TheVariants.{Unplaced, Placed, Fixed, Cover}
-use Rattle.leg_design.specs.declared.records.Row.{Row}
-use Rattle.leg_design.specs.declared.records.Component.{Component}
-use Rattle.leg_design.specs.Layers.{has_metal}
-use Rattle.leg_design.specs.Row.{is_upright}
-use Rattle.leg_design.specs.Records.{TrackSaid, PortSaid, PinSaid, component_names, design_via_names, pin_names}
+use Rattle.leg_block.specs.declared.limits.TheConstants.{ENTRY_LIMIT}
+use Rattle.leg_block.specs.declared.records.Status.{Status}
+use Rattle.leg_block.specs.declared.records.Status.TheVariants.{Unplaced, Placed, Fixed, Cover}
+use Rattle.leg_block.specs.declared.records.Row.{Row}
+use Rattle.leg_block.specs.declared.records.Component.{Component}
+use Rattle.leg_block.specs.Layers.{has_metal}
+use Rattle.leg_block.specs.Rows.{is_upright}
+use Rattle.leg_block.specs.Records.{TrackSaid, PortSaid, PinSaid, component_names, design_via_names, pin_names}
 
 -- both coordinates are numbers that a DEF may have
 pub record IsPosition (p : Spot) : Type 0 where

@@ -1,7 +1,7 @@
 //! A design.
 
 ghost use Rattle.std.specs.Prelude.{◌≡◌, ◌↔◌, IsTrue, option_map};
-ghost use Rattle.leg_design.specs.WellFormed.{IsWellFormed};
+ghost use Rattle.leg_block.specs.WellFormed.{IsWellFormed};
 
 use crate::records::{Component, Net, Pin, Row, Track};
 use leg_geom::Rect;
@@ -12,23 +12,23 @@ use std::marker::Model;
 
 /// What a reader found of a design, before anything is known of it as a whole.
 #[derive(Drop)]
-pub(crate) struct Fields<'a, A: Allocator + Copy> {
-    pub(crate) library: &'a Library<'a, A>,
-    pub(crate) name: Name<'a>,
-    pub(crate) divider: Option<Name<'a>>,
-    pub(crate) bus: Option<Name<'a>>,
-    pub(crate) die: Rect,
-    pub(crate) rows: Vec<Row<'a>, A>,
-    pub(crate) tracks: Vec<Track<A>, A>,
-    pub(crate) vias: Vec<Via<'a, A>, A>,
-    pub(crate) components: Vec<Component<'a>, A>,
-    pub(crate) pins: Vec<Pin<'a, A>, A>,
-    pub(crate) nets: Vec<Net<'a, A>, A>,
-    pub(crate) special: Vec<Net<'a, A>, A>,
+pub struct DesignFields<'a, A: Allocator + Copy> {
+    pub library: &'a Library<'a, A>,
+    pub name: Name<'a>,
+    pub divider: Option<Name<'a>>,
+    pub bus: Option<Name<'a>>,
+    pub die: Rect,
+    pub rows: Vec<Row<'a>, A>,
+    pub tracks: Vec<Track<A>, A>,
+    pub vias: Vec<Via<'a, A>, A>,
+    pub components: Vec<Component<'a>, A>,
+    pub pins: Vec<Pin<'a, A>, A>,
+    pub nets: Vec<Net<'a, A>, A>,
+    pub special: Vec<Net<'a, A>, A>,
 }
 
-impl<'a, A: Allocator + Copy> Model for Fields<'a, A> {
-    ghost use Rattle.leg_design.specs.Records.{DesignContents};
+impl<'a, A: Allocator + Copy> Model for DesignFields<'a, A> {
+    ghost use Rattle.leg_block.specs.Records.{DesignContents};
 
     ghost Value = { DesignContents };
 
@@ -54,8 +54,8 @@ pub struct Design<'a, A: Allocator + Copy> {
 }
 
 impl<'a, A: Allocator + Copy> Model for Design<'a, A> {
-    ghost use Rattle.leg_design.specs.Records.{DesignContents};
-    ghost use Rattle.leg_design.specs.WellFormed.{IsWellFormed};
+    ghost use Rattle.leg_block.specs.Records.{DesignContents};
+    ghost use Rattle.leg_block.specs.WellFormed.{IsWellFormed};
 
     ghost Value = { DesignContents };
 
@@ -66,7 +66,7 @@ impl<'a, A: Allocator + Copy> Model for Design<'a, A> {
 
 impl<'a, A: Allocator + Copy> Design<'a, A> {
     /// The design of these parts.
-    pub(crate) fn new(parts: Fields<'a, A>) -> Design<'a, A>
+    pub fn new(parts: DesignFields<'a, A>) -> Design<'a, A>
         requires { IsWellFormed parts }
         ensures { result ≡ parts.entry }
     {

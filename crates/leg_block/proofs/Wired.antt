@@ -3,15 +3,15 @@ use Rattle.std.proofs.Common.{◌≡◌, ℕ, zero, suc, ◌+◌, ◌≤◌, Lis
 use Rattle.std.proofs.lemmas.List.{length-set, length-append, set-append_left}
 use Rattle.std.proofs.lemmas.List.Elements.{All-weaker, All-get_or, All-set, All-append}
 use Rattle.leg_lex.specs.Named.{AreApart}
-use Rattle.leg_design.specs.declared.limits.TheConstants.{PART_LIMIT}
-use Rattle.leg_design.specs.declared.records.Terminal.{Terminal}
-use Rattle.leg_design.specs.declared.records.Terminal.TheVariants.{Comp, Pin}
-use Rattle.leg_design.specs.declared.records.Wire.{Wire}
-use Rattle.leg_design.specs.Records.{DesignContents, NetSaid, net_names, terminal_count, wire_count}
-use Rattle.leg_design.specs.WellFormedNets.{IsTerminal, IsWire, IsNet, AreNets, HasNets}
-use Rattle.leg_design.specs.WellFormed.{IsWellFormed}
-use Rattle.leg_design.proofs.Changed.{StandsAt, same_map, stands_before}
-use Rattle.leg_design.proofs.NetsKept.{Keeps, net_kept, AreAlike, one_net_kept, in_some_net_kept}
+use Rattle.leg_block.specs.declared.limits.TheConstants.{PART_LIMIT}
+use Rattle.leg_block.specs.declared.records.Terminal.{Terminal}
+use Rattle.leg_block.specs.declared.records.Terminal.TheVariants.{Comp, Pin}
+use Rattle.leg_block.specs.declared.records.Wire.{Wire}
+use Rattle.leg_block.specs.Records.{DesignContents, NetSaid, net_names, terminal_count, wire_count}
+use Rattle.leg_block.specs.WellFormedNets.{IsTerminal, IsWire, IsNet, AreNets, HasNets}
+use Rattle.leg_block.specs.WellFormed.{IsWellFormed}
+use Rattle.leg_block.proofs.Changed.{StandsAt, same_map, stands_before}
+use Rattle.leg_block.proofs.NetsKept.{Keeps, net_kept, AreAlike, one_net_kept, in_some_net_kept}
 
 -- the net, with these wires after its own
 abbrev pub wired : NetSaid → List Wire → NetSaid

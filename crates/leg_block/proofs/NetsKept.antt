@@ -3,11 +3,11 @@ use Rattle.std.proofs.Common.{◌≡◌, ℕ, ◌<◌, Bool, List, length, map, 
 use Rattle.std.proofs.lemmas.List.{length-map, get_or-map, get_or_default}
 use Rattle.std.proofs.lemmas.List.Elements.{All-weaker}
 use Rattle.leg_lex.specs.Named.{place_of}
-use Rattle.leg_design.specs.declared.records.Terminal.{Terminal}
-use Rattle.leg_design.specs.declared.records.Terminal.TheVariants.{Pin}
-use Rattle.leg_design.specs.declared.records.Wire.{Wire}
-use Rattle.leg_design.specs.Records.{DesignContents, NetSaid, net_names}
-use Rattle.leg_design.specs.WellFormedNets.{IsTerminal, IsWire, IsNet, AreInOneNet, IsInSomeNet}
+use Rattle.leg_block.specs.declared.records.Terminal.{Terminal}
+use Rattle.leg_block.specs.declared.records.Terminal.TheVariants.{Pin}
+use Rattle.leg_block.specs.declared.records.Wire.{Wire}
+use Rattle.leg_block.specs.Records.{DesignContents, NetSaid, net_names}
+use Rattle.leg_block.specs.WellFormedNets.{IsTerminal, IsWire, IsNet, AreInOneNet, IsInSomeNet}
 
 -- what a net of the one design names, the other has too
 pub record Keeps (design change : DesignContents) : Type 0 where

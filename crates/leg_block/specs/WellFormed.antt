@@ -1,9 +1,9 @@
 -- What holds of every design that a DEF says under a library (own rules, after LEF/DEF 5.8, "DEF Syntax").
 use Rattle.std.specs.Prelude.{All, IsTrue}
 use Rattle.leg_lex.specs.Words.{is_name}
-use Rattle.leg_design.specs.WellFormedParts.{IsKept, IsArea, AreComponents, IsRow, IsTrack, AreVias, ArePins}
-use Rattle.leg_design.specs.WellFormedNets.{HasNets}
-use Rattle.leg_design.specs.Records.{DesignContents}
+use Rattle.leg_block.specs.WellFormedParts.{IsKept, IsArea, AreComponents, IsRow, IsTrack, AreVias, ArePins}
+use Rattle.leg_block.specs.WellFormedNets.{HasNets}
+use Rattle.leg_block.specs.Records.{DesignContents}
 
 -- A design is well-formed under its library.
 pub record IsWellFormed (design : DesignContents) : Type 0 where

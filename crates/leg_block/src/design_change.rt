@@ -1,12 +1,12 @@
 //! Changes of a design: a component that moves, and a net that gets wires.
 
 ghost use Rattle.std.specs.Prelude.{◌≡◌, ◌<◌, ◌≤◌, ◌+◌, ◌++◌, false, length, Some, slice_get, slice_set, All, IfOk, IfErr};
-ghost use Rattle.leg_design.specs.declared.records.Status.TheVariants.{Placed};
-ghost use Rattle.leg_design.specs.declared.records.Component.{Component};
-ghost use Rattle.leg_design.specs.declared.limits.TheConstants.{PART_LIMIT};
-ghost use Rattle.leg_design.specs.Records.{NetSaid, wire_count};
-ghost use Rattle.leg_design.specs.WellFormedParts.{IsPosition};
-ghost use Rattle.leg_design.specs.WellFormedNets.{IsWire};
+ghost use Rattle.leg_block.specs.declared.records.Status.TheVariants.{Placed};
+ghost use Rattle.leg_block.specs.declared.records.Component.{Component};
+ghost use Rattle.leg_block.specs.declared.limits.TheConstants.{PART_LIMIT};
+ghost use Rattle.leg_block.specs.Records.{NetSaid, wire_count};
+ghost use Rattle.leg_block.specs.WellFormedParts.{IsPosition};
+ghost use Rattle.leg_block.specs.WellFormedNets.{IsWire};
 
 use crate::design::Design;
 use crate::records::{Status, Wire};

@@ -1,10 +1,10 @@
 use Rattle.std.proofs.Common.{◌≡◌, ◌<◌, length, get_or, ap, sym, subst, ◌∙◌}
 use Rattle.std.proofs.lemmas.Option.{get_or_from_slice_get}
-use Rattle.leg_design.specs.declared.records.Component.{Component}
-use Rattle.leg_design.specs.Records.{DesignContents}
-use Rattle.leg_design.proofs.Moved.{design_moved}
-use Rattle.leg_design.proofs.MovedNets.{stays_well_formed}
-use Rattle.leg_design.proofs.design.Design.with_place.Goals as goal
+use Rattle.leg_block.specs.declared.records.Component.{Component}
+use Rattle.leg_block.specs.Records.{DesignContents}
+use Rattle.leg_block.proofs.Moved.{design_moved}
+use Rattle.leg_block.proofs.MovedNets.{stays_well_formed}
+use Rattle.leg_block.proofs.design.Design.with_place.Goals as goal
 
 pub invariant_of-self : goal.invariant_of-self
 invariant_of-self g c =

@@ -6,17 +6,17 @@ use Rattle.leg_lex.specs.Number.{IsNumber}
 use Rattle.leg_lex.specs.Named.{place_of, AreApart}
 use Rattle.leg_geom.specs.Plane.{Spot}
 use Rattle.leg_lib.specs.Records.{Contents, ViaSaid, MasterSaid}
-use Rattle.leg_design.specs.declared.limits.TheConstants.{ENTRY_LIMIT, PART_LIMIT}
-use Rattle.leg_design.specs.declared.records.Component.{Component}
-use Rattle.leg_design.specs.declared.records.Terminal.{Terminal}
-use Rattle.leg_design.specs.declared.records.Terminal.TheVariants.{Comp, Pin}
-use Rattle.leg_design.specs.declared.records.Wire.{Wire}
-use Rattle.leg_design.specs.declared.records.Wire.TheVariants.{Segment, ViaAt, Patch}
-use Rattle.leg_design.specs.Layers.{width_of_layer, is_routing}
-use Rattle.leg_design.specs.Path.{is_straight, default_extension}
-use Rattle.leg_design.specs.Wiring.{is_even}
-use Rattle.leg_design.specs.WellFormedParts.{IsPosition, IsArea, IsKept}
-use Rattle.leg_design.specs.Records.{PinSaid, NetSaid, DesignContents, net_names, terminal_count, wire_count}
+use Rattle.leg_block.specs.declared.limits.TheConstants.{ENTRY_LIMIT, PART_LIMIT}
+use Rattle.leg_block.specs.declared.records.Component.{Component}
+use Rattle.leg_block.specs.declared.records.Terminal.{Terminal}
+use Rattle.leg_block.specs.declared.records.Terminal.TheVariants.{Comp, Pin}
+use Rattle.leg_block.specs.declared.records.Wire.{Wire}
+use Rattle.leg_block.specs.declared.records.Wire.TheVariants.{Segment, ViaAt, Patch}
+use Rattle.leg_block.specs.Layers.{width_of_layer, is_routing}
+use Rattle.leg_block.specs.Wires.{is_straight, default_extension}
+use Rattle.leg_block.specs.Wires.{is_even}
+use Rattle.leg_block.specs.WellFormedParts.{IsPosition, IsArea, IsKept}
+use Rattle.leg_block.specs.Records.{PinSaid, NetSaid, DesignContents, net_names, terminal_count, wire_count}
 
 -- the terminal is a pin of a component of the design, or a pin of the design
 abbrev pub IsTerminal : DesignContents → Terminal → Type 0

@@ -55,7 +55,7 @@ pub struct Track<A: Allocator> {
 }
 
 impl<A: Allocator> Model for Track<A> {
-    ghost use Rattle.leg_design.specs.Records.{TrackSaid};
+    ghost use Rattle.leg_block.specs.Records.{TrackSaid};
 
     ghost Value = { TrackSaid };
 
@@ -81,7 +81,7 @@ pub struct Port<A: Allocator> {
 }
 
 impl<A: Allocator> Model for Port<A> {
-    ghost use Rattle.leg_design.specs.Records.{PortSaid};
+    ghost use Rattle.leg_block.specs.Records.{PortSaid};
 
     ghost Value = { PortSaid };
 
@@ -102,7 +102,7 @@ pub struct Pin<'a, A: Allocator> {
 }
 
 impl<'a, A: Allocator> Model for Pin<'a, A> {
-    ghost use Rattle.leg_design.specs.Records.{PinSaid};
+    ghost use Rattle.leg_block.specs.Records.{PinSaid};
 
     ghost Value = { PinSaid };
 
@@ -154,7 +154,7 @@ pub struct Net<'a, A: Allocator> {
 }
 
 impl<'a, A: Allocator> Model for Net<'a, A> {
-    ghost use Rattle.leg_design.specs.Records.{NetSaid};
+    ghost use Rattle.leg_block.specs.Records.{NetSaid};
 
     ghost Value = { NetSaid };
 

@@ -1,0 +1,9 @@
+pub mod Records
+pub mod Layers
+pub mod Rows
+pub mod Wires
+pub mod Terminals
+pub mod WellFormedParts
+pub mod WellFormedNets
+pub mod WellFormed
+pub mod Violation

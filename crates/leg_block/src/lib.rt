@@ -1,0 +1,16 @@
+//! DEF designs as records, in database units (LEF/DEF 5.8, "DEF Syntax"), and the violations that a design can have.
+//!
+//! Every `Design` is well-formed under its library, and stays so where a component moves or a net gets wires. `leg_design`
+//! reads one from a text.
+#![tactic(auto)]
+
+mod design;
+mod design_change;
+mod fault;
+mod limits;
+mod records;
+
+pub use design::{Design, DesignFields};
+pub use fault::Fault;
+pub use limits::{ENTRY_LIMIT, PART_LIMIT};
+pub use records::{Axis, Component, Net, Pin, Port, Row, Status, Terminal, Track, Wire};
