@@ -34,6 +34,16 @@ pub(super) fn under_library(
     requires callable { IsAlwaysCallable test }
 {
     let raw: RawLibrary<'_, Global> = read_lefs(alloc, &[library_text().as_bytes()])?;
+    under_raw(alloc, &raw, test)
+}
+
+fn under_raw(
+    alloc: Global,
+    raw: &RawLibrary<'_, Global>,
+    test: fn(Global, &Library<'_, Global>) -> Result<bool, Fail>,
+) -> Result<bool, Fail>
+    requires callable { IsAlwaysCallable test }
+{
     let library: Library<'_, Global> = raw.at(alloc, 1000).map_err(|_| "not scaled")?;
     test(alloc, &library)
 }
@@ -47,6 +57,17 @@ pub(super) fn says(
     requires callable { IsAlwaysCallable test }
 {
     let raw: RawLibrary<'_, Global> = read_lefs(alloc, &[library_text().as_bytes()])?;
+    says_under_raw(alloc, &raw, text, test)
+}
+
+fn says_under_raw(
+    alloc: Global,
+    raw: &RawLibrary<'_, Global>,
+    text: &str,
+    test: fn(&Design<'_, Global>) -> bool,
+) -> Result<bool, Fail>
+    requires callable { IsAlwaysCallable test }
+{
     let library: Library<'_, Global> = raw.at(alloc, 1000).map_err(|_| "not scaled")?;
     says_under(alloc, &library, text, test)
 }

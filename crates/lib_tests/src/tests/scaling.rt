@@ -29,12 +29,24 @@ fn is_drawn_at(library: &Library<'_, Global>, size: (i64, i64), sides: [i64; 4])
         && are_shapes(pin.shapes.as_slice(), &[(0, sides)])
 }
 
+// The same of the library at 1000 units a micron.
+fn is_drawn_in_units(
+    alloc: Global,
+    raw: &RawLibrary<'_, Global>,
+    size: (i64, i64),
+    sides: [i64; 4],
+) -> bool {
+    match raw.at(alloc, 1000) {
+        Ok(library) => is_drawn_at(&library, size, sides),
+        Err(_) => false,
+    }
+}
+
 #[test]
 fn an_origin_shifts_what_is_drawn(rt: HostRuntime) -> Result<(), Fail> {
     let text = changed(rt.alloc(), "ORIGIN 0 0", "ORIGIN 0.1 0")?;
     let raw: RawLibrary<'_, Global> = read_lefs(rt.alloc(), &[text.as_bytes()])?;
-    let library: Library<'_, Global> = raw.at(rt.alloc(), 1000).map_err(|_| "not scaled")?;
-    assert!(rt; is_drawn_at(&library, (400, 2000), [150, 850, 250, 1050]));
+    assert!(rt; is_drawn_in_units(rt.alloc(), &raw, (400, 2000), [150, 850, 250, 1050]));
     Ok(())
 }
 
@@ -70,44 +82,58 @@ fn refused() -> [(&'static str, &'static str, &'static [u8], ScaleKind); 6] {
     ]
 }
 
-// Whether the changed library has no lengths at n units a micron, for this cause in what has this name.
+// Whether the library has no lengths at n units a micron, for this cause in what has this name.
+fn is_refused_at(
+    alloc: Global,
+    raw: &RawLibrary<'_, Global>,
+    n: u32,
+    name: &[u8],
+    kind: ScaleKind,
+) -> bool
+    requires above { 1 ≤ n }
+    requires within { n ≤ UNITS_LIMIT }
+{
+    match &raw.at(alloc, n) {
+        Ok(_) => false,
+        Err(fault) => fault.kind == kind && fault.name.bytes() == name,
+    }
+}
+
+// The same of the changed library at 1000 units a micron.
 fn is_refused(
     alloc: Global,
     from: &str,
     to: &str,
-    n: u32,
     name: &[u8],
     kind: ScaleKind,
-) -> Result<bool, Fail>
-    requires above { 1 ≤ n }
-    requires within { n ≤ UNITS_LIMIT }
-{
+) -> Result<bool, Fail> {
     let text = changed(alloc, from, to)?;
     let raw: RawLibrary<'_, Global> = read_lefs(alloc, &[text.as_bytes()])?;
-    match raw.at(alloc, n) {
-        Ok(_) => Ok(false),
-        Err(fault) => Ok(fault.kind == kind && fault.name.bytes() == name),
-    }
+    Ok(is_refused_at(alloc, &raw, 1000, name, kind))
 }
 
 #[test]
 fn lengths_off_the_units_are_told(rt: HostRuntime) -> Result<(), Fail> {
     for (from, to, name, kind) in &refused() {
-        assert!(rt;
-            is_refused(rt.alloc(), from, to, 1000, name, *kind)?,
-            "at {to}"
-        );
+        assert!(rt; is_refused(rt.alloc(), from, to, name, *kind)?, "at {to}");
     }
     Ok(())
 }
 
+// Whether the library has lengths at n units a micron.
+fn is_scaled_at(alloc: Global, raw: &RawLibrary<'_, Global>, n: u32) -> bool
+    requires above { 1 ≤ n }
+    requires within { n ≤ UNITS_LIMIT }
+{
+    raw.at(alloc, n).is_ok()
+}
+
 #[test]
 fn a_length_beyond_the_limit_is_told(rt: HostRuntime) -> Result<(), Fail> {
-    let (from, to) = ("SIZE 0.2 BY 2.0", "SIZE 0.2 BY 200000");
-    let text = changed(rt.alloc(), from, to)?;
+    let text = changed(rt.alloc(), "SIZE 0.2 BY 2.0", "SIZE 0.2 BY 200000")?;
     let raw: RawLibrary<'_, Global> = read_lefs(rt.alloc(), &[text.as_bytes()])?;
-    assert!(rt; raw.at(rt.alloc(), 1000).is_ok());
-    assert!(rt; is_refused(rt.alloc(), from, to, 2000, b"core", ScaleKind::TooLarge)?);
+    assert!(rt; is_scaled_at(rt.alloc(), &raw, 1000));
+    assert!(rt; is_refused_at(rt.alloc(), &raw, 2000, b"core", ScaleKind::TooLarge));
     Ok(())
 }
 
@@ -129,14 +155,18 @@ fn is_site_high(sites: &[Site<'_>], height: i64) -> bool {
     }
 }
 
+fn is_said_at_each(alloc: Global, raw: &RawLibrary<'_, Global>) -> bool {
+    is_said_at(alloc, raw, 100)
+        && is_said_at(alloc, raw, 1000)
+        && is_said_at(alloc, raw, 2000)
+        && is_said_at(alloc, raw, 20000)
+}
+
 // The library that was read is as it was, and may be scaled again.
 #[test]
 fn a_library_is_scaled_more_than_once(rt: HostRuntime) -> Result<(), Fail> {
     let raw: RawLibrary<'_, Global> = read_lefs(rt.alloc(), &[standard_library().as_bytes()])?;
-    assert!(rt; raw.at(rt.alloc(), 1).is_err());
-    assert!(rt; is_said_at(rt.alloc(), &raw, 100));
-    assert!(rt; is_said_at(rt.alloc(), &raw, 1000));
-    assert!(rt; is_said_at(rt.alloc(), &raw, 2000));
-    assert!(rt; is_said_at(rt.alloc(), &raw, 20000));
+    assert!(rt; !is_scaled_at(rt.alloc(), &raw, 1));
+    assert!(rt; is_said_at_each(rt.alloc(), &raw));
     Ok(())
 }

@@ -168,10 +168,8 @@ fn are_raw_masters(masters: &[RawMaster<'_, Global>]) -> bool {
 #[test]
 fn a_text_says_every_field_of_its_records(rt: HostRuntime) -> Result<(), Fail> {
     let raw: RawLibrary<'_, Global> = read_lefs(rt.alloc(), &[standard_library().as_bytes()])?;
-    assert!(rt; are_raw_layers(raw.layers()));
-    assert!(rt; are_raw_vias(raw.vias()));
-    assert!(rt; are_raw_sites(raw.sites()));
-    assert!(rt; are_raw_masters(raw.masters()));
+    assert!(rt; are_raw_layers(raw.layers()) && are_raw_vias(raw.vias()));
+    assert!(rt; are_raw_sites(raw.sites()) && are_raw_masters(raw.masters()));
     Ok(())
 }
 
@@ -263,28 +261,46 @@ fn are_masters(masters: &[Master<'_, Global>]) -> bool {
         && are_shapes(bar.obstructions.as_slice(), &[square, strip])
 }
 
+fn is_said_in_units(alloc: Global, raw: &RawLibrary<'_, Global>) -> bool {
+    match raw.at(alloc, 1000) {
+        Ok(library) => {
+            library.units() == 1000
+                && are_layers(library.layers())
+                && are_vias(library.vias())
+                && are_sites(library.sites())
+                && are_masters(library.masters())
+        }
+        Err(_) => false,
+    }
+}
+
 #[test]
 fn every_field_is_said_in_database_units(rt: HostRuntime) -> Result<(), Fail> {
     let raw: RawLibrary<'_, Global> = read_lefs(rt.alloc(), &[standard_library().as_bytes()])?;
-    let library: Library<'_, Global> = raw.at(rt.alloc(), 1000).map_err(|_| "not scaled")?;
-    assert_eq!(rt; library.units(), 1000);
-    assert!(rt; are_layers(library.layers()));
-    assert!(rt; are_vias(library.vias()));
-    assert!(rt; are_sites(library.sites()));
-    assert!(rt; are_masters(library.masters()));
+    assert!(rt; is_said_in_units(rt.alloc(), &raw));
     Ok(())
+}
+
+fn finds_by_name(library: &Library<'_, Global>) -> bool {
+    library.layer_named(b"m2") == Some(2)
+        && library.layer_named(b"M2").is_none()
+        && library.via_named(b"V12") == Some(0)
+        && library.site_named(b"core") == Some(0)
+        && library.site_named(b"m1").is_none()
+        && library.master_named(b"BLK2") == Some(2)
+}
+
+fn finds_by_name_in_units(alloc: Global, raw: &RawLibrary<'_, Global>) -> bool {
+    match raw.at(alloc, 1000) {
+        Ok(library) => finds_by_name(&library),
+        Err(_) => false,
+    }
 }
 
 #[test]
 fn finds_records_by_their_names(rt: HostRuntime) -> Result<(), Fail> {
     let raw: RawLibrary<'_, Global> = read_lefs(rt.alloc(), &[standard_library().as_bytes()])?;
-    let library: Library<'_, Global> = raw.at(rt.alloc(), 1000).map_err(|_| "not scaled")?;
-    assert_eq!(rt; library.layer_named(b"m2"), Some(2));
-    assert_eq!(rt; library.layer_named(b"M2"), None);
-    assert_eq!(rt; library.via_named(b"V12"), Some(0));
-    assert_eq!(rt; library.site_named(b"core"), Some(0));
-    assert_eq!(rt; library.site_named(b"m1"), None);
-    assert_eq!(rt; library.master_named(b"BLK2"), Some(2));
     assert_eq!(rt; raw.master_named(b"BLK"), Some(1));
+    assert!(rt; finds_by_name_in_units(rt.alloc(), &raw));
     Ok(())
 }
