@@ -1,10 +1,10 @@
 -- The wires that a path says (LEF/DEF 5.8, "Regular Wiring Statement", "Special Wiring Statement"; which extension
 -- holds, and which vias and widths are taken, are own rules).
-use Rattle.std.specs.Prelude.{ℕ, ℤ, pos, Bool, not, ◌&&◌, ◌||◌, ◌==◌, if◌then◌else◌, List, [], ◌∷◌, Option, None, Some, unwrap_or}
+use Rattle.std.specs.Prelude.{ℕ, ℤ, pos, Bool, not, ◌&&◌, ◌==◌, if◌then◌else◌, List, [], ◌∷◌, Option, None, Some, unwrap_or}
 use Rattle.std.specs.Ordering.{int_eq}
 use Rattle.std.specs.List.{find, list_any}
 use Rattle.leg_lex.specs.Words.{◌>>=◌}
-use Rattle.leg_geom.specs.Plane.{Spot, halfway}
+use Rattle.leg_geom.specs.Plane.{Spot}
 use Rattle.leg_lib.specs.declared.records.Shape.{Shape}
 use Rattle.leg_lib.specs.Records.{Contents}
 use Rattle.leg_design.specs.declared.path.Item.{Item}

@@ -1,5 +1,5 @@
 -- Rows (LEF/DEF 5.8, "Rows"; that a row has one line of abutting sites, not turned, is an own rule).
-use Rattle.std.specs.Prelude.{ℕ, ℤ, pos, Bool, true, false, ◌||◌, int_le, ◌+ℤ◌, ◌*ℤ◌, List, [], ◌∷◌, Option, Some, codes, slice_get}
+use Rattle.std.specs.Prelude.{ℕ, ℤ, pos, ◌||◌, int_le, ◌+ℤ◌, ◌*ℤ◌, List, [], ◌∷◌, Option, Some, codes, slice_get}
 use Rattle.std.specs.Ordering.{int_eq}
 use Rattle.leg_lex.specs.Words.{Words, ◌>>=◌, keyword_at, name_at, whole_at, nothing_at}
 use Rattle.leg_lex.specs.Statements.{statement_at, clauses_of}

@@ -1,11 +1,9 @@
 -- Paths and the clauses that say them (LEF/DEF 5.8, "Regular Wiring Statement", "Special Wiring Statement"; what is left
 -- out is an own rule).
-use Rattle.std.specs.Prelude.{ℕ, ℤ, pos, Bool, not, ◌&&◌, ◌||◌, ◌+ℤ◌, if◌then◌else◌, List, [], ◌++◌, drop, Option, None, Some, codes}
-use Rattle.std.specs.Ordering.{int_eq}
+use Rattle.std.specs.Prelude.{ℕ, ℤ, Bool, not, ◌&&◌, ◌||◌, if◌then◌else◌, List, [], ◌++◌, drop, Option, None, Some, codes}
 use Rattle.leg_lex.specs.Words.{Words, ◌>>=◌, is_at, next_at, keyword_at, mark_at, name_at, word_at}
 use Rattle.leg_lex.specs.Until.{until}
 use Rattle.leg_lex.specs.Named.{place_of}
-use Rattle.leg_geom.specs.Plane.{halfway}
 use Rattle.leg_lib.specs.Records.{Contents, layer_names}
 use Rattle.leg_block.specs.declared.records.Wire.{Wire}
 use Rattle.leg_design.specs.Guard.{when}
