@@ -10,7 +10,7 @@ use leg_lib::{Library, Via};
 use std::alloc::Allocator;
 use std::marker::Model;
 
-/// What a reader found of a design, before anything is known of it as a whole.
+/// The parts of a design, in file order, of which nothing is known yet as a whole. What each is, `Design` says.
 #[derive(Drop)]
 pub struct DesignFields<'a, A: Allocator + Copy> {
     pub library: &'a Library<'a, A>,
@@ -65,7 +65,7 @@ impl<'a, A: Allocator + Copy> Model for Design<'a, A> {
 }
 
 impl<'a, A: Allocator + Copy> Design<'a, A> {
-    /// The design of these parts.
+    /// The design of these parts, which are well-formed under their library.
     pub fn new(parts: DesignFields<'a, A>) -> Design<'a, A>
         requires { IsWellFormed parts }
         ensures { result ≡ parts.entry }
