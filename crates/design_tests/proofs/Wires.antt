@@ -1,6 +1,6 @@
 -- Wires of one design that another may get.
 use Rattle.std.proofs.Common.{◌≡◌, ℕ, ◌<◌, List, [], ◌∷◌, length, false, All, slice_index_or, arith}
-use Rattle.leg_lib.specs.Records.{Contents, ViaSaid}
+use Rattle.leg_cells.specs.Records.{Contents, ViaSaid}
 use Rattle.leg_block.specs.declared.records.Wire.{Wire}
 use Rattle.leg_block.specs.Records.{DesignContents, NetSaid, wire_count}
 use Rattle.leg_block.specs.WellFormed.{IsWellFormed}

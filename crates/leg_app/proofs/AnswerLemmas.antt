@@ -7,13 +7,14 @@ use Rattle.leg_app.specs.declared.status.Status.TheVariants.{Success, Violations
 use Rattle.leg_app.specs.declared.text_fault.TextFault.{TextFault}
 use Rattle.leg_app.specs.declared.text_fault.TextFault.TheVariants as faults
 use Rattle.leg_app.specs.Refusal.{Refuses}
-use Rattle.leg_lib.specs.Records.{Contents}
+use Rattle.leg_cells.specs.Records.{Contents}
 use Rattle.leg_block.specs.Records.{DesignContents}
 use Rattle.leg_block.specs.declared.fault.Fault.{Fault}
 use Rattle.leg_block.specs.Violation.{IsListOf}
 use Rattle.leg_flat.specs.Flat.{FlatSaid}
 use Rattle.leg_app.specs.Say.{SayDesign}
-use Rattle.leg_app.specs.Answer.{Lists, IsShown, IsListing, IsAnswer}
+use Rattle.leg_app.specs.Answer.{Lists, IsShown, IsAnswer}
+use Rattle.leg_app.specs.Answer.{IsListing}
 
 -- what is weaker holds of what is answered too
 pub ok_weaker : {T E : Type 0} (P Q : T → Type 0) (r : Result T E) → ((t : T) → P t → Q t) → IfOk r P → IfOk r Q
@@ -39,8 +40,8 @@ nothing_there f (Some x) e = absurd (false≢true (sym e))
 -- violations that are listed, or told to be none, are an answer where they are all that the command lists
 pub listed_answer : (command : Command) (lefs : List (List ℕ)) (def : List ℕ) (library : Contents) (design : DesignContents) (flat : Option FlatSaid) (violations : List Fault) (status : Status) (text : List ℕ) → SayDesign lefs def library design → IsShown command design flat → IsListOf (Lists command library design) violations → IsListing design flat violations status text → IsAnswer command lefs def status text
 listed_answer command lefs def library design flat violations Success text say shown list listed =
-    record { library = library; design = design; flat = flat; say = say; shown = shown; none = rw listed.0 at list; is = listed.1 }
+    record { library = library; design = design; flat = flat; violations = violations; say = say; shown = shown; list = list; is = listed }
 listed_answer command lefs def library design flat violations Violations text say shown list listed =
-    record { library = library; design = design; flat = flat; violations = violations; say = say; shown = shown; list = list; some = listed.0; is = listed.1 }
+    record { library = library; design = design; flat = flat; violations = violations; say = say; shown = shown; list = list; is = listed }
 listed_answer command lefs def library design flat violations Refused text say shown list listed = absurd listed
 listed_answer command lefs def library design flat violations Memory text say shown list listed = absurd listed

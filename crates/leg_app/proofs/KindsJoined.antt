@@ -2,16 +2,17 @@
 use Rattle.std.proofs.Common.{◌<◌, ◌≤◌, List, ◌++◌, ◌⊎◌, inl, inr, arith}
 use Rattle.std.proofs.lemmas.List.Elements.{All-append, All-weaker, Contains-append_left, Contains-append_right}
 use Rattle.leg_sweep.proofs.Lists.{AllPairs-append_by}
-use Rattle.leg_lib.specs.Records.{Contents}
+use Rattle.leg_cells.specs.Records.{Contents}
 use Rattle.leg_block.specs.Records.{DesignContents}
 use Rattle.leg_block.specs.declared.fault.Fault.{Fault}
-use Rattle.leg_block.specs.declared.fault.Fault.TheVariants.{Unplaced, Outside, OffSite, Overlap, Short, TooNear, OpenNet}
 use Rattle.leg_block.specs.Violation.{kind_number, ComesBefore, IsListOf}
 use Rattle.leg_flat.specs.Flat.{FlatSaid, IsFlatOf}
 use Rattle.leg_place.specs.Faults as place
-use Rattle.leg_place.proofs.FaultNumbers.{kind_below}
+use Rattle.leg_place.proofs.PlaceFaults.{kind_below}
 use Rattle.leg_wire.specs.Spacing as spacing
+use Rattle.leg_wire.specs.Spacing.Holds.{short, too_near}
 use Rattle.leg_wire.specs.Open as joins
+use Rattle.leg_wire.specs.Open.Holds.{open_net}
 use Rattle.leg_wire.proofs.SameMetal.{spacing_same, opens_same}
 use Rattle.leg_app.specs.Violations.{IsOfMetal, IsViolation}
 
@@ -40,22 +41,11 @@ same_list P Q xs there back list = record {
 }
 
 spacing_kind : (library : Contents) (flat : FlatSaid) (v : Fault) → spacing.Holds library flat v → (4 ≤ kind_number v) × (kind_number v < 6)
-spacing_kind library flat (Short i j) h = (omega arith, omega arith)
-spacing_kind library flat (TooNear i j) h = (omega arith, omega arith)
-spacing_kind library flat (Unplaced c) h = absurd h
-spacing_kind library flat (Outside c) h = absurd h
-spacing_kind library flat (OffSite c) h = absurd h
-spacing_kind library flat (Overlap a b) h = absurd h
-spacing_kind library flat (OpenNet n k) h = absurd h
+spacing_kind library flat v (short h) = (omega arith, omega arith)
+spacing_kind library flat v (too_near h) = (omega arith, omega arith)
 
 open_kind : (design : DesignContents) (flat : FlatSaid) (v : Fault) → joins.Holds design flat v → 6 ≤ kind_number v
-open_kind design flat (OpenNet n k) h = omega arith
-open_kind design flat (Short i j) h = absurd h
-open_kind design flat (TooNear i j) h = absurd h
-open_kind design flat (Unplaced c) h = absurd h
-open_kind design flat (Outside c) h = absurd h
-open_kind design flat (OffSite c) h = absurd h
-open_kind design flat (Overlap a b) h = absurd h
+open_kind design flat v (open_net h) = omega arith
 
 module _ (library : Contents) (design : DesignContents) (flat : FlatSaid) (is_flat : IsFlatOf design flat) where
   abbrev Metal : Fault → Type 0

@@ -1,4 +1,6 @@
-mod AnswerLemmas
+-- What texts say
 mod Sayings
 mod SplitLemmas
+-- What is answered
 mod KindsJoined
+mod AnswerLemmas

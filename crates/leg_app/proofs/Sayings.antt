@@ -5,22 +5,20 @@ use Rattle.leg_lex.specs.Words.{Words, end_at, nothing_at}
 use Rattle.leg_lex.specs.Until.{until}
 use Rattle.leg_lex.specs.Statements.{at_end}
 use Rattle.leg_lex.specs.Say.{Says}
-use Rattle.leg_lib.specs.Records.{RawContents, Contents}
+use Rattle.leg_cells.specs.Records.{RawContents, Contents}
 use Rattle.leg_lib.specs.Say.{SayLibrary}
-use Rattle.leg_lib.specs.Scale.{IsLibraryAt}
+use Rattle.leg_cells.specs.Scale.{IsLibraryAt}
 use Rattle.leg_block.specs.declared.limits.TheConstants.{PART_LIMIT}
 use Rattle.leg_design.specs.Guard.{when, unless}
 use Rattle.leg_block.specs.Records.{DesignContents, terminal_count}
 use Rattle.leg_design.specs.Header.{units_in}
 use Rattle.leg_design.specs.Parts.{DesignParts, no_parts}
-use Rattle.leg_design.specs.Form.{form_at, all_nets, design_of, design_in}
-use Rattle.leg_design.proofs.Gives.{Gives, gives_some, gives_skip}
-use Rattle.leg_app.specs.Say.{SayLibraryFor, SayDesign, SaysJust, SayNoLibrary, SayNothing}
+use Rattle.leg_design.specs.Form.{def_form_at, all_nets, design_of, design_in}
+use Rattle.leg_lex.proofs.Gives.{Gives, gives_some, gives_skip}
+use Rattle.leg_app.specs.Say.{SayLibraryFor, SayDesign, SayNothing}
+use Rattle.leg_app.specs.Steps.SaidLibrary.{SaysJust, SayNoLibrary}
 
 module _ (lefs : List (List ℕ)) (def : List ℕ) where
-  pub no_library : ((said : RawContents) → SayLibrary lefs said → ⊥) → SayNoLibrary lefs def
-  no_library none library say = none say.raw say.lef
-
   pub no_units : ((n : ℕ) → Says units_in def n → ⊥) → SayNoLibrary lefs def
   no_units none library say = none say.units say.unit
 
@@ -60,7 +58,7 @@ design_of_library library parts =
 design_has_library : (library : Contents) (words : Words) → Gives (λ design. design.library ≡ library) (design_in library words)
 unfolding design_in
 design_has_library library words =
-    gives_skip (until at_end (form_at library) no_parts words) (λ forms.
+    gives_skip (until at_end (def_form_at library) no_parts words) (λ forms.
     gives_skip (end_at (codes "DESIGN") forms.1) (λ end.
     gives_skip (nothing_at end.1) (λ nothing.
     design_of_library library forms.0)))

@@ -3,13 +3,13 @@ use Rattle.std.specs.Prelude.{◌≡◌, ◌≢◌, ℕ, List, [], ◌++◌, ◌
 use Rattle.std.specs.Io.KnownBytes.{Appends}
 use Rattle.leg_lex.specs.declared.read_fault.ReadFault.{ReadFault}
 use Rattle.leg_lex.specs.declared.read_fault.FaultKind.TheVariants as kinds
-use Rattle.leg_lib.specs.declared.scale_fault.ScaleKind.{ScaleKind}
-use Rattle.leg_lib.specs.declared.scale_fault.ScaleKind.TheVariants as scale
+use Rattle.leg_cells.specs.declared.scale_fault.ScaleKind.{ScaleKind}
+use Rattle.leg_cells.specs.declared.scale_fault.ScaleKind.TheVariants as scale
 use Rattle.leg_app.specs.declared.command.Command.{Command}
 use Rattle.leg_app.specs.declared.command.Command.TheVariants.{PlaceCheck, Check}
 use Rattle.leg_app.specs.declared.status.Status.{Status}
 use Rattle.leg_app.specs.declared.status.Status.TheVariants.{Success, Violations, Refused, Memory}
-use Rattle.leg_lib.specs.Records.{Contents}
+use Rattle.leg_cells.specs.Records.{Contents}
 use Rattle.leg_block.specs.Records.{DesignContents}
 use Rattle.leg_block.specs.declared.fault.Fault.{Fault}
 use Rattle.leg_block.specs.Violation.{IsListOf}
@@ -31,18 +31,15 @@ IsShown PlaceCheck design (Some flat) = ⊥
 IsShown Check design None = ⊥
 IsShown Check design (Some flat) = IsFlatOf design flat
 
--- the texts say a design without a violation
-pub record SaysLegal (command : Command) (lefs : List (List ℕ)) (def text : List ℕ) : Type 0 where
-  pub library : Contents
-  pub design : DesignContents
-  pub flat : Option FlatSaid
-  pub say : SayDesign lefs def library design
-  pub shown : IsShown command design flat
-  pub none : IsListOf (Lists command library design) []
-  pub is : text ≡ legal_text
+-- the status and the text for these violations: `legal` where there are none, and else a line for each and their number
+abbrev pub IsListing : DesignContents → Option FlatSaid → List Fault → Status → List ℕ → Type 0
+IsListing design flat violations Success text = (violations ≡ []) × (text ≡ legal_text)
+IsListing design flat violations Violations text = (violations ≢ []) × (text ≡ listing_text design flat violations)
+IsListing design flat violations Refused text = ⊥
+IsListing design flat violations Memory text = ⊥
 
--- the texts say a design with violations, and these are they
-pub record ListsViolations (command : Command) (lefs : List (List ℕ)) (def text : List ℕ) : Type 0 where
+-- the texts say a design, and the status and the text list its violations
+pub record ListsViolations (command : Command) (lefs : List (List ℕ)) (def : List ℕ) (status : Status) (text : List ℕ) : Type 0 where
   pub library : Contents
   pub design : DesignContents
   pub flat : Option FlatSaid
@@ -50,8 +47,7 @@ pub record ListsViolations (command : Command) (lefs : List (List ℕ)) (def tex
   pub say : SayDesign lefs def library design
   pub shown : IsShown command design flat
   pub list : IsListOf (Lists command library design) violations
-  pub some : violations ≢ []
-  pub is : text ≡ listing_text design flat violations
+  pub is : IsListing design flat violations status text
 
 -- a fault of the texts is told
 pub record TellsFault (text : List ℕ) : Type 0 where
@@ -76,17 +72,10 @@ pub record TellsTooMany (command : Command) (lefs : List (List ℕ)) (def text :
   pub many : SayTooMany lefs def
   pub is : text ≡ too_many_text
 
--- the text and the status for these violations: they are listed, or told to be none
-abbrev pub IsListing : DesignContents → Option FlatSaid → List Fault → Status → List ℕ → Type 0
-IsListing design flat violations Success text = (violations ≡ []) × (text ≡ legal_text)
-IsListing design flat violations Violations text = (violations ≢ []) × (text ≡ listing_text design flat violations)
-IsListing design flat violations Refused text = ⊥
-IsListing design flat violations Memory text = ⊥
-
 -- The text and the status are an answer of the command to these texts.
 abbrev pub IsAnswer : Command → List (List ℕ) → List ℕ → Status → List ℕ → Type 0
-IsAnswer command lefs def Success text = SaysLegal command lefs def text
-IsAnswer command lefs def Violations text = ListsViolations command lefs def text
+IsAnswer command lefs def Success text = ListsViolations command lefs def Success text
+IsAnswer command lefs def Violations text = ListsViolations command lefs def Violations text
 IsAnswer command lefs def Refused text = TellsRefusal lefs def text ⊎ TellsTooMany command lefs def text
 IsAnswer command lefs def Memory text = text ≡ memory_text
 

@@ -5,3 +5,4 @@ pub mod Lines
 pub mod Answer
 pub mod Line
 pub mod Stream
+pub mod Steps

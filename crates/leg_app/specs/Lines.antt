@@ -3,8 +3,8 @@ use Rattle.std.specs.Prelude.{ℕ, List, ◌++◌, length, Option, codes, decima
 use Rattle.leg_lex.specs.declared.read_fault.ReadFault.{ReadFault}
 use Rattle.leg_lex.specs.declared.read_fault.FaultKind.{FaultKind}
 use Rattle.leg_lex.specs.declared.read_fault.FaultKind.TheVariants as kinds
-use Rattle.leg_lib.specs.declared.scale_fault.ScaleKind.{ScaleKind}
-use Rattle.leg_lib.specs.declared.scale_fault.ScaleKind.TheVariants as scale
+use Rattle.leg_cells.specs.declared.scale_fault.ScaleKind.{ScaleKind}
+use Rattle.leg_cells.specs.declared.scale_fault.ScaleKind.TheVariants as scale
 use Rattle.leg_block.specs.Records.{DesignContents}
 use Rattle.leg_block.specs.declared.fault.Fault.{Fault}
 use Rattle.leg_flat.specs.Flat.{FlatSaid}

@@ -1,7 +1,7 @@
 -- Why texts are refused.
 use Rattle.std.specs.Prelude.{◌≢◌}
 use Rattle.leg_lex.specs.declared.read_fault.FaultKind.TheVariants as kinds
-use Rattle.leg_lib.specs.declared.scale_fault.ScaleKind.TheVariants as scale
+use Rattle.leg_cells.specs.declared.scale_fault.ScaleKind.TheVariants as scale
 use Rattle.leg_app.specs.declared.text_fault.TextFault.{TextFault}
 use Rattle.leg_app.specs.declared.text_fault.TextFault.TheVariants.{Read, Scale, TooMany, Memory}
 

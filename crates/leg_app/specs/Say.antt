@@ -1,9 +1,9 @@
 -- What LEF and DEF texts say together.
-use Rattle.std.specs.Prelude.{◌≡◌, ◌<◌, ℕ, List, length}
+use Rattle.std.specs.Prelude.{◌<◌, ℕ, List, length}
 use Rattle.leg_lex.specs.Say.{Says}
-use Rattle.leg_lib.specs.Records.{RawContents, Contents}
+use Rattle.leg_cells.specs.Records.{RawContents, Contents}
 use Rattle.leg_lib.specs.Say.{SayLibrary}
-use Rattle.leg_lib.specs.Scale.{IsLibraryAt}
+use Rattle.leg_cells.specs.Scale.{IsLibraryAt}
 use Rattle.leg_block.specs.Records.{DesignContents}
 use Rattle.leg_block.specs.declared.limits.TheConstants.{PART_LIMIT}
 use Rattle.leg_design.specs.Header.{units_in}
@@ -22,15 +22,6 @@ pub record SayLibraryFor (lefs : List (List ℕ)) (def : List ℕ) (library : Co
 pub record SayDesign (lefs : List (List ℕ)) (def : List ℕ) (library : Contents) (design : DesignContents) : Type 0 where
   pub under : SayLibraryFor lefs def library
   pub said : Says (design_in library) def design
-
--- this library is said, and no other
-pub record SaysJust (lefs : List (List ℕ)) (def : List ℕ) (library : Contents) : Type 0 where
-  pub found : SayLibraryFor lefs def library
-  pub only : (said : Contents) → SayLibraryFor lefs def said → said ≡ library
-
--- no library is said
-abbrev pub SayNoLibrary : List (List ℕ) → List ℕ → Type 0
-SayNoLibrary lefs def = (library : Contents) → ¬ SayLibraryFor lefs def library
 
 -- no library and no design are said
 abbrev pub SayNothing : List (List ℕ) → List ℕ → Type 0

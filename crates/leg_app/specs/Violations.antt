@@ -1,6 +1,6 @@
 -- Everything that is not legal about a design (own rules).
 use Rattle.std.specs.Prelude.{ℕ, List, ◌⊎◌}
-use Rattle.leg_lib.specs.Records.{Contents}
+use Rattle.leg_cells.specs.Records.{Contents}
 use Rattle.leg_block.specs.Records.{DesignContents}
 use Rattle.leg_block.specs.declared.fault.Fault.{Fault}
 use Rattle.leg_block.specs.Violation.{IsListOf}

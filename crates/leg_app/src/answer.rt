@@ -2,9 +2,11 @@
 
 ghost use Rattle.std.specs.Prelude.{◌≡◌, ℕ, List, map, option_map, IfOk};
 ghost use Rattle.leg_app.specs.declared.command.Command.TheVariants.{PlaceCheck, Check};
-ghost use Rattle.leg_app.specs.Say.{SaysJust, SayDesign, SayNothing, SayTooMany};
+ghost use Rattle.leg_app.specs.Say.{SayDesign, SayNothing, SayTooMany};
+ghost use Rattle.leg_app.specs.Steps.SaidLibrary.{SaysJust};
 ghost use Rattle.leg_app.specs.Refusal.{Refuses};
-ghost use Rattle.leg_app.specs.Answer.{IsAnswer, IsListing};
+ghost use Rattle.leg_app.specs.Answer.{IsAnswer};
+ghost use Rattle.leg_app.specs.Answer.{IsListing};
 
 use crate::check::check_design;
 use crate::command::Command;
@@ -13,10 +15,10 @@ use crate::status::Status;
 use crate::text_fault::TextFault;
 use crate::texts::{behind_lefs, library_for};
 use leg_block::{Design, Fault};
+use leg_cells::{Library, ScaleKind};
 use leg_design::read_def;
 use leg_flat::{Flat, FlatFault};
 use leg_lex::FaultKind;
-use leg_lib::{Library, ScaleKind};
 use leg_place::place_faults;
 use std::alloc::{AllocError, Allocator};
 

@@ -5,9 +5,9 @@ ghost use Rattle.leg_app.specs.Lines.{kind_name, listing_text, refused_text, sca
 
 use itoa::Buffer;
 use leg_block::{Design, Fault};
+use leg_cells::{ScaleFault, ScaleKind};
 use leg_flat::Flat;
 use leg_lex::{FaultKind, ReadFault};
-use leg_lib::{ScaleFault, ScaleKind};
 use leg_print::print_faults;
 use std::alloc::{AllocError, Allocator};
 

@@ -3,8 +3,8 @@
 ghost use Rattle.std.specs.Prelude.{◌≡◌};
 ghost use Rattle.leg_app.specs.declared.text_fault.TextFault.TheVariants as faults;
 
+use leg_cells::ScaleFault;
 use leg_lex::ReadFault;
-use leg_lib::ScaleFault;
 
 /// Why a block's texts are refused.
 #[derive(Debug, Drop)]

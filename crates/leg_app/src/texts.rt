@@ -1,14 +1,16 @@
 //! What LEF and DEF texts say together.
 
 ghost use Rattle.std.specs.Prelude.{◌≡◌, map, IfOk, IfErr};
-ghost use Rattle.leg_lib.specs.Records.{Contents};
-ghost use Rattle.leg_app.specs.Say.{SayLibraryFor, SayNoLibrary};
+ghost use Rattle.leg_cells.specs.Records.{Contents};
+ghost use Rattle.leg_app.specs.Say.{SayLibraryFor};
+ghost use Rattle.leg_app.specs.Steps.SaidLibrary.{SayNoLibrary};
 ghost use Rattle.leg_app.specs.Refusal.{Refuses};
 
 use crate::text_fault::TextFault;
+use leg_cells::Library;
 use leg_design::def_units;
 use leg_lex::ReadFault;
-use leg_lib::{Library, file_number, read_lefs};
+use leg_lib::{file_number, read_lefs};
 use std::alloc::Allocator;
 
 /// The fault of a DEF, as the text that comes after so many LEFs.

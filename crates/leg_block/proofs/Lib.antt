@@ -1,7 +1,11 @@
-pub mod Changed
-pub mod NetsKept
-pub mod Moved
-pub mod MovedNets
-pub mod Wired
+-- A component that moves
+mod Changed
+mod Moved
+mod MovedNets
+-- A net that gets wires
+mod NetsKept
+mod Wired
+-- What the proofs of other crates cite
 pub mod SameTerminal
 pub mod Blank
+pub mod FaultNumbers

@@ -2,7 +2,7 @@
 use Rattle.std.proofs.Common.{◌≡◌, ℕ, zero, suc, ◌+◌, ◌≤◌, List, [], ◌∷◌, ◌++◌, length, map, All, set, sym, ap, subst, refl, ◌∙◌, arith, true, false}
 use Rattle.std.proofs.lemmas.List.{length-set, length-append, set-append_left}
 use Rattle.std.proofs.lemmas.List.Elements.{All-weaker, All-get_or, All-set, All-append}
-use Rattle.leg_lex.specs.Named.{AreApart}
+use Rattle.leg_lex.specs.NameLookup.{AreApart}
 use Rattle.leg_block.specs.declared.limits.TheConstants.{PART_LIMIT}
 use Rattle.leg_block.specs.declared.records.Terminal.{Terminal}
 use Rattle.leg_block.specs.declared.records.Terminal.TheVariants.{Comp, Pin}

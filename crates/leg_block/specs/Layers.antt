@@ -2,10 +2,10 @@
 -- rule).
 use Rattle.std.specs.Prelude.{ℕ, ℤ, Bool, true, false, Option, None, Some, is_some, slice_get}
 use Rattle.leg_lex.specs.Words.{◌>>=◌}
-use Rattle.leg_lib.specs.declared.records.LayerKind.{LayerKind}
-use Rattle.leg_lib.specs.declared.records.LayerKind.TheVariants.{Routing, Cut, Other}
-use Rattle.leg_lib.specs.declared.records.Layer.{Layer}
-use Rattle.leg_lib.specs.Records.{Contents}
+use Rattle.leg_cells.specs.declared.records.LayerKind.{LayerKind}
+use Rattle.leg_cells.specs.declared.records.LayerKind.TheVariants.{Routing, Cut, Other}
+use Rattle.leg_cells.specs.declared.records.Layer.{Layer}
+use Rattle.leg_cells.specs.Records.{Contents}
 
 -- the width of the wires on a layer of this kind, if there are wires
 abbrev pub wire_width : LayerKind → Option ℤ

@@ -7,3 +7,4 @@ pub mod WellFormedParts
 pub mod WellFormedNets
 pub mod WellFormed
 pub mod Violation
+pub mod Steps

@@ -2,8 +2,8 @@
 use Rattle.std.specs.Prelude.{ℕ, ℤ, List, [], ◌∷◌, ◌+◌, length, map, Option}
 use Rattle.leg_geom.specs.Plane.{Sides}
 use Rattle.leg_geom.specs.declared.place.Place.{Place}
-use Rattle.leg_lib.specs.declared.records.Shape.{Shape}
-use Rattle.leg_lib.specs.Records.{Contents, ViaSaid}
+use Rattle.leg_cells.specs.declared.records.Shape.{Shape}
+use Rattle.leg_cells.specs.Records.{Contents, ViaSaid}
 use Rattle.leg_block.specs.declared.records.Status.{Status}
 use Rattle.leg_block.specs.declared.records.Axis.{Axis}
 use Rattle.leg_block.specs.declared.records.Row.{Row}

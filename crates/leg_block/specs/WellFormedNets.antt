@@ -3,9 +3,9 @@
 use Rattle.std.specs.Prelude.{◌≡◌, ◌≢◌, ℕ, ℤ, pos, ◌+◌, ◌<◌, ◌≤◌, ◌⊎◌, ◌≤ℤ◌, ◌<ℤ◌, Bool, true, false, List, ◌++◌, length, All, AllPairs, Contains, Option, None, Some, slice_get, codes, IsTrue}
 use Rattle.leg_lex.specs.Words.{is_name, is_keyword}
 use Rattle.leg_lex.specs.Number.{IsNumber}
-use Rattle.leg_lex.specs.Named.{place_of, AreApart}
+use Rattle.leg_lex.specs.NameLookup.{place_of, AreApart}
 use Rattle.leg_geom.specs.Plane.{Spot}
-use Rattle.leg_lib.specs.Records.{Contents, ViaSaid, MasterSaid}
+use Rattle.leg_cells.specs.Records.{Contents, ViaSaid, MasterSaid}
 use Rattle.leg_block.specs.declared.limits.TheConstants.{ENTRY_LIMIT, PART_LIMIT}
 use Rattle.leg_block.specs.declared.records.Component.{Component}
 use Rattle.leg_block.specs.declared.records.Terminal.{Terminal}
@@ -13,8 +13,7 @@ use Rattle.leg_block.specs.declared.records.Terminal.TheVariants.{Comp, Pin}
 use Rattle.leg_block.specs.declared.records.Wire.{Wire}
 use Rattle.leg_block.specs.declared.records.Wire.TheVariants.{Segment, ViaAt, Patch}
 use Rattle.leg_block.specs.Layers.{width_of_layer, is_routing}
-use Rattle.leg_block.specs.Wires.{is_straight, default_extension}
-use Rattle.leg_block.specs.Wires.{is_even}
+use Rattle.leg_block.specs.Wires.{is_straight, default_extension, is_even}
 use Rattle.leg_block.specs.WellFormedParts.{IsPosition, IsArea, IsKept}
 use Rattle.leg_block.specs.Records.{PinSaid, NetSaid, DesignContents, net_names, terminal_count, wire_count}
 

@@ -2,14 +2,14 @@
 use Rattle.std.specs.Prelude.{◌≡◌, ℕ, pos, ◌<◌, ◌≤◌, ◌≤ℤ◌, ◌+ℤ◌, ◌-ℤ◌, ◌*ℤ◌, false, List, length, All, Option, None, Some, slice_get, codes, IsTrue}
 use Rattle.leg_lex.specs.Words.{is_name, is_word, is_keyword}
 use Rattle.leg_lex.specs.Number.{IsNumber}
-use Rattle.leg_lex.specs.Named.{place_of, AreApart}
+use Rattle.leg_lex.specs.NameLookup.{place_of, AreApart}
 use Rattle.leg_geom.specs.Plane.{Spot, Sides}
 use Rattle.leg_geom.specs.declared.place.Place.{Place}
-use Rattle.leg_lib.specs.declared.records.Site.{Site}
-use Rattle.leg_lib.specs.declared.records.Shape.{Shape}
-use Rattle.leg_lib.specs.Measure.{IsProper}
-use Rattle.leg_lib.specs.GoodVia.{is_good_via}
-use Rattle.leg_lib.specs.Records.{Contents, ViaSaid, via_names}
+use Rattle.leg_cells.specs.declared.records.Site.{Site}
+use Rattle.leg_cells.specs.declared.records.Shape.{Shape}
+use Rattle.leg_cells.specs.Measure.{IsProper}
+use Rattle.leg_cells.specs.GoodVia.{is_good_via}
+use Rattle.leg_cells.specs.Records.{Contents, ViaSaid, via_names}
 use Rattle.leg_block.specs.declared.limits.TheConstants.{ENTRY_LIMIT}
 use Rattle.leg_block.specs.declared.records.Status.{Status}
 use Rattle.leg_block.specs.declared.records.Status.TheVariants.{Unplaced, Placed, Fixed, Cover}

@@ -4,9 +4,9 @@ ghost use Rattle.std.specs.Prelude.{◌≡◌, ◌↔◌, IsTrue, option_map};
 ghost use Rattle.leg_block.specs.WellFormed.{IsWellFormed};
 
 use crate::records::{Component, Net, Pin, Row, Track};
+use leg_cells::{Library, Via};
 use leg_geom::Rect;
 use leg_lex::Name;
-use leg_lib::{Library, Via};
 use std::alloc::Allocator;
 use std::marker::Model;
 

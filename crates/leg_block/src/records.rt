@@ -1,9 +1,9 @@
 //! The records of a design. Numbers tell layers, sites, masters and vias in the library, and components and pins in the
 //! design; lengths are in database units.
 
+use leg_cells::{Items, Shape};
 use leg_geom::{Orient, Place, Point, Rect};
-use leg_lex::Name;
-use leg_lib::{Items, Shape};
+use leg_lex::{Name, Named};
 use std::alloc::Allocator;
 use std::marker::Model;
 
@@ -159,4 +159,28 @@ impl<'a, A: Allocator> Model for Net<'a, A> {
     ghost Value = { NetSaid };
 
     ghost view = { λ n. record { name = n.name; usage = n.usage; terminals = n.terminals; wires = n.wires } };
+}
+
+impl Named for Component<'_> {
+    ghost use Rattle.leg_block.specs.Steps.Entries.{AreEntries, none_are_entries, fewer_are_entries};
+
+    ghost name_of = { λ component. component.name };
+
+    ghost fits = { AreEntries };
+
+    ghost none_fits = { none_are_entries };
+
+    ghost fewer_fit = { fewer_are_entries };
+}
+
+impl<A: Allocator> Named for Pin<'_, A> {
+    ghost use Rattle.leg_block.specs.Steps.Entries.{AreEntries, none_are_entries, fewer_are_entries};
+
+    ghost name_of = { λ pin. pin.name };
+
+    ghost fits = { AreEntries };
+
+    ghost none_fits = { none_are_entries };
+
+    ghost fewer_fit = { fewer_are_entries };
 }

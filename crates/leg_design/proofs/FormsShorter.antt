@@ -5,23 +5,23 @@ use Rattle.leg_lex.proofs.Until.{Below, Shortens, below_none, below_some, below_
 use Rattle.leg_lex.proofs.Shorter.{keyword_below, end_below}
 use Rattle.leg_lex.proofs.Statements.{statement_below}
 use Rattle.leg_lex.proofs.Passed.{past_below}
-use Rattle.leg_lib.specs.Records.{Contents}
-use Rattle.leg_design.specs.Guard.{when, unless}
-use Rattle.leg_design.specs.Known.{KnownSaid}
+use Rattle.leg_cells.specs.Records.{Contents}
+use Rattle.leg_floorplan.specs.Guard.{when, unless}
+use Rattle.leg_floorplan.specs.Namespace.{KnownSaid}
 use Rattle.leg_block.specs.Records.{NetSaid}
-use Rattle.leg_design.specs.Net.{net_entry, section_word, nets_at}
+use Rattle.leg_nets.specs.Net.{net_entry, section_word, nets_at}
 use Rattle.leg_design.specs.Parts.{DesignParts, known, divider_form, bus_form, name_form, units_form, die_form, row_form, track_form, vias_form, components_form, pins_form, nets_form, special_form}
-use Rattle.leg_design.specs.Skipped.{is_past_statement, is_past_section, past_section, past_extension, past_form}
-use Rattle.leg_design.specs.Form.{header_form, form_at}
-use Rattle.leg_design.proofs.Sections.{section_below}
+use Rattle.leg_design.specs.Skipped.{is_past_statement, is_past_section, past_def_section, past_def_extension, past_def_form}
+use Rattle.leg_design.specs.Form.{header_form, def_form_at}
+use Rattle.leg_floorplan.proofs.Sections.{section_below}
 use Rattle.leg_design.proofs.Headers.{word_after_below, design_name_below, units_below}
-use Rattle.leg_design.proofs.Dies.{die_below}
-use Rattle.leg_design.proofs.Rows.{row_below}
-use Rattle.leg_design.proofs.Tracks.{track_below}
-use Rattle.leg_design.proofs.Vias.{vias_below}
-use Rattle.leg_design.proofs.Components.{components_below}
-use Rattle.leg_design.proofs.Pins.{pins_below}
-use Rattle.leg_design.proofs.NetEntries.{net_entry_shortens}
+use Rattle.leg_floorplan.proofs.Dies.{die_below}
+use Rattle.leg_floorplan.proofs.Rows.{row_below}
+use Rattle.leg_floorplan.proofs.Tracks.{track_below}
+use Rattle.leg_floorplan.proofs.Vias.{vias_below}
+use Rattle.leg_floorplan.proofs.Components.{components_below}
+use Rattle.leg_floorplan.proofs.Pins.{pins_below}
+use Rattle.leg_nets.proofs.NetEntries.{net_entry_shortens}
 
 -- the entries of nets
 
@@ -32,19 +32,19 @@ nets_below known special others words =
 
 -- what is read past
 
-past_section_below : (words : Words) → Below (length words) (past_section words)
-unfolding past_section
+past_section_below : (words : Words) → Below (length words) (past_def_section words)
+unfolding past_def_section
 past_section_below [] = below_none 0
 past_section_below (keyword ∷ words) = below_more (omega arith) (past_below (end_at keyword) (end_below keyword) words)
 
-past_extension_below : (words : Words) → Below (length words) (past_extension words)
-unfolding past_extension
+past_extension_below : (words : Words) → Below (length words) (past_def_extension words)
+unfolding past_def_extension
 past_extension_below words =
     below_bind (omega arith) (keyword_below (codes "BEGINEXT") words) (λ start l.
     below_more (omega arith) (past_below (keyword_at (codes "ENDEXT")) (keyword_below (codes "ENDEXT")) start.1))
 
-past_form_below : (words : Words) → Below (length words) (past_form words)
-unfolding past_form
+past_form_below : (words : Words) → Below (length words) (past_def_form words)
+unfolding past_def_form
 past_form_below words =
     below_if (is_past_statement words) (below_bind (omega arith) (statement_below words) (λ statement l. below_some tt statement.1 l))
     (below_if (is_past_section words) (past_section_below words)
@@ -135,8 +135,8 @@ header_form_below library parts words =
     (below_if (is_at (codes "TRACKS") words) (track_form_below library parts words)
     (below_bind (omega arith) (past_form_below words) (λ form l. below_some parts form.1 l))))))))
 
-pub form_shortens : (library : Contents) → Shortens (form_at library)
-unfolding form_at
+pub form_shortens : (library : Contents) → Shortens (def_form_at library)
+unfolding def_form_at
 form_shortens library parts words =
     below_if (is_at (codes "VIAS") words) (vias_form_below library parts words)
     (below_if (is_at (codes "COMPONENTS") words) (components_form_below library parts words)
@@ -144,5 +144,5 @@ form_shortens library parts words =
     (below_if (is_at (codes "SPECIALNETS") words) (special_form_below library parts words)
     (below_if (is_at (codes "NETS") words) (nets_form_below library parts words) (header_form_below library parts words)))))
 
-pub form_shorter : (library : Contents) (parts more : DesignParts) (words rest : Words) → form_at library parts words ≡ Some (more, rest) → length rest < length words
+pub form_shorter : (library : Contents) (parts more : DesignParts) (words rest : Words) → def_form_at library parts words ≡ Some (more, rest) → length rest < length words
 form_shorter library parts more words rest said = (form_shortens library parts words).left more rest said

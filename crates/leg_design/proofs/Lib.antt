@@ -1,53 +1,14 @@
-pub mod Readings
-pub mod Numbers
-pub mod Corners
-pub mod Spots
-pub mod Clauses
-pub mod Sought
-pub mod Gives
-pub mod Guards
-pub mod Sections
-pub mod Components
-pub mod Skips
-pub mod PinNames
-pub mod Numbered
-pub mod NetClauses
-pub mod ViaNumbers
-pub mod ReadPlacement
-pub mod ReadDie
-pub mod ReadRows
-pub mod ReadTracks
-pub mod ReadVias
-pub mod ReadComponents
-pub mod ReadPins
-pub mod ReadPaths
-pub mod ReadWiring
-pub mod Listed
-pub mod ReadTerminals
-pub mod ReadNets
-pub mod MoreTerminals
-pub mod ReadLonePins
-pub mod LonePinsListed
-pub mod MoreKnown
-pub mod ReadNetForms
-pub mod ReadForms
-pub mod Microns
-pub mod Headers
-pub mod Dies
-pub mod Rows
-pub mod Tracks
-pub mod Pins
-pub mod ListedNets
-pub mod Paths
-pub mod ViaLayers
-pub mod Walks
-pub mod PathItems
-pub mod Designs
-pub mod FormsShorter
-pub mod Forms
-pub mod ReadListed
-pub mod Wirings
-pub mod ReadDesigns
-pub mod NetEntries
-pub mod Vias
-pub mod LonePins
+-- Forms of the header, and forms that are read past.
+mod Microns
+mod Headers
+mod Skips
+-- That each form shortens the words that are left.
+mod FormsShorter
+mod Forms
+-- That the design that the forms say is well-formed.
+mod ReadForms
+mod ReadNetForms
+mod ReadDesigns
+mod Designs
+-- What a text says.
+mod Readings

@@ -7,20 +7,20 @@ use Rattle.leg_lex.specs.Words.{Words, end_at, nothing_at}
 use Rattle.leg_lex.specs.Until.{until}
 use Rattle.leg_lex.specs.Statements.{at_end}
 use Rattle.leg_geom.specs.Plane.{Sides}
-use Rattle.leg_lib.specs.Records.{Contents}
+use Rattle.leg_cells.specs.Records.{Contents}
 use Rattle.leg_block.specs.declared.limits.TheConstants.{PART_LIMIT}
 use Rattle.leg_block.specs.declared.records.Terminal.{Terminal}
 use Rattle.leg_block.specs.declared.records.Terminal.TheVariants.{Comp, Pin}
-use Rattle.leg_design.specs.Guard.{when}
+use Rattle.leg_floorplan.specs.Guard.{when}
 use Rattle.leg_block.specs.Records.{NetSaid, DesignContents, terminal_count}
 use Rattle.leg_design.specs.Parts.{DesignParts, no_parts, known}
-use Rattle.leg_design.specs.Form.{form_at, all_nets, design_with, design_of, design_in}
+use Rattle.leg_design.specs.Form.{def_form_at, all_nets, design_with, design_of, design_in}
 use Rattle.leg_block.specs.WellFormedNets.{IsTerminal, IsNet, HasNets}
 use Rattle.leg_block.specs.WellFormed.{IsWellFormed}
-use Rattle.leg_design.proofs.Gives.{Gives, gives_some, gives_bind, gives_skip, unless_gives, until_gives}
-use Rattle.leg_design.proofs.ReadTerminals.{IsKnownTerminal}
-use Rattle.leg_design.proofs.ReadNets.{IsKnownNet}
-use Rattle.leg_design.proofs.LonePinsListed.{lone_pins_listed}
+use Rattle.leg_floorplan.proofs.Gives.{Gives, gives_some, gives_bind, gives_skip, unless_gives, until_gives}
+use Rattle.leg_nets.proofs.ReadTerminals.{IsKnownTerminal}
+use Rattle.leg_nets.proofs.ReadNets.{IsKnownNet}
+use Rattle.leg_nets.proofs.LonePinsListed.{lone_pins_listed}
 use Rattle.leg_design.proofs.ReadForms.{HasSoundParts, form_keeps, no_parts_sound, die_of_parts, name_of_parts}
 use Rattle.leg_design.proofs.ReadNetForms.{HasNetParts, lists_of, net_form_keeps, no_net_parts}
 
@@ -71,7 +71,7 @@ record AreRead (library : Contents) (parts : DesignParts) : Type 0 where
   sound : HasSoundParts library parts
   nets : HasNetParts library parts
 
-form_is_read : (library : Contents) (parts : DesignParts) (words : Words) → AreRead library parts → Gives (λ said. AreRead library said.0) (form_at library parts words)
+form_is_read : (library : Contents) (parts : DesignParts) (words : Words) → AreRead library parts → Gives (λ said. AreRead library said.0) (def_form_at library parts words)
 form_is_read library parts words before = record {
   given = λ next is. record {
     sound = (form_keeps library parts words before.sound).given next is;
@@ -99,9 +99,9 @@ design_gives library parts are =
       nets = nets_are_so library parts name die are.nets is;
     })))))
 
-forms_give : (library : Contents) (words : Words) → Gives (λ forms. AreRead library forms.0) (until at_end (form_at library) no_parts words)
+forms_give : (library : Contents) (words : Words) → Gives (λ forms. AreRead library forms.0) (until at_end (def_form_at library) no_parts words)
 forms_give library words =
-    until_gives (AreRead library) at_end (form_at library) (form_is_read library) no_parts words (record { sound = no_parts_sound library; nets = no_net_parts library })
+    until_gives (AreRead library) at_end (def_form_at library) (form_is_read library) no_parts words (record { sound = no_parts_sound library; nets = no_net_parts library })
 
 text_gives : (library : Contents) (words : Words) → Gives IsWellFormed (design_in library words)
 unfolding design_in

@@ -3,24 +3,24 @@ use Rattle.std.proofs.Common.{◌≡◌, ℕ, true, false, ◌==◌, List, All, 
 use Rattle.std.proofs.lemmas.List.Elements.{All-push, All-nil}
 use Rattle.leg_lex.specs.Words.{Words, is_at, is_name, is_word, keyword_at, mark_at}
 use Rattle.leg_geom.specs.Plane.{Sides}
-use Rattle.leg_lib.specs.Records.{Contents, ViaSaid}
+use Rattle.leg_cells.specs.Records.{Contents, ViaSaid}
 use Rattle.leg_block.specs.declared.records.Component.{Component}
 use Rattle.leg_block.specs.declared.records.Row.{Row}
-use Rattle.leg_design.specs.Guard.{when, unless}
+use Rattle.leg_floorplan.specs.Guard.{when, unless}
 use Rattle.leg_design.specs.Header.{word_after, design_name_at, units_at}
-use Rattle.leg_design.specs.Net.{nets_at}
+use Rattle.leg_nets.specs.Net.{nets_at}
 use Rattle.leg_block.specs.Records.{TrackSaid, PinSaid}
 use Rattle.leg_design.specs.Parts.{DesignParts, no_parts, known, divider_form, bus_form, name_form, units_form, die_form, row_form, track_form, vias_form, components_form, pins_form, nets_form, special_form}
-use Rattle.leg_design.specs.Skipped.{past_form}
-use Rattle.leg_design.specs.Form.{header_form, form_at}
+use Rattle.leg_design.specs.Skipped.{past_def_form}
+use Rattle.leg_design.specs.Form.{header_form, def_form_at}
 use Rattle.leg_block.specs.WellFormedParts.{IsKept, IsNameIfAny, IsArea, AreComponents, IsRow, IsTrack, AreVias, ArePins}
-use Rattle.leg_design.proofs.Gives.{Gives, gives_none, gives_some, gives_bind, gives_skip, gives_if, name_gives, word_gives}
-use Rattle.leg_design.proofs.ReadDie.{die_gives}
-use Rattle.leg_design.proofs.ReadComponents.{components_give, no_components}
-use Rattle.leg_design.proofs.ReadRows.{row_gives}
-use Rattle.leg_design.proofs.ReadTracks.{track_gives}
-use Rattle.leg_design.proofs.ReadVias.{vias_give, no_vias}
-use Rattle.leg_design.proofs.ReadPins.{pins_give, no_pins}
+use Rattle.leg_floorplan.proofs.Gives.{Gives, gives_none, gives_some, gives_bind, gives_skip, gives_if, name_gives, word_gives}
+use Rattle.leg_floorplan.proofs.ReadDie.{die_gives}
+use Rattle.leg_floorplan.proofs.ReadComponents.{components_give, no_components}
+use Rattle.leg_floorplan.proofs.ReadRows.{row_gives}
+use Rattle.leg_floorplan.proofs.ReadTracks.{track_gives}
+use Rattle.leg_floorplan.proofs.ReadVias.{vias_give, no_vias}
+use Rattle.leg_floorplan.proofs.ReadPins.{pins_give, no_pins}
 
 abbrev pub IsAreaIfAny : Option Sides → Type 0
 IsAreaIfAny None = Unit {0}
@@ -133,10 +133,10 @@ module _ (library : Contents) (parts : DesignParts) (words : Words) (sound : Has
       (gives_if (is_at (codes "DIEAREA") words) die_keeps
       (gives_if (is_at (codes "ROW") words) row_keeps
       (gives_if (is_at (codes "TRACKS") words) track_keeps
-      (gives_skip (past_form words) (λ form. gives_some _ sound))))))))
+      (gives_skip (past_def_form words) (λ form. gives_some _ sound))))))))
 
-  pub form_keeps : Keeps (form_at library parts words)
-  unfolding form_at
+  pub form_keeps : Keeps (def_form_at library parts words)
+  unfolding def_form_at
   form_keeps =
       gives_if (is_at (codes "VIAS") words) vias_keep
       (gives_if (is_at (codes "COMPONENTS") words) components_keep

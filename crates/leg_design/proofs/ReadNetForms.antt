@@ -3,27 +3,27 @@ use Rattle.std.proofs.Common.{◌≡◌, ◌≤◌, Bool, true, false, ◌==◌,
 use Rattle.std.proofs.lemmas.Bool.{true≢false}
 use Rattle.std.proofs.lemmas.List.Elements.{All-nil, Contains-append_left, Contains-append_right, Contains-append_cases}
 use Rattle.leg_lex.specs.Words.{Words, is_at}
-use Rattle.leg_lib.specs.Records.{Contents}
+use Rattle.leg_cells.specs.Records.{Contents}
 use Rattle.leg_block.specs.declared.limits.TheConstants.{ENTRY_LIMIT, PART_LIMIT}
-use Rattle.leg_design.specs.Guard.{when, unless}
-use Rattle.leg_design.specs.Known.{KnownSaid}
+use Rattle.leg_floorplan.specs.Guard.{when, unless}
+use Rattle.leg_floorplan.specs.Namespace.{KnownSaid}
 use Rattle.leg_design.specs.Header.{word_after, design_name_at, units_at}
-use Rattle.leg_design.specs.Die.{die_at}
-use Rattle.leg_design.specs.Row.{row_at}
-use Rattle.leg_design.specs.Track.{track_at}
-use Rattle.leg_design.specs.Via.{vias_at}
-use Rattle.leg_design.specs.Component.{components_at}
-use Rattle.leg_design.specs.Pin.{pins_at}
-use Rattle.leg_design.specs.LonePins.{NetLists}
+use Rattle.leg_floorplan.specs.Die.{die_at}
+use Rattle.leg_floorplan.specs.Row.{row_at}
+use Rattle.leg_floorplan.specs.Track.{track_at}
+use Rattle.leg_floorplan.specs.Via.{vias_at}
+use Rattle.leg_floorplan.specs.Component.{components_at}
+use Rattle.leg_floorplan.specs.Pin.{pins_at}
+use Rattle.leg_nets.specs.LonePins.{NetLists}
 use Rattle.leg_block.specs.Records.{NetSaid, wire_count}
 use Rattle.leg_design.specs.Parts.{DesignParts, no_parts, known, divider_form, bus_form, name_form, units_form, die_form, row_form, track_form, vias_form, components_form, pins_form, nets_form, special_form}
-use Rattle.leg_design.specs.Skipped.{past_form}
-use Rattle.leg_design.specs.Form.{header_form, form_at}
+use Rattle.leg_design.specs.Skipped.{past_def_form}
+use Rattle.leg_design.specs.Form.{header_form, def_form_at}
 use Rattle.leg_block.specs.WellFormedNets.{AreInOneNet}
-use Rattle.leg_design.proofs.Gives.{Gives, gives_some, gives_bind, gives_skip, gives_if, unless_gives}
-use Rattle.leg_design.proofs.ReadNets.{IsKnownNet, AreEntries, nets_give}
-use Rattle.leg_design.proofs.ReadLonePins.{HasEntries}
-use Rattle.leg_design.proofs.MoreKnown.{Grows, nets_grow, vias_grow, components_grow, pins_grow}
+use Rattle.leg_floorplan.proofs.Gives.{Gives, gives_some, gives_bind, gives_skip, gives_if, unless_gives}
+use Rattle.leg_nets.proofs.ReadNets.{IsKnownNet, AreEntries, nets_give}
+use Rattle.leg_nets.proofs.ReadLonePins.{HasEntries}
+use Rattle.leg_nets.proofs.MoreKnown.{Grows, nets_grow, vias_grow, components_grow, pins_grow}
 
 abbrev pub lists_of : List NetSaid → List NetSaid → NetLists
 lists_of nets special = record { nets = nets; special = special }
@@ -209,10 +209,10 @@ module _ (library : Contents) (parts : DesignParts) (words : Words) (sound : Has
       (gives_if (is_at (codes "DIEAREA") words) die_keeps
       (gives_if (is_at (codes "ROW") words) row_keeps
       (gives_if (is_at (codes "TRACKS") words) track_keeps
-      (gives_skip (past_form words) (λ form. gives_some _ sound))))))))
+      (gives_skip (past_def_form words) (λ form. gives_some _ sound))))))))
 
-  pub net_form_keeps : Keeps (form_at library parts words)
-  unfolding form_at
+  pub net_form_keeps : Keeps (def_form_at library parts words)
+  unfolding def_form_at
   net_form_keeps =
       gives_if (is_at (codes "VIAS") words) vias_keep
       (gives_if (is_at (codes "COMPONENTS") words) components_keep

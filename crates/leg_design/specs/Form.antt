@@ -4,13 +4,13 @@ use Rattle.leg_lex.specs.Words.{Words, ◌>>=◌, is_at, end_at, nothing_at}
 use Rattle.leg_lex.specs.Until.{until}
 use Rattle.leg_lex.specs.Statements.{at_end}
 use Rattle.leg_geom.specs.Plane.{Sides}
-use Rattle.leg_lib.specs.Records.{Contents}
+use Rattle.leg_cells.specs.Records.{Contents}
 use Rattle.leg_block.specs.declared.limits.TheConstants.{PART_LIMIT}
-use Rattle.leg_design.specs.Guard.{when, unless}
-use Rattle.leg_design.specs.LonePins.{NetLists, with_lone_pins}
+use Rattle.leg_floorplan.specs.Guard.{when, unless}
+use Rattle.leg_nets.specs.LonePins.{NetLists, with_lone_pins}
 use Rattle.leg_block.specs.Records.{DesignContents, terminal_count}
 use Rattle.leg_design.specs.Parts.{DesignParts, no_parts, divider_form, bus_form, name_form, units_form, die_form, row_form, track_form, vias_form, components_form, pins_form, nets_form, special_form}
-use Rattle.leg_design.specs.Skipped.{past_form}
+use Rattle.leg_design.specs.Skipped.{past_def_form}
 
 -- a form that stands before the sections
 unfoldable pub header_form : Contents → DesignParts → Words → Option (DesignParts × Words)
@@ -22,11 +22,11 @@ header_form library parts words =
     else (if is_at (codes "DIEAREA") words then die_form parts words
     else (if is_at (codes "ROW") words then row_form library parts words
     else (if is_at (codes "TRACKS") words then track_form library parts words
-    else (past_form words >>= λ form. Some (parts, form.1))))))))
+    else (past_def_form words >>= λ form. Some (parts, form.1))))))))
 
 -- one form
-unfoldable pub form_at : Contents → DesignParts → Words → Option (DesignParts × Words)
-form_at library parts words =
+unfoldable pub def_form_at : Contents → DesignParts → Words → Option (DesignParts × Words)
+def_form_at library parts words =
     if is_at (codes "VIAS") words then vias_form library parts words
     else (if is_at (codes "COMPONENTS") words then components_form library parts words
     else (if is_at (codes "PINS") words then pins_form library parts words
@@ -65,7 +65,7 @@ design_of library parts = do
 -- the forms, END DESIGN, and nothing after it
 unfoldable pub design_in : Contents → Words → Option DesignContents
 design_in library words = do
-  forms ← until at_end (form_at library) no_parts words
+  forms ← until at_end (def_form_at library) no_parts words
   end ← end_at (codes "DESIGN") forms.1
   nothing ← nothing_at end.1
   design_of library forms.0

@@ -2,19 +2,19 @@
 use Rattle.std.specs.Prelude.{ℕ, Bool, true, false, ◌==◌, List, [], ◌∷◌, ◌++◌, Option, None, Some, is_some, codes}
 use Rattle.leg_lex.specs.Words.{Words, ◌>>=◌}
 use Rattle.leg_geom.specs.Plane.{Sides}
-use Rattle.leg_lib.specs.Records.{Contents, ViaSaid}
+use Rattle.leg_cells.specs.Records.{Contents, ViaSaid}
 use Rattle.leg_block.specs.declared.records.Row.{Row}
 use Rattle.leg_block.specs.declared.records.Component.{Component}
-use Rattle.leg_design.specs.Guard.{when, unless}
-use Rattle.leg_design.specs.Known.{KnownSaid}
+use Rattle.leg_floorplan.specs.Guard.{when, unless}
+use Rattle.leg_floorplan.specs.Namespace.{KnownSaid}
 use Rattle.leg_design.specs.Header.{word_after, design_name_at, units_at}
-use Rattle.leg_design.specs.Die.{die_at}
-use Rattle.leg_design.specs.Row.{row_at}
-use Rattle.leg_design.specs.Track.{track_at}
-use Rattle.leg_design.specs.Via.{vias_at}
-use Rattle.leg_design.specs.Component.{components_at}
-use Rattle.leg_design.specs.Pin.{pins_at}
-use Rattle.leg_design.specs.Net.{nets_at}
+use Rattle.leg_floorplan.specs.Die.{die_at}
+use Rattle.leg_floorplan.specs.Row.{row_at}
+use Rattle.leg_floorplan.specs.Track.{track_at}
+use Rattle.leg_floorplan.specs.Via.{vias_at}
+use Rattle.leg_floorplan.specs.Component.{components_at}
+use Rattle.leg_floorplan.specs.Pin.{pins_at}
+use Rattle.leg_nets.specs.Net.{nets_at}
 use Rattle.leg_block.specs.Records.{TrackSaid, PinSaid, NetSaid}
 
 -- which forms stood that stand at most once

@@ -17,19 +17,19 @@ is_past_section words =
     || is_at (codes "FILLS") words || is_at (codes "SLOTS") words || is_at (codes "STYLES") words
     || is_at (codes "SCANCHAINS") words || is_at (codes "GROUPS") words || is_at (codes "PINPROPERTIES") words
 
-unfoldable pub past_section : Words → Option (Unit {0} × Words)
-past_section [] = None
-past_section (keyword ∷ words) = past (end_at keyword) words
+unfoldable pub past_def_section : Words → Option (Unit {0} × Words)
+past_def_section [] = None
+past_def_section (keyword ∷ words) = past (end_at keyword) words
 
 -- BEGINEXT .. ENDEXT
-unfoldable pub past_extension : Words → Option (Unit {0} × Words)
-past_extension words = do
+unfoldable pub past_def_extension : Words → Option (Unit {0} × Words)
+past_def_extension words = do
   start ← keyword_at (codes "BEGINEXT") words
   past (keyword_at (codes "ENDEXT")) start.1
 
 -- what is read past
-unfoldable pub past_form : Words → Option (Unit {0} × Words)
-past_form words =
+unfoldable pub past_def_form : Words → Option (Unit {0} × Words)
+past_def_form words =
     if is_past_statement words then (statement_at words >>= λ statement. Some (tt, statement.1))
-    else (if is_past_section words then past_section words
-    else (if is_at (codes "BEGINEXT") words then past_extension words else None))
+    else (if is_past_section words then past_def_section words
+    else (if is_at (codes "BEGINEXT") words then past_def_extension words else None))

@@ -5,13 +5,13 @@ ghost use Rattle.leg_lex.specs.Words.{Reads, Means};
 ghost use Rattle.leg_lex.specs.Until.{until};
 ghost use Rattle.leg_lex.specs.Statements.{at_end};
 ghost use Rattle.leg_design.specs.Parts.{no_parts};
-ghost use Rattle.leg_design.specs.Form.{header_form, form_at, design_in};
+ghost use Rattle.leg_design.specs.Form.{header_form, def_form_at, design_in};
 
 use crate::parts::Parts;
 use crate::skipped::past_form;
 use leg_block::{Design, DesignFields};
+use leg_cells::Library;
 use leg_lex::{Cursor, ReadFault};
-use leg_lib::Library;
 use std::alloc::Allocator;
 
 /// A form that stands before the sections.
@@ -44,14 +44,14 @@ fn header_form<'a, A: Allocator + Copy>(
 }
 
 /// One form.
-#[tactic(auto, unfolding(crate::specs::Form::form_at))]
+#[tactic(auto, unfolding(crate::specs::Form::def_form_at))]
 fn form<'a, A: Allocator + Copy>(
     alloc: A,
     library: &Library<'a, A>,
     parts: &mut Parts<'a, A>,
     words: &mut Cursor<'_, 'a>,
 ) -> Result<(), ReadFault>
-    ensures { Reads (λ _. parts.new) result words.new (form_at library.now parts.old words.old) }
+    ensures { Reads (λ _. parts.new) result words.new (def_form_at library.now parts.old words.old) }
 {
     if words.is_at(b"VIAS") {
         parts.vias_form(alloc, library, words)
@@ -75,7 +75,7 @@ fn forms<'a, A: Allocator + Copy>(
     library: &Library<'a, A>,
     words: &mut Cursor<'_, 'a>,
 ) -> Result<Parts<'a, A>, ReadFault>
-    ensures { Reads (λ parts. parts) result words.new (until at_end (form_at library.now) no_parts words.old) }
+    ensures { Reads (λ parts. parts) result words.new (until at_end (def_form_at library.now) no_parts words.old) }
 {
     let mut parts = Parts::new(alloc);
     'forms: while !words.is_at(b"END") {

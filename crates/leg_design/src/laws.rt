@@ -2,7 +2,7 @@
 
 ghost use Rattle.std.specs.Prelude.{◌≡◌, ℕ, List};
 ghost use Rattle.leg_lex.specs.Say.{Says};
-ghost use Rattle.leg_lib.specs.Records.{Contents};
+ghost use Rattle.leg_cells.specs.Records.{Contents};
 ghost use Rattle.leg_block.specs.Records.{DesignContents};
 ghost use Rattle.leg_design.specs.Form.{design_in};
 

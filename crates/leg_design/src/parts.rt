@@ -1,29 +1,27 @@
 //! What the forms of a DEF said so far (LEF/DEF 5.8, "DEF Syntax").
 
-ghost use Rattle.std.specs.Prelude.{◌≡◌, ◌+◌, nat_lt};
+ghost use Rattle.std.specs.Prelude.{◌≡◌, ℕ, List, ◌≢◌, ◌+◌, nat_lt, true, Some, None, is_some, IfOk, IfErr, IfSome, OnOk};
+ghost use Rattle.leg_lex.specs.declared.read_fault.FaultKind.TheVariants.{Memory};
 ghost use Rattle.leg_lex.specs.Words.{Reads, Means};
 ghost use Rattle.leg_block.specs.declared.limits.TheConstants.{PART_LIMIT};
-ghost use Rattle.leg_design.specs.Guard.{unless};
+ghost use Rattle.leg_floorplan.specs.Guard.{unless};
 ghost use Rattle.leg_block.specs.Records.{terminal_count};
+ghost use Rattle.leg_cells.specs.Records.{Contents};
 ghost use Rattle.leg_design.specs.Parts.{no_parts, divider_form, bus_form, name_form, units_form, die_form, row_form, track_form};
-ghost use Rattle.leg_design.specs.Form.{design_of};
+ghost use Rattle.leg_design.specs.Form.{all_nets, design_with, design_of};
 
 mod sections;
 
-use crate::component_table::ComponentTable;
-use crate::die::die;
 use crate::header::{design_name, units, word_after};
-use crate::lone_pins::add_lone_pins;
-use crate::net_table::NetTable;
-use crate::pin_table::PinTable;
-use crate::row::row;
-use crate::track::track;
-use crate::via_table::ViaTable;
-use leg_block::{DesignFields, PART_LIMIT, Row, Track};
+use leg_block::{Component, DesignFields, PART_LIMIT, Pin, Row, Track};
+use leg_cells::{Library, Via};
+use leg_floorplan::die::die;
+use leg_floorplan::row::row;
+use leg_floorplan::track::track;
 use leg_geom::Rect;
-use leg_lex::{Cursor, FaultKind, Name, ReadFault};
-use leg_lib::Library;
-use std::alloc::Allocator;
+use leg_lex::{Cursor, FaultKind, Name, NamedList, ReadFault};
+use leg_nets::{NetTable, add_lone_pins};
+use std::alloc::{AllocError, Allocator};
 use std::marker::Model;
 
 // Which forms stood that stand at most once.
@@ -47,9 +45,9 @@ pub(crate) struct Parts<'a, A: Allocator + Copy> {
     die: Option<Rect>,
     rows: Vec<Row<'a>, A>,
     tracks: Vec<Track<A>, A>,
-    vias: ViaTable<'a, A>,
-    components: ComponentTable<'a, A>,
-    pins: PinTable<'a, A>,
+    vias: NamedList<'a, Via<'a, A>, A>,
+    components: NamedList<'a, Component<'a>, A>,
+    pins: NamedList<'a, Pin<'a, A>, A>,
     nets: NetTable<'a, A>,
     special: NetTable<'a, A>,
 }
@@ -82,9 +80,9 @@ impl<'a, A: Allocator + Copy> Parts<'a, A> {
             die: None,
             rows: Vec::new(alloc),
             tracks: Vec::new(alloc),
-            vias: ViaTable::new(alloc),
-            components: ComponentTable::new(alloc),
-            pins: PinTable::new(alloc),
+            vias: NamedList::new(alloc),
+            components: NamedList::new(alloc),
+            pins: NamedList::new(alloc),
             nets: NetTable::new(alloc),
             special: NetTable::new(alloc),
         }
@@ -181,8 +179,72 @@ impl<'a, A: Allocator + Copy> Parts<'a, A> {
         Ok(())
     }
 
+    /// The die area of the design, where `DESIGN`, `UNITS` and `DIEAREA` stood. Faults are told at `end`.
+    fn die_area(&self, end: &Cursor<'_, '_>) -> Result<Rect, ReadFault>
+        ensures named { OnOk result (is_some self.now.name ≡ true) }
+        ensures stood { OnOk result (self.now.stood.units ≡ true) }
+        ensures die { IfOk result (λ die. self.now.die ≡ Some die) }
+        ensures lacks { IfErr result (λ fault. fault.kind ≢ Memory → (library : Contents) → design_of library self.now ≡ None) }
+    {
+        if self.name.is_none() {
+            return Err(end.fault(FaultKind::Unexpected));
+        }
+        let Some(die) = self.die else {
+            return Err(end.fault(FaultKind::Unexpected));
+        };
+        if !self.stood.units {
+            return Err(end.fault(FaultKind::Unexpected));
+        }
+        Ok(die)
+    }
+
+    /// The fields of the design of this die area, where `DESIGN` stood.
+    fn fields(self, library: &'a Library<'a, A>, die: Rect) -> DesignFields<'a, A>
+        requires { is_some self.name ≡ true }
+        ensures { IfSome self.entry.name (λ name. result ≡ design_with library.now self.entry name die (record { nets = self.entry.nets; special = self.entry.special })) }
+    {
+        DesignFields {
+            library,
+            name: self.name.unwrap(),
+            divider: self.divider,
+            bus: self.bus,
+            die,
+            rows: self.rows,
+            tracks: self.tracks,
+            vias: self.vias.into_vec(),
+            components: self.components.into_vec(),
+            pins: self.pins.into_vec(),
+            nets: self.nets.into_vec(),
+            special: self.special.into_vec(),
+        }
+    }
+
+    /// Adds the lone pins to the nets. Where memory is refused, nothing is known of the nets.
+    fn add_lone_pins(&mut self) -> Result<(), AllocError>
+        ensures { OnOk result (self.new ≡ record self.old { nets = (all_nets self.old).nets; special = (all_nets self.old).special }) }
+    {
+        add_lone_pins(self.pins.as_slice(), &mut self.nets, &mut self.special)
+    }
+
+    /// Adds the lone pins and gives the die area, where `DESIGN`, `UNITS` and `DIEAREA` stood and there aren't too many
+    /// terminals. Faults are told at `end`.
+    #[tactic(auto, using(crate::proofs::Designs::too_many, crate::proofs::Designs::design_made))]
+    fn complete(&mut self, end: &Cursor<'_, '_>) -> Result<Rect, ReadFault>
+        ensures named { OnOk result (is_some self.new.name ≡ true) }
+        ensures lone { OnOk result (self.new ≡ record self.old { nets = (all_nets self.old).nets; special = (all_nets self.old).special }) }
+        ensures made { IfOk result (λ die. (library : Contents) (name : List ℕ) → self.old.name ≡ Some name
+            → design_of library self.old ≡ Some (design_with library self.old name die (all_nets self.old))) }
+        ensures lacks { IfErr result (λ fault. fault.kind ≢ Memory → (library : Contents) → design_of library self.old ≡ None) }
+    {
+        let die = self.die_area(end)?;
+        self.add_lone_pins()?;
+        if are_too_many(&self.nets, &self.special) {
+            return Err(end.fault(FaultKind::TooMany));
+        }
+        Ok(die)
+    }
+
     /// The fields of the design, where `DESIGN`, `UNITS` and `DIEAREA` stood. Faults are told at `end`.
-    #[tactic(auto, unfolding(crate::specs::Form::design_of))]
     pub(crate) fn design(
         self,
         library: &'a Library<'a, A>,
@@ -190,47 +252,9 @@ impl<'a, A: Allocator + Copy> Parts<'a, A> {
     ) -> Result<DesignFields<'a, A>, ReadFault>
         ensures { Means (λ d. d) result (design_of library.now self.entry) }
     {
-        let Parts {
-            stood,
-            name,
-            divider,
-            bus,
-            die,
-            rows,
-            tracks,
-            vias,
-            components,
-            pins,
-            mut nets,
-            mut special,
-        } = self;
-        let Some(name) = name else {
-            return Err(end.fault(FaultKind::Unexpected));
-        };
-        let Some(die) = die else {
-            return Err(end.fault(FaultKind::Unexpected));
-        };
-        if !stood.units {
-            return Err(end.fault(FaultKind::Unexpected));
-        }
-        add_lone_pins(pins.as_slice(), &mut nets, &mut special)?;
-        if are_too_many(&nets, &special) {
-            return Err(end.fault(FaultKind::TooMany));
-        }
-        Ok(DesignFields {
-            library,
-            name,
-            divider,
-            bus,
-            die,
-            rows,
-            tracks,
-            vias: vias.into_vec(),
-            components: components.into_vec(),
-            pins: pins.into_vec(),
-            nets: nets.into_vec(),
-            special: special.into_vec(),
-        })
+        let mut parts = self;
+        let die = parts.complete(end)?;
+        Ok(parts.fields(library, die))
     }
 }
 

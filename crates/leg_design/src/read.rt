@@ -11,8 +11,8 @@ ghost use Rattle.leg_design.specs.Form.{design_in};
 use crate::form::design_words;
 use crate::header::units_anywhere;
 use leg_block::Design;
+use leg_cells::Library;
 use leg_lex::{Cursor, ReadFault, file_words};
-use leg_lib::Library;
 use std::alloc::Allocator;
 
 /// The database units of a micron that a DEF says, from 1 to 20,000, at the first place where its `UNITS` stand.

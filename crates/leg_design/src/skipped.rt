@@ -2,7 +2,7 @@
 
 ghost use Rattle.std.specs.Prelude.{◌≡◌, codes};
 ghost use Rattle.leg_lex.specs.Words.{Reads};
-ghost use Rattle.leg_design.specs.Skipped.{is_past_statement, is_past_section, past_section, past_extension, past_form};
+ghost use Rattle.leg_design.specs.Skipped.{is_past_statement, is_past_section, past_def_section, past_def_extension, past_def_form};
 
 use leg_lex::{Cursor, FaultKind, ReadFault};
 
@@ -35,16 +35,16 @@ fn is_past_section(words: &Cursor<'_, '_>) -> bool
 /// A keyword, and everything up to `END` and the keyword.
 #[tactic(auto, using(crate::proofs::Skips::past_section_from, crate::proofs::Skips::past_section_of_none))]
 fn past_section(words: &mut Cursor<'_, '_>) -> Result<(), ReadFault>
-    ensures { Reads (λ x. x) result words.new (past_section words.old) }
+    ensures { Reads (λ x. x) result words.new (past_def_section words.old) }
 {
     let keyword = words.any()?;
     words.past_end(keyword)
 }
 
 /// `BEGINEXT`, and everything up to `ENDEXT`.
-#[tactic(auto, unfolding(crate::specs::Skipped::past_extension))]
+#[tactic(auto, unfolding(crate::specs::Skipped::past_def_extension))]
 fn past_extension(words: &mut Cursor<'_, '_>) -> Result<(), ReadFault>
-    ensures { Reads (λ x. x) result words.new (past_extension words.old) }
+    ensures { Reads (λ x. x) result words.new (past_def_extension words.old) }
 {
     words.keyword(b"BEGINEXT")?;
     words.past_keyword(b"ENDEXT")
@@ -62,9 +62,9 @@ fn no_form(words: &Cursor<'_, '_>) -> ReadFault {
 }
 
 /// A form that says nothing. A word that begins no form is `Unexpected`, or `Unsupported` where it is left out by name.
-#[tactic(auto, unfolding(crate::specs::Skipped::past_form))]
+#[tactic(auto, unfolding(crate::specs::Skipped::past_def_form))]
 pub(crate) fn past_form(words: &mut Cursor<'_, '_>) -> Result<(), ReadFault>
-    ensures { Reads (λ x. x) result words.new (past_form words.old) }
+    ensures { Reads (λ x. x) result words.new (past_def_form words.old) }
 {
     if is_past_statement(words) {
         words.statement()?;

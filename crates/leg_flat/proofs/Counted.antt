@@ -1,16 +1,15 @@
 -- Counts of shapes that go no further than one beyond the limit.
-use Rattle.std.proofs.Common.{◌≡◌, ◌↔◌, ℕ, ◌+◌, ◌<◌, ◌≤◌, nat_lt, IsTrue, List, ◌++◌, length, length-append, get_or, take, Some, slice_get, refl, sym, ap, ◌∙◌, add-one, zero-add, arith}
+use Rattle.std.proofs.Common.{◌≡◌, ℕ, ◌+◌, ◌<◌, ◌≤◌, List, ◌++◌, length, length-append, get_or, take, Some, slice_get, refl, sym, ap, ◌∙◌, add-one, zero-add, arith}
 use Rattle.std.proofs.lemmas.List.{length-map, take_all}
-use Rattle.std.proofs.lemmas.Bool.Decides.{nat_tests}
 use Rattle.std.proofs.lemmas.Option.{slice_get_within, get_or_from_slice_get}
 use Rattle.leg_geom.specs.declared.place.Place.{Place}
-use Rattle.leg_lib.specs.declared.records.Shape.{Shape}
-use Rattle.leg_lib.specs.Measure.{Lengths}
+use Rattle.leg_cells.specs.declared.records.Shape.{Shape}
+use Rattle.leg_cells.specs.Measure.{Lengths}
 use Rattle.leg_block.specs.declared.limits.TheConstants.{PART_LIMIT}
 use Rattle.leg_block.specs.Records.{DesignContents}
 use Rattle.leg_flat.specs.Outline.Outline.{Drawn}
 use Rattle.leg_flat.specs.Metal.{OnLayer, Belonging, belonging, drawn, components_metal, design_pins_metal, nets_metal, specials_metal, metal_of}
-use Rattle.leg_flat.specs.Counted.{counted}
+use Rattle.leg_flat.specs.Steps.ShapeCount.{counted}
 use Rattle.leg_flat.proofs.MetalAdded.{walk, walk_more}
 
 -- what belongs to something has as many shapes as are drawn
@@ -57,17 +56,6 @@ pub metal_counted : (design : DesignContents) (a b c d : ℕ) → a ≡ counted 
 unfolding metal_of
 metal_counted design a b c d first second third fourth =
     four_counted _ _ _ _ _ a b c d (four_lengths _ _ _ _) first second third fourth
-
--- the count is beyond the limit just where the number is
-pub counted_beyond : (n count : ℕ) → count ≡ counted 0 n → IsTrue (nat_lt PART_LIMIT count) ↔ PART_LIMIT < n
-counted_beyond n count is = (
-  λ beyond.
-      let more : PART_LIMIT < count = grind (arith, nat_tests, beyond) in
-      omega arith,
-  λ beyond.
-      let more : PART_LIMIT < count = omega arith in
-      grind (arith, nat_tests),
-)
 
 -- a count within the limit is of so few
 pub counted_within : (n count : ℕ) → count ≡ counted 0 n → count ≤ PART_LIMIT → n ≤ PART_LIMIT

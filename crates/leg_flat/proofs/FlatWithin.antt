@@ -4,13 +4,13 @@ use Rattle.std.specs.List.{range_with_len}
 use Rattle.std.proofs.lemmas.List.{length-map}
 use Rattle.std.proofs.lemmas.List.Elements.{All-map}
 use Rattle.std.proofs.lemmas.List.FromFn.{length-range_with_len, length-map-range_with_len}
-use Rattle.leg_lib.specs.Scale.{OneForOne}
+use Rattle.leg_cells.specs.Scale.{OneForOne}
 use Rattle.leg_block.specs.Records.{DesignContents}
 use Rattle.leg_block.specs.WellFormedNets.{HasNets}
 use Rattle.leg_flat.specs.declared.piece.Piece.{Piece}
 use Rattle.leg_flat.specs.declared.piece.Piece.TheVariants.{Term, Wire}
 use Rattle.leg_flat.specs.Nets.{regular_entry, special_entry, entry_wires, terminals_of, wires_of, pieces_of}
-use Rattle.leg_flat.specs.Places.{net_numbers}
+use Rattle.leg_flat.specs.Steps.Places.{net_numbers}
 use Rattle.leg_flat.proofs.NetSizes.{few_wires}
 use Rattle.leg_flat.proofs.MetalSizes.{terminals_few}
 

@@ -2,11 +2,11 @@
 use Rattle.std.proofs.Common.{◌≡◌, ℕ, zero, suc, ◌+◌, ◌<◌, ◌≤◌, List, [], ◌∷◌, ◌++◌, length, get_or, take, Some, slice_get, sym, ap, ◌∙◌, subst, append_assoc, add-one, add-zero, arith}
 use Rattle.std.proofs.lemmas.List.{append-nil, take_all}
 use Rattle.std.proofs.lemmas.Option.{slice_get_within, get_or_from_slice_get}
-use Rattle.leg_lib.specs.Scale.{OneForOne}
+use Rattle.leg_cells.specs.Scale.{OneForOne}
 use Rattle.leg_flat.specs.declared.shape.Shape.{Shape}
 use Rattle.leg_flat.specs.Metal.{Metal}
 use Rattle.leg_flat.specs.Flat.{IsShapeOf}
-use Rattle.leg_flat.specs.Added.{AddsMetal}
+use Rattle.leg_flat.specs.Steps.AddedMetal.{AddsMetal}
 
 pairs_both : {X Y : Type 0} (R : X → Y → Type 0) → (xs zs : List X) (ys ws : List Y) → OneForOne R xs ys → OneForOne R zs ws → OneForOne R (xs ++ zs) (ys ++ ws)
 pairs_both R [] zs [] ws p q = q

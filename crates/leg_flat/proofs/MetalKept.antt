@@ -3,15 +3,15 @@ use Rattle.std.proofs.Common.{◌≡◌, ◌↔◌, ℕ, ℤ, List, [], ◌∷�
 use Rattle.std.proofs.lemmas.Int.{ints, to_z-of_z}
 use Rattle.leg_lex.specs.Number.{IsNumber}
 use Rattle.leg_geom.specs.Plane.{Spot, Sides, HasPoint}
-use Rattle.leg_lib.specs.Measure.{Lengths, IsExtent}
+use Rattle.leg_cells.specs.Measure.{Lengths, IsExtent}
 use Rattle.leg_block.specs.declared.records.Wire.TheVariants.{Segment}
 use Rattle.leg_block.specs.Records.{DesignContents}
 use Rattle.leg_flat.specs.declared.shape.Shape.{Shape}
 use Rattle.leg_flat.specs.Outline.{HasPointOf}
 use Rattle.leg_flat.specs.Outline.Outline.{Line}
 use Rattle.leg_flat.specs.Metal.{Belonging, belonging, wire_outlines}
-use Rattle.leg_flat.specs.Bounds.{IsLineWithin}
-use Rattle.leg_flat.specs.Added.{AddsMetal}
+use Rattle.leg_flat.specs.Steps.Bounds.{IsLineWithin}
+use Rattle.leg_flat.specs.Steps.AddedMetal.{AddsMetal}
 use Rattle.leg_flat.proofs.MetalAdded.{adds_one}
 
 -- what follows where there is no refusal

@@ -1,21 +1,21 @@
 -- What is known of the metal of a well-formed design under a sound library.
-use Rattle.std.proofs.Common.{◌≡◌, ℕ, ◌*◌, ◌<◌, ℤ, List, ◌++◌, Option, None, Some, get_or, length, slice_get, All, sym, subst, arith}
+use Rattle.std.proofs.Common.{◌≡◌, ℕ, ◌*◌, ℤ, List, ◌++◌, Option, None, Some, get_or, slice_get, All, subst, arith}
 use Rattle.std.proofs.lemmas.List.Elements.{All-append}
 use Rattle.std.proofs.lemmas.Option.{slice_get_within, get_or_from_slice_get}
 use Rattle.leg_lex.specs.declared.limits.TheConstants.{NUMBER_LIMIT}
 use Rattle.leg_lex.specs.Number.{IsNumber}
 use Rattle.leg_geom.specs.Plane.{Sides}
 use Rattle.leg_geom.specs.declared.place.Place.{Place}
-use Rattle.leg_lib.specs.declared.records.Shape.{Shape}
-use Rattle.leg_lib.specs.Records.{Contents, ViaSaid}
+use Rattle.leg_cells.specs.declared.records.Shape.{Shape}
+use Rattle.leg_cells.specs.Records.{Contents, ViaSaid}
 use Rattle.leg_block.specs.declared.records.Status.{Status}
 use Rattle.leg_block.specs.declared.records.Status.TheVariants.{Unplaced, Placed, Fixed, Cover}
 use Rattle.leg_block.specs.Records.{DesignContents, PortSaid}
 use Rattle.leg_block.specs.WellFormedParts.{IsPlaced, IsArea, IsMetalShape, IsDesignVia, IsPort}
 use Rattle.leg_block.specs.WellFormed.{IsWellFormed}
-use Rattle.leg_lib.specs.Sound.{AreWithin, AreShapesWithin, IsSoundVia, IsSound}
-use Rattle.leg_flat.specs.Bounds.{IsSumWithin, IsDrawnWithin}
-use Rattle.leg_flat.specs.Added.{AreDrawnWithin, IsPlaceWithin, IsPortWithin}
+use Rattle.leg_cells.specs.Sound.{AreWithin, AreShapesWithin, IsSoundVia, IsSound}
+use Rattle.leg_flat.specs.Steps.Bounds.{IsSumWithin, IsDrawnWithin}
+use Rattle.leg_flat.specs.Steps.AddedMetal.{AreDrawnWithin, IsPlaceWithin, IsPortWithin}
 
 -- what holds of each of a list, if something holds of each from which it follows
 pub all_follow : {X : Type 0} (P Q : X → Type 0) → ((x : X) → P x → Q x) → (xs : List X) → All P xs → All Q xs
@@ -24,10 +24,6 @@ all_follow P Q follows xs all = λ k d less. follows (get_or xs k d) (all k d le
 -- what holds of each of a list holds of the one at a place
 pub all_at : {X : Type 0} (P : X → Type 0) (xs : List X) (i : ℕ) (x : X) → slice_get xs i ≡ Some x → All P xs → P x
 all_at P xs i x is all = subst P (get_or_from_slice_get xs i x x is) (all i x (slice_get_within xs i x is))
-
--- the same of an element that a loop reads
-pub all_read : {X : Type 0} (P : X → Type 0) (xs : List X) (i : ℕ) (x : X) → i < length xs → x ≡ get_or xs i x → All P xs → P x
-all_read P xs i x less is all = subst P (sym is) (all i x less)
 
 sum_of_number : (z : ℤ) → IsNumber z → IsSumWithin z
 sum_of_number z n = omega (arith, n)

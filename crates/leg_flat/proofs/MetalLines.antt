@@ -4,20 +4,19 @@ use Rattle.std.specs.Ordering.{int_eq}
 use Rattle.std.proofs.lemmas.Int.{ints}
 use Rattle.std.proofs.lemmas.Bool.Decides.{Decides-int_eq}
 use Rattle.leg_geom.specs.Plane.{Spot, halfway}
-use Rattle.leg_lib.specs.declared.records.LayerKind.{LayerKind}
-use Rattle.leg_lib.specs.declared.records.LayerKind.TheVariants.{Routing, Cut, Other}
-use Rattle.leg_lib.specs.declared.records.Layer.{Layer}
-use Rattle.leg_lib.specs.Scale.{IsEven}
-use Rattle.leg_lib.specs.Records.{Contents, ViaSaid}
+use Rattle.leg_cells.specs.declared.records.LayerKind.{LayerKind}
+use Rattle.leg_cells.specs.declared.records.LayerKind.TheVariants.{Routing, Cut, Other}
+use Rattle.leg_cells.specs.declared.records.Layer.{Layer}
+use Rattle.leg_cells.specs.Scale.{IsEven}
+use Rattle.leg_cells.specs.Records.{Contents, ViaSaid}
 use Rattle.leg_block.specs.declared.records.Wire.{Wire}
 use Rattle.leg_block.specs.declared.records.Wire.TheVariants.{Segment, ViaAt, Patch}
 use Rattle.leg_block.specs.Layers.{wire_width, width_of_layer}
-use Rattle.leg_block.specs.Wires.{is_straight, default_extension}
-use Rattle.leg_block.specs.Wires.{is_even}
+use Rattle.leg_block.specs.Wires.{is_straight, default_extension, is_even}
 use Rattle.leg_block.specs.WellFormedNets.{IsWidth, IsExtension, IsWire, written}
-use Rattle.leg_lib.specs.Sound.{HasWidth, IsSoundLayer, IsSound}
-use Rattle.leg_flat.specs.Bounds.{IsReach, IsWidthWithin}
-use Rattle.leg_flat.specs.Added.{IsWireWithin}
+use Rattle.leg_cells.specs.Sound.{HasWidth, IsSoundLayer, IsSound}
+use Rattle.leg_flat.specs.Steps.Bounds.{IsReach, IsWidthWithin}
+use Rattle.leg_flat.specs.Steps.AddedMetal.{IsWireWithin}
 use Rattle.leg_flat.proofs.MetalKnown.{all_at, drawn_of_area}
 
 -- what an equality test of numbers says

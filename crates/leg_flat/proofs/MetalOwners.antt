@@ -1,7 +1,7 @@
 -- What the metal of a terminal belongs to.
 use Rattle.std.proofs.Common.{◌≡◌, ℕ, List, Option, None, Some, slice_get, refl, subst}
 use Rattle.leg_lex.specs.Words.{◌>>=◌}
-use Rattle.leg_lib.specs.Records as library
+use Rattle.leg_cells.specs.Records as library
 use Rattle.leg_block.specs.declared.records.Component.{Component}
 use Rattle.leg_block.specs.declared.records.Terminal.{Terminal}
 use Rattle.leg_block.specs.declared.records.Terminal.TheVariants.{Comp}
@@ -9,9 +9,9 @@ use Rattle.leg_block.specs.Records.{DesignContents}
 use Rattle.leg_flat.specs.declared.owner.Owner.{Owner}
 use Rattle.leg_flat.specs.declared.owner.Owner.TheVariants.{Net}
 use Rattle.leg_flat.specs.Owner.{master_pin, owner_by_use, lone_owner, owner_of, piece_of}
-use Rattle.leg_flat.specs.Places.{NetsSaid, IsPlaceOf, AreNetsOf, place_in}
+use Rattle.leg_flat.specs.Steps.Places.{NetsSaid, IsPlaceOf, AreNetsOf, place_in}
 use Rattle.leg_flat.specs.Metal.{of_terminal}
-use Rattle.leg_flat.specs.Added.{master_of}
+use Rattle.leg_flat.specs.Steps.AddedMetal.{master_of}
 
 -- a terminal that is this piece of this net
 pub placed_belongs : (design : DesignContents) (nets : NetsSaid) (component : Option ℕ) (terminal : Terminal) (net piece : ℕ) → AreNetsOf design nets → place_in nets.placed terminal ≡ Some (net, piece) → record { owner = Net net; component = component; piece = Some piece } ≡ of_terminal design component terminal
@@ -32,7 +32,7 @@ by_master None masters master k is = cc
 by_master (Some c) masters master k is = rw is refl
 
 -- the pin of a component is that of its macro
-pub component_pin_owner : (design : DesignContents) (c k : ℕ) (master : library.MasterSaid) (pin : library.PinSaid) (lone : Owner) → master_of design c ≡ Some master → slice_get master.pins k ≡ Some pin → lone ≡ owner_by_use (Comp c k) (Some pin) → lone ≡ lone_owner design (Comp c k)
+pub component_pin_owner : (design : DesignContents) (c k : ℕ) (master : library.MasterSaid) (pin : library.MasterPinSaid) (lone : Owner) → master_of design c ≡ Some master → slice_get master.pins k ≡ Some pin → lone ≡ owner_by_use (Comp c k) (Some pin) → lone ≡ lone_owner design (Comp c k)
 component_pin_owner design c k master pin lone is at whose =
     let of : master_pin design c k ≡ slice_get master.pins k = by_master (slice_get design.components c) design.library.masters master k is in
     rw (of, at) whose

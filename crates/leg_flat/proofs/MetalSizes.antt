@@ -9,10 +9,10 @@ use Rattle.leg_block.specs.declared.records.Wire.{Wire}
 use Rattle.leg_block.specs.Terminals.{is_among}
 use Rattle.leg_block.specs.Records.{DesignContents, NetSaid}
 use Rattle.leg_block.specs.WellFormedNets.{HasNets, IsNet, IsWire}
-use Rattle.leg_lib.specs.Sound.{IsSound}
+use Rattle.leg_cells.specs.Sound.{IsSound}
 use Rattle.leg_flat.specs.Nets.{number_of_special, terminals_of, regular_entry, special_entry, entry_terminals, entry_wires}
-use Rattle.leg_flat.specs.Places.{NetsSaid, AreNetsOf}
-use Rattle.leg_flat.specs.Added.{IsWireWithin}
+use Rattle.leg_flat.specs.Steps.Places.{NetsSaid, AreNetsOf}
+use Rattle.leg_flat.specs.Steps.AddedMetal.{IsWireWithin}
 use Rattle.leg_flat.proofs.NetNumbers.{number_within}
 use Rattle.leg_flat.proofs.NetSizes.{few_of_entry, few_terminals, few_wires}
 use Rattle.leg_flat.proofs.MetalKnown.{all_at, all_follow}

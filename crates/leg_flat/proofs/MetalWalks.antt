@@ -3,9 +3,9 @@ use Rattle.std.proofs.Common.{◌≡◌, ℕ, suc, List, [], ◌∷◌, ◌++◌
 use Rattle.std.proofs.lemmas.List.{map-append}
 use Rattle.leg_geom.specs.Plane.{Spot}
 use Rattle.leg_geom.specs.declared.place.Place.{Place}
-use Rattle.leg_lib.specs.declared.records.Shape.{Shape}
-use Rattle.leg_lib.specs.Measure.{Lengths}
-use Rattle.leg_lib.specs.Records as library
+use Rattle.leg_cells.specs.declared.records.Shape.{Shape}
+use Rattle.leg_cells.specs.Measure.{Lengths}
+use Rattle.leg_cells.specs.Records as library
 use Rattle.leg_block.specs.declared.records.Component.{Component}
 use Rattle.leg_block.specs.declared.records.Terminal.TheVariants.{Comp, Pin}
 use Rattle.leg_block.specs.declared.records.Wire.{Wire}
@@ -35,10 +35,10 @@ shifted_metal at belongs k s =
 pub shifted_walk : (at : Spot) (belongs : Belonging) (shapes : List Shape) → belonging belongs (map (λ s. record { layer = s.layer; outline = Shifted at s.rect }) shapes) ≡ walk (shifted_metal at belongs) 0 shapes
 shifted_walk at belongs shapes = walk_map _ _ 0 shapes
 
-abbrev pub pin_metal : DesignContents → ℕ → Place → Lengths → ℕ → library.PinSaid → List Metal
+abbrev pub pin_metal : DesignContents → ℕ → Place → Lengths → ℕ → library.MasterPinSaid → List Metal
 pin_metal design c place size k pin = belonging (of_terminal design (Some c) (Comp c k)) (drawn place size pin.shapes)
 
-pub pins_walk : (design : DesignContents) (c : ℕ) (place : Place) (size : Lengths) (k : ℕ) (pins : List library.PinSaid) → pins_metal design c place size k pins ≡ walk (pin_metal design c place size) k pins
+pub pins_walk : (design : DesignContents) (c : ℕ) (place : Place) (size : Lengths) (k : ℕ) (pins : List library.MasterPinSaid) → pins_metal design c place size k pins ≡ walk (pin_metal design c place size) k pins
 unfolding pins_metal
 pins_walk design c place size k [] = refl
 pins_walk design c place size k (pin ∷ pins) =

@@ -1,11 +1,11 @@
 -- The metal of a design, part by part.
 use Rattle.std.proofs.Common.{List, []}
-use Rattle.leg_lib.specs.Scale.{OneForOne}
+use Rattle.leg_cells.specs.Scale.{OneForOne}
 use Rattle.leg_block.specs.Records.{DesignContents}
 use Rattle.leg_flat.specs.declared.shape.Shape.{Shape}
 use Rattle.leg_flat.specs.Metal.{components_metal, design_pins_metal, nets_metal, specials_metal, metal_of}
 use Rattle.leg_flat.specs.Flat.{IsShapeOf}
-use Rattle.leg_flat.specs.Added.{AddsMetal}
+use Rattle.leg_flat.specs.Steps.AddedMetal.{AddsMetal}
 use Rattle.leg_flat.proofs.MetalAdded.{adds_both}
 
 -- what the four parts add, from no shapes on, is the metal

@@ -5,7 +5,7 @@ use Rattle.std.proofs.lemmas.Bool.{false≢true, true≢false}
 use Rattle.std.proofs.lemmas.List.Folds.{list_any-append}
 use Rattle.std.proofs.lemmas.List.FromFn.{map-range_with_len_more}
 use Rattle.std.proofs.lemmas.Option.{slice_get_within, slice_get_past}
-use Rattle.leg_lex.specs.Named.{place_of}
+use Rattle.leg_lex.specs.NameLookup.{place_of}
 use Rattle.leg_block.specs.declared.records.Terminal.{Terminal}
 use Rattle.leg_block.specs.Terminals.{is_same_terminal, is_among}
 use Rattle.leg_block.specs.Records.{DesignContents, NetSaid, net_names}
@@ -14,8 +14,8 @@ use Rattle.leg_block.proofs.SameTerminal.{same_is, or-true}
 use Rattle.leg_flat.specs.declared.piece.Piece.{Piece}
 use Rattle.leg_flat.specs.Nets.{number_of_special, special_entry, regular_entry, entry_terminals, terminals_of, pieces_of}
 use Rattle.leg_flat.specs.Owner.{listing_place, net_of, piece_of}
-use Rattle.leg_flat.specs.Places.{NetsSaid, place_in, IsPlaceOf, AreSpecialNumbers, AreNetsOf}
-use Rattle.leg_flat.specs.PlacesBelow.{place_below}
+use Rattle.leg_flat.specs.Steps.Places.{NetsSaid, place_in, IsPlaceOf, AreSpecialNumbers, AreNetsOf}
+use Rattle.leg_flat.specs.Steps.PlacesBelow.{place_below}
 use Rattle.leg_flat.proofs.NetNumbers.{number_within}
 use Rattle.leg_flat.proofs.NetOf.{listed_at, name_place, named_at}
 use Rattle.leg_flat.proofs.PlacesAmong.{has_place, placed_among}

@@ -1,8 +1,8 @@
 -- Names of entries of nets.
 use Rattle.std.proofs.Common.{◌≡◌, ℕ, zero, suc, ◌+◌, ◌<◌, List, [], ◌∷◌, ◌++◌, length, take, get_or, None, refl, sym, ap, ◌∙◌, add-one, arith}
 use Rattle.std.proofs.lemmas.List.{get_or-map, length-map}
-use Rattle.leg_lex.specs.Named.{place_of, AreApart}
-use Rattle.leg_lex.proofs.Named.{not_yet_there}
+use Rattle.leg_lex.specs.NameLookup.{place_of, AreApart}
+use Rattle.leg_lex.proofs.NameLookup.{not_yet_there}
 use Rattle.leg_block.specs.Records.{NetSaid, net_names}
 
 -- the name of an entry isn't among those before it

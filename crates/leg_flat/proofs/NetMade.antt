@@ -12,8 +12,8 @@ use Rattle.leg_flat.specs.declared.piece.Piece.{Piece}
 use Rattle.leg_flat.specs.declared.piece.Piece.TheVariants.{Term, Wire}
 use Rattle.leg_flat.specs.Nets.{special_entry, regular_entry, entry_terminals, entry_wires, terminals_of, wires_of, pieces_of}
 use Rattle.leg_flat.specs.Owner.{place_among}
-use Rattle.leg_flat.specs.Places.{place_in}
-use Rattle.leg_flat.specs.PlacesBelow.{with_pieces, new_among, place_below, AreAdded}
+use Rattle.leg_flat.specs.Steps.Places.{place_in}
+use Rattle.leg_flat.specs.Steps.PlacesBelow.{with_pieces, new_among, place_below, ArePiecesAdded}
 use Rattle.leg_flat.proofs.PlacesAmong.{is_placed, two_pieces}
 use Rattle.leg_flat.proofs.NetTerminals.{regular_in, special_in}
 use Rattle.leg_flat.proofs.NetSizes.{few_terminals}
@@ -43,7 +43,7 @@ none_mapped f None = refl
 none_mapped f (Some k) = refl
 
 -- the first entry's terminals are the first pieces
-pub first_count : (net : ℕ) (a : List Terminal) (before after : List (Terminal × (ℕ × ℕ))) (none more : List Piece) → none ≡ [] → AreAdded net a before none after more → length more ≤ length a
+pub first_count : (net : ℕ) (a : List Terminal) (before after : List (Terminal × (ℕ × ℕ))) (none more : List Piece) → none ≡ [] → ArePiecesAdded net a before none after more → length more ≤ length a
 first_count net a before after none more empty added =
     let count : length more ≡ length none + length (map Term (new_among before a)) = ap length added.grown ∙ length-append none (map Term (new_among before a)) in
     omega (arith, count, ap length empty, length-map (new_among before a) Term, filter_shorter (λ t. is_none (place_in before t)) a)
@@ -54,7 +54,7 @@ unfolding pieces_of wires_of
 all_pieces design n v w second made is first rest grown =
     grown ∙ rw (is, first, rest, length-append (entry_wires (regular_entry design n)) (entry_wires (special_entry design n))) refl
 
-module _ (design : DesignContents) (has : HasNets design) (n : ℕ) (a b : List Terminal) (regular : a ≡ entry_terminals (regular_entry design n)) (special : b ≡ entry_terminals (special_entry design n)) (none first second : List Piece) (empty : none ≡ []) (before between after : List (Terminal × (ℕ × ℕ))) (below : (t : Terminal) → place_in before t ≡ place_below design n t) (one : AreAdded n a before none between first) (two : AreAdded n b between first after second) where
+module _ (design : DesignContents) (has : HasNets design) (n : ℕ) (a b : List Terminal) (regular : a ≡ entry_terminals (regular_entry design n)) (special : b ≡ entry_terminals (special_entry design n)) (none first second : List Piece) (empty : none ≡ []) (before between after : List (Terminal × (ℕ × ℕ))) (below : (t : Terminal) → place_in before t ≡ place_below design n t) (one : ArePiecesAdded n a before none between first) (two : ArePiecesAdded n b between first after second) where
   new_here : (t : Terminal) → is_among t a ≡ true → place_in before t ≡ None
   new_here t among =
       below t ∙ not_below design has n t (regular_in design has n t (ap (λ ts. is_among t ts) (sym regular) ∙ among))

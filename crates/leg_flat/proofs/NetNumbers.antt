@@ -4,8 +4,8 @@ use Rattle.std.proofs.lemmas.Bool.Decides.{nat_tests}
 use Rattle.std.proofs.lemmas.List.{get_or_append_left, length-map}
 use Rattle.std.proofs.lemmas.Option.{get_or_from_slice_get, slice_get-get_or}
 use Rattle.std.proofs.Math.Seq.{get_or-append_seam}
-use Rattle.leg_lex.specs.Named.{place_of}
-use Rattle.leg_lex.proofs.Named.{place_stands}
+use Rattle.leg_lex.specs.NameLookup.{place_of}
+use Rattle.leg_lex.proofs.NameLookup.{place_stands}
 use Rattle.leg_block.specs.Records.{DesignContents, NetSaid, net_names}
 use Rattle.leg_block.specs.WellFormedNets.{HasNets}
 use Rattle.leg_flat.specs.Nets.{number_of_special}

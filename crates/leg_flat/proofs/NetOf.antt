@@ -2,8 +2,8 @@
 use Rattle.std.proofs.Common.{◌≡◌, ℕ, zero, suc, ◌<◌, Bool, true, false, List, [], ◌∷◌, length, get_or, slice_get, Contains, Option, None, Some, refl, sym, ap, ◌∙◌, arith}
 use Rattle.std.proofs.lemmas.List.{get_or-map, length-map}
 use Rattle.std.proofs.lemmas.Option.{get_or_from_slice_get, slice_get_within, slice_get-get_or}
-use Rattle.leg_lex.specs.Named.{place_of, AreApart}
-use Rattle.leg_lex.proofs.Named.{place_stands}
+use Rattle.leg_lex.specs.NameLookup.{place_of, AreApart}
+use Rattle.leg_lex.proofs.NameLookup.{place_stands}
 use Rattle.leg_block.specs.declared.records.Terminal.{Terminal}
 use Rattle.leg_block.specs.Terminals.{is_among}
 use Rattle.leg_block.specs.Records.{NetSaid, net_names}

@@ -2,7 +2,7 @@
 use Rattle.std.proofs.Common.{◌≡◌, ℕ, true, ◌++◌, slice_get, Contains, Option, None, Some, refl, sym, ◌∙◌}
 use Rattle.std.proofs.lemmas.Bool.{false≢true}
 use Rattle.std.proofs.lemmas.List.Elements.{Contains-append_left, Contains-append_right}
-use Rattle.leg_lex.specs.Named.{place_of}
+use Rattle.leg_lex.specs.NameLookup.{place_of}
 use Rattle.leg_block.specs.declared.records.Terminal.{Terminal}
 use Rattle.leg_block.specs.Terminals.{is_among}
 use Rattle.leg_block.specs.Records.{DesignContents, NetSaid, net_names}

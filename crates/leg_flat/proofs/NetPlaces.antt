@@ -9,7 +9,7 @@ use Rattle.leg_block.specs.Records.{DesignContents}
 use Rattle.leg_block.specs.WellFormedNets.{HasNets}
 use Rattle.leg_flat.specs.Nets.{special_entry, regular_entry, entry_terminals, terminals_of}
 use Rattle.leg_flat.specs.Owner.{net_of, place_among}
-use Rattle.leg_flat.specs.PlacesBelow.{place_below}
+use Rattle.leg_flat.specs.Steps.PlacesBelow.{place_below}
 use Rattle.leg_flat.proofs.PlacesAmong.{placed_among}
 use Rattle.leg_flat.proofs.PlacesAdded.{among_filter}
 use Rattle.leg_flat.proofs.NetTerminals.{regular_in, special_in}

@@ -1,5 +1,5 @@
 -- No net has more terminals or wires than the entries have together.
-use Rattle.std.proofs.Common.{◌≡◌, ◌≢◌, ℕ, zero, suc, ◌+◌, ◌<◌, ◌≤◌, List, [], ◌∷◌, Bool, true, false, length, All, AllPairs, slice_get, Option, None, Some, refl, arith}
+use Rattle.std.proofs.Common.{◌≡◌, ◌≢◌, ℕ, zero, suc, ◌+◌, ◌<◌, ◌≤◌, List, [], ◌∷◌, Bool, true, length, All, AllPairs, slice_get, Option, None, Some, refl, arith}
 use Rattle.std.proofs.lemmas.Option.{slice_get_within, get_or_from_slice_get}
 use Rattle.leg_block.specs.declared.limits.TheConstants.{PART_LIMIT}
 use Rattle.leg_block.specs.declared.records.Terminal.{Terminal}
@@ -46,10 +46,6 @@ module _ (design : DesignContents) (has : HasNets design) (n : ℕ) where
   once_in : (o : Option NetSaid) → ((net : NetSaid) → o ≡ Some net → AllPairs (λ (t u : Terminal). t ≢ u) net.terminals) → AllPairs (λ (t u : Terminal). t ≢ u) (entry_terminals o)
   once_in None each = λ i j d less within. absurd (let e : ⊥ = omega arith in e)
   once_in (Some net) each = each net refl
-
-  pub once_regular : (a : List Terminal) → a ≡ entry_terminals (regular_entry design n) → AllPairs (λ (t u : Terminal). t ≢ u) a
-  once_regular a is =
-      rw is (once_in (regular_entry design n) (λ net there. (entry_is design design.nets false n net has.nets.each there).once))
 
   pub once_special : (a : List Terminal) → a ≡ entry_terminals (special_entry design n) → AllPairs (λ (t u : Terminal). t ≢ u) a
   once_special a is =

@@ -3,18 +3,19 @@ use Rattle.std.proofs.Common.{◌≡◌, ◌≢◌, ◌↔◌, ◌⊎◌, inl, i
 use Rattle.std.specs.Option.{IsSome, SomeIff}
 use Rattle.std.proofs.lemmas.Int.{ints, to_z-of_z}
 use Rattle.leg_geom.specs.Plane.{Spot, Sides, IsCoordinate, IsRect, HasPoint}
-use Rattle.leg_geom.specs.Line.{Ends, IsSpan, HasNumber}
+use Rattle.leg_geom.specs.Line.{Interval}
+use Rattle.leg_geom.specs.Steps.Intervals.{IsSpan, HasNumber}
 use Rattle.leg_flat.specs.Outline.{IsAlong, IsAcross, IsOfHorizontal, IsOfVertical}
 
-abbrev pub ends : ℤ → ℤ → Ends
+abbrev pub ends : ℤ → ℤ → Interval
 ends low high = record { low = low; high = high }
 
 -- the interval has exactly the numbers along a line
-abbrev pub RunsAlong : ℤ → ℤ → ℤ → ℤ → Ends → Type 0
+abbrev pub RunsAlong : ℤ → ℤ → ℤ → ℤ → Interval → Type 0
 RunsAlong from to ext_from ext_to s = (z : ℤ) → HasNumber s z ↔ IsAlong from to ext_from ext_to z
 
 -- the interval has exactly the numbers across a line
-abbrev pub RunsAcross : ℤ → ℤ → Ends → Type 0
+abbrev pub RunsAcross : ℤ → ℤ → Interval → Type 0
 RunsAcross line width s = (z : ℤ) → HasNumber s z ↔ IsAcross line width z
 
 pub along_up : (from to ext_from ext_to low high : ℤ) → from <ℤ to → low ≡ from -ℤ ext_from → high ≡ to +ℤ ext_to → RunsAlong from to ext_from ext_to (ends low high)
@@ -87,20 +88,20 @@ kept z v e near = grind (arith, ints, to_z-of_z)
 abbrev sides : ℤ → ℤ → ℤ → ℤ → Sides
 sides x1 y1 x2 y2 = record { x1 = x1; y1 = y1; x2 = x2; y2 = y2 }
 
-abbrev pub sides_of : Ends → Ends → Sides
+abbrev pub sides_of : Interval → Interval → Sides
 sides_of x y = sides x.low y.low x.high y.high
 
-IsRect-sides_of : (x y : Ends) → IsSpan x → IsSpan y → IsRect (sides_of x y)
+IsRect-sides_of : (x y : Interval) → IsSpan x → IsSpan y → IsRect (sides_of x y)
 IsRect-sides_of x y wide high = record { x1 = wide.low; y1 = high.low; x2 = wide.high; y2 = high.high; wide = wide.long; high = high.long }
 
 -- the same from registers
-abbrev kept_sides : Ends → Ends → Sides
+abbrev kept_sides : Interval → Interval → Sides
 kept_sides x y = sides (to_z w64 (of_z w64 x.low)) (to_z w64 (of_z w64 y.low)) (to_z w64 (of_z w64 x.high)) (to_z w64 (of_z w64 y.high))
 
 same_sides : (x1 y1 x2 y2 u1 v1 u2 v2 : ℤ) → x1 ≡ u1 → y1 ≡ v1 → x2 ≡ u2 → y2 ≡ v2 → sides x1 y1 x2 y2 ≡ sides u1 v1 u2 v2
 same_sides x1 y1 x2 y2 u1 v1 u2 v2 e f g h = cc
 
-kept_sides-is : (x y : Ends) → IsSpan x → IsSpan y → kept_sides x y ≡ sides_of x y
+kept_sides-is : (x y : Interval) → IsSpan x → IsSpan y → kept_sides x y ≡ sides_of x y
 kept_sides-is x y wide high = same_sides _ _ _ _ _ _ _ _ (kept x.low _ refl wide.low) (kept y.low _ refl high.low) (kept x.high _ refl wide.high) (kept y.high _ refl high.high)
 
 there_where : {T : Type 0} (made : Option T) (P : Type 0) (v : T) → SomeIff made P v → P → IsSome made
@@ -112,9 +113,9 @@ which None P v r says is = cc
 which (Some x) P v r says is = let same = says.1 in cc
 
 -- what is made just where the rectangle is one, is there where both intervals have length
-pub is_made : (made : Option Sides) (x y : Ends) → IsSpan x → IsSpan y → SomeIff made (IsRect (kept_sides x y)) (kept_sides x y) → IsSome made
+pub is_made : (made : Option Sides) (x y : Interval) → IsSpan x → IsSpan y → SomeIff made (IsRect (kept_sides x y)) (kept_sides x y) → IsSome made
 is_made made x y wide high says = there_where made _ _ says (rw (kept_sides-is x y wide high) (IsRect-sides_of x y wide high))
 
 -- and is that rectangle
-pub made_is : (made : Option Sides) (r : Sides) (x y : Ends) → IsSpan x → IsSpan y → SomeIff made (IsRect (kept_sides x y)) (kept_sides x y) → made ≡ Some r → r ≡ sides_of x y
+pub made_is : (made : Option Sides) (r : Sides) (x y : Interval) → IsSpan x → IsSpan y → SomeIff made (IsRect (kept_sides x y)) (kept_sides x y) → made ≡ Some r → r ≡ sides_of x y
 made_is made r x y wide high says is = which made _ _ r says is ∙ kept_sides-is x y wide high

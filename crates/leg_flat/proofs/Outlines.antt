@@ -7,7 +7,7 @@ use Rattle.leg_geom.specs.declared.orient.Orient.TheVariants.{N, S, W, E, FN, FS
 use Rattle.leg_geom.specs.Plane.{Spot, Sides, IsSpot, HasPoint}
 use Rattle.leg_geom.specs.Orientation.{placed, StaysWithin}
 use Rattle.leg_block.specs.WellFormedParts.{IsPosition}
-use Rattle.leg_flat.specs.Bounds.{IsSumWithin, IsDrawnWithin}
+use Rattle.leg_flat.specs.Steps.Bounds.{IsSumWithin, IsDrawnWithin}
 
 -- a point of sums of two numbers
 record IsPointWithin (p : Spot) : Type 0 where

@@ -4,7 +4,7 @@ use Rattle.std.specs.Map.{lookup}
 use Rattle.std.specs.HashMap.{HashMap, get_by}
 use Rattle.leg_block.specs.declared.records.Terminal.{Terminal}
 use Rattle.leg_block.specs.Terminals.{is_same_terminal}
-use Rattle.leg_flat.specs.Places.{place_in}
+use Rattle.leg_flat.specs.Steps.Places.{place_in}
 
 -- tests that agree find the same
 lookup_agrees : {K X : Type 0} (p q : K → Bool) → ((k : K) → p k ≡ q k) → (es : List (K × X)) → lookup p es ≡ lookup q es

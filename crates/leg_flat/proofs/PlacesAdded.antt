@@ -10,8 +10,8 @@ use Rattle.leg_block.proofs.SameTerminal.{same_is}
 use Rattle.leg_flat.specs.declared.piece.Piece.{Piece}
 use Rattle.leg_flat.specs.declared.piece.Piece.TheVariants.{Term}
 use Rattle.leg_flat.specs.Owner.{place_among}
-use Rattle.leg_flat.specs.Places.{place_in}
-use Rattle.leg_flat.specs.PlacesBelow.{or_else, new_among, AreAdded}
+use Rattle.leg_flat.specs.Steps.Places.{place_in}
+use Rattle.leg_flat.specs.Steps.PlacesBelow.{or_else, new_among, ArePiecesAdded}
 use Rattle.leg_flat.proofs.PlacesAmong.{none_is, no_place, one_more}
 
 -- a place that is asked for
@@ -39,7 +39,7 @@ not_before ts i t once less there =
     let it : t ≡ get_or ts j d = same_is t (get_or (take i ts) j d) same ∙ get_or-take i ts j d before in
     once j i d before less (sym it ∙ there ∙ get_or_default ts i t d less)))
 
-module _ (net : ℕ) (ts : List Terminal) (i : ℕ) (t : Terminal) (before after : List (Terminal × (ℕ × ℕ))) (pieces more : List Piece) (once : AllPairs (λ a b. a ≢ b) ts) (less : i < length ts) (there : t ≡ get_or ts i t) (added : AreAdded net (take i ts) before pieces after more) where
+module _ (net : ℕ) (ts : List Terminal) (i : ℕ) (t : Terminal) (before after : List (Terminal × (ℕ × ℕ))) (pieces more : List Piece) (once : AllPairs (λ a b. a ≢ b) ts) (less : i < length ts) (there : t ≡ get_or ts i t) (added : ArePiecesAdded net (take i ts) before pieces after more) where
   new : List Terminal
   new = new_among before (take i ts)
 
@@ -59,7 +59,7 @@ module _ (net : ℕ) (ts : List Terminal) (i : ℕ) (t : Terminal) (before after
       filter_more (λ t. is_none (place_in before t)) ts i t less ∙ rw (← there, is) refl
 
   -- a terminal that is in a net
-  pub added_skipped : is_none (place_in after t) ≡ false → AreAdded net (take (i + 1) ts) before pieces after more
+  pub added_skipped : is_none (place_in after t) ≡ false → ArePiecesAdded net (take (i + 1) ts) before pieces after more
   added_skipped some =
       let same : new_among before (take (i + 1) ts) ≡ new_among before (take i ts) = taken false (ap is_none (sym known) ∙ some) ∙ append-nil (new_among before (take i ts)) in
       record {
@@ -68,7 +68,7 @@ module _ (net : ℕ) (ts : List Terminal) (i : ℕ) (t : Terminal) (before after
       }
 
   -- a terminal that isn't
-  pub added_more : (last : List (Terminal × (ℕ × ℕ))) (longer : List Piece) → is_none (place_in after t) ≡ true → longer ≡ more ++ Term t ∷ [] → ((q : Terminal) → place_in last q ≡ cond (is_same_terminal t q) (Some (net, length more)) (place_in after q)) → AreAdded net (take (i + 1) ts) before pieces last longer
+  pub added_more : (last : List (Terminal × (ℕ × ℕ))) (longer : List Piece) → is_none (place_in after t) ≡ true → longer ≡ more ++ Term t ∷ [] → ((q : Terminal) → place_in last q ≡ cond (is_same_terminal t q) (Some (net, length more)) (place_in after q)) → ArePiecesAdded net (take (i + 1) ts) before pieces last longer
   added_more last longer none pushed updates =
       let longest : new_among before (take (i + 1) ts) ≡ new_among before (take i ts) ++ t ∷ [] = taken true (ap is_none (sym known) ∙ none) in
       let count : length more ≡ length pieces + length (new_among before (take i ts)) = ap length added.grown ∙ length-append pieces (map Term (new_among before (take i ts))) ∙ ap (λ n. length pieces + n) (length-map (new_among before (take i ts)) Term) in

@@ -5,7 +5,7 @@ use Rattle.leg_block.specs.declared.records.Terminal.{Terminal}
 use Rattle.leg_block.specs.Terminals.{is_same_terminal, is_among}
 use Rattle.leg_block.proofs.SameTerminal.{same_is, same_itself}
 use Rattle.leg_flat.specs.Owner.{place_among}
-use Rattle.leg_flat.specs.PlacesBelow.{or_else, with_pieces}
+use Rattle.leg_flat.specs.Steps.PlacesBelow.{or_else, with_pieces}
 
 -- a terminal has a place among others just where it is among them
 pub is_placed : (q : Terminal) (ts : List Terminal) → is_none (place_among q ts) ≡ not (is_among q ts)

@@ -2,7 +2,7 @@
 use Rattle.std.specs.Prelude.{◌≡◌, ◌↔◌, ◌+◌, ◌^◌, ◌<◌, ◌≤◌, List, All, length, map}
 use Rattle.std.specs.List.{range_with_len}
 use Rattle.leg_geom.specs.Plane.{Spot, HasPoint}
-use Rattle.leg_lib.specs.Scale.{OneForOne}
+use Rattle.leg_cells.specs.Scale.{OneForOne}
 use Rattle.leg_block.specs.declared.limits.TheConstants.{PART_LIMIT}
 use Rattle.leg_block.specs.Records.{DesignContents}
 use Rattle.leg_flat.specs.declared.piece.Piece.{Piece}

@@ -3,8 +3,4 @@ pub mod Owner
 pub mod Outline
 pub mod Metal
 pub mod Flat
-pub mod Bounds
-pub mod Places
-pub mod PlacesBelow
-pub mod Added
-pub mod Counted
+pub mod Steps

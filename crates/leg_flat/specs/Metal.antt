@@ -2,9 +2,9 @@
 -- "Component orientation", "Macro Pin Statement", "Macro Obstruction Statement", "Nets", "Special Nets").
 use Rattle.std.specs.Prelude.{ℕ, suc, ◌+◌, pos, List, [], ◌∷◌, ◌++◌, length, map, Option, None, Some, slice_get}
 use Rattle.leg_geom.specs.declared.place.Place.{Place}
-use Rattle.leg_lib.specs.declared.records.Shape.{Shape}
-use Rattle.leg_lib.specs.Measure.{Lengths}
-use Rattle.leg_lib.specs.Records as library
+use Rattle.leg_cells.specs.declared.records.Shape.{Shape}
+use Rattle.leg_cells.specs.Measure.{Lengths}
+use Rattle.leg_cells.specs.Records as library
 use Rattle.leg_block.specs.declared.records.Component.{Component}
 use Rattle.leg_block.specs.declared.records.Terminal.{Terminal}
 use Rattle.leg_block.specs.declared.records.Terminal.TheVariants.{Comp, Pin}
@@ -46,7 +46,7 @@ of_terminal design component terminal =
     record { owner = owner_of design terminal; component = component; piece = piece_of design terminal }
 
 -- the pins of component c, the first being number k
-unfoldable pub pins_metal : DesignContents → ℕ → Place → Lengths → ℕ → List library.PinSaid → List Metal
+unfoldable pub pins_metal : DesignContents → ℕ → Place → Lengths → ℕ → List library.MasterPinSaid → List Metal
 pins_metal design c place size k [] = []
 pins_metal design c place size k (pin ∷ pins) =
     belonging (of_terminal design (Some c) (Comp c k)) (drawn place size pin.shapes)

@@ -4,23 +4,23 @@ use Rattle.std.specs.Prelude.{◌≡◌, ◌⊎◌, ℤ, pos, ◌*◌, ◌-ℤ�
 use Rattle.leg_geom.specs.Plane.{Spot, Sides}
 use Rattle.leg_geom.specs.Orientation.{placed, moved, ComesFrom}
 use Rattle.leg_geom.specs.declared.place.Place.{Place}
-use Rattle.leg_lib.specs.Measure.{Lengths}
+use Rattle.leg_cells.specs.Measure.{Lengths}
 
 -- what metal is drawn as: a rectangle of a box of this size, which stands at a place; a line between two points, with a
--- width and how far it reaches past each; or a rectangle given from a point
+-- width and how far it reaches beyond each; or a rectangle given from a point
 pub data Outline : Type 0 where
   Drawn : Place → Lengths → Sides → Outline
   Line : Spot → Spot → ℤ → ℤ → ℤ → Outline
   Shifted : Spot → Sides → Outline
 
--- how far z lies past the end a of a line from a to b, away from b
-abbrev pub past : ℤ → ℤ → ℤ → ℤ
-past a b z = if int_lt a b then a -ℤ z else z -ℤ a
+-- how far z lies beyond the end a of a line from a to b, away from b
+abbrev pub beyond : ℤ → ℤ → ℤ → ℤ
+beyond a b z = if int_lt a b then a -ℤ z else z -ℤ a
 
--- along a line from a to b, z is past neither end by more than that end's extension
+-- along a line from a to b, z is beyond neither end by more than that end's extension
 pub record IsAlong (a b ext_a ext_b z : ℤ) : Type 0 where
-  pub from : past a b z ≤ℤ ext_a
-  pub to : past b a z ≤ℤ ext_b
+  pub from : beyond a b z ≤ℤ ext_a
+  pub to : beyond b a z ≤ℤ ext_b
 
 -- across a line, z is at most half its width away
 abbrev pub IsAcross : ℤ → ℤ → ℤ → Type 0

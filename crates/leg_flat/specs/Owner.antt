@@ -2,9 +2,9 @@
 -- component's obstructions.
 use Rattle.std.specs.Prelude.{ℕ, suc, if◌then◌else◌, List, [], ◌∷◌, Option, None, Some, option_map, slice_get}
 use Rattle.leg_lex.specs.Words.{◌>>=◌}
-use Rattle.leg_lib.specs.declared.records.Supply.{Supply}
-use Rattle.leg_lib.specs.declared.records.Supply.TheVariants.{NoSupply, Power, Ground}
-use Rattle.leg_lib.specs.Records as library
+use Rattle.leg_cells.specs.declared.records.Supply.{Supply}
+use Rattle.leg_cells.specs.declared.records.Supply.TheVariants.{NoSupply, Power, Ground}
+use Rattle.leg_cells.specs.Records as library
 use Rattle.leg_block.specs.declared.records.Terminal.{Terminal}
 use Rattle.leg_block.specs.declared.records.Terminal.TheVariants.{Comp, Pin}
 use Rattle.leg_block.specs.Terminals.{is_same_terminal, is_among}
@@ -36,14 +36,14 @@ place_among terminal (first ∷ terminals) =
     if is_same_terminal terminal first then Some 0 else option_map suc (place_among terminal terminals)
 
 -- the pin of a component's macro
-abbrev pub master_pin : DesignContents → ℕ → ℕ → Option library.PinSaid
+abbrev pub master_pin : DesignContents → ℕ → ℕ → Option library.MasterPinSaid
 master_pin design c k = do
   component ← slice_get design.components c
   master ← slice_get design.library.masters component.master
   slice_get master.pins k
 
 -- what a pin of no net supplies: lone pins of components are shared by their USE
-abbrev pub owner_by_use : Terminal → Option library.PinSaid → Owner
+abbrev pub owner_by_use : Terminal → Option library.MasterPinSaid → Owner
 owner_by_use terminal None = owners.Lone terminal
 owner_by_use terminal (Some pin) = by pin.supply where
   by : Supply → Owner

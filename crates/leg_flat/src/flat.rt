@@ -1,12 +1,12 @@
 //! Flat designs.
 
 ghost use Rattle.std.specs.Prelude.{◌≡◌, ◌↔◌, ◌<◌, ◌≤◌, length, Some, IfOk, IfErr, option_map, slice_get};
-ghost use Rattle.leg_lib.specs.Scale.{OneForOne};
-ghost use Rattle.leg_lib.specs.Sound.{IsSound};
+ghost use Rattle.leg_cells.specs.Scale.{OneForOne};
+ghost use Rattle.leg_cells.specs.Sound.{IsSound};
 ghost use Rattle.leg_block.specs.declared.limits.TheConstants.{PART_LIMIT};
 ghost use Rattle.leg_flat.specs.declared.fault.FlatFault.TheVariants.{TooMany};
 ghost use Rattle.leg_flat.specs.Metal.{metal_of};
-ghost use Rattle.leg_flat.specs.Places.{AreNetsOf};
+ghost use Rattle.leg_flat.specs.Steps.Places.{AreNetsOf};
 ghost use Rattle.leg_flat.specs.Flat.{IsShapeOf, IsFlatOf, IsWithin};
 
 use crate::fault::FlatFault;
@@ -17,7 +17,7 @@ use crate::nets::{Nets, nets_of};
 use crate::piece::Piece;
 use crate::shape::Shape;
 use leg_block::{Design, PART_LIMIT};
-use leg_lib::{Items, Library};
+use leg_cells::{Items, Library};
 use std::alloc::{AllocError, Allocator};
 use std::marker::Model;
 

@@ -4,18 +4,18 @@ ghost use Rattle.std.specs.Prelude.{◌≡◌, All, OnOk, None, Some, option_map
 ghost use Rattle.leg_block.specs.Records.{DesignContents};
 ghost use Rattle.leg_block.specs.WellFormedParts.{IsPosition};
 ghost use Rattle.leg_flat.specs.declared.owner.Owner.TheVariants.{Obs};
-ghost use Rattle.leg_lib.specs.Sound.{IsSoundMaster, IsSound};
+ghost use Rattle.leg_cells.specs.Sound.{IsSoundMaster, IsSound};
 ghost use Rattle.leg_flat.specs.Metal.{belonging, drawn, pins_metal, component_metal, components_metal, port_outlines, ports_outlines, design_pins_metal};
-ghost use Rattle.leg_flat.specs.Places.{AreNetsOf};
-ghost use Rattle.leg_flat.specs.Added.{AddsMetal, IsPlaceWithin, IsPortWithin, master_of};
+ghost use Rattle.leg_flat.specs.Steps.Places.{AreNetsOf};
+ghost use Rattle.leg_flat.specs.Steps.AddedMetal.{AddsMetal, IsPlaceWithin, IsPortWithin, master_of};
 
 use crate::metal_parts::{Belongs, add_drawn, of_component_pin, of_design_pin};
 use crate::nets::Nets;
 use crate::owner::Owner;
 use crate::shape::Shape;
 use leg_block::{Component, Design, Port};
+use leg_cells::Master;
 use leg_geom::Place;
-use leg_lib::Master;
 use std::alloc::{AllocError, Allocator};
 
 /// Adds the pins of a component of this macro.

@@ -2,16 +2,16 @@
 
 ghost use Rattle.std.specs.Prelude.{◌≡◌, ◌↔◌, ◌<◌, ℕ, length, IsTrue, slice_get};
 ghost use Rattle.leg_geom.specs.declared.place.Place.{Place};
-ghost use Rattle.leg_lib.specs.Measure.{Lengths};
+ghost use Rattle.leg_cells.specs.Measure.{Lengths};
 ghost use Rattle.leg_block.specs.Records.{DesignContents};
 ghost use Rattle.leg_block.specs.declared.limits.TheConstants.{PART_LIMIT};
 ghost use Rattle.leg_flat.specs.Metal.{wire_outlines, wires_metal, port_outlines, ports_outlines, pins_metal, component_metal, components_metal, design_pins_metal, nets_metal, specials_metal, metal_of};
-ghost use Rattle.leg_flat.specs.Counted.{counted};
+ghost use Rattle.leg_flat.specs.Steps.ShapeCount.{counted};
 
 use crate::metal::master_numbered;
 use crate::metal_wires::via_numbered;
 use leg_block::{Component, Design, Net, PART_LIMIT, Port, Wire};
-use leg_lib::MasterPin;
+use leg_cells::MasterPin;
 use std::alloc::Allocator;
 
 /// So many more. What is beyond the limit is counted as one beyond it.

@@ -2,23 +2,23 @@
 
 ghost use Rattle.std.specs.Prelude.{◌≡◌, ◌++◌, ◌∷◌, [], map, OnOk, None, Some, slice_get};
 ghost use Rattle.leg_lex.specs.Number.{IsNumber};
-ghost use Rattle.leg_lib.specs.Records as library;
+ghost use Rattle.leg_cells.specs.Records as library;
 ghost use Rattle.leg_block.specs.declared.records.Terminal.TheVariants.{Comp, Pin};
 ghost use Rattle.leg_block.specs.Records.{DesignContents};
 ghost use Rattle.leg_block.specs.WellFormedParts.{IsPosition};
 ghost use Rattle.leg_flat.specs.Outline.Outline.{Shifted};
 ghost use Rattle.leg_flat.specs.Owner.{owner_by_use, lone_owner};
 ghost use Rattle.leg_flat.specs.Metal.{belonging, drawn, of_terminal};
-ghost use Rattle.leg_flat.specs.Places.{AreNetsOf};
-ghost use Rattle.leg_flat.specs.Added.{AddsMetal, AreDrawnWithin, master_of};
+ghost use Rattle.leg_flat.specs.Steps.Places.{AreNetsOf};
+ghost use Rattle.leg_flat.specs.Steps.AddedMetal.{AddsMetal, AreDrawnWithin, master_of};
 
 use crate::nets::Nets;
 use crate::outline::{drawn_rect, shifted_rect};
 use crate::owner::Owner;
 use crate::shape::Shape;
 use leg_block::Terminal;
+use leg_cells::Supply;
 use leg_geom::{Place, Point, Rect};
-use leg_lib::Supply;
 use std::alloc::{AllocError, Allocator};
 use std::marker::Model;
 
@@ -42,7 +42,7 @@ impl Model for Belongs {
 
 /// Whose a pin of a component is that is in no net.
 fn owner_by_use(terminal: Terminal, supply: Supply) -> Owner
-    ensures { (pin : library.PinSaid) → pin.supply ≡ supply → result ≡ owner_by_use terminal (Some pin) }
+    ensures { (pin : library.MasterPinSaid) → pin.supply ≡ supply → result ≡ owner_by_use terminal (Some pin) }
 {
     match supply {
         Supply::NoSupply => Owner::Lone(terminal),
@@ -82,7 +82,7 @@ pub(crate) fn of_component_pin<A: Allocator + Copy>(
     pin: usize,
     supply: Supply,
 ) -> Belongs
-    ensures { (design : DesignContents) (master : library.MasterSaid) (said : library.PinSaid) → AreNetsOf design nets.now
+    ensures { (design : DesignContents) (master : library.MasterSaid) (said : library.MasterPinSaid) → AreNetsOf design nets.now
         → master_of design component ≡ Some master → slice_get master.pins pin ≡ Some said → said.supply ≡ supply
         → result ≡ of_terminal design (Some component) (Comp component pin) }
 {
@@ -124,7 +124,7 @@ pub(crate) fn add_drawn<A: Allocator + Copy>(
     place: &Place,
     width: i64,
     height: i64,
-    box_shapes: &[leg_lib::Shape],
+    box_shapes: &[leg_cells::Shape],
     belongs: &Belongs,
 ) -> Result<(), AllocError>
     requires at { IsPosition place.now.at }
@@ -144,7 +144,7 @@ pub(crate) fn add_drawn<A: Allocator + Copy>(
 pub(crate) fn add_shifted<A: Allocator + Copy>(
     shapes: &mut Vec<Shape, A>,
     at: &Point,
-    point_shapes: &[leg_lib::Shape],
+    point_shapes: &[leg_cells::Shape],
     belongs: &Belongs,
 ) -> Result<(), AllocError>
     requires at { IsPosition at.now }

@@ -4,11 +4,11 @@ ghost use Rattle.std.specs.Prelude.{◌≡◌, ◌+◌, ◌++◌, ◌<◌, ◌^�
 ghost use Rattle.leg_block.specs.declared.records.Wire.TheVariants.{ViaAt};
 ghost use Rattle.leg_block.specs.WellFormed.{IsWellFormed};
 ghost use Rattle.leg_block.specs.WellFormedParts.{IsPosition};
-ghost use Rattle.leg_lib.specs.Sound.{IsSound};
+ghost use Rattle.leg_cells.specs.Sound.{IsSound};
 ghost use Rattle.leg_flat.specs.Metal.{belonging, wire_outlines, wires_metal, nets_metal, specials_metal};
 ghost use Rattle.leg_flat.specs.Nets.{entry_wires, regular_entry};
-ghost use Rattle.leg_flat.specs.Places.{AreNetsOf};
-ghost use Rattle.leg_flat.specs.Added.{AddsMetal, IsWireWithin};
+ghost use Rattle.leg_flat.specs.Steps.Places.{AreNetsOf};
+ghost use Rattle.leg_flat.specs.Steps.AddedMetal.{AddsMetal, IsWireWithin};
 
 use crate::metal_parts::{Belongs, add_shape, add_shifted};
 use crate::nets::Nets;
@@ -16,8 +16,8 @@ use crate::outline::{line_rect, shifted_rect};
 use crate::owner::Owner;
 use crate::shape::Shape;
 use leg_block::{Design, Wire};
+use leg_cells::Via;
 use leg_geom::Point;
-use leg_lib::Via;
 use std::alloc::{AllocError, Allocator};
 
 /// The via of this number: those of the library count first.

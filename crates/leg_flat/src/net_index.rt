@@ -1,7 +1,7 @@
 //! The entries of a net in both sections of a design.
 
 ghost use Rattle.std.specs.Prelude.{◌≡◌, ◌<◌, length, option_map, IfOk};
-ghost use Rattle.leg_lex.specs.Named.{AreApart};
+ghost use Rattle.leg_lex.specs.NameLookup.{AreApart};
 ghost use Rattle.leg_block.specs.Records.{net_names};
 ghost use Rattle.leg_block.specs.WellFormedNets.{HasNets};
 ghost use Rattle.leg_flat.specs.Nets.{number_of_special, regular_entry, special_named, special_alone, special_entry};

@@ -5,14 +5,14 @@ ghost use Rattle.std.specs.List.{range_with_len};
 ghost use Rattle.leg_block.specs.declared.records.Terminal.{Terminal};
 ghost use Rattle.leg_flat.specs.declared.piece.Piece.TheVariants.{Term, Wire};
 ghost use Rattle.leg_flat.specs.Nets.{entry_terminals, entry_wires, terminals_of, pieces_of};
-ghost use Rattle.leg_flat.specs.Places.{AreSpecialNumbers, AreNetsOf, place_in};
-ghost use Rattle.leg_flat.specs.PlacesBelow.{place_below, AreAdded};
+ghost use Rattle.leg_flat.specs.Steps.Places.{AreSpecialNumbers, AreNetsOf, place_in};
+ghost use Rattle.leg_flat.specs.Steps.PlacesBelow.{place_below, ArePiecesAdded};
 
 use crate::net_index::NetIndex;
 use crate::piece::Piece;
 use crate::piece_numbers::PieceNumbers;
 use leg_block::{Design, Net, Terminal};
-use leg_lib::Items;
+use leg_cells::Items;
 use std::alloc::{AllocError, Allocator};
 use std::marker::Model;
 
@@ -27,7 +27,7 @@ pub(crate) struct Nets<A: Allocator + Copy> {
 }
 
 impl<A: Allocator + Copy> Model for Nets<A> {
-    ghost use Rattle.leg_flat.specs.Places.{NetsSaid};
+    ghost use Rattle.leg_flat.specs.Steps.Places.{NetsSaid};
 
     ghost Value = { NetsSaid };
 
@@ -89,7 +89,7 @@ fn add_terminals<A: Allocator + Copy>(
 ) -> Result<(), AllocError>
     requires once { AllPairs (λ t u. t ≢ u) terminals.now }
     requires few { length pieces.old.items + length terminals.now < 2 ^ 32 }
-    ensures { OnOk result (AreAdded net terminals.now places.old pieces.old.items places.new pieces.new.items) }
+    ensures { OnOk result (ArePiecesAdded net terminals.now places.old pieces.old.items places.new pieces.new.items) }
 {
     for terminal in terminals {
         if places.place_of(terminal).is_none() {

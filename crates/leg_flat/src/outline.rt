@@ -3,11 +3,11 @@
 ghost use Rattle.std.specs.Prelude.{◌≢◌, ◌↔◌, ℤ};
 ghost use Rattle.leg_lex.specs.Number.{IsNumber};
 ghost use Rattle.leg_geom.specs.Plane.{Spot, IsRect, HasPoint};
-ghost use Rattle.leg_geom.specs.Line.{IsSpan, HasNumber};
+ghost use Rattle.leg_geom.specs.Steps.Intervals.{IsSpan, HasNumber};
 ghost use Rattle.leg_block.specs.WellFormedParts.{IsPosition};
 ghost use Rattle.leg_flat.specs.Outline.{IsAlong, IsAcross, HasPointOf};
 ghost use Rattle.leg_flat.specs.Outline.Outline.{Drawn, Line, Shifted};
-ghost use Rattle.leg_flat.specs.Bounds.{IsReach, IsWidthWithin, IsLineWithin, IsDrawnWithin};
+ghost use Rattle.leg_flat.specs.Steps.Bounds.{IsReach, IsWidthWithin, IsLineWithin, IsDrawnWithin};
 
 use leg_geom::{Orient, Place, Point, Rect};
 

@@ -3,7 +3,7 @@
 ghost use Rattle.std.specs.Prelude.{◌≡◌, cond, None, Some, OnOk};
 ghost use Rattle.leg_block.specs.declared.records.Terminal.{Terminal};
 ghost use Rattle.leg_block.specs.Terminals.{is_same_terminal};
-ghost use Rattle.leg_flat.specs.Places.{place_in};
+ghost use Rattle.leg_flat.specs.Steps.Places.{place_in};
 
 use leg_block::Terminal;
 use std::alloc::{AllocError, Allocator};

@@ -2,14 +2,15 @@
 use Rattle.std.proofs.Common.{◌↔◌, ℕ, arith}
 use Rattle.std.proofs.lemmas.Int.{ints}
 use Rattle.leg_geom.specs.Plane.{Sides, IsRect, ShareCell, SharePoint, HasAllPoints}
-use Rattle.leg_geom.specs.Line.{Ends, IsSpan, ShareNumber, ShareStep, HasAllNumbers, IsGap}
+use Rattle.leg_geom.specs.Line.{Interval}
+use Rattle.leg_geom.specs.Steps.Intervals.{IsSpan, ShareNumber, ShareStep, HasAllNumbers, IsGap}
 use Rattle.leg_geom.specs.Gap.{IsXGap, IsYGap}
 
 -- a rectangle along each axis
-abbrev pub x_ends : Sides → Ends
+abbrev pub x_ends : Sides → Interval
 x_ends r = record { low = r.x1; high = r.x2 }
 
-abbrev pub y_ends : Sides → Ends
+abbrev pub y_ends : Sides → Interval
 y_ends r = record { low = r.y1; high = r.y2 }
 
 pub IsSpan-x_ends : (r : Sides) → IsRect r → IsSpan (x_ends r)

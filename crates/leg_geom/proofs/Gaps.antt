@@ -1,5 +1,5 @@
 -- What rules over pairs of rectangles need to know of cells and gaps.
-use Rattle.std.proofs.Common.{◌≡◌, ℕ, ◌+◌, ◌*◌, ◌<◌, ◌≤◌, ℤ, ◌≤ℤ◌, inl, inr, refl, arith}
+use Rattle.std.proofs.Common.{◌≡◌, ℕ, ◌+◌, ◌*◌, ◌<◌, ◌≤◌, ℤ, inl, inr, refl, arith}
 use Rattle.std.proofs.lemmas.Int.{ints}
 use Rattle.std.proofs.lemmas.Nat.{mul-le}
 use Rattle.std.proofs.lemmas.Bool.{cases_lt}
@@ -45,16 +45,6 @@ square_distance-symmetric p q = rw (apart-symmetric p.x q.x, apart-symmetric p.y
 pub less_from_squares : (a n more : ℕ) → a * a + more < n * n → a < n
 less_from_squares a n more less =
     elim (cases_lt a n) [ inl below ↦ below | inr above ↦ absurd (omega (arith, less, mul-le _ _ _ _ above above)) ]
-
-pub x_gap-symmetric : (a b : Sides) → IsRect a → IsRect b → x_gap a b ≡ x_gap b a
-x_gap-symmetric a b ra rb = grind (arith, ints)
-
-pub y_gap-symmetric : (a b : Sides) → IsRect a → IsRect b → y_gap a b ≡ y_gap b a
-y_gap-symmetric a b ra rb = grind (arith, ints)
-
--- the gap from a rectangle grows with the left edge of the other
-pub x_gap-grows : (a b c : Sides) → IsRect b → a.x1 ≤ℤ b.x1 → b.x1 ≤ℤ c.x1 → x_gap a b ≤ x_gap a c
-x_gap-grows a b c rb h k = grind (arith, ints)
 
 -- the gaps are the least differences of the points' coordinates
 pub IsXGap-x_gap : (a b : Sides) → IsRect a → IsRect b → IsXGap a b (x_gap a b)

@@ -4,23 +4,24 @@ use Rattle.std.proofs.lemmas.Int.{ints}
 use Rattle.leg_geom.specs.declared.orient.Orient.{Orient}
 use Rattle.leg_geom.specs.declared.orient.Orient.TheVariants.{N, S, W, E, FN, FS, FW, FE}
 use Rattle.leg_geom.specs.Plane.{Spot, Sides, IsRect}
-use Rattle.leg_geom.specs.Line.{Ends, IsSpan, HasNumber, between}
+use Rattle.leg_geom.specs.Line.{Interval, between}
+use Rattle.leg_geom.specs.Steps.Intervals.{IsSpan, HasNumber}
 use Rattle.leg_geom.specs.Orientation.{turned, placed, IsImage, opposite, placed_rect}
 use Rattle.leg_geom.proofs.Axes.{x_ends, y_ends, IsSpan-x_ends, IsSpan-y_ends}
 use Rattle.leg_geom.proofs.Corners.{same_sides}
 use Rattle.leg_geom.proofs.Points.{spot, same_spot}
 
 -- the map takes some number of the interval to this one
-record FromNumber (map : ℤ → ℤ) (s : Ends) (z : ℤ) : Type 0 where
+record FromNumber (map : ℤ → ℤ) (s : Interval) (z : ℤ) : Type 0 where
   pub from : ℤ
   pub in_s : HasNumber s from
   pub is : map from ≡ z
 
 -- the numbers of the second interval are exactly those to which the map takes a number of the first
-abbrev Carries : (ℤ → ℤ) → Ends → Ends → Type 0
+abbrev Carries : (ℤ → ℤ) → Interval → Interval → Type 0
 Carries map s t = (z : ℤ) → HasNumber t z ↔ FromNumber map s z
 
-Carries-moved : (by : ℤ) (s : Ends) → IsSpan s → Carries (λ z. by +ℤ z) s (between (by +ℤ s.low) (by +ℤ s.high))
+Carries-moved : (by : ℤ) (s : Interval) → IsSpan s → Carries (λ z. by +ℤ z) s (between (by +ℤ s.low) (by +ℤ s.high))
 Carries-moved by s p z = (
   λ m.
       let above = m.above in
@@ -33,7 +34,7 @@ Carries-moved by s p z = (
       record { above = grind (arith, ints); below = grind (arith, ints) },
 )
 
-Carries-mirrored : (by size : ℤ) (s : Ends) → IsSpan s → Carries (λ z. by +ℤ (size -ℤ z)) s (between (by +ℤ (size -ℤ s.low)) (by +ℤ (size -ℤ s.high)))
+Carries-mirrored : (by size : ℤ) (s : Interval) → IsSpan s → Carries (λ z. by +ℤ (size -ℤ z)) s (between (by +ℤ (size -ℤ s.low)) (by +ℤ (size -ℤ s.high)))
 Carries-mirrored by size s p z = (
   λ m.
       let above = m.above in
@@ -111,5 +112,5 @@ IsImage-placed_rect at FE w h r p = IsImage-crossed _ _ _ _ (Carries-mirrored at
 -- the same rectangle, from corners and images that are named
 pub placed_rect-corners : (o : Orient) (at : Spot) (w h : ℤ) (r s : Sides) (low high p q : Spot) → low ≡ spot r.x1 r.y1 → high ≡ spot r.x2 r.y2 → p ≡ placed at o w h low → q ≡ placed at o w h high → x_ends s ≡ between p.x q.x → y_ends s ≡ between p.y q.y → s ≡ placed_rect at o w h r
 placed_rect-corners o at w h r s low high p q el eh ep eq ex ey =
-    let e : s ≡ opposite p q = same_sides _ _ _ _ _ _ _ _ (ap (λ (e : Ends). e.low) ex) (ap (λ (e : Ends). e.low) ey) (ap (λ (e : Ends). e.high) ex) (ap (λ (e : Ends). e.high) ey) in
+    let e : s ≡ opposite p q = same_sides _ _ _ _ _ _ _ _ (ap (λ (e : Interval). e.low) ex) (ap (λ (e : Interval). e.low) ey) (ap (λ (e : Interval). e.high) ex) (ap (λ (e : Interval). e.high) ey) in
     rw (e, ep, eq, el, eh) refl

@@ -1,7 +1,11 @@
+-- Points and intervals
 mod Points
 mod Intervals
 mod Axes
+-- Rectangles by their points
 mod Corners
 mod Touching
+-- Turned and moved rectangles
 mod Images
+-- What the proofs of other crates cite
 pub mod Gaps

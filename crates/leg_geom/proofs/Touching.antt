@@ -2,7 +2,7 @@
 use Rattle.std.proofs.Common.{◌≡◌, ◌≢◌, pos, ◌<ℤ◌, ◌+ℤ◌, ◌⊎◌, inl, inr, ap, arith}
 use Rattle.std.proofs.lemmas.Int.{ints, by_lt_z}
 use Rattle.leg_geom.specs.Plane.{Spot, Sides, HasPoint, SharePoint, ShareTwoPoints}
-use Rattle.leg_geom.specs.Line.{HasNumber, ShareStep}
+use Rattle.leg_geom.specs.Steps.Intervals.{HasNumber, ShareStep}
 use Rattle.leg_geom.proofs.Points.{spot, same_spot}
 use Rattle.leg_geom.proofs.Axes.{x_ends, y_ends}
 use Rattle.leg_geom.proofs.Intervals.{ShareStep-numbers}

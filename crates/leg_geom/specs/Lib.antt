@@ -2,3 +2,4 @@ pub mod Plane
 pub mod Gap
 pub mod Line
 pub mod Orientation
+pub mod Steps

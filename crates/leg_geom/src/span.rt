@@ -1,7 +1,8 @@
 //! An interval of whole numbers: a rectangle along one axis.
 
 ghost use Rattle.std.specs.Prelude.{◌≡◌, ◌↔◌, ◌≤◌, ◌*◌, ◌≢◌, IsTrue, SomeIff};
-ghost use Rattle.leg_geom.specs.Line.{IsSpan, ShareNumber, ShareStep, HasAllNumbers, IsGap, between};
+ghost use Rattle.leg_geom.specs.Line.{between};
+ghost use Rattle.leg_geom.specs.Steps.Intervals.{IsSpan, ShareNumber, ShareStep, HasAllNumbers, IsGap};
 ghost use Rattle.leg_geom.specs.Gap.{gap_between};
 ghost use Rattle.leg_geom.specs.Plane.{IsCoordinate, IsHalfway, halfway};
 
@@ -16,9 +17,10 @@ pub(crate) struct Span {
 }
 
 impl Model for Span {
-    ghost use Rattle.leg_geom.specs.Line.{Ends, IsSpan};
+    ghost use Rattle.leg_geom.specs.Line.{Interval};
+    ghost use Rattle.leg_geom.specs.Steps.Intervals.{IsSpan};
 
-    ghost Value = { Ends };
+    ghost Value = { Interval };
 
     ghost view = { λ s. record { low = s.low; high = s.high } };
 

@@ -1,14 +1,21 @@
-pub mod Runs
-pub mod Quotes
-pub mod LineFeeds
-pub mod Cuts
-pub mod OneWord
-pub mod TextWords
-pub mod Digits
-pub mod Points
-pub mod Decimals
-pub mod Exact
-pub mod Units
+-- Cutting a text into words
+mod Runs
+mod Quotes
+mod LineFeeds
+mod Cuts
+mod OneWord
+mod TextWords
+-- Numbers
+mod Digits
+mod Points
+mod Decimals
+mod Exact
+mod Units
+-- Loops over words
+mod Skipped
+mod Marks
+mod Asked
+-- What the proofs of other crates cite
 pub mod Said
 pub mod Gives
 pub mod Until
@@ -16,9 +23,6 @@ pub mod Over
 pub mod Shorter
 pub mod Keywords
 pub mod Passed
-pub mod Skipped
-pub mod Marks
 pub mod Statements
-pub mod Asked
-pub mod Named
+pub mod NameLookup
 pub mod Saying

@@ -1,8 +1,7 @@
 -- A list, of which each element is taken in turn: what a loop over it needs. The element is given as its
 -- own default, as a loop knows it.
-use Rattle.std.proofs.Common.{◌≡◌, ℕ, ◌+◌, ◌<◌, ◌≤◌, List, [], ◌∷◌, ◌++◌, length, get_or, drop, Option, None, Some, refl, sym, ap, ◌∙◌}
+use Rattle.std.proofs.Common.{◌≡◌, ℕ, ◌+◌, ◌<◌, ◌≤◌, List, [], ◌∷◌, length, get_or, drop, Option, None, Some, refl, sym, ap, ◌∙◌}
 use Rattle.std.proofs.lemmas.List.{drop_more, drop_all}
-use Rattle.leg_lex.specs.Words.{◌>>=◌}
 use Rattle.leg_lex.specs.Until.{over}
 
 -- An element is the first of those from its place on.
@@ -24,15 +23,6 @@ module _ {S X : Type 0} (step : S → X → Option S) where
   pub over_fails : (made : S) (xs : List X) (i : ℕ) (x : X) → i < length xs → x ≡ get_or xs i x → step made x ≡ None → over step made (drop i xs) ≡ None
   unfolding over
   over_fails made xs i x less is said = rw (at_front xs i x less is, said) refl
-
-  -- The elements of two lists in turn.
-  pub over-append : (made : S) (xs ys : List X) → over step made (xs ++ ys) ≡ (over step made xs >>= λ next. over step next ys)
-  unfolding over
-  over-append made [] ys = refl
-  over-append made (x ∷ xs) ys = by (λ next. over-append next xs ys) (step made x) refl where
-    by : ((next : S) → over step next (xs ++ ys) ≡ (over step next xs >>= λ last. over step last ys)) → (said : Option S) → step made x ≡ said → over step made (x ∷ xs ++ ys) ≡ (over step made (x ∷ xs) >>= λ next. over step next ys)
-    by rest None is = rw is refl
-    by rest (Some next) is = rw is (rest next)
 
   -- What each element keeps, all of them keep.
   pub over_keeps : (P : S → Type 0) → ((made : S) (x : X) (next : S) → P made → step made x ≡ Some next → P next) → (made : S) (xs : List X) (last : S) → P made → over step made xs ≡ Some last → P last

@@ -1,8 +1,8 @@
 -- Each form of one word or more takes a word.
 use Rattle.std.proofs.Common.{ℕ, ◌<◌, List, [], ◌∷◌, length, Result, Ok, Err, ℤ, codes, arith}
 use Rattle.std.specs.Str.{bytes_eq}
-use Rattle.leg_lex.specs.Number.{whole_of, micron_of}
-use Rattle.leg_lex.specs.Words.{Words, is_keyword, is_name, is_word, next_at, keyword_at, mark_at, name_at, word_at, said_number, whole_at, length_at, end_at, end_of}
+use Rattle.leg_lex.specs.Number.{whole_of}
+use Rattle.leg_lex.specs.Words.{Words, is_keyword, is_name, is_word, next_at, keyword_at, mark_at, name_at, word_at, said_number, whole_at, end_at, end_of}
 use Rattle.leg_lex.proofs.Until.{Below, below_none, below_some, below_bind, below_if, below_more}
 
 pub next_below : (words : Words) → Below (length words) (next_at words)
@@ -39,11 +39,6 @@ pub whole_below : (words : Words) → Below (length words) (whole_at words)
 unfolding whole_at
 whole_below words =
     below_bind (omega arith) (next_below words) (λ next less. said_number_below (whole_of next.0) next.1 less)
-
-pub length_below : (words : Words) → Below (length words) (length_at words)
-unfolding length_at
-length_below words =
-    below_bind (omega arith) (next_below words) (λ next less. said_number_below (micron_of next.0) next.1 less)
 
 pub end_of_below : (name : List ℕ) (words : Words) → Below (length words) (end_of name words)
 unfolding end_of

@@ -6,5 +6,5 @@ pub mod Words
 pub mod Until
 pub mod Statements
 pub mod Past
-pub mod Named
+pub mod NameLookup
 pub mod Say

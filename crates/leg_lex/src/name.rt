@@ -4,7 +4,7 @@ ghost use Rattle.std.specs.Prelude.{◌≡◌, ◌∷◌, ◌++◌, [], length, 
 ghost use Rattle.std.specs.Str.{bytes_eq};
 ghost use Rattle.std.specs.Cmp.{partial_equiv_from_equiv};
 ghost use Rattle.std.specs.Cmp.Lexicographic.{nat_list_eq_equiv};
-ghost use Rattle.leg_lex.specs.Named.{place_of};
+ghost use Rattle.leg_lex.specs.NameLookup.{place_of};
 
 use std::alloc::{AllocError, Allocator};
 use std::collections::HashMap;
@@ -63,7 +63,7 @@ impl<'a, A: Allocator> Model for Names<'a, A> {
     ghost use Rattle.std.specs.Prelude.{◌≡◌, List, ℕ};
     ghost use Rattle.std.specs.Str.{bytes_eq};
     ghost use Rattle.std.specs.HashMap.{get_by};
-    ghost use Rattle.leg_lex.specs.Named.{place_of, AreApart};
+    ghost use Rattle.leg_lex.specs.NameLookup.{place_of, AreApart};
 
     ghost Value = { List (List ℕ) };
 
@@ -111,7 +111,7 @@ impl<'a, A: Allocator + Copy> Names<'a, A> {
     }
 
     /// The same names, with an index of their own.
-    #[tactic(auto, using(crate::proofs::Named::not_yet_there))]
+    #[tactic(auto, using(crate::proofs::NameLookup::not_yet_there))]
     pub fn again(&self, alloc: A) -> Result<Names<'a, A>, AllocError>
         ensures { IfOk result (λ names. names ≡ self.now) }
     {

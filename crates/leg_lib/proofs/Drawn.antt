@@ -7,7 +7,7 @@ use Rattle.leg_lex.proofs.Said.{rest_is}
 use Rattle.leg_lex.proofs.Shorter.{word_below}
 use Rattle.leg_lex.proofs.Statements.{statements_below}
 use Rattle.leg_lex.proofs.Until.{Below, below_some, below_bind, below_ask}
-use Rattle.leg_lib.specs.Records.{RawContents}
+use Rattle.leg_cells.specs.Records.{RawContents}
 use Rattle.leg_lib.specs.Geometry.{says_nothing, nothing_drawn, geometry_part, geometry_at}
 
 -- one more word that says nothing

@@ -7,8 +7,8 @@ use Rattle.leg_lex.proofs.Until.{Below, Shortens, below_some, below_bind, below_
 use Rattle.leg_lex.proofs.Shorter.{next_below, keyword_below, name_below, end_below, end_of_below}
 use Rattle.leg_lex.proofs.Statements.{statement_below}
 use Rattle.leg_lex.proofs.Passed.{past_below}
-use Rattle.leg_lib.specs.Records.{RawContents}
-use Rattle.leg_lib.specs.Form.{past_named, past_section, past_extension, past_statement, past_form, form_at, at_last}
+use Rattle.leg_cells.specs.Records.{RawContents}
+use Rattle.leg_lib.specs.Form.{past_named, past_lef_section, past_lef_extension, past_statement, past_lef_form, lef_form_at, at_last}
 use Rattle.leg_lib.proofs.Layers.{with_layer_below}
 use Rattle.leg_lib.proofs.Vias.{with_via_below}
 use Rattle.leg_lib.proofs.Sites.{with_site_below}
@@ -21,14 +21,14 @@ past_named_below words =
     below_bind (omega arith) (name_below start.1) (λ name fewer.
     below_more (omega arith) (past_below (end_of name.0) (end_of_below name.0) name.1)))
 
-past_section_below : (keyword : List ℕ) (words : Words) → Below (length words) (past_section keyword words)
-unfolding past_section
+past_section_below : (keyword : List ℕ) (words : Words) → Below (length words) (past_lef_section keyword words)
+unfolding past_lef_section
 past_section_below keyword words =
     below_bind (omega arith) (keyword_below keyword words) (λ start less.
     below_more (omega arith) (past_below (end_at keyword) (end_below keyword) start.1))
 
-past_extension_below : (words : Words) → Below (length words) (past_extension words)
-unfolding past_extension
+past_extension_below : (words : Words) → Below (length words) (past_lef_extension words)
+unfolding past_lef_extension
 past_extension_below words =
     below_bind (omega arith) (keyword_below (codes "BEGINEXT") words) (λ start less.
     below_more (omega arith) (past_below (keyword_at (codes "ENDEXT")) (keyword_below (codes "ENDEXT")) start.1))
@@ -38,8 +38,8 @@ unfolding past_statement
 past_statement_below words =
     below_bind (omega arith) (statement_below words) (λ statement less. below_some tt statement.1 less)
 
-pub past_form_below : (words : Words) → Below (length words) (past_form words)
-unfolding past_form
+pub past_form_below : (words : Words) → Below (length words) (past_lef_form words)
+unfolding past_lef_form
 past_form_below words =
     below_if (is_at (codes "VIARULE") words || is_at (codes "NONDEFAULTRULE") words) (past_named_below words)
     (below_if (is_at (codes "UNITS") words) (past_section_below (codes "UNITS") words)
@@ -48,8 +48,8 @@ past_form_below words =
     (below_if (is_at (codes "BEGINEXT") words) (past_extension_below words)
     (past_statement_below words)))))
 
-pub form_shortens : Shortens form_at
-unfolding form_at
+pub form_shortens : Shortens lef_form_at
+unfolding lef_form_at
 form_shortens library words =
     below_if (is_at (codes "LAYER") words) (with_layer_below library words)
     (below_if (is_at (codes "VIA") words) (with_via_below library words)
@@ -57,7 +57,7 @@ form_shortens library words =
     (below_if (is_at (codes "MACRO") words) (with_macro_below library words)
     (below_bind (omega arith) (past_form_below words) (λ form less. below_some library form.1 less)))))
 
-pub form_shorter : (library next : RawContents) (words rest : Words) → form_at library words ≡ Some (next, rest) → length rest < length words
+pub form_shorter : (library next : RawContents) (words rest : Words) → lef_form_at library words ≡ Some (next, rest) → length rest < length words
 form_shorter library next words rest said = (form_shortens library words).left next rest said
 
 -- where another form stands
@@ -74,14 +74,14 @@ last_at_word [] there = refl
 last_at_word (word ∷ words) there = there
 
 -- one more form
-pub forms_on : (library next : RawContents) (words rest : Words) → form_at library words ≡ Some (next, rest) → at_last words ≡ false → until at_last form_at library words ≡ until at_last form_at next rest
+pub forms_on : (library next : RawContents) (words rest : Words) → lef_form_at library words ≡ Some (next, rest) → at_last words ≡ false → until at_last lef_form_at library words ≡ until at_last lef_form_at next rest
 forms_on library next words rest said more =
-    loops.goes_on at_last form_at form_shortens library next words rest more said
+    loops.goes_on at_last lef_form_at form_shortens library next words rest more said
 
 -- no more forms
-pub forms_end : (library : RawContents) (words : Words) → at_last words ≡ true → until at_last form_at library words ≡ Some (library, words)
-forms_end library words stops = loops.ends at_last form_at library words stops
+pub forms_end : (library : RawContents) (words : Words) → at_last words ≡ true → until at_last lef_form_at library words ≡ Some (library, words)
+forms_end library words stops = loops.ends at_last lef_form_at library words stops
 
 -- what stands there is no form
-pub forms_fail : (library : RawContents) (words : Words) → form_at library words ≡ None → at_last words ≡ false → until at_last form_at library words ≡ None
-forms_fail library words said more = loops.fails at_last form_at library words more said
+pub forms_fail : (library : RawContents) (words : Words) → lef_form_at library words ≡ None → at_last words ≡ false → until at_last lef_form_at library words ≡ None
+forms_fail library words said more = loops.fails at_last lef_form_at library words more said

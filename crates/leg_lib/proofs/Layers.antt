@@ -4,11 +4,11 @@ use Rattle.std.specs.List.{find, after_first}
 use Rattle.std.proofs.lemmas.List.{drop_more, drop_all}
 use Rattle.std.proofs.lemmas.Bool.{false≢true}
 use Rattle.leg_lex.specs.Words.{Words, is_keyword, is_at}
-use Rattle.leg_lex.specs.Named.{place_of}
+use Rattle.leg_lex.specs.NameLookup.{place_of}
 use Rattle.leg_lex.proofs.Until.{Below, below_none, below_some, below_bind, below_ask, below_if}
 use Rattle.leg_lex.proofs.Shorter.{keyword_below, name_below, end_of_below}
 use Rattle.leg_lex.proofs.Statements.{statements_below}
-use Rattle.leg_lib.specs.Records.{RawContents, raw_layer_names}
+use Rattle.leg_cells.specs.Records.{RawContents, raw_layer_names}
 use Rattle.leg_lib.specs.Layer.{has_one_word, is_table, kind_in, spacing_of, layer_at, with_layer}
 
 -- a statement of two words has one word after its keyword

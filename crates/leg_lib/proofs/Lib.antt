@@ -1,12 +1,12 @@
-pub mod Layers
-pub mod Drawn
-pub mod Joined
-pub mod Vias
-pub mod Pins
-pub mod Sites
-pub mod MacroForms
-pub mod Forms
-pub mod Readings
-pub mod Scaled
-pub mod Same
-pub mod Sound
+-- The forms of a text
+mod Layers
+mod SoundLayers
+mod Vias
+mod Sites
+mod Forms
+-- Macros
+mod Drawn
+mod Pins
+mod MacroForms
+-- Texts one after the other
+mod Readings

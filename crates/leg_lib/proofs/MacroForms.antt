@@ -5,14 +5,14 @@ use Rattle.std.proofs.Math.Bool.{or_assoc, or-false}
 use Rattle.leg_lex.specs.Words.{Words, is_keyword, is_word, is_at, next_at, keyword_at, word_at, end_at}
 use Rattle.leg_lex.specs.Until.{until}
 use Rattle.leg_lex.specs.Statements.{at_end}
-use Rattle.leg_lex.specs.Named.{place_of}
+use Rattle.leg_lex.specs.NameLookup.{place_of}
 use Rattle.leg_lex.proofs.Said.{made_is, rest_is}
 use Rattle.leg_lex.proofs.Until as loops
 use Rattle.leg_lex.proofs.Until.{Below, Shortens, below_none, below_some, below_bind, below_ask, below_if, until_below}
 use Rattle.leg_lex.proofs.Shorter.{keyword_below, name_below, word_below, end_below, end_of_below}
 use Rattle.leg_lex.proofs.Statements.{statement_below}
 use Rattle.leg_lex.proofs.Passed.{past_below}
-use Rattle.leg_lib.specs.Records.{RawContents, raw_master_names}
+use Rattle.leg_cells.specs.Records.{RawContents, raw_master_names}
 use Rattle.leg_lib.specs.Macro.{MacroParts, no_macro_parts, macro_pin, macro_obstruction, macro_density, macro_timing, macro_statement, macro_part, symmetry_in, macro_said, macro_at, with_macro}
 use Rattle.leg_lib.proofs.Drawn.{geometry_below}
 use Rattle.leg_lib.proofs.Pins.{pin_below}

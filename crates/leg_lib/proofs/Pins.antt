@@ -5,7 +5,7 @@ use Rattle.leg_lex.specs.Statements.{only, at_end}
 use Rattle.leg_lex.proofs.Shorter.{keyword_below, name_below, end_of_below}
 use Rattle.leg_lex.proofs.Statements.{statement_below}
 use Rattle.leg_lex.proofs.Until.{Below, Shortens, below_some, below_bind, below_ask, below_if, until_below}
-use Rattle.leg_lib.specs.Records.{RawContents}
+use Rattle.leg_cells.specs.Records.{RawContents}
 use Rattle.leg_lib.specs.Pin.{PinParts, no_pin_parts, port_at, pin_part, supply_of_any, pin_at}
 use Rattle.leg_lib.proofs.Drawn.{geometry_below}
 

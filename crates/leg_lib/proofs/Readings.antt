@@ -2,7 +2,7 @@
 use Rattle.std.proofs.Common.{◌≡◌, ℕ, zero, suc, ◌<◌, List, [], ◌∷◌, length, get_or, take, drop, map, refl, sym, ◌∙◌, subst, arith}
 use Rattle.leg_lex.specs.Say.{Says}
 use Rattle.leg_lex.proofs.Saying.{says_one}
-use Rattle.leg_lib.specs.Records.{RawContents}
+use Rattle.leg_cells.specs.Records.{RawContents}
 use Rattle.leg_lib.specs.Form.{lef_in}
 use Rattle.leg_lib.specs.Say.{Extend}
 

@@ -3,12 +3,12 @@ use Rattle.std.proofs.Common.{◌≡◌, ℕ, List, [], length, get_or, map, Opt
 use Rattle.std.proofs.lemmas.Option.{slice_get-get_or, slice_get-map}
 use Rattle.leg_lex.specs.Words.{Words, ◌>>=◌}
 use Rattle.leg_lex.specs.Statements.{the}
-use Rattle.leg_lex.specs.Named.{place_of}
+use Rattle.leg_lex.specs.NameLookup.{place_of}
 use Rattle.leg_lex.proofs.Until.{Below, below_some, below_bind, below_ask}
 use Rattle.leg_lex.proofs.Shorter.{keyword_below, name_below, end_of_below}
 use Rattle.leg_lex.proofs.Statements.{statements_below}
-use Rattle.leg_lex.proofs.Named.{place_stands}
-use Rattle.leg_lib.specs.Records.{RawContents}
+use Rattle.leg_lex.proofs.NameLookup.{place_stands}
+use Rattle.leg_cells.specs.Records.{RawContents}
 use Rattle.leg_lib.specs.Point.{size_in}
 use Rattle.leg_lib.specs.Site.{site_at, add_site, site_named, with_site}
 

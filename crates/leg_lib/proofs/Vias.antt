@@ -2,12 +2,12 @@
 use Rattle.std.proofs.Common.{◌≡◌, ℕ, ◌+◌, ◌<◌, ◌≤◌, Bool, true, false, not, ◌&&◌, List, [], ◌∷◌, ◌++◌, length, get_or, drop, Option, None, Some, is_none, if◌then◌else◌, codes, refl, arith, length-drop}
 use Rattle.leg_lex.specs.Words.{Words, ◌>>=◌, is_at}
 use Rattle.leg_lex.specs.Until.{over}
-use Rattle.leg_lex.specs.Named.{place_of}
+use Rattle.leg_lex.specs.NameLookup.{place_of}
 use Rattle.leg_lex.proofs.Until.{Below, below_none, below_some, below_bind, below_ask, below_if}
 use Rattle.leg_lex.proofs.Over.{over_ends, over_goes_on, over_fails}
 use Rattle.leg_lex.proofs.Shorter.{keyword_below, name_below, end_of_below}
 use Rattle.leg_lex.proofs.Statements.{statements_below}
-use Rattle.leg_lib.specs.Records.{RawContents, raw_via_names}
+use Rattle.leg_cells.specs.Records.{RawContents, raw_via_names}
 use Rattle.leg_lib.specs.Via.{Flags, no_flags, flag_at, flags_at, ViaParts, no_via_parts, via_part, is_good, kept, via_at, with_via}
 
 -- where the last step says nothing, neither do the steps before it

@@ -4,7 +4,7 @@ use Rattle.leg_lex.specs.Words.{Words, ◌>>=◌, is_keyword, is_at, next_at, ke
 use Rattle.leg_lex.specs.Until.{until}
 use Rattle.leg_lex.specs.Past.{past}
 use Rattle.leg_lex.specs.Statements.{statement_at}
-use Rattle.leg_lib.specs.Records.{RawContents}
+use Rattle.leg_cells.specs.Records.{RawContents}
 use Rattle.leg_lib.specs.Layer.{with_layer}
 use Rattle.leg_lib.specs.Via.{with_via}
 use Rattle.leg_lib.specs.Site.{with_site}
@@ -18,14 +18,14 @@ past_named words = do
   past (end_of name.0) name.1
 
 -- UNITS .. END UNITS and the like are read past
-unfoldable pub past_section : List ℕ → Words → Option (Unit {0} × Words)
-past_section keyword words = do
+unfoldable pub past_lef_section : List ℕ → Words → Option (Unit {0} × Words)
+past_lef_section keyword words = do
   start ← keyword_at keyword words
   past (end_at keyword) start.1
 
 -- BEGINEXT .. ENDEXT is read past
-unfoldable pub past_extension : Words → Option (Unit {0} × Words)
-past_extension words = do
+unfoldable pub past_lef_extension : Words → Option (Unit {0} × Words)
+past_lef_extension words = do
   start ← keyword_at (codes "BEGINEXT") words
   past (keyword_at (codes "ENDEXT")) start.1
 
@@ -36,23 +36,23 @@ past_statement words = do
   Some (tt, statement.1)
 
 -- what is read past
-unfoldable pub past_form : Words → Option (Unit {0} × Words)
-past_form words =
+unfoldable pub past_lef_form : Words → Option (Unit {0} × Words)
+past_lef_form words =
     if is_at (codes "VIARULE") words || is_at (codes "NONDEFAULTRULE") words then past_named words
-    else (if is_at (codes "UNITS") words then past_section (codes "UNITS") words
-    else (if is_at (codes "PROPERTYDEFINITIONS") words then past_section (codes "PROPERTYDEFINITIONS") words
-    else (if is_at (codes "SPACING") words then past_section (codes "SPACING") words
-    else (if is_at (codes "BEGINEXT") words then past_extension words
+    else (if is_at (codes "UNITS") words then past_lef_section (codes "UNITS") words
+    else (if is_at (codes "PROPERTYDEFINITIONS") words then past_lef_section (codes "PROPERTYDEFINITIONS") words
+    else (if is_at (codes "SPACING") words then past_lef_section (codes "SPACING") words
+    else (if is_at (codes "BEGINEXT") words then past_lef_extension words
     else past_statement words))))
 
 -- one form, which adds to the library that was read before it
-unfoldable pub form_at : RawContents → Words → Option (RawContents × Words)
-form_at library words =
+unfoldable pub lef_form_at : RawContents → Words → Option (RawContents × Words)
+lef_form_at library words =
     if is_at (codes "LAYER") words then with_layer library words
     else (if is_at (codes "VIA") words then with_via library words
     else (if is_at (codes "SITE") words then with_site library words
     else (if is_at (codes "MACRO") words then with_macro library words
-    else (past_form words >>= λ form. Some (library, form.1)))))
+    else (past_lef_form words >>= λ form. Some (library, form.1)))))
 
 -- where the forms end: at the text's end, or at an END in a form's place
 abbrev pub at_last : Words → Bool
@@ -67,6 +67,6 @@ ended (word ∷ words) = end_at (codes "LIBRARY") (word ∷ words) >>= λ end. n
 -- a text adds its forms to the library that the texts before it say
 unfoldable pub lef_in : RawContents → Words → Option RawContents
 lef_in library words = do
-  forms ← until at_last form_at library words
+  forms ← until at_last lef_form_at library words
   end ← ended forms.1
   Some forms.0

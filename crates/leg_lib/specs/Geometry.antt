@@ -5,12 +5,12 @@ use Rattle.std.specs.List.{list_all}
 use Rattle.leg_lex.specs.Words.{Words, ◌>>=◌, is_keyword, is_word, is_at, keyword_at, name_at}
 use Rattle.leg_lex.specs.Until.{over}
 use Rattle.leg_lex.specs.Statements.{statements_at}
-use Rattle.leg_lex.specs.Named.{place_of}
-use Rattle.leg_lib.specs.declared.raw.RawKind.{RawKind}
-use Rattle.leg_lib.specs.declared.raw.RawKind.TheVariants.{Routing, Cut, Other}
-use Rattle.leg_lib.specs.declared.raw.RawLayer.{RawLayer}
-use Rattle.leg_lib.specs.declared.raw.RawShape.{RawShape}
-use Rattle.leg_lib.specs.Records.{RawContents, raw_layer_names}
+use Rattle.leg_lex.specs.NameLookup.{place_of}
+use Rattle.leg_cells.specs.declared.raw.RawKind.{RawKind}
+use Rattle.leg_cells.specs.declared.raw.RawKind.TheVariants.{Routing, Cut, Other}
+use Rattle.leg_cells.specs.declared.raw.RawLayer.{RawLayer}
+use Rattle.leg_cells.specs.declared.raw.RawShape.{RawShape}
+use Rattle.leg_cells.specs.Records.{RawContents, raw_layer_names}
 use Rattle.leg_lib.specs.Point.{rect_in}
 
 abbrev pub is_routing_kind : RawKind → Bool
@@ -28,8 +28,8 @@ abbrev pub is_layer_of : (RawKind → Bool) → Option RawLayer → Bool
 is_layer_of of_kind None = false
 is_layer_of of_kind (Some layer) = of_kind layer.kind
 
-abbrev pub has_metal : List RawLayer → ℕ → Bool
-has_metal layers number = is_layer_of (λ kind. is_routing_kind kind || is_cut_kind kind) (slice_get layers number)
+abbrev pub draws_metal : List RawLayer → ℕ → Bool
+draws_metal layers number = is_layer_of (λ kind. is_routing_kind kind || is_cut_kind kind) (slice_get layers number)
 
 -- what the statements before said: the layer that they are on, and the shapes
 pub record Drawn : Type 0 where
@@ -55,14 +55,14 @@ layer_of_geometry library statement = do
 unfoldable pub drawn_rect : RawContents → Drawn → Words → Option Drawn
 drawn_rect library drawn statement = do
   number ← drawn.on
-  if has_metal library.layers number then (do
+  if draws_metal library.layers number then (do
     rect ← rect_in statement
     Some (record drawn { shapes = drawn.shapes ++ record { layer = number; rect = rect } ∷ [] })) else Some drawn
 
 -- the last layer that was named has no metal
 abbrev pub is_off_metal : RawContents → Option ℕ → Bool
 is_off_metal library None = false
-is_off_metal library (Some number) = not (has_metal library.layers number)
+is_off_metal library (Some number) = not (draws_metal library.layers number)
 
 -- shapes that aren't rectangles
 abbrev pub is_other_shape : Words → Bool

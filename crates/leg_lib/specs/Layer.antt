@@ -4,13 +4,13 @@ use Rattle.std.specs.Prelude.{ℕ, ℤ, pos, Bool, true, false, ◌&&◌, int_lt
 use Rattle.std.specs.List.{find, after_first}
 use Rattle.leg_lex.specs.Words.{Words, ◌>>=◌, is_keyword, is_at, next_at, keyword_at, name_at, word_at, length_at, end_of, nothing_at}
 use Rattle.leg_lex.specs.Statements.{statements_at, only, the}
-use Rattle.leg_lex.specs.Named.{place_of}
-use Rattle.leg_lib.specs.declared.records.Direction.{Direction}
-use Rattle.leg_lib.specs.declared.records.Direction.TheVariants.{Horizontal, Vertical}
-use Rattle.leg_lib.specs.declared.raw.RawKind.{RawKind}
-use Rattle.leg_lib.specs.declared.raw.RawKind.TheVariants.{Routing, Cut, Other}
-use Rattle.leg_lib.specs.declared.raw.RawLayer.{RawLayer}
-use Rattle.leg_lib.specs.Records.{RawContents, raw_layer_names}
+use Rattle.leg_lex.specs.NameLookup.{place_of}
+use Rattle.leg_cells.specs.declared.records.Direction.{Direction}
+use Rattle.leg_cells.specs.declared.records.Direction.TheVariants.{Horizontal, Vertical}
+use Rattle.leg_cells.specs.declared.raw.RawKind.{RawKind}
+use Rattle.leg_cells.specs.declared.raw.RawKind.TheVariants.{Routing, Cut, Other}
+use Rattle.leg_cells.specs.declared.raw.RawLayer.{RawLayer}
+use Rattle.leg_cells.specs.Records.{RawContents, raw_layer_names}
 
 -- TYPE word
 unfoldable pub type_in : Words → Option (List ℕ)
@@ -68,8 +68,8 @@ abbrev pub routing : Option Direction → Option ℤ → Option RawKind
 routing (Some direction) (Some width) = Some (Routing direction width)
 routing direction width = None
 
-abbrev pub kind_of : List ℕ → Option Direction → Option ℤ → Option RawKind
-kind_of type direction width =
+abbrev pub layer_kind : List ℕ → Option Direction → Option ℤ → Option RawKind
+layer_kind type direction width =
     if is_keyword (codes "ROUTING") type then routing direction width
     else Some (if is_keyword (codes "CUT") type then Cut else Other)
 
@@ -81,7 +81,7 @@ kind_in statements = do
   found ← only (codes "DIRECTION") statements
   direction ← direction_of_any found
   width ← width_of_any (first_of_one_word (codes "WIDTH") statements)
-  kind_of type direction width
+  layer_kind type direction width
 
 -- SPACING LEN: at least 0
 unfoldable pub spacing_in : Words → Option ℤ

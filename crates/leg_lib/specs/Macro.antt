@@ -5,11 +5,11 @@ use Rattle.leg_lex.specs.Words.{Words, ◌>>=◌, is_keyword, is_word, is_at, ke
 use Rattle.leg_lex.specs.Until.{until}
 use Rattle.leg_lex.specs.Past.{past}
 use Rattle.leg_lex.specs.Statements.{statement_at, only, the, at_end}
-use Rattle.leg_lex.specs.Named.{place_of}
+use Rattle.leg_lex.specs.NameLookup.{place_of}
 use Rattle.leg_geom.specs.Plane.{Spot}
 use Rattle.leg_lib.specs.declared.macros.MacroSaid.{MacroSaid}
-use Rattle.leg_lib.specs.declared.raw.RawShape.{RawShape}
-use Rattle.leg_lib.specs.Records.{RawContents, RawPinSaid, RawMasterSaid, raw_site_names, raw_master_names}
+use Rattle.leg_cells.specs.declared.raw.RawShape.{RawShape}
+use Rattle.leg_cells.specs.Records.{RawContents, RawPinSaid, RawMasterSaid, raw_site_names, raw_master_names}
 use Rattle.leg_lib.specs.Point.{point_at, size_in}
 use Rattle.leg_lib.specs.Geometry.{geometry_at}
 use Rattle.leg_lib.specs.Pin.{pin_at}

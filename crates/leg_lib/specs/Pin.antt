@@ -3,10 +3,10 @@ use Rattle.std.specs.Prelude.{ℕ, if◌then◌else◌, List, [], ◌∷◌, ◌
 use Rattle.leg_lex.specs.Words.{Words, ◌>>=◌, is_keyword, is_at, keyword_at, name_at, word_at, end_of, nothing_at}
 use Rattle.leg_lex.specs.Until.{until}
 use Rattle.leg_lex.specs.Statements.{statement_at, only, at_end}
-use Rattle.leg_lib.specs.declared.records.Supply.{Supply}
-use Rattle.leg_lib.specs.declared.records.Supply.TheVariants.{NoSupply, Power, Ground}
-use Rattle.leg_lib.specs.declared.raw.RawShape.{RawShape}
-use Rattle.leg_lib.specs.Records.{RawContents, RawPinSaid}
+use Rattle.leg_cells.specs.declared.records.Supply.{Supply}
+use Rattle.leg_cells.specs.declared.records.Supply.TheVariants.{NoSupply, Power, Ground}
+use Rattle.leg_cells.specs.declared.raw.RawShape.{RawShape}
+use Rattle.leg_cells.specs.Records.{RawContents, RawPinSaid}
 use Rattle.leg_lib.specs.Geometry.{geometry_at}
 
 -- what stood before in a pin: the shapes of its ports, and its statements

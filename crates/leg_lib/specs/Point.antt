@@ -1,10 +1,9 @@
 -- Points, sizes and rectangles as LEF writes them (LEF/DEF 5.8, "Macro"; that a point may stand in
 -- parentheses, and that corners stand in any order, are own rules).
 use Rattle.std.specs.Prelude.{pos, ◌&&◌, int_lt, if◌then◌else◌, Option, None, Some, codes}
-use Rattle.std.specs.Int.{int_min, int_max}
 use Rattle.leg_lex.specs.Words.{Words, ◌>>=◌, is_at, keyword_at, mark_at, length_at, nothing_at}
 use Rattle.leg_geom.specs.Plane.{Spot, Sides}
-use Rattle.leg_lib.specs.Measure.{Lengths}
+use Rattle.leg_cells.specs.Measure.{Lengths, rect_between}
 
 -- LEN LEN
 unfoldable pub coordinates_at : Words → Option (Spot × Words)
@@ -24,16 +23,6 @@ enclosed_point_at words = do
 -- a point: LEN LEN or ( LEN LEN )
 unfoldable pub point_at : Words → Option (Spot × Words)
 point_at words = if is_at (codes "(") words then enclosed_point_at words else coordinates_at words
-
--- the rectangle between two corners, which stand in any order
-abbrev pub between : Spot → Spot → Sides
-between p q = record { x1 = int_min p.x q.x; y1 = int_min p.y q.y; x2 = int_max p.x q.x; y2 = int_max p.y q.y }
-
--- nothing is said by corners between which there is no area
-unfoldable pub rect_between : Spot → Spot → Option Sides
-rect_between p q =
-    let sides = between p q in
-    if int_lt sides.x1 sides.x2 && int_lt sides.y1 sides.y2 then Some sides else None
 
 -- RECT point point
 unfoldable pub rect_in : Words → Option Sides

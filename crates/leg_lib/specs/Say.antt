@@ -1,7 +1,7 @@
 -- The library that LEF texts say, taken one after the other.
 use Rattle.std.specs.Prelude.{◌≡◌, ℕ, List, [], ◌∷◌}
 use Rattle.leg_lex.specs.Say.{Says}
-use Rattle.leg_lib.specs.Records.{RawContents, empty_library}
+use Rattle.leg_cells.specs.Records.{RawContents, empty_library}
 use Rattle.leg_lib.specs.Form.{lef_in}
 
 -- these texts add to a library until they say this one

@@ -3,10 +3,10 @@ use Rattle.std.specs.Prelude.{ℕ, Bool, ◌&&◌, if◌then◌else◌, List, []
 use Rattle.std.specs.Ordering.{int_eq}
 use Rattle.leg_lex.specs.Words.{Words, ◌>>=◌, keyword_at, name_at, end_of}
 use Rattle.leg_lex.specs.Statements.{statements_at, the}
-use Rattle.leg_lex.specs.Named.{place_of}
-use Rattle.leg_lib.specs.declared.raw.RawSite.{RawSite}
-use Rattle.leg_lib.specs.Measure.{Lengths}
-use Rattle.leg_lib.specs.Records.{RawContents, raw_site_names}
+use Rattle.leg_lex.specs.NameLookup.{place_of}
+use Rattle.leg_cells.specs.declared.raw.RawSite.{RawSite}
+use Rattle.leg_cells.specs.Measure.{Lengths}
+use Rattle.leg_cells.specs.Records.{RawContents, raw_site_names}
 use Rattle.leg_lib.specs.Point.{size_in}
 
 -- SITE NAME statements END NAME: the one SIZE says how large it is, and the rest is read past

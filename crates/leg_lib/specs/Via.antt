@@ -3,12 +3,12 @@ use Rattle.std.specs.Prelude.{ℕ, Bool, true, false, not, ◌&&◌, ◌||◌, i
 use Rattle.leg_lex.specs.Words.{Words, ◌>>=◌, is_at, keyword_at, name_at, end_of, nothing_at}
 use Rattle.leg_lex.specs.Until.{over}
 use Rattle.leg_lex.specs.Statements.{statements_at}
-use Rattle.leg_lex.specs.Named.{place_of}
-use Rattle.leg_lib.specs.declared.raw.RawShape.{RawShape}
-use Rattle.leg_lib.specs.Records.{RawContents, RawViaSaid, raw_layer_names, raw_via_names}
+use Rattle.leg_lex.specs.NameLookup.{place_of}
+use Rattle.leg_cells.specs.declared.raw.RawShape.{RawShape}
+use Rattle.leg_cells.specs.Records.{RawContents, RawViaSaid, raw_layer_names, raw_via_names}
 use Rattle.leg_lib.specs.Geometry.{Drawn, nothing_drawn, drawn_rect}
-use Rattle.leg_lib.specs.Joins.{is_wiring_word, join_layers}
-use Rattle.leg_lib.specs.GoodVia.{raw_uses, raw_parts}
+use Rattle.leg_cells.specs.Joins.{is_wiring_word, join_layers}
+use Rattle.leg_cells.specs.GoodVia.{raw_uses, raw_parts}
 
 -- the words between a via's name and its statements, each at most once and in any order
 pub record Flags : Type 0 where

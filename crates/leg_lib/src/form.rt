@@ -3,25 +3,25 @@
 ghost use Rattle.std.specs.Prelude.{codes};
 ghost use Rattle.leg_lex.specs.Until.{until};
 ghost use Rattle.leg_lex.specs.Words.{Reads, Means};
-ghost use Rattle.leg_lib.specs.Form.{form_at, at_last, ended, lef_in};
+ghost use Rattle.leg_lib.specs.Form.{lef_form_at, at_last, ended, lef_in};
 
 use crate::layer::layer_form;
 use crate::macros::macro_form;
-use crate::raw_library::RawLibrary;
 use crate::site::site_form;
 use crate::skipped::past_form;
 use crate::via::via_form;
+use leg_cells::RawLibrary;
 use leg_lex::{Cursor, ReadFault};
 use std::alloc::Allocator;
 
 /// One form.
-#[tactic(auto, unfolding(crate::specs::Form::form_at))]
+#[tactic(auto, unfolding(crate::specs::Form::lef_form_at))]
 fn form<'a, A: Allocator + Copy>(
     alloc: A,
     library: &mut RawLibrary<'a, A>,
     words: &mut Cursor<'_, 'a>,
 ) -> Result<(), ReadFault>
-    ensures { Reads (λ _. library.new) result words.new (form_at library.old words.old) }
+    ensures { Reads (λ _. library.new) result words.new (lef_form_at library.old words.old) }
 {
     if words.is_at(b"LAYER") {
         layer_form(alloc, library, words)
@@ -43,7 +43,7 @@ fn forms<'a, A: Allocator + Copy>(
     library: &mut RawLibrary<'a, A>,
     words: &mut Cursor<'_, 'a>,
 ) -> Result<(), ReadFault>
-    ensures { Reads (λ _. library.new) result words.new (until at_last form_at library.old words.old) }
+    ensures { Reads (λ _. library.new) result words.new (until at_last lef_form_at library.old words.old) }
 {
     'forms: while !words.is_at_end() && !words.is_at(b"END") {
         form(alloc, library, words)?;

@@ -5,18 +5,17 @@ ghost use Rattle.std.specs.List.{list_all};
 ghost use Rattle.leg_lex.specs.declared.read_fault.FaultKind.TheVariants.{Memory};
 ghost use Rattle.leg_lex.specs.Words.{Reads, Means};
 ghost use Rattle.leg_lex.specs.Until.{over};
-ghost use Rattle.leg_lib.specs.Geometry.{has_metal, is_off_metal, is_other_shape, says_nothing, layer_of_geometry, nothing_drawn, drawn_rect, geometry_part, geometry_at};
+ghost use Rattle.leg_lib.specs.Geometry.{draws_metal, is_off_metal, is_other_shape, says_nothing, layer_of_geometry, nothing_drawn, drawn_rect, geometry_part, geometry_at};
 
 use crate::point::rect;
-use crate::raw::{RawKind, RawLayer, RawShape};
-use crate::raw_library::RawLibrary;
+use leg_cells::{RawKind, RawLayer, RawLibrary, RawShape};
 use leg_lex::{Cursor, FaultKind, ReadFault};
 use std::alloc::Allocator;
 use std::marker::Model;
 
 /// Whether the layer of this number has metal.
 fn has_metal(layers: &[RawLayer<'_>], number: usize) -> bool
-    ensures { result ≡ has_metal layers.now number }
+    ensures { result ≡ draws_metal layers.now number }
 {
     match layers.get(number) {
         Some(layer) => matches!(layer.kind, RawKind::Routing { .. } | RawKind::Cut),

@@ -2,13 +2,11 @@
 
 ghost use Rattle.std.specs.Prelude.{◌≡◌};
 ghost use Rattle.leg_lex.specs.Words.{Reads, Means};
-ghost use Rattle.leg_lib.specs.Layer.{type_in, direction_of, direction_in, direction_of_any, has_one_word, first_of_one_word, width_in, width_of_any, kind_of, kind_in, layer_at, with_layer};
+ghost use Rattle.leg_lib.specs.Layer.{type_in, direction_of, direction_in, direction_of_any, has_one_word, first_of_one_word, width_in, width_of_any, layer_kind, kind_in, layer_at, with_layer};
 
 use crate::named::second_definition;
-use crate::raw::{RawKind, RawLayer};
-use crate::raw_library::RawLibrary;
-use crate::records::Direction;
 use crate::spacing::spacing_of;
+use leg_cells::{Direction, RawKind, RawLayer, RawLibrary};
 use leg_lex::{Cursor, FaultKind, Micron, Name, ReadFault, is_keyword, only, the};
 use std::alloc::Allocator;
 
@@ -127,7 +125,7 @@ fn kind_of(
     width: Option<Micron>,
     end: &Cursor<'_, '_>,
 ) -> Result<RawKind, ReadFault>
-    ensures { Means (λ k. k) result (kind_of word.now direction width) }
+    ensures { Means (λ k. k) result (layer_kind word.now direction width) }
 {
     if is_keyword(b"ROUTING", word) {
         match (direction, width) {
@@ -175,7 +173,7 @@ fn layer<'a, A: Allocator + Copy>(
 }
 
 /// Adds the layer that stands next, whose name is new.
-#[tactic(auto, using(crate::proofs::Sound::layer_sound), unfolding(crate::specs::Layer::with_layer))]
+#[tactic(auto, using(crate::proofs::SoundLayers::layer_sound), unfolding(crate::specs::Layer::with_layer))]
 pub(crate) fn layer_form<'a, A: Allocator + Copy>(
     alloc: A,
     library: &mut RawLibrary<'a, A>,

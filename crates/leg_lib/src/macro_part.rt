@@ -4,14 +4,13 @@ ghost use Rattle.std.specs.Prelude.{◌≡◌, ◌++◌, ◌∷◌, [], map, Non
 ghost use Rattle.leg_lex.specs.Words.{Reads};
 ghost use Rattle.leg_lex.specs.Until.{until};
 ghost use Rattle.leg_lex.specs.Statements.{at_end};
-ghost use Rattle.leg_lex.specs.Named.{place_of};
+ghost use Rattle.leg_lex.specs.NameLookup.{place_of};
 ghost use Rattle.leg_lib.specs.Macro.{no_macro_parts, macro_pin, macro_obstruction, macro_density, macro_timing, macro_statement, macro_part};
 
 use crate::geometry::geometry;
 use crate::named::second_definition;
 use crate::pin::pin;
-use crate::raw::{RawPin, RawShape};
-use crate::raw_library::RawLibrary;
+use leg_cells::{RawLibrary, RawPin, RawShape};
 use leg_lex::{Cursor, Names, ReadFault};
 use std::alloc::{AllocError, Allocator};
 use std::marker::Model;

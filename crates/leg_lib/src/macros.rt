@@ -6,13 +6,10 @@ ghost use Rattle.leg_lex.specs.Words.{Reads, Means, is_word, is_keyword};
 ghost use Rattle.leg_lex.specs.Statements.{only};
 ghost use Rattle.leg_lib.specs.Macro.{origin_in, origin_of_any, symmetry_in, symmetry_of_any, site_in, site_of_any, macro_said, macro_at, with_macro};
 
-use crate::items::Items;
 use crate::macro_part::MacroParts;
-use crate::measure::{RawExtent, RawPoint};
 use crate::named::second_definition;
 use crate::point;
-use crate::raw::RawMaster;
-use crate::raw_library::RawLibrary;
+use leg_cells::{Items, RawExtent, RawLibrary, RawMaster, RawPoint};
 use leg_lex::{Cursor, FaultKind, Micron, Name, ReadFault, is_keyword, only, the};
 use std::alloc::Allocator;
 

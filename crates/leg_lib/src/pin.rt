@@ -7,10 +7,7 @@ ghost use Rattle.leg_lex.specs.Statements.{at_end};
 ghost use Rattle.leg_lib.specs.Pin.{no_pin_parts, port_at, pin_part, use_in, supply_of, supply_of_any, pin_at};
 
 use crate::geometry::geometry;
-use crate::items::Items;
-use crate::raw::{RawPin, RawShape};
-use crate::raw_library::RawLibrary;
-use crate::records::Supply;
+use leg_cells::{Items, RawLibrary, RawPin, RawShape, Supply};
 use leg_lex::{Cursor, Name, ReadFault, is_keyword, only};
 use std::alloc::Allocator;
 use std::marker::Model;

@@ -3,9 +3,10 @@
 ghost use Rattle.std.specs.Prelude.{◌≡◌};
 ghost use Rattle.std.specs.Int.{int_min, int_max};
 ghost use Rattle.leg_lex.specs.Words.{Reads, Means};
-ghost use Rattle.leg_lib.specs.Point.{coordinates_at, enclosed_point_at, point_at, rect_between, rect_in, size_in};
+ghost use Rattle.leg_lib.specs.Point.{coordinates_at, enclosed_point_at, point_at, rect_in, size_in};
+ghost use Rattle.leg_cells.specs.Measure.{rect_between};
 
-use crate::measure::{RawExtent, RawPoint, RawRect};
+use leg_cells::{RawExtent, RawPoint, RawRect};
 use leg_lex::{Cursor, FaultKind, Micron, ReadFault};
 
 /// Two lengths.
@@ -64,7 +65,7 @@ fn higher(a: Micron, b: Micron) -> Micron
 }
 
 /// The rectangle between two corners, which stand in any order, where it has area.
-#[tactic(auto, unfolding(crate::specs::Point::rect_between))]
+#[tactic(auto, unfolding(leg_cells::specs::Measure::rect_between))]
 fn rect_between(p: &RawPoint, q: &RawPoint) -> Option<RawRect>
     ensures { result ≡ rect_between p.now q.now }
 {

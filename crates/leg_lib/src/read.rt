@@ -4,12 +4,12 @@ ghost use Rattle.std.specs.Prelude.{◌≡◌, ◌≢◌, ◌<◌, ◌-◌, ◌^
 ghost use Rattle.leg_lex.specs.declared.limits.TheConstants.{TEXT_LIMIT};
 ghost use Rattle.leg_lex.specs.declared.read_fault.FaultKind.TheVariants.{Memory};
 ghost use Rattle.leg_lex.specs.Say.{Says};
-ghost use Rattle.leg_lib.specs.Records.{RawContents};
+ghost use Rattle.leg_cells.specs.Records.{RawContents};
 ghost use Rattle.leg_lib.specs.Form.{lef_in};
 ghost use Rattle.leg_lib.specs.Say.{SayLibrary};
 
 use crate::form;
-use crate::raw_library::RawLibrary;
+use leg_cells::RawLibrary;
 use leg_lex::{Cursor, ReadFault, file_words};
 use std::alloc::Allocator;
 

@@ -6,8 +6,7 @@ ghost use Rattle.leg_lib.specs.Site.{site_at, site_named, with_site};
 
 use crate::named::second_definition;
 use crate::point;
-use crate::raw::RawSite;
-use crate::raw_library::RawLibrary;
+use leg_cells::{RawLibrary, RawSite};
 use leg_lex::{Cursor, Name, ReadFault, the};
 use std::alloc::Allocator;
 

@@ -2,7 +2,7 @@
 
 ghost use Rattle.std.specs.Prelude.{codes};
 ghost use Rattle.leg_lex.specs.Words.{Reads};
-ghost use Rattle.leg_lib.specs.Form.{past_named, past_section, past_extension, past_statement, past_form};
+ghost use Rattle.leg_lib.specs.Form.{past_named, past_lef_section, past_lef_extension, past_statement, past_lef_form};
 
 use leg_lex::{Cursor, ReadFault};
 
@@ -17,18 +17,18 @@ fn past_named(words: &mut Cursor<'_, '_>) -> Result<(), ReadFault>
 }
 
 /// This keyword, and everything up to `END` and the keyword.
-#[tactic(auto, unfolding(crate::specs::Form::past_section))]
+#[tactic(auto, unfolding(crate::specs::Form::past_lef_section))]
 fn past_section(keyword: &[u8], words: &mut Cursor<'_, '_>) -> Result<(), ReadFault>
-    ensures { Reads (λ x. x) result words.new (past_section keyword.now words.old) }
+    ensures { Reads (λ x. x) result words.new (past_lef_section keyword.now words.old) }
 {
     words.keyword(keyword)?;
     words.past_end(keyword)
 }
 
 /// `BEGINEXT`, and everything up to `ENDEXT`.
-#[tactic(auto, unfolding(crate::specs::Form::past_extension))]
+#[tactic(auto, unfolding(crate::specs::Form::past_lef_extension))]
 fn past_extension(words: &mut Cursor<'_, '_>) -> Result<(), ReadFault>
-    ensures { Reads (λ x. x) result words.new (past_extension words.old) }
+    ensures { Reads (λ x. x) result words.new (past_lef_extension words.old) }
 {
     words.keyword(b"BEGINEXT")?;
     words.past_keyword(b"ENDEXT")
@@ -44,9 +44,9 @@ fn past_statement(words: &mut Cursor<'_, '_>) -> Result<(), ReadFault>
 }
 
 /// A form that says nothing of the library.
-#[tactic(auto, unfolding(crate::specs::Form::past_form))]
+#[tactic(auto, unfolding(crate::specs::Form::past_lef_form))]
 pub(crate) fn past_form(words: &mut Cursor<'_, '_>) -> Result<(), ReadFault>
-    ensures { Reads (λ x. x) result words.new (past_form words.old) }
+    ensures { Reads (λ x. x) result words.new (past_lef_form words.old) }
 {
     if words.is_at(b"VIARULE") || words.is_at(b"NONDEFAULTRULE") {
         past_named(words)

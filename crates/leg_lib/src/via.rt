@@ -6,12 +6,8 @@ ghost use Rattle.leg_lex.specs.Until.{over};
 ghost use Rattle.leg_lib.specs.Via.{flag_at, flags_at, no_via_parts, layer_of_via, spoils, via_part, is_good, kept, via_at, with_via};
 
 use crate::geometry::Drawing;
-use crate::good_via::{raw_parts, raw_uses};
-use crate::items::Items;
-use crate::joins::{is_wiring_word, joins_layers};
 use crate::named::second_definition;
-use crate::raw::{RawShape, RawVia};
-use crate::raw_library::RawLibrary;
+use leg_cells::{Items, RawLibrary, RawShape, RawVia, is_wiring_word};
 use leg_lex::{Cursor, FaultKind, Name, ReadFault};
 use std::alloc::{AllocError, Allocator};
 use std::marker::Model;
@@ -205,9 +201,7 @@ fn is_good<A: Allocator + Copy>(
     if parts.is_spoilt || is_wiring_word(name) {
         return Ok(false);
     }
-    let layers = raw_uses(alloc, library.layers())?;
-    let shapes = raw_parts(alloc, &parts.drawing.shapes)?;
-    Ok(joins_layers(&layers, &shapes))
+    library.shapes_join(alloc, &parts.drawing.shapes)
 }
 
 /// The shapes that are kept: those of a good via.

@@ -8,11 +8,11 @@ use Rattle.leg_geom.specs.Plane.{Sides, IsRect, HasAllPoints}
 use Rattle.leg_sweep.proofs.Lists.{AllPairs-nil}
 use Rattle.leg_block.specs.declared.records.Component.{Component}
 use Rattle.leg_place.specs.declared.placed_box.PlacedBox.{PlacedBox}
-use Rattle.leg_lib.specs.Records.{Contents}
+use Rattle.leg_cells.specs.Records.{Contents}
 use Rattle.leg_block.specs.Records.{DesignContents}
 use Rattle.leg_place.specs.Box.{box_of, StandsIn}
 use Rattle.leg_place.specs.Faults.{IsOutside}
-use Rattle.leg_place.specs.Before.{AreBoxesBelow, HasLowerNumber}
+use Rattle.leg_place.specs.Steps.ListPrefix.{AreBoxesBelow, HasLowerNumber}
 use Rattle.leg_place.proofs.Cells.{HasCell-points, CellOutside-points}
 
 module _ (library : Contents) (design : DesignContents) where
@@ -81,11 +81,3 @@ module _ (library : Contents) (design : DesignContents) where
             absurd (none-some other (is ∙ StandsIn-is c component other at (rw here at stands)))
       ];
     }
-
-  pub boxes_none : AreBoxesBelow library design 0 []
-  boxes_none = record {
-    increasing = AllPairs-nil HasLowerNumber;
-    each = All-nil (λ box. StandsIn library design box.component box.rect);
-    below = All-nil (λ box. box.component < 0);
-    all = λ c rect below stands. absurd (omega arith);
-  }

@@ -1,10 +1,14 @@
-pub mod Places
-pub mod Cells
-pub mod Boxes
-pub mod FaultNumbers
-pub mod Listing
-pub mod Overlaps
-pub mod RowKeys
-pub mod Mirrors
-pub mod OnSites
-pub mod OnRows
+-- Boxes of components
+mod Places
+mod Cells
+mod Boxes
+-- Sites of rows
+mod RowKeys
+mod Mirrors
+mod OnSites
+mod OnRows
+-- The list of violations
+mod Listing
+mod Overlaps
+-- What the proofs of other crates cite
+pub mod PlaceFaults

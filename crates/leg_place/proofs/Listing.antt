@@ -4,14 +4,15 @@ use Rattle.std.proofs.lemmas.Bool.{cases_lt, cases_eq}
 use Rattle.std.proofs.lemmas.List.Elements.{All-nil, All-push, All-weaker, Contains-append_left, Contains-push}
 use Rattle.std.proofs.lemmas.List.Quantifiers.{all_pairs_push}
 use Rattle.leg_sweep.proofs.Lists.{AllPairs-nil}
-use Rattle.leg_lib.specs.Records.{Contents}
+use Rattle.leg_cells.specs.Records.{Contents}
 use Rattle.leg_block.specs.Records.{DesignContents}
 use Rattle.leg_block.specs.declared.fault.Fault.{Fault}
 use Rattle.leg_block.specs.declared.fault.Fault.TheVariants.{Unplaced}
 use Rattle.leg_block.specs.Violation.{kind_number, numbers_of, ComesBefore}
 use Rattle.leg_place.specs.Faults.{Holds}
-use Rattle.leg_place.specs.Before.{HoldsBefore, IsListBefore}
-use Rattle.leg_place.proofs.FaultNumbers.{same_fault, no_second_number, component_below}
+use Rattle.leg_place.specs.Steps.ListPrefix.{HoldsBefore, IsListBefore}
+use Rattle.leg_block.proofs.FaultNumbers.{same_fault, no_second_number}
+use Rattle.leg_place.proofs.PlaceFaults.{component_below}
 
 -- the violation tells this component alone, and is of the kind of this number
 pub record Tells (v : Fault) (kind c : ℕ) : Type 0 where
@@ -74,17 +75,6 @@ module _ (v next : Fault) (kind c : ℕ) (one : kind < 3) (this : Tells v kind c
       ]
 
 module _ (library : Contents) (design : DesignContents) where
-  -- nothing comes before the first one
-  pub listing_none : IsListBefore library design (Unplaced 0) []
-  listing_none = record {
-    increasing = AllPairs-nil ComesBefore;
-    each = All-nil (HoldsBefore library design (Unplaced 0));
-    all = λ w held.
-        let start : kind_number w ≡ 0 = omega (arith, held.before.kind) in
-        let first : (numbers_of w).0 ≡ 0 = omega (arith, held.before.first start) in
-        absurd (omega (arith, held.before.second start first));
-  }
-
   -- the same list behind another violation, where no others hold
   listing_upto : (end later : Fault) (found : List Fault) → ComesBefore end later → ((w : Fault) → ComesBefore w later → Holds library design w → ComesBefore w end) → IsListBefore library design end found → IsListBefore library design later found
   listing_upto end later found onward back done = record {

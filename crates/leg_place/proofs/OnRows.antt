@@ -4,14 +4,14 @@ use Rattle.std.proofs.lemmas.Bool.{cases_lt, false≢true}
 use Rattle.std.proofs.lemmas.List.{get_or_default}
 use Rattle.std.proofs.lemmas.Option.{same_Some, none-some, slice_get_within, get_or_from_slice_get}
 use Rattle.leg_geom.specs.declared.place.Place.{Place}
-use Rattle.leg_lib.specs.Records.{MasterSaid}
+use Rattle.leg_cells.specs.Records.{MasterSaid}
 use Rattle.leg_block.specs.Records.{DesignContents}
 use Rattle.leg_block.specs.declared.records.Component.{Component}
 use Rattle.leg_block.specs.declared.records.Row.{Row}
 use Rattle.leg_place.specs.Box.{placed_box}
 use Rattle.leg_place.specs.Sites.{IsOnRow, IsOffSite}
-use Rattle.leg_place.specs.RowOrder.{IsKey, IsRowOrder, AreAt}
-use Rattle.leg_place.specs.OnRow.{IsOnSomeRow}
+use Rattle.leg_place.specs.Steps.RowOrder.{IsKey, IsRowOrder, AreAt}
+use Rattle.leg_place.specs.Steps.OnRow.{IsOnSomeRow}
 use Rattle.leg_place.proofs.OnSites.{IsWide, bottom_is}
 use Rattle.leg_place.proofs.Places.{place_of_contained}
 

@@ -7,10 +7,10 @@ use Rattle.std.proofs.lemmas.Bool.{cases_lt}
 use Rattle.std.proofs.lemmas.Grind.{common_steps}
 use Rattle.std.proofs.lemmas.Int.{ints}
 use Rattle.leg_geom.specs.Plane.{Spot, Sides, HasCell}
-use Rattle.leg_lib.specs.Measure.{Lengths, HasArea}
+use Rattle.leg_cells.specs.Measure.{Lengths, HasArea}
 use Rattle.leg_block.specs.declared.records.Row.{Row}
 use Rattle.leg_place.specs.Sites.{SitesHave, IsOnSites}
-use Rattle.leg_place.specs.OnRow.{IsLevel, IsEdge}
+use Rattle.leg_place.specs.Steps.OnRow.{IsLevel, IsEdge}
 
 -- a rectangle has area
 pub record IsWide (box : Sides) : Type 0 where

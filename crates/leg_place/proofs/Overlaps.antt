@@ -7,15 +7,16 @@ use Rattle.std.proofs.lemmas.Option.{same_Some, slice_get_within, get_or_from_sl
 use Rattle.leg_geom.specs.Plane.{ShareCell}
 use Rattle.leg_sweep.specs.Pairs.{Before, IsPair, ArePairs}
 use Rattle.leg_sweep.proofs.Lists.{AllPairs-append_by, AllPairs-map_where, Contains-map}
-use Rattle.leg_lib.specs.Records.{Contents}
+use Rattle.leg_cells.specs.Records.{Contents}
 use Rattle.leg_block.specs.Records.{DesignContents}
 use Rattle.leg_block.specs.declared.fault.Fault.{Fault}
-use Rattle.leg_block.specs.declared.fault.Fault.TheVariants.{Unplaced, Outside, OffSite, Overlap, Short, TooNear, OpenNet}
+use Rattle.leg_block.specs.declared.fault.Fault.TheVariants.{Overlap}
 use Rattle.leg_block.specs.Violation.{ComesBefore, kind_number, numbers_of, IsListOf}
 use Rattle.leg_place.specs.declared.placed_box.PlacedBox.{PlacedBox}
 use Rattle.leg_place.specs.Box.{StandsIn}
-use Rattle.leg_place.specs.Faults.{Holds}
-use Rattle.leg_place.specs.Before.{HoldsBefore, IsListBefore, AreBoxesBelow, HasLowerNumber}
+use Rattle.leg_place.specs.Faults.{DoOverlap, Holds}
+use Rattle.leg_place.specs.Faults.Holds.{unplaced, outside, off_site, overlap}
+use Rattle.leg_place.specs.Steps.ListPrefix.{HoldsBefore, IsListBefore, AreBoxesBelow, HasLowerNumber}
 use Rattle.leg_place.proofs.Places.{place_of_contained, All-at, AllPairs-at, lower_first, same_place}
 
 -- two boxes share a cell
@@ -47,14 +48,14 @@ module _ (library : Contents) (design : DesignContents) (n : ℕ) (boxes : List 
   -- the violation of a pair of boxes holds
   Holds-overlap_of : (p : ℕ × ℕ) → IsPair Share boxes p → Holds library design (overlap_of boxes p)
   Holds-overlap_of p pair =
-      rw (pair.a_at, pair.b_at) (record {
+      rw (pair.a_at, pair.b_at) (overlap (record {
         in_order = AllPairs-at HasLowerNumber boxes p.0 p.1 pair.a pair.b are.increasing pair.a_at pair.b_at pair.in_order;
         box_a = pair.a.rect;
         box_b = pair.b.rect;
         stands_a = All-at (λ box. StandsIn library design box.component box.rect) boxes p.0 pair.a are.each pair.a_at;
         stands_b = All-at (λ box. StandsIn library design box.component box.rect) boxes p.1 pair.b are.each pair.b_at;
         shared = pair.holds;
-      })
+      }))
 
   -- pairs in order are overlaps in order
   ComesBefore-overlap_of : (p q : ℕ × ℕ) → IsPair Share boxes p → IsPair Share boxes q → Before p q → ComesBefore (overlap_of boxes p) (overlap_of boxes q)
@@ -74,7 +75,7 @@ module _ (library : Contents) (design : DesignContents) (n : ℕ) (boxes : List 
       })
 
   -- each overlap is that of a pair
-  overlap_from_pair : (found : List (ℕ × ℕ)) → ArePairs Share boxes found → (a b : ℕ) → (holds : Holds library design (Overlap a b)) → a < n → b < n → Contains (map (overlap_of boxes) found) (Overlap a b)
+  overlap_from_pair : (found : List (ℕ × ℕ)) → ArePairs Share boxes found → (a b : ℕ) → (holds : DoOverlap library design a b) → a < n → b < n → Contains (map (overlap_of boxes) found) (Overlap a b)
   overlap_from_pair found pairs a b holds a_below b_below =
       let first = place_of_contained boxes (record { component = a; rect = holds.box_a }) (are.all a holds.box_a a_below holds.stands_a) in
       let second = place_of_contained boxes (record { component = b; rect = holds.box_b }) (are.all b holds.box_b b_below holds.stands_b) in
@@ -125,14 +126,11 @@ module _ (library : Contents) (design : DesignContents) (found : List Fault) (be
           }))
 
       found_in : (v : Fault) → Holds library design v → Contains (found ++ map (overlap_of boxes) pairs) v
-      found_in (Unplaced c) holds = earlier_in (Unplaced c) (omega arith) holds
-      found_in (Outside c) holds = earlier_in (Outside c) (omega arith) holds
-      found_in (OffSite c) holds = earlier_in (OffSite c) (omega arith) holds
-      found_in (Overlap a b) holds =
+      found_in v (unplaced h) = earlier_in v (omega arith) (unplaced h)
+      found_in v (outside h) = earlier_in v (omega arith) (outside h)
+      found_in v (off_site h) = earlier_in v (omega arith) (off_site h)
+      found_in v (overlap {a = a} {b = b} h) =
           Contains-append_right found (map (overlap_of boxes) pairs) (Overlap a b)
-          (overlap_from_pair library design (length design.components) boxes are pairs are_pairs a b holds
-          (slice_get_within design.components a holds.stands_a.component holds.stands_a.there)
-          (slice_get_within design.components b holds.stands_b.component holds.stands_b.there))
-      found_in (Short a b) holds = absurd holds
-      found_in (TooNear a b) holds = absurd holds
-      found_in (OpenNet n k) holds = absurd holds
+          (overlap_from_pair library design (length design.components) boxes are pairs are_pairs a b h
+          (slice_get_within design.components a h.stands_a.component h.stands_a.there)
+          (slice_get_within design.components b h.stands_b.component h.stands_b.there))

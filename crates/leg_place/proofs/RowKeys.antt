@@ -12,7 +12,7 @@ use Rattle.std.proofs.lemmas.List.Sorted.{ranks_by, sorted_far, All-permutation,
 use Rattle.std.proofs.lemmas.Option.{same_Some}
 use Rattle.leg_sweep.proofs.Edges.{key_cmp, key_cmp_total, edges_rise}
 use Rattle.leg_block.specs.declared.records.Row.{Row}
-use Rattle.leg_place.specs.RowOrder.{IsKey, AreKeysBelow, IsRising, IsRowOrder, AreAt}
+use Rattle.leg_place.specs.Steps.RowOrder.{IsKey, AreKeysBelow, IsRising, IsRowOrder, AreAt}
 
 pub keys_none : (rows : List Row) → AreKeysBelow rows 0 []
 keys_none rows = record { each = All-nil (IsKey rows); all = λ number row below there. absurd (omega arith) }

@@ -4,8 +4,8 @@ use Rattle.leg_lex.specs.Words.{◌>>=◌}
 use Rattle.leg_geom.specs.Plane.{Sides}
 use Rattle.leg_geom.specs.Orientation.{placed_rect}
 use Rattle.leg_geom.specs.declared.place.Place.{Place}
-use Rattle.leg_lib.specs.Measure.{Lengths}
-use Rattle.leg_lib.specs.Records.{Contents}
+use Rattle.leg_cells.specs.Measure.{Lengths}
+use Rattle.leg_cells.specs.Records.{Contents}
 use Rattle.leg_block.specs.Records.{DesignContents}
 use Rattle.leg_block.specs.declared.records.Component.{Component}
 

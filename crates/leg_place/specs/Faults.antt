@@ -2,11 +2,11 @@
 -- rows, and on one another. A component is the box of its macro, of which the cells count.
 use Rattle.std.specs.Prelude.{◌≡◌, ℕ, ◌<◌, None, Some, slice_get}
 use Rattle.leg_geom.specs.Plane.{Spot, Sides, HasCell, ShareCell}
-use Rattle.leg_lib.specs.Records.{Contents}
+use Rattle.leg_cells.specs.Records.{Contents}
 use Rattle.leg_block.specs.Records.{DesignContents}
 use Rattle.leg_block.specs.declared.records.Component.{Component}
 use Rattle.leg_block.specs.declared.fault.Fault.{Fault}
-use Rattle.leg_block.specs.declared.fault.Fault.TheVariants.{Unplaced, Outside, OffSite, Overlap, Short, TooNear, OpenNet}
+use Rattle.leg_block.specs.declared.fault.Fault.TheVariants.{Unplaced, Outside, OffSite, Overlap}
 use Rattle.leg_place.specs.Box.{StandsIn}
 use Rattle.leg_place.specs.Sites.{IsOffSite}
 
@@ -34,11 +34,8 @@ pub record DoOverlap (library : Contents) (design : DesignContents) (a b : ℕ) 
   pub shared : ShareCell box_a box_b
 
 -- a violation holds that speaks of where components stand
-abbrev pub Holds : Contents → DesignContents → Fault → Type 0
-Holds library design (Unplaced c) = IsUnplaced design c
-Holds library design (Outside c) = IsOutside library design c
-Holds library design (OffSite c) = IsOffSite library design c
-Holds library design (Overlap a b) = DoOverlap library design a b
-Holds library design (Short a b) = ⊥
-Holds library design (TooNear a b) = ⊥
-Holds library design (OpenNet n k) = ⊥
+pub data Holds (library : Contents) (design : DesignContents) : Fault → Type 0 where
+  unplaced : {c : ℕ} → IsUnplaced design c → Holds library design (Unplaced c)
+  outside : {c : ℕ} → IsOutside library design c → Holds library design (Outside c)
+  off_site : {c : ℕ} → IsOffSite library design c → Holds library design (OffSite c)
+  overlap : {a b : ℕ} → DoOverlap library design a b → Holds library design (Overlap a b)

@@ -4,9 +4,9 @@ use Rattle.leg_geom.specs.Plane.{Spot, Sides, HasCell}
 use Rattle.leg_geom.specs.Orientation.{IsMirrored}
 use Rattle.leg_geom.specs.declared.orient.Orient.{Orient}
 use Rattle.leg_geom.specs.declared.place.Place.{Place}
-use Rattle.leg_lib.specs.Measure.{Lengths}
-use Rattle.leg_lib.specs.Records.{Contents, MasterSaid}
-use Rattle.leg_lib.specs.declared.records.Site.{Site}
+use Rattle.leg_cells.specs.Measure.{Lengths}
+use Rattle.leg_cells.specs.Records.{Contents, MasterSaid}
+use Rattle.leg_cells.specs.declared.records.Site.{Site}
 use Rattle.leg_block.specs.Records.{DesignContents}
 use Rattle.leg_block.specs.declared.records.Component.{Component}
 use Rattle.leg_block.specs.declared.records.Row.{Row}

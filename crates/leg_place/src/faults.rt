@@ -3,14 +3,14 @@
 ghost use Rattle.std.specs.Prelude.{◌≡◌, ◌<◌, ◌↔◌, length, IsTrue, IfOk, OnOk};
 ghost use Rattle.leg_block.specs.Violation.{IsListOf};
 ghost use Rattle.leg_place.specs.Faults.{IsOutside, Holds};
-ghost use Rattle.leg_place.specs.Before.{IsListBefore};
+ghost use Rattle.leg_place.specs.Steps.ListPrefix.{IsListBefore};
 
 use crate::overlap::push_overlaps;
 use crate::placed_box::box_of;
 use crate::row_order::row_order;
 use crate::sites::is_off_site;
 use leg_block::{Design, Fault};
-use leg_lib::Library;
+use leg_cells::Library;
 use std::alloc::{AllocError, Allocator};
 
 /// The components without a place, those outside the die, those off the sites of the rows, and the pairs of components

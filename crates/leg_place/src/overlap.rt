@@ -5,7 +5,7 @@ ghost use Rattle.std.proofs.Common.{refl};
 ghost use Rattle.leg_geom.specs.Plane.{ShareCell};
 ghost use Rattle.leg_geom.proofs.Gaps.{ShareCell-symmetric, ShareCell-gaps};
 ghost use Rattle.leg_block.specs.Violation.{IsListOf};
-ghost use Rattle.leg_place.specs.Before.{IsListBefore};
+ghost use Rattle.leg_place.specs.Steps.ListPrefix.{IsListBefore};
 ghost use Rattle.leg_place.specs.Faults.{Holds};
 
 use crate::placed_box::{PlacedBox, placed_boxes};

@@ -5,11 +5,11 @@ ghost use Rattle.leg_geom.specs.Plane.{IsRect};
 ghost use Rattle.leg_block.specs.declared.limits.TheConstants.{ENTRY_LIMIT};
 ghost use Rattle.leg_block.specs.WellFormedParts.{IsPosition, IsComponent};
 ghost use Rattle.leg_place.specs.Box.{placed_box, box_of};
-ghost use Rattle.leg_place.specs.Before.{AreBoxesBelow};
+ghost use Rattle.leg_place.specs.Steps.ListPrefix.{AreBoxesBelow};
 
 use leg_block::{Component, Design};
+use leg_cells::{Extent, Library};
 use leg_geom::{Place, Rect};
-use leg_lib::{Extent, Library};
 use std::alloc::{AllocError, Allocator};
 
 /// A component that has a place, by its number, and its box.

@@ -1,7 +1,7 @@
 //! The rows from the lowest one up.
 
 ghost use Rattle.std.specs.Prelude.{length, IfOk};
-ghost use Rattle.leg_place.specs.RowOrder.{AreKeysBelow, IsRising, IsRowOrder, AreAt};
+ghost use Rattle.leg_place.specs.Steps.RowOrder.{AreKeysBelow, IsRising, IsRowOrder, AreAt};
 
 use leg_block::Row;
 use std::alloc::{AllocError, Allocator};

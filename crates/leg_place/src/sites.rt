@@ -2,17 +2,17 @@
 
 ghost use Rattle.std.specs.Prelude.{◌≡◌, ◌<◌, ◌↔◌, ◌≤ℤ◌, pos, length, IsTrue};
 ghost use Rattle.leg_geom.specs.Plane.{IsCoordinate, IsRect};
-ghost use Rattle.leg_lib.specs.Measure.{HasArea};
+ghost use Rattle.leg_cells.specs.Measure.{HasArea};
 ghost use Rattle.leg_block.specs.WellFormedParts.{IsPosition, IsRow};
-ghost use Rattle.leg_place.specs.RowOrder.{IsRowOrder};
+ghost use Rattle.leg_place.specs.Steps.RowOrder.{IsRowOrder};
 ghost use Rattle.leg_place.specs.Sites.{Fits, IsOnSites, IsOnRow, IsOffSite};
-ghost use Rattle.leg_place.specs.OnRow.{IsOnSomeRow, IsLevel, IsEdge};
+ghost use Rattle.leg_place.specs.Steps.OnRow.{IsOnSomeRow, IsLevel, IsEdge};
 
 use crate::placed_box::placed_size;
 use crate::row_order::rows_at;
 use leg_block::{Design, Row};
+use leg_cells::{Extent, Library, Master};
 use leg_geom::{Orient, Place, Rect};
-use leg_lib::{Extent, Library, Master};
 use std::alloc::Allocator;
 
 /// Whether the component is placed, its macro has a site, and it stands on the sites of no row. The rows are given in

@@ -1,7 +1,7 @@
 -- How violations name what they speak of. A number that nothing has names nothing.
 use Rattle.std.specs.Prelude.{ℕ, suc, List, [], ◌++◌, Option, None, Some, codes, decimal, slice_get}
-use Rattle.leg_lib.specs.Records as library
-use Rattle.leg_lib.specs.declared.records.Layer.{Layer}
+use Rattle.leg_cells.specs.Records as library
+use Rattle.leg_cells.specs.declared.records.Layer.{Layer}
 use Rattle.leg_block.specs.declared.records.Component.{Component}
 use Rattle.leg_block.specs.declared.records.Terminal.{Terminal}
 use Rattle.leg_block.specs.declared.records.Terminal.TheVariants.{Comp, Pin}
@@ -28,7 +28,7 @@ abbrev pub net_name : DesignContents → ℕ → List ℕ
 net_name design n = name_by (λ (net : NetSaid). net.name) (slice_get (design.nets ++ design.special) n)
 
 abbrev pub component_pin_name : DesignContents → ℕ → ℕ → List ℕ
-component_pin_name design c k = name_by (λ (pin : library.PinSaid). pin.name) (master_pin design c k)
+component_pin_name design c k = name_by (λ (pin : library.MasterPinSaid). pin.name) (master_pin design c k)
 
 abbrev pub design_pin_name : DesignContents → ℕ → List ℕ
 design_pin_name design p = name_by (λ (pin : PinSaid). pin.name) (slice_get design.pins p)

@@ -10,9 +10,9 @@ ghost use Rattle.leg_print.specs.Lines.{sides_text, shape_text, shape_at, piece_
 use crate::name::{component_name, layer_name, net_name, push_owner, push_piece};
 use itoa::Buffer;
 use leg_block::{Design, Fault};
+use leg_cells::Library;
 use leg_flat::{Flat, Piece, Shape};
 use leg_geom::Rect;
-use leg_lib::Library;
 use std::alloc::{AllocError, Allocator};
 
 /// A line for each violation, in their order.

@@ -14,8 +14,8 @@ use Rattle.leg_geom.specs.declared.limits.TheConstants.{COORDINATE_LIMIT}
 use Rattle.leg_geom.specs.Plane.{Sides, IsCoordinate, IsRect}
 use Rattle.leg_geom.specs.Gap.{gap_between, x_gap, y_gap}
 use Rattle.leg_sweep.specs.Pairs.{Before, IsPair, ArePairs}
-use Rattle.leg_sweep.specs.Bands.{height_of, first_band, last_band, layer_key, AreEntriesTo, HasPairsInBands}
-use Rattle.leg_sweep.specs.Swept.{unit_square, rect_at, IsLeftToRight}
+use Rattle.leg_sweep.specs.Steps.Bands.{height_of, first_band, last_band, layer_key, AreEntriesTo, HasPairsInBands}
+use Rattle.leg_sweep.specs.Steps.Sweep.{unit_square, rect_numbered, IsLeftToRight}
 use Rattle.leg_sweep.proofs.Lists.{Contains-map, All-from_contains}
 use Rattle.leg_sweep.proofs.Nearness.{y_gap_symmetric}
 use Rattle.leg_sweep.proofs.Progress.{place_of, numbers_contain}
@@ -74,7 +74,7 @@ in_range first count k low high =
 
 module _ (place height reach : ℕ) (rects : List Sides) (layers order : List ℕ) (entries : List ((ℕ × ℕ) × ℕ)) (so_far : AreEntriesTo place height reach rects layers order entries)
     (layer first end : ℕ) (layer_is : layer ≡ layer_key (get_or layers (get_or order place 0) 0))
-    (first_is : first ≡ first_band height (rect_at rects (get_or order place 0))) (end_is : end ≡ last_band height reach (rect_at rects (get_or order place 0)) + 1) where
+    (first_is : first ≡ first_band height (rect_numbered rects (get_or order place 0))) (end_is : end ≡ last_band height reach (rect_numbered rects (get_or order place 0)) + 1) where
   -- the entries of one more item
   pub entries_more : AreEntriesTo (place + 1) height reach rects layers order (entries ++ map (λ band. ((layer, band), place)) (range_with_len first (end - first)))
   entries_more =
@@ -127,7 +127,7 @@ module _ {Item : Type 0} (Holds : Item → Item → Type 0) (rect_of : Item → 
       → (q : ℕ) × (get_or order q 0 ≡ x) × Contains sorted ((layer_key (layer_of a), k), q)
   stands x a k got low high =
       let place = placed x a got in
-      let rect_is : rect_at (map rect_of items) x ≡ rect_of a = read_of rect_of x a unit_square got in
+      let rect_is : rect_numbered (map rect_of items) x ≡ rect_of a = read_of rect_of x a unit_square got in
       let layer_is : get_or (map layer_of items) x 0 ≡ layer_of a = read_of layer_of x a 0 got in
       let there = rw (place.2, rect_is, layer_is) at (are.all place.0 k place.1) in
       (place.0, place.2, kept ((layer_key (layer_of a), k), place.0) (there low high))

@@ -1,13 +1,17 @@
+-- Pairs and their order
+mod Unique
+mod Apart
+mod SortedOnce
+mod Listed
+mod Counts
+-- The sweep from left to right
+mod Nearness
+mod Places
+mod Turns
+mod Progress
+-- The search band by band
+mod SweptRuns
+mod CommonBands
+-- What the proofs of other crates cite
 pub mod Lists
-pub mod Unique
-pub mod Counts
-pub mod Nearness
-pub mod Turns
-pub mod Apart
-pub mod Progress
 pub mod Edges
-pub mod Places
-pub mod Listed
-pub mod SortedOnce
-pub mod SweptRuns
-pub mod CommonBands

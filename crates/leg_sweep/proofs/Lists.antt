@@ -37,15 +37,6 @@ module _ {X Y : Type 0} (f : X → Y) where
         | inr rest ↦ Contains-there (f y) (map f xs) (f x) (Contains-map xs x rest)
       ]
 
-  -- and no more
-  pub Contains-from_map : (xs : List X) (y : Y) → Contains (map f xs) y → (x : X) × Contains xs x × (f x ≡ y)
-  Contains-from_map [] y c = absurd (Contains-nil y c)
-  Contains-from_map (x ∷ xs) y c =
-      elim (Contains-cons_cases (f x) (map f xs) y c) [
-        | inl same ↦ (x, Contains-here x xs, same)
-        | inr rest ↦ let found = Contains-from_map xs y rest in (found.0, Contains-there x xs found.0 found.1, found.2)
-      ]
-
 module _ {X : Type 0} (R : X → X → Type 0) where
   pub AllPairs-nil : AllPairs R []
   AllPairs-nil i j d below within = absurd (omega arith)

@@ -6,7 +6,7 @@ use Rattle.std.proofs.lemmas.List.{get_or_past}
 use Rattle.leg_geom.specs.Plane.{Sides, IsRect}
 use Rattle.leg_geom.specs.Gap.{gap_between, x_gap, y_gap}
 use Rattle.leg_sweep.specs.Counts.{near_along_x, near_along_both}
-use Rattle.leg_sweep.specs.Swept.{unit_square, rect_at, test_at}
+use Rattle.leg_sweep.specs.Steps.Sweep.{unit_square, rect_numbered, test_at}
 
 gap_symmetric : (a b c d : ℤ) → a <ℤ b → c <ℤ d → gap_between a b c d ≡ gap_between c d a b
 gap_symmetric a b c d long_a long_c = grind (arith, ints)
@@ -22,7 +22,7 @@ pub y_gap_symmetric : (a b : Sides) → IsRect a → IsRect b → y_gap a b ≡ 
 y_gap_symmetric a b is_a is_b = gap_symmetric a.y1 a.y2 b.y1 b.y2 is_a.high is_b.high
 
 module _ (rects : List Sides) (proper : All IsRect rects) where
-  rect_at_proper : (i : ℕ) → IsRect (rect_at rects i)
+  rect_at_proper : (i : ℕ) → IsRect (rect_numbered rects i)
   rect_at_proper i =
       elim (cases_lt i (length rects)) [
         | inl within ↦ proper i unit_square within
@@ -36,16 +36,16 @@ module _ (rects : List Sides) (proper : All IsRect rects) where
 
   pub near_along_both_symmetric : (reach i j : ℕ) → test_at (near_along_both reach) rects i j ≡ test_at (near_along_both reach) rects j i
   near_along_both_symmetric reach i j =
-      let x : x_gap (rect_at rects i) (rect_at rects j) ≡ x_gap (rect_at rects j) (rect_at rects i) = x_gap_symmetric _ _ (rect_at_proper i) (rect_at_proper j) in
-      let y : y_gap (rect_at rects i) (rect_at rects j) ≡ y_gap (rect_at rects j) (rect_at rects i) = y_gap_symmetric _ _ (rect_at_proper i) (rect_at_proper j) in
+      let x : x_gap (rect_numbered rects i) (rect_numbered rects j) ≡ x_gap (rect_numbered rects j) (rect_numbered rects i) = x_gap_symmetric _ _ (rect_at_proper i) (rect_at_proper j) in
+      let y : y_gap (rect_numbered rects i) (rect_numbered rects j) ≡ y_gap (rect_numbered rects j) (rect_numbered rects i) = y_gap_symmetric _ _ (rect_at_proper i) (rect_at_proper j) in
       cc
 
   -- what is near the last of three from the left is near the middle one
-  pub near_between : (reach i j k : ℕ) → (rect_at rects i).x1 ≤ℤ (rect_at rects j).x1 → (rect_at rects j).x1 ≤ℤ (rect_at rects k).x1
+  pub near_between : (reach i j k : ℕ) → (rect_numbered rects i).x1 ≤ℤ (rect_numbered rects j).x1 → (rect_numbered rects j).x1 ≤ℤ (rect_numbered rects k).x1
       → test_at (near_along_x reach) rects i k ≡ true → test_at (near_along_x reach) rects i j ≡ true
   near_between reach i j k first second near =
-      let a = rect_at rects i in
-      let b = rect_at rects j in
-      let c = rect_at rects k in
+      let a = rect_numbered rects i in
+      let b = rect_numbered rects j in
+      let c = rect_numbered rects k in
       let grows = gap_grows a.x1 a.x2 b.x1 b.x2 c.x1 c.x2 (rect_at_proper j).wide first second in
       le-leb (x_gap a b) reach (let far = leb-true (x_gap a c) reach near in omega (arith, grows, far))

@@ -13,7 +13,7 @@ use Rattle.leg_geom.specs.Plane.{Sides, IsRect}
 use Rattle.leg_geom.specs.Gap.{x_gap, y_gap}
 use Rattle.leg_sweep.specs.Pairs.{IsPair}
 use Rattle.leg_sweep.specs.Counts.{near_along_x, near_along_both, count_pairs}
-use Rattle.leg_sweep.specs.Swept.{unit_square, rect_at, test_at, ordered, IsLeftToRight, RiseFromLeft}
+use Rattle.leg_sweep.specs.Steps.Sweep.{unit_square, rect_numbered, test_at, ordered, IsLeftToRight, RiseFromLeft}
 use Rattle.leg_sweep.proofs.Apart.{numbers_apart}
 use Rattle.leg_sweep.proofs.Counts.{count_pairs-map, count_pairs-IsPermutation}
 use Rattle.leg_sweep.proofs.Nearness.{near_between, near_along_x_symmetric, near_along_both_symmetric}
@@ -65,9 +65,9 @@ module _ (rects : List Sides) (order : List ℕ) (sorted : IsLeftToRight rects o
   count_in_order : (test : Sides → Sides → Bool) → ((i j : ℕ) → test_at test rects i j ≡ test_at test rects j i) → count_pairs (test_at test rects) order ≡ count_pairs test rects
   count_in_order test symmetric =
       let numbers = range_with_len 0 (length rects) in
-      let filled : rects ≡ map (rect_at rects) numbers = fill_by_all (rect_at rects) rects (length rects) unit_square refl (λ k below. refl) in
+      let filled : rects ≡ map (rect_numbered rects) numbers = fill_by_all (rect_numbered rects) rects (length rects) unit_square refl (λ k below. refl) in
       let moved = count_pairs-IsPermutation (test_at test rects) symmetric numbers order sorted.numbers in
-      let mapped = count_pairs-map test (rect_at rects) numbers in
+      let mapped = count_pairs-map test (rect_numbered rects) numbers in
       let whole = ap (λ list. count_pairs test list) filled in
       omega (arith, moved, mapped, whole)
 
@@ -83,7 +83,7 @@ module _ (rects : List Sides) (order : List ℕ) (sorted : IsLeftToRight rects o
 module _ {Item : Type 0} (Holds : Item → Item → Type 0) (rect_of : Item → Sides) (reach : ℕ)
     (near : (a b : Item) → Holds a b → (x_gap (rect_of a) (rect_of b) ≤ reach) × (y_gap (rect_of a) (rect_of b) ≤ reach))
     (items : List Item) (proper : All IsRect (map rect_of items)) where
-  rect_of_got : (x : ℕ) (a : Item) → slice_get items x ≡ Some a → rect_at (map rect_of items) x ≡ rect_of a
+  rect_of_got : (x : ℕ) (a : Item) → slice_get items x ≡ Some a → rect_numbered (map rect_of items) x ≡ rect_of a
   rect_of_got x a got = get_or_from_slice_get (map rect_of items) x (rect_of a) unit_square (slice_get-map rect_of items x ∙ ap (λ o. option_map rect_of o) got)
 
   pair_is_near : (p : ℕ × ℕ) → IsPair Holds items p → test_at (near_along_x reach) (map rect_of items) p.0 p.1 ≡ true

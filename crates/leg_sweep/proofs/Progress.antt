@@ -3,7 +3,7 @@ use Rattle.std.proofs.Common.{◌≡◌, ◌≢◌, ℕ, ◌+◌, ◌<◌, ◌�
 use Rattle.std.specs.List.{range_with_len}
 use Rattle.std.proofs.lemmas.Bool.{cases_lt, cases_eq, cases_Bool}
 use Rattle.std.proofs.lemmas.List.{take_more, get_or-take, get_or_default, length-take-le}
-use Rattle.std.proofs.lemmas.List.Elements.{All-nil, All-push, All-append, All-weaker, All-filter, All-contains, Contains-append_left, Contains-append_right, Contains-push}
+use Rattle.std.proofs.lemmas.List.Elements.{All-push, All-append, All-weaker, All-filter, All-contains, Contains-append_left, Contains-append_right, Contains-push}
 use Rattle.std.proofs.lemmas.List.Filters.{sum_by-filter_both}
 use Rattle.std.proofs.lemmas.List.FromFn.{length-range_with_len, get_or-range_with_len}
 use Rattle.std.proofs.lemmas.List.Kept.{AllPairs-filter}
@@ -12,8 +12,9 @@ use Rattle.std.proofs.lemmas.List.Sorted.{Contains-permutation}
 use Rattle.std.proofs.lemmas.List.Sums.{sum_by_push}
 use Rattle.std.proofs.lemmas.Option.{slice_get_within}
 use Rattle.leg_sweep.specs.Pairs.{IsPair}
-use Rattle.leg_sweep.specs.Swept.{ordered, AreNewPairs, HasPairs, HasPairsOf}
-use Rattle.leg_sweep.proofs.Lists.{Contains-here, Contains-there, Contains-cons_cases, AllPairs-nil, AllPairs-append_by}
+use Rattle.leg_sweep.specs.Steps.Sweep.{ordered, AreNewPairs, HasPairsOf}
+use Rattle.leg_sweep.proofs.Apart.{HasPairs}
+use Rattle.leg_sweep.proofs.Lists.{Contains-here, Contains-there, Contains-cons_cases, AllPairs-append_by}
 use Rattle.leg_sweep.proofs.Turns.{ordered_below, ordered_above}
 
 -- a filter keeps what passes
@@ -54,20 +55,6 @@ pub record SweptTo (near : ℕ → ℕ → Bool) (IsOne : ℕ × ℕ → Type 0)
   pub distinct : AllPairs (λ p q. p ≢ q) found
   pub within : All (λ p. Contains (take i order) p.0 × Contains (take i order) p.1) found
   pub all : (a b : ℕ) → a < b → b < i → IsOne (ordered (get_or order a 0) (get_or order b 0)) → Contains found (ordered (get_or order a 0) (get_or order b 0))
-
-module _ (near : ℕ → ℕ → Bool) (IsOne : ℕ × ℕ → Type 0) (order : List ℕ) where
-  -- before the first item
-  pub swept_none : SweptTo near IsOne order 0 [] []
-  swept_none = record {
-    few = λ test. omega arith;
-    come = All-nil (Contains (take 0 order));
-    apart = AllPairs-nil (λ x y. x ≢ y);
-    reached = λ a b none. absurd (omega arith);
-    each = All-nil IsOne;
-    distinct = AllPairs-nil (λ p q. p ≢ q);
-    within = All-nil (λ p. Contains (take 0 order) p.0 × Contains (take 0 order) p.1);
-    all = λ a b below none. absurd (omega arith);
-  }
 
 module _ (near : ℕ → ℕ → Bool) (IsOne : ℕ × ℕ → Type 0) (order : List ℕ)
     (differ : (a b : ℕ) → a < b → b < length order → get_or order a 0 ≡ get_or order b 0 → ⊥)

@@ -11,8 +11,8 @@ use Rattle.std.proofs.lemmas.List.Kept.{AllPairs-cons, Contains-dedup, Contains-
 use Rattle.std.proofs.lemmas.List.Sorted.{Contains-permutation, IsPermutation-sym}
 use Rattle.std.proofs.lemmas.Map.Keys.{sorted_head, sorted_tail}
 use Rattle.leg_sweep.specs.Pairs.{Before}
-use Rattle.leg_sweep.specs.Bands.{IsBefore}
-use Rattle.leg_sweep.specs.Swept.{pair_cmp}
+use Rattle.leg_sweep.specs.Steps.Bands.{IsBefore}
+use Rattle.leg_sweep.specs.Steps.Sweep.{pair_cmp}
 use Rattle.leg_sweep.proofs.Apart.{pair_cmp_total}
 use Rattle.leg_sweep.proofs.Lists.{AllPairs-nil}
 

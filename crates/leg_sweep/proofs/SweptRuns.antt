@@ -1,14 +1,14 @@
 -- Runs of entries of one band, and what sweeps over them find.
-use Rattle.std.proofs.Common.{◌≡◌, ◌≢◌, ℕ, ◌+◌, ◌-◌, ◌*◌, ◌<◌, ◌≤◌, List, [], ◌++◌, length, get_or, take, drop, map, All, AllPairs, Contains, inl, inr, sym, ap, ◌∙◌, arith}
+use Rattle.std.proofs.Common.{◌≡◌, ◌≢◌, ℕ, ◌+◌, ◌-◌, ◌*◌, ◌<◌, ◌≤◌, List, ◌++◌, length, get_or, take, drop, map, All, AllPairs, Contains, inl, inr, sym, ap, ◌∙◌, arith}
 use Rattle.std.proofs.lemmas.Bool.{cases_lt}
 use Rattle.std.proofs.lemmas.List.{get_or-take, get_or-drop, get_or-map, get_or_default, length-map, length-take, length-drop}
-use Rattle.std.proofs.lemmas.List.Elements.{All-nil, All-append, All-map, Contains-append_left, Contains-append_right}
+use Rattle.std.proofs.lemmas.List.Elements.{All-append, All-map, Contains-append_left, Contains-append_right}
 use Rattle.std.proofs.lemmas.Nat.{mul-le}
 use Rattle.std.proofs.Math.Nat.{add-mul}
 use Rattle.leg_geom.specs.Plane.{Sides}
 use Rattle.leg_sweep.specs.Pairs.{IsPair}
-use Rattle.leg_sweep.specs.Bands.{entry_at, IsBefore, HasPairsInBands}
-use Rattle.leg_sweep.specs.Swept.{IsLeftToRight, RiseFromLeft, HasPairsOf}
+use Rattle.leg_sweep.specs.Steps.Bands.{entry_at, IsBefore, HasPairsInBands}
+use Rattle.leg_sweep.specs.Steps.Sweep.{IsLeftToRight, RiseFromLeft, HasPairsOf}
 use Rattle.leg_sweep.proofs.Lists.{Contains-map, AllPairs-map_where}
 use Rattle.leg_sweep.proofs.Places.{rise_from_left}
 
@@ -78,14 +78,6 @@ numbers_rise rects order run sorted places rise =
     }
 
 module _ {Item : Type 0} (Holds : Item → Item → Type 0) (items : List Item) (order : List ℕ) (entries : List ((ℕ × ℕ) × ℕ)) where
-  -- before the first run
-  pub runs_none : SweptRunsTo Holds items order entries 0 []
-  runs_none = record {
-    apart = λ i j none. absurd (omega arith);
-    each = All-nil (IsPair Holds items);
-    all = λ p i j pair none. absurd (omega arith);
-  }
-
   module _ (start end : ℕ) (found pairs : List (ℕ × ℕ)) (forward : start < end) (within : end ≤ length entries) (rising : AllPairs IsBefore entries)
       (one_band : (k : ℕ) → start ≤ k → k < end → (entry_at entries k).0 ≡ (entry_at entries start).0)
       (over : end < length entries → (entry_at entries end).0 ≢ (entry_at entries start).0)

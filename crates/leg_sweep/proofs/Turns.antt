@@ -7,7 +7,7 @@ use Rattle.std.proofs.lemmas.List.Quantifiers.{all_pairs_push}
 use Rattle.std.proofs.lemmas.Option.{same_Some}
 use Rattle.leg_sweep.specs.Pairs.{IsPair}
 use Rattle.leg_geom.specs.Plane.{Sides}
-use Rattle.leg_sweep.specs.Swept.{unit_square, rect_at, test_at, ordered, AreNewPairs}
+use Rattle.leg_sweep.specs.Steps.Sweep.{unit_square, rect_numbered, test_at, ordered, AreNewPairs}
 use Rattle.leg_sweep.proofs.Lists.{Contains-nil, AllPairs-nil}
 
 pub ordered_below : (x n : ℕ) → x < n → ordered x n ≡ (x, n)
@@ -57,10 +57,6 @@ module _ {Item : Type 0} (Holds : Item → Item → Type 0) (symmetric : (a b : 
       ]
 
 module _ (IsOne : ℕ × ℕ → Type 0) (new : ℕ) (before : List (ℕ × ℕ)) where
-  -- what a pair of the new item and one of the list is
-  IsNamed : List ℕ → ℕ × ℕ → Type 0
-  IsNamed done p = (x : ℕ) × Contains done x × (p ≡ ordered x new)
-
   -- no pair yet
   pub new_pairs_none : AreNewPairs IsOne [] new before before
   new_pairs_none = record {
@@ -115,7 +111,7 @@ module _ (IsOne : ℕ × ℕ → Type 0) (new : ℕ) (before : List (ℕ × ℕ)
 
 module _ {Item : Type 0} (rect_of : Item → Sides) (items : List Item) where
   -- the rectangle of an item that was read
-  pub rect_of_read : (x : ℕ) (a : Item) → x < length items → a ≡ get_or items x a → rect_at (map rect_of items) x ≡ rect_of a
+  pub rect_of_read : (x : ℕ) (a : Item) → x < length items → a ≡ get_or items x a → rect_numbered (map rect_of items) x ≡ rect_of a
   rect_of_read x a within read = get_or-map rect_of items x a unit_square within ∙ ap rect_of (sym read)
 
   -- a test of two items that were read

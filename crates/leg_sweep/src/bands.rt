@@ -3,8 +3,8 @@
 ghost use Rattle.std.specs.Prelude.{◌≡◌, ◌≤◌, ◌<◌, ◌+◌, ◌-◌, ◌*◌, ◌^◌, ◌++◌, length, map, All, AllPairs, Contains, IfOk, IfSome};
 ghost use Rattle.std.specs.List.{range_with_len};
 ghost use Rattle.leg_geom.specs.Plane.{IsCoordinate, IsRect};
-ghost use Rattle.leg_sweep.specs.Bands.{height_of, first_band, last_band, layer_key, IsBefore, AreEntriesTo};
-ghost use Rattle.leg_sweep.specs.Swept.{IsLeftToRight};
+ghost use Rattle.leg_sweep.specs.Steps.Bands.{height_of, first_band, last_band, layer_key, IsBefore, AreEntriesTo};
+ghost use Rattle.leg_sweep.specs.Steps.Sweep.{IsLeftToRight};
 
 use crate::rule::LayeredRule;
 use leg_geom::COORDINATE_LIMIT;

@@ -3,7 +3,7 @@
 ghost use Rattle.std.specs.Prelude.{◌≡◌, ◌≤◌, ◌<◌, ◌+◌, ◌^◌, length, map, IfOk, OnOk, IsPermutation, IsSorted};
 ghost use Rattle.leg_sweep.specs.Pairs.{ArePairs};
 ghost use Rattle.leg_sweep.specs.Counts.{near_along_x, near_along_both, count_pairs};
-ghost use Rattle.leg_sweep.specs.Swept.{pair_cmp};
+ghost use Rattle.leg_sweep.specs.Steps.Sweep.{pair_cmp};
 
 use crate::left_to_right::left_to_right;
 use crate::rule::PairRule;

@@ -1,8 +1,8 @@
 //! Runs of entries of one band, each swept on its own.
 
 ghost use Rattle.std.specs.Prelude.{◌≡◌, ◌≢◌, ◌≤◌, ◌<◌, ◌^◌, length, map, slice_index, All, AllPairs, IfOk};
-ghost use Rattle.leg_sweep.specs.Bands.{entry_at, IsBefore, HasPairsInBands};
-ghost use Rattle.leg_sweep.specs.Swept.{IsLeftToRight};
+ghost use Rattle.leg_sweep.specs.Steps.Bands.{entry_at, IsBefore, HasPairsInBands};
+ghost use Rattle.leg_sweep.specs.Steps.Sweep.{IsLeftToRight};
 
 use crate::bands::Entry;
 use crate::rule::PairRule;

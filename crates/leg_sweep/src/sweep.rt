@@ -3,7 +3,7 @@
 ghost use Rattle.std.specs.Prelude.{◌≡◌, ◌≢◌, ◌≤◌, ◌<◌, ◌+◌, ◌*◌, ◌-◌, ◌^◌, ◌↔◌, IsTrue, [], length, map, filter, count_by, All, AllPairs, IfOk, OnOk, if◌then◌else◌};
 ghost use Rattle.leg_sweep.specs.Pairs.{IsPair};
 ghost use Rattle.leg_sweep.specs.Counts.{near_along_x, near_along_both, count_pairs};
-ghost use Rattle.leg_sweep.specs.Swept.{test_at, ordered, RiseFromLeft, AreNewPairs, HasPairsOf};
+ghost use Rattle.leg_sweep.specs.Steps.Sweep.{test_at, ordered, RiseFromLeft, AreNewPairs, HasPairsOf};
 
 use crate::rule::PairRule;
 use std::alloc::{AllocError, Allocator};

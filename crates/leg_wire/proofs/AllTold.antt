@@ -4,16 +4,17 @@ use Rattle.std.proofs.lemmas.List.Elements.{All-append, All-weaker, All-contains
 use Rattle.std.proofs.lemmas.Option.{slice_get_within, get_or_from_slice_get, same_Some}
 use Rattle.leg_sweep.specs.Pairs.{IsPair, ArePairs}
 use Rattle.leg_sweep.proofs.Lists.{AllPairs-append_by}
-use Rattle.leg_lib.specs.declared.records.Layer.{Layer}
-use Rattle.leg_lib.specs.Records.{Contents}
+use Rattle.leg_cells.specs.declared.records.Layer.{Layer}
+use Rattle.leg_cells.specs.Records.{Contents}
 use Rattle.leg_block.specs.declared.fault.Fault.{Fault}
-use Rattle.leg_block.specs.declared.fault.Fault.TheVariants.{Unplaced, Outside, OffSite, Overlap, Short, TooNear, OpenNet}
+use Rattle.leg_block.specs.declared.fault.Fault.TheVariants.{Short, TooNear}
 use Rattle.leg_block.specs.Violation.{ComesBefore, IsListOf}
 use Rattle.leg_flat.specs.declared.shape.Shape.{Shape}
 use Rattle.leg_flat.specs.Flat.{FlatSaid}
 use Rattle.leg_wire.specs.Spacing.{AreShort, AreNearer, AreTooNear, Holds}
-use Rattle.leg_wire.specs.Close.{limit_at, AreClose}
-use Rattle.leg_wire.specs.Told.{DoShare, AreApart, IsTold}
+use Rattle.leg_wire.specs.Spacing.Holds.{short, too_near}
+use Rattle.leg_wire.specs.Steps.TooCloseRule.{limit_at, AreClose}
+use Rattle.leg_wire.specs.Steps.PairViolations.{DoShare, ShareNoPoint, IsTold}
 
 module _ (library : Contents) (reach : ℕ) (within : All (λ layer. unsigned_abs layer.spacing ≤ reach) library.layers) where
   -- the reach takes nothing off the spacing of a layer
@@ -24,7 +25,7 @@ module _ (library : Contents) (reach : ℕ) (within : All (λ layer. unsigned_ab
       rw there (omega (arith, bound))
 
   -- shapes within the limit of their layer, which there is then
-  AreTooNear-close : (a b : Shape) → AreClose library.layers reach a b → AreApart a b → AreTooNear library a b
+  AreTooNear-close : (a b : Shape) → AreClose library.layers reach a b → ShareNoPoint a b → AreTooNear library a b
   AreTooNear-close a b close apart =
       elim close.close [
         | inl shared ↦ absurd (apart shared)
@@ -48,7 +49,7 @@ module _ (library : Contents) (reach : ℕ) (within : All (λ layer. unsigned_ab
         let pair = All-contains (IsPair (AreClose library.layers reach) flat.shapes) close told.p are.each told.among in
         let a_is : pair.a ≡ told.a = same_Some pair.a told.a (sym pair.a_at ∙ told.a_at) in
         let b_is : pair.b ≡ told.b = same_Some pair.b told.b (sym pair.b_at ∙ told.b_at) in
-        let short : IsPair AreShort flat.shapes (told.p.0, told.p.1) = record {
+        let pair_short : IsPair AreShort flat.shapes (told.p.0, told.p.1) = record {
           a = pair.a;
           b = pair.b;
           a_at = pair.a_at;
@@ -56,15 +57,15 @@ module _ (library : Contents) (reach : ℕ) (within : All (λ layer. unsigned_ab
           in_order = pair.in_order;
           holds = record { comparable = pair.holds.comparable; shared = rw (a_is, b_is) told.test };
         } in
-        rw told.is short
+        rw told.is (short pair_short)
 
     -- and so with shapes too near
-    Holds-told_near : (v : Fault) → IsTold TooNear AreApart flat.shapes close v → Holds library flat v
+    Holds-told_near : (v : Fault) → IsTold TooNear ShareNoPoint flat.shapes close v → Holds library flat v
     Holds-told_near v told =
         let pair = All-contains (IsPair (AreClose library.layers reach) flat.shapes) close told.p are.each told.among in
         let a_is : pair.a ≡ told.a = same_Some pair.a told.a (sym pair.a_at ∙ told.a_at) in
         let b_is : pair.b ≡ told.b = same_Some pair.b told.b (sym pair.b_at ∙ told.b_at) in
-        let apart : AreApart pair.a pair.b = rw (a_is, b_is) told.test in
+        let apart : ShareNoPoint pair.a pair.b = rw (a_is, b_is) told.test in
         let near : IsPair (AreTooNear library) flat.shapes (told.p.0, told.p.1) = record {
           a = pair.a;
           b = pair.b;
@@ -73,10 +74,10 @@ module _ (library : Contents) (reach : ℕ) (within : All (λ layer. unsigned_ab
           in_order = pair.in_order;
           holds = AreTooNear-close pair.a pair.b pair.holds apart;
         } in
-        rw told.is near
+        rw told.is (too_near near)
 
     -- each short is told
-    told_short : (i j : ℕ) → Holds library flat (Short i j) → IsTold Short DoShare flat.shapes close (Short i j)
+    told_short : (i j : ℕ) → IsPair AreShort flat.shapes (i, j) → IsTold Short DoShare flat.shapes close (Short i j)
     told_short i j h =
         let pair : IsPair (AreClose library.layers reach) flat.shapes (i, j) = record {
           a = h.a;
@@ -89,7 +90,7 @@ module _ (library : Contents) (reach : ℕ) (within : All (λ layer. unsigned_ab
         record { p = (i, j); is = refl; among = are.all (i, j) pair; a = h.a; b = h.b; a_at = h.a_at; b_at = h.b_at; test = h.holds.shared }
 
     -- and so are shapes too near
-    told_near : (i j : ℕ) → Holds library flat (TooNear i j) → IsTold TooNear AreApart flat.shapes close (TooNear i j)
+    told_near : (i j : ℕ) → IsPair (AreTooNear library) flat.shapes (i, j) → IsTold TooNear ShareNoPoint flat.shapes close (TooNear i j)
     told_near i j h =
         let near : AreNearer (limit_at library.layers reach h.a.layer) h.a.rect h.b.rect = rw (limit-there h.a.layer h.holds.layer h.holds.there) h.holds.near in
         let pair : IsPair (AreClose library.layers reach) flat.shapes (i, j) = record {
@@ -103,31 +104,26 @@ module _ (library : Contents) (reach : ℕ) (within : All (λ layer. unsigned_ab
         record { p = (i, j); is = refl; among = are.all (i, j) pair; a = h.a; b = h.b; a_at = h.a_at; b_at = h.b_at; test = h.holds.apart }
 
     -- shorts come first
-    shorts_first : (v w : Fault) → IsTold Short DoShare flat.shapes close v → IsTold TooNear AreApart flat.shapes close w → ComesBefore v w
-    shorts_first v w short near =
-        rw (short.is, near.is) (record { kind = omega arith; first = λ same. absurd (omega (arith, same)); second = λ same. absurd (omega (arith, same)) })
+    shorts_first : (v w : Fault) → IsTold Short DoShare flat.shapes close v → IsTold TooNear ShareNoPoint flat.shapes close w → ComesBefore v w
+    shorts_first v w one other =
+        rw (one.is, other.is) (record { kind = omega arith; first = λ same. absurd (omega (arith, same)); second = λ same. absurd (omega (arith, same)) })
 
     -- the shorts and the shapes too near are all that there is
-    pub listing_told : (shorts near : List Fault) → IsListOf (IsTold Short DoShare flat.shapes close) shorts → IsListOf (IsTold TooNear AreApart flat.shapes close) near → IsListOf (Holds library flat) (shorts ++ near)
+    pub listing_told : (shorts near : List Fault) → IsListOf (IsTold Short DoShare flat.shapes close) shorts → IsListOf (IsTold TooNear ShareNoPoint flat.shapes close) near → IsListOf (Holds library flat) (shorts ++ near)
     listing_told shorts near s n = record {
       increasing =
-          AllPairs-append_by ComesBefore (IsTold Short DoShare flat.shapes close) (IsTold TooNear AreApart flat.shapes close) shorts_first shorts near
+          AllPairs-append_by ComesBefore (IsTold Short DoShare flat.shapes close) (IsTold TooNear ShareNoPoint flat.shapes close) shorts_first shorts near
           s.each n.each s.increasing n.increasing;
       each =
           All-append (Holds library flat) shorts near
           (All-weaker (IsTold Short DoShare flat.shapes close) (Holds library flat) Holds-told_short shorts s.each)
-          (All-weaker (IsTold TooNear AreApart flat.shapes close) (Holds library flat) Holds-told_near near n.each);
+          (All-weaker (IsTold TooNear ShareNoPoint flat.shapes close) (Holds library flat) Holds-told_near near n.each);
       all = λ v. found_in v;
     }
       where
         found_in : (v : Fault) → Holds library flat v → Contains (shorts ++ near) v
-        found_in (Short i j) holds = Contains-append_left shorts near (Short i j) (s.all (Short i j) (told_short i j holds))
-        found_in (TooNear i j) holds = Contains-append_right shorts near (TooNear i j) (n.all (TooNear i j) (told_near i j holds))
-        found_in (Unplaced c) holds = absurd holds
-        found_in (Outside c) holds = absurd holds
-        found_in (OffSite c) holds = absurd holds
-        found_in (Overlap a b) holds = absurd holds
-        found_in (OpenNet n k) holds = absurd holds
+        found_in v (short {i = i} {j = j} h) = Contains-append_left shorts near (Short i j) (s.all (Short i j) (told_short i j h))
+        found_in v (too_near {i = i} {j = j} h) = Contains-append_right shorts near (TooNear i j) (n.all (TooNear i j) (told_near i j h))
 
 -- pairs of items tell items
 module _ {Item : Type 0} (H : Item → Item → Type 0) (items : List Item) (found : List (ℕ × ℕ)) (are : ArePairs H items found) where

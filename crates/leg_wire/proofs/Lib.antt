@@ -1,14 +1,18 @@
+-- Shorts, and shapes too near
 mod ToldPairs
 mod AllTold
+-- Pieces that touch
 mod SinglePoints
 mod SeenPoints
 mod PieceMetal
 mod NetLinks
+mod LinkRuns
 mod PiecesTouch
+mod Touches
+-- Pieces that are joined
 mod MarkedOn
 mod Reaching
-mod LinkRuns
-mod Touches
 mod OpenPieces
 mod JoinedLaws
+-- What the proofs of other crates cite
 pub mod SameMetal

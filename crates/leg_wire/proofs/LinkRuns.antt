@@ -7,8 +7,8 @@ use Rattle.std.proofs.lemmas.Grind.{common_steps}
 use Rattle.std.proofs.lemmas.List.{get_or-take, get_or-drop}
 use Rattle.std.proofs.lemmas.List.Elements.{Contains-get_or}
 use Rattle.leg_wire.specs.declared.link.Link.{Link}
-use Rattle.leg_wire.specs.Links.{AreRising, AreOfOneNet}
-use Rattle.leg_wire.specs.Reached.{AreFrom}
+use Rattle.leg_wire.specs.Steps.Links.{AreRising, AreOfOneNet}
+use Rattle.leg_wire.specs.Steps.MarkStep.{AreFrom}
 
 module _ (links : List Link) (piece : ℕ) (one : AreOfOneNet links) (rising : AreRising links) where
   -- of one net's links the later ones lead from no lower piece

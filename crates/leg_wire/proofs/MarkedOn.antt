@@ -1,13 +1,12 @@
 -- How marks and the list of work grow, link by link.
-use Rattle.std.proofs.Common.{◌≡◌, ℕ, ◌+◌, ◌<◌, Bool, true, false, not, cond, List, [], ◌∷◌, ◌++◌, length, set, get_or, Some, count_by, ◌⊎◌, inl, inr, refl, sym, ap, ◌∙◌, arith}
+use Rattle.std.proofs.Common.{◌≡◌, ℕ, ◌+◌, ◌<◌, Bool, true, false, not, cond, List, [], ◌∷◌, ◌++◌, length, set, get_or, Some, count_by, ◌⊎◌, inl, inr, sym, ap, ◌∙◌, arith}
 use Rattle.std.proofs.lemmas.Bool.{cases_eq}
 use Rattle.std.proofs.lemmas.List.{length-set, get_or-set_same, get_or-set_other, length_push}
 use Rattle.std.proofs.lemmas.List.Elements.{Contains-append_left, Contains-push, Contains-push_cases}
 use Rattle.std.proofs.lemmas.List.Sums.{sum_by-set}
 use Rattle.std.proofs.lemmas.Option.{slice_get_within, slice_get-get_or, get_or_from_slice_get}
-use Rattle.leg_sweep.proofs.Lists.{Contains-nil}
 use Rattle.leg_wire.specs.declared.link.Link.{Link}
-use Rattle.leg_wire.specs.Reached.{IsMarked, IsLinkedTo, AreMarkedOn}
+use Rattle.leg_wire.specs.Steps.MarkStep.{IsMarked, IsLinkedTo, AreMarkedOn}
 
 -- a mark that is read is set
 pub IsMarked-read : (marks : List Bool) (k : ℕ) → k < length marks → get_or marks k false ≡ true → IsMarked marks k
@@ -64,18 +63,6 @@ linked_cases links link k linked =
 
 linked_earlier : (links : List Link) (link : Link) (k : ℕ) → IsLinkedTo links k → IsLinkedTo (links ++ link ∷ []) k
 linked_earlier links link k linked = record { link = linked.link; has = Contains-append_left links (link ∷ []) linked.link linked.has; to = linked.to }
-
--- no link was followed
-pub marked_none : (marks : List Bool) (work : List ℕ) → AreMarkedOn [] marks work marks work
-marked_none marks work = record {
-  count = refl;
-  kept = λ k m. m;
-  linked = λ k l. absurd (Contains-nil l.link l.has);
-  more = λ k m. inl m;
-  work_kept = λ k c. c;
-  work_more = λ k c. inl c;
-  left = refl;
-}
 
 module _ (links : List Link) (link : Link) (before : List Bool) (work_before : List ℕ) (marks : List Bool) (work : List ℕ)
     (done : AreMarkedOn links before work_before marks work) where

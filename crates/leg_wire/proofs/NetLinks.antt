@@ -9,9 +9,9 @@ use Rattle.std.proofs.lemmas.Cmp.{nat_cmp_total, on_total, then_total}
 use Rattle.std.proofs.lemmas.Grind.{common_steps}
 use Rattle.std.proofs.lemmas.List.{get_or-take, get_or-drop}
 use Rattle.std.proofs.lemmas.List.Sorted.{ranks_by, sorted_far}
-use Rattle.leg_sweep.specs.Swept.{pair_cmp}
+use Rattle.leg_sweep.specs.Steps.Sweep.{pair_cmp}
 use Rattle.leg_wire.specs.declared.link.Link.{Link}
-use Rattle.leg_wire.specs.Links.{IsNotBehind, AreRising, AreOfNet}
+use Rattle.leg_wire.specs.Steps.Links.{IsNotBehind, AreRising, AreOfNet}
 
 -- what links are sorted by
 abbrev pub key_of : Link → ℕ × ℕ

@@ -10,14 +10,16 @@ use Rattle.std.proofs.lemmas.Option.{slice_get_within, slice_get-get_or, same_So
 use Rattle.leg_sweep.proofs.Lists.{AllPairs-nil, AllPairs-append_by}
 use Rattle.leg_block.specs.Records.{DesignContents}
 use Rattle.leg_block.specs.declared.fault.Fault.{Fault}
-use Rattle.leg_block.specs.declared.fault.Fault.TheVariants.{Unplaced, Outside, OffSite, Overlap, Short, TooNear, OpenNet}
+use Rattle.leg_block.specs.declared.fault.Fault.TheVariants.{OpenNet}
 use Rattle.leg_block.specs.Violation.{numbers_of, ComesBefore, IsListOf}
 use Rattle.leg_flat.specs.Nets.{pieces_of}
 use Rattle.leg_flat.specs.Flat.{FlatSaid, IsFlatOf}
 use Rattle.leg_wire.specs.Touch.{piece_count, AreJoined, AreMarks}
 use Rattle.leg_wire.specs.Open.{IsOpen, Holds}
-use Rattle.leg_wire.specs.Unmarked.{TellsUnmarked}
-use Rattle.leg_wire.specs.Added.{AreAdded}
+use Rattle.leg_wire.specs.Open.Holds.{open_net}
+use Rattle.leg_wire.specs.Steps.OpenViolations.{TellsUnmarked}
+use Rattle.leg_wire.specs.Steps.OpenViolations.TellsUnmarked.{unmarked}
+use Rattle.leg_wire.specs.Steps.AddedFaults.{AreAdded}
 
 -- what stands at a place of a list stands there once more follows
 get_earlier : (marks : List Bool) (last : Bool) (k : ℕ) (mark : Bool) → slice_get marks k ≡ Some mark → slice_get (marks ++ last ∷ []) k ≡ Some mark
@@ -41,47 +43,23 @@ get_cases (m ∷ marks) last (suc k) mark at =
 
 module _ (net : ℕ) where
   tells_earlier : (marks : List Bool) (last : Bool) (v : Fault) → TellsUnmarked net marks v → TellsUnmarked net (marks ++ last ∷ []) v
-  tells_earlier marks last (OpenNet n k) tells = (tells.0, get_earlier marks last k false tells.1)
-  tells_earlier marks last (Unplaced c) tells = tells
-  tells_earlier marks last (Outside c) tells = tells
-  tells_earlier marks last (OffSite c) tells = tells
-  tells_earlier marks last (Overlap a b) tells = tells
-  tells_earlier marks last (Short a b) tells = tells
-  tells_earlier marks last (TooNear a b) tells = tells
+  tells_earlier marks last v (unmarked {k = k} at) = unmarked (get_earlier marks last k false at)
 
   tells_cases : (marks : List Bool) (last : Bool) (v : Fault) → TellsUnmarked net (marks ++ last ∷ []) v → TellsUnmarked net marks v ⊎ ((v ≡ OpenNet net (length marks)) × (last ≡ false))
-  tells_cases marks last (OpenNet n k) tells =
-      elim (get_cases marks last k false tells.1) [
-        | inl earlier ↦ inl (tells.0, earlier)
-        | inr here ↦ inr (rw (tells.0, here.0) refl, here.1)
+  tells_cases marks last v (unmarked {k = k} at) =
+      elim (get_cases marks last k false at) [
+        | inl earlier ↦ inl (unmarked earlier)
+        | inr here ↦ inr (rw here.0 refl, here.1)
       ]
-  tells_cases marks last (Unplaced c) tells = absurd tells
-  tells_cases marks last (Outside c) tells = absurd tells
-  tells_cases marks last (OffSite c) tells = absurd tells
-  tells_cases marks last (Overlap a b) tells = absurd tells
-  tells_cases marks last (Short a b) tells = absurd tells
-  tells_cases marks last (TooNear a b) tells = absurd tells
 
   -- the pieces without a mark come before the next piece
   tells_before : (marks : List Bool) (v : Fault) → TellsUnmarked net marks v → ComesBefore v (OpenNet net (length marks))
-  tells_before marks (OpenNet n k) tells =
-      let within : k < length marks = slice_get_within marks k false tells.1 in
-      record { kind = omega arith; first = λ _. omega (arith, tells.0); second = λ _ _. within }
-  tells_before marks (Unplaced c) tells = absurd tells
-  tells_before marks (Outside c) tells = absurd tells
-  tells_before marks (OffSite c) tells = absurd tells
-  tells_before marks (Overlap a b) tells = absurd tells
-  tells_before marks (Short a b) tells = absurd tells
-  tells_before marks (TooNear a b) tells = absurd tells
+  tells_before marks v (unmarked {k = k} at) =
+      let within : k < length marks = slice_get_within marks k false at in
+      record { kind = omega arith; first = λ _. omega arith; second = λ _ _. within }
 
   nothing_unmarked : (v : Fault) → TellsUnmarked net [] v → ⊥
-  nothing_unmarked (OpenNet n k) tells = none-some false tells.1
-  nothing_unmarked (Unplaced c) tells = tells
-  nothing_unmarked (Outside c) tells = tells
-  nothing_unmarked (OffSite c) tells = tells
-  nothing_unmarked (Overlap a b) tells = tells
-  nothing_unmarked (Short a b) tells = tells
-  nothing_unmarked (TooNear a b) tells = tells
+  nothing_unmarked v (unmarked at) = none-some false at
 
   -- no mark was looked at
   pub added_none : (before : List Fault) → AreAdded (TellsUnmarked net []) before before
@@ -119,7 +97,7 @@ module _ (net : ℕ) where
         each =
             All-push (TellsUnmarked net (marks ++ false ∷ [])) done.more (OpenNet net (length marks))
             (All-weaker (TellsUnmarked net marks) (TellsUnmarked net (marks ++ false ∷ [])) (tells_earlier marks false) done.more done.list.each)
-            (refl, get_last marks false);
+            (unmarked (get_last marks false));
         all = λ v tells. elim (tells_cases marks false v tells) [
           | inl earlier ↦ Contains-append_left done.more (OpenNet net (length marks) ∷ []) v (done.list.all v earlier)
           | inr here ↦ rw here.0 (Contains-push done.more (OpenNet net (length marks)))
@@ -140,18 +118,8 @@ module _ (design : DesignContents) (flat : FlatSaid) where
       let many : length (map (pieces_of design) (range_with_len 0 entries)) ≡ entries = length-map-range_with_len (pieces_of design) 0 entries in
       rw is.pieces (omega (arith, many))
 
-  -- no net was looked at
-  pub open_none : IsListOf (HoldsBelow design flat 0) []
-  open_none = record { increasing = AllPairs-nil ComesBefore; each = All-nil (HoldsBelow design flat 0); all = λ v held. absurd (omega (arith, held.below)) }
-
   below_nets : (v : Fault) → Holds design flat v → (numbers_of v).0 < length design.nets
-  below_nets (OpenNet n k) holds = holds.net
-  below_nets (Unplaced c) holds = absurd holds
-  below_nets (Outside c) holds = absurd holds
-  below_nets (OffSite c) holds = absurd holds
-  below_nets (Overlap a b) holds = absurd holds
-  below_nets (Short a b) holds = absurd holds
-  below_nets (TooNear a b) holds = absurd holds
+  below_nets v (open_net h) = h.net
 
   -- all nets were looked at
   pub open_end : (end : ℕ) (found : List Fault) → end ≡ length design.nets → IsListOf (HoldsBelow design flat end) found → IsListOf (Holds design flat) found
@@ -179,47 +147,26 @@ module _ (design : DesignContents) (flat : FlatSaid) where
         ]
 
     below_from_unmarked : (v : Fault) → TellsUnmarked net marks v → HoldsBelow design flat (net + 1) v
-    below_from_unmarked (OpenNet n k) tells =
-        record { holds = rw tells.0 (open_from_mark k tells.1); below = omega (arith, tells.0) }
-    below_from_unmarked (Unplaced c) tells = absurd tells
-    below_from_unmarked (Outside c) tells = absurd tells
-    below_from_unmarked (OffSite c) tells = absurd tells
-    below_from_unmarked (Overlap a b) tells = absurd tells
-    below_from_unmarked (Short a b) tells = absurd tells
-    below_from_unmarked (TooNear a b) tells = absurd tells
+    below_from_unmarked v (unmarked {k = k} at) = record { holds = open_net (open_from_mark k at); below = omega arith }
 
     -- a piece that isn't joined is of an earlier net, or has no mark
     below_cases : (v : Fault) → HoldsBelow design flat (net + 1) v → HoldsBelow design flat net v ⊎ TellsUnmarked net marks v
-    below_cases (OpenNet n k) held =
-        elim (cases_lt n net) [
-          | inl earlier ↦ inl (record { holds = held.holds; below = earlier })
-          | inr late ↦
-              let here : n ≡ net = omega (arith, held.below, late) in
-              inr (here, mark_from_open k (rw here at held.holds))
-        ]
-    below_cases (Unplaced c) held = absurd held.holds
-    below_cases (Outside c) held = absurd held.holds
-    below_cases (OffSite c) held = absurd held.holds
-    below_cases (Overlap a b) held = absurd held.holds
-    below_cases (Short a b) held = absurd held.holds
-    below_cases (TooNear a b) held = absurd held.holds
+    below_cases v held = by v held.holds held.below where
+      by : (v : Fault) → Holds design flat v → (numbers_of v).0 < net + 1 → HoldsBelow design flat net v ⊎ TellsUnmarked net marks v
+      by v (open_net {n = n} {k = k} h) below =
+          elim (cases_lt n net) [
+            | inl earlier ↦ inl (record { holds = open_net h; below = earlier })
+            | inr late ↦
+                let here : n ≡ net = omega (arith, below, late) in
+                inr (rw here (unmarked (mark_from_open k (rw here at h))))
+          ]
 
     -- the pieces of a net stand behind those of the nets before
     below_comes_before : (v w : Fault) → HoldsBelow design flat net v → TellsUnmarked net marks w → ComesBefore v w
-    below_comes_before (OpenNet m j) (OpenNet n k) held tells =
-        record { kind = omega arith; first = λ _. omega (arith, held.below, tells.0); second = λ _ same. absurd (omega (arith, held.below, tells.0, same)) }
-    below_comes_before (Unplaced c) w held tells = absurd held.holds
-    below_comes_before (Outside c) w held tells = absurd held.holds
-    below_comes_before (OffSite c) w held tells = absurd held.holds
-    below_comes_before (Overlap a b) w held tells = absurd held.holds
-    below_comes_before (Short a b) w held tells = absurd held.holds
-    below_comes_before (TooNear a b) w held tells = absurd held.holds
-    below_comes_before (OpenNet m j) (Unplaced c) held tells = absurd tells
-    below_comes_before (OpenNet m j) (Outside c) held tells = absurd tells
-    below_comes_before (OpenNet m j) (OffSite c) held tells = absurd tells
-    below_comes_before (OpenNet m j) (Overlap a b) held tells = absurd tells
-    below_comes_before (OpenNet m j) (Short a b) held tells = absurd tells
-    below_comes_before (OpenNet m j) (TooNear a b) held tells = absurd tells
+    below_comes_before v w held tells = by v w held.holds held.below tells where
+      by : (v w : Fault) → Holds design flat v → (numbers_of v).0 < net → TellsUnmarked net marks w → ComesBefore v w
+      by v w (open_net h) below (unmarked at) =
+          record { kind = omega arith; first = λ _. omega (arith, below); second = λ _ same. absurd (omega (arith, below, same)) }
 
     -- the pieces of one more net
     pub open_more : (before after : List Fault) → IsListOf (HoldsBelow design flat net) before → AreAdded (TellsUnmarked net marks) before after → IsListOf (HoldsBelow design flat (net + 1)) after

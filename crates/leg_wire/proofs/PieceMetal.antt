@@ -3,11 +3,10 @@ use Rattle.std.proofs.Common.{◌≡◌, ◌↔◌, ℕ, ◌<◌, ◌≤◌, Lis
 use Rattle.std.proofs.lemmas.List.{length_push}
 use Rattle.std.proofs.lemmas.List.Elements.{Contains-append_left, Contains-push, Contains-push_cases}
 use Rattle.std.proofs.lemmas.Option.{same_Some, none-some}
-use Rattle.leg_sweep.proofs.Lists.{Contains-nil}
 use Rattle.leg_flat.specs.declared.shape.Shape.{Shape}
 use Rattle.leg_flat.specs.Flat.{FlatSaid}
 use Rattle.leg_wire.specs.declared.piece_shape.PieceShape.{PieceShape}
-use Rattle.leg_wire.specs.Links.{IsPieceShape, ArePieceShapes}
+use Rattle.leg_wire.specs.Steps.Links.{IsPieceShape, ArePieceShapes}
 
 module _ (flat : FlatSaid) (first end : ℕ) where
   -- the piece's metal is what a shape says, of one of these nets
@@ -19,13 +18,6 @@ module _ (flat : FlatSaid) (first end : ℕ) where
     pub each : (piece : PieceShape) → Contains pieces piece → (shape : Shape) × Contains shapes shape × IsOne shape piece
     pub all : (shape : Shape) (piece : PieceShape) → Contains shapes shape → IsOne shape piece → Contains pieces piece
     pub few : length pieces ≤ length shapes
-
-  pub among_none : AreAmong [] []
-  among_none = record {
-    each = λ piece has. absurd (Contains-nil piece has);
-    all = λ shape piece has is. absurd (Contains-nil shape has);
-    few = omega arith;
-  }
 
   module _ (shapes : List Shape) (pieces : List PieceShape) (shape : Shape) (done : AreAmong shapes pieces) where
     -- one more shape, which is metal of a piece

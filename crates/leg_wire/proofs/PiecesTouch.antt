@@ -1,23 +1,23 @@
 -- Pieces of a net touch where two of their rectangles share two points, or where two pairs of their rectangles share single
 -- points that differ.
-use Rattle.std.proofs.Common.{◌≡◌, ◌≢◌, ℕ, min, max, Bool, true, ℤ, List, [], ◌∷◌, ◌++◌, length, get_or, ◌<◌, Some, None, slice_get, Contains, false, IsPermutation, ◌⊎◌, inl, inr, refl, sym, ap, ◌∙◌, arith}
+use Rattle.std.proofs.Common.{◌≡◌, ◌≢◌, ℕ, min, max, Bool, true, ℤ, List, [], ◌∷◌, ◌++◌, length, get_or, ◌<◌, Some, slice_get, Contains, false, IsPermutation, ◌⊎◌, inl, inr, refl, sym, ap, ◌∙◌, arith}
 use Rattle.std.proofs.lemmas.Bool.{cases_lt, cases_eq}
 use Rattle.std.proofs.lemmas.List.{append-nil}
 use Rattle.std.proofs.lemmas.List.Elements.{Contains-append_left, Contains-append_right, Contains-append_cases, Contains-push_cases}
-use Rattle.std.proofs.lemmas.Option.{same_Some, none-some, slice_get_within, slice_get_read}
+use Rattle.std.proofs.lemmas.Option.{same_Some, slice_get_within, slice_get_read}
 use Rattle.std.specs.Ordering.{is_lt}
 use Rattle.std.specs.List.Sorted.{IsSortedBy}
 use Rattle.std.proofs.lemmas.List.Sorted.{IsPermutation-sym, Contains-permutation}
-use Rattle.leg_sweep.specs.Swept.{pair_cmp}
+use Rattle.leg_sweep.specs.Steps.Sweep.{pair_cmp}
 use Rattle.leg_sweep.specs.Pairs.{IsPair, ArePairs}
 use Rattle.leg_sweep.proofs.Lists.{Contains-nil, Contains-here, Contains-there, Contains-cons_cases}
 use Rattle.leg_geom.specs.Plane.{Spot, ShareTwoPoints}
 use Rattle.leg_wire.specs.declared.corner.Beside.{Beside}
 use Rattle.leg_wire.specs.declared.link.Link.{Link}
 use Rattle.leg_wire.specs.declared.piece_shape.PieceShape.{PieceShape}
-use Rattle.leg_wire.specs.Meet.{DoMeet, DoMeet-symmetric}
-use Rattle.leg_wire.specs.Links.{LiesAmong, TouchAmong, AreLinks}
-use Rattle.leg_wire.specs.Corners.{first_seen, pieces_beside, spot_at, IsShared, IsSeen}
+use Rattle.leg_wire.specs.Steps.MeetingRule.{DoMeet, DoMeet-symmetric}
+use Rattle.leg_wire.specs.Steps.Links.{LiesAmong, TouchAmong, AreLinks}
+use Rattle.leg_wire.specs.Steps.SharedPoints.{first_seen, pieces_beside, spot_of, IsShared, IsSeen}
 use Rattle.leg_wire.proofs.NetLinks.{key_of, AreRising-from_sort}
 
 -- the link from the piece of the first rectangle to that of the second
@@ -60,8 +60,8 @@ IsDone-back links seen s t net layer done p shared = elim (done p (record { in_a
 module _ (shapes : List PieceShape) where
   -- a point that was seen first lies in both pieces
   pub record LiesInBoth (pieces : Beside) (point : ℤ × ℤ) : Type 0 where
-    pub low : LiesAmong shapes pieces.net pieces.low pieces.layer (spot_at point)
-    pub high : LiesAmong shapes pieces.net pieces.high pieces.layer (spot_at point)
+    pub low : LiesAmong shapes pieces.net pieces.low pieces.layer (spot_of point)
+    pub high : LiesAmong shapes pieces.net pieces.high pieces.layer (spot_of point)
 
   -- the links and the points by the meetings so far
   pub record AreSoFar (meetings : List (ℕ × ℕ)) (links : List Link) (seen : List (Beside × (ℤ × ℤ))) : Type 0 where
@@ -83,14 +83,6 @@ module _ (shapes : List PieceShape) where
     q_in_b = h.q_in_a;
   }
 
-  -- before the first meeting
-  pub so_far_none : (seen : List (Beside × (ℤ × ℤ))) → ((pieces : Beside) → first_seen seen pieces ≡ None) → AreSoFar [] [] seen
-  so_far_none seen none = record {
-    each = λ link has. absurd (Contains-nil link has);
-    points = λ pieces point at. absurd (none-some point (sym (none pieces) ∙ at));
-    done = λ p s t has. absurd (Contains-nil p has);
-  }
-
   module _ (s t : PieceShape) (s_in : Contains shapes s) (t_in : Contains shapes t) (meet : DoMeet s t) where
     -- a point of both rectangles lies in both pieces
     lies_in_first : (p : Spot) → IsShared s.rect t.rect p → LiesAmong shapes s.net s.piece s.layer p
@@ -100,21 +92,21 @@ module _ (shapes : List PieceShape) where
     lies_in_second p shared = record { shape = t; has = t_in; of_net = sym meet.net; of_piece = refl; on_layer = sym meet.layer; inside = shared.in_b }
 
     -- by the lower and the higher one
-    lies_in_both : (point : ℤ × ℤ) → IsShared s.rect t.rect (spot_at point) → LiesInBoth (pieces_beside s t) point
+    lies_in_both : (point : ℤ × ℤ) → IsShared s.rect t.rect (spot_of point) → LiesInBoth (pieces_beside s t) point
     lies_in_both point shared =
         elim (cases_lt s.piece t.piece) [
           | inl lower ↦
               let low : min s.piece t.piece ≡ s.piece = omega (arith, lower) in
               let high : max s.piece t.piece ≡ t.piece = omega (arith, lower) in
-              record { low = rw low (lies_in_first (spot_at point) shared); high = rw high (lies_in_second (spot_at point) shared) }
+              record { low = rw low (lies_in_first (spot_of point) shared); high = rw high (lies_in_second (spot_of point) shared) }
           | inr upper ↦
               let low : min s.piece t.piece ≡ t.piece = omega (arith, upper) in
               let high : max s.piece t.piece ≡ s.piece = omega (arith, upper) in
-              record { low = rw low (lies_in_second (spot_at point) shared); high = rw high (lies_in_first (spot_at point) shared) }
+              record { low = rw low (lies_in_second (spot_of point) shared); high = rw high (lies_in_first (spot_of point) shared) }
         ]
 
     -- and back
-    both_lie_in : (point : ℤ × ℤ) → LiesInBoth (pieces_beside s t) point → LiesAmong shapes s.net s.piece s.layer (spot_at point) × LiesAmong shapes s.net t.piece s.layer (spot_at point)
+    both_lie_in : (point : ℤ × ℤ) → LiesInBoth (pieces_beside s t) point → LiesAmong shapes s.net s.piece s.layer (spot_of point) × LiesAmong shapes s.net t.piece s.layer (spot_of point)
     both_lie_in point both =
         elim (cases_lt s.piece t.piece) [
           | inl lower ↦
@@ -142,14 +134,14 @@ module _ (shapes : List PieceShape) where
     }
 
     -- a point of both rectangles that isn't the first one that was seen
-    pub touch_by_other : (point : ℤ × ℤ) → LiesInBoth (pieces_beside s t) point → (IsShared s.rect t.rect (spot_at point) → ⊥) → TouchAmong shapes s.net s.piece t.piece
+    pub touch_by_other : (point : ℤ × ℤ) → LiesInBoth (pieces_beside s t) point → (IsShared s.rect t.rect (spot_of point) → ⊥) → TouchAmong shapes s.net s.piece t.piece
     touch_by_other point both other =
         let first = both_lie_in point both in
         let here : IsShared s.rect t.rect meet.shared.point = record { in_a = meet.shared.in_a; in_b = meet.shared.in_b } in
         record {
           others = meet.others;
           layer = s.layer;
-          p = spot_at point;
+          p = spot_of point;
           q = meet.shared.point;
           differ = λ same. other (rw same here);
           p_in_a = first.0;
@@ -257,7 +249,7 @@ module _ (shapes : List PieceShape) where
             | inl there ↦ there
             | inr first_q ↦
                 let same : (h.p.x, h.p.y) ≡ (h.q.x, h.q.y) = same_Some (h.p.x, h.p.y) (h.q.x, h.q.y) (sym first_p ∙ first_q) in
-                absurd (h.differ (ap spot_at same))
+                absurd (h.differ (ap spot_of same))
           ]
         ]
 

@@ -6,8 +6,8 @@ use Rattle.std.proofs.lemmas.List.Elements.{Contains-append_left, Contains-push,
 use Rattle.std.proofs.lemmas.Option.{slice_get_within, get_or_from_slice_get, same_Some}
 use Rattle.leg_sweep.proofs.Lists.{Contains-nil}
 use Rattle.leg_wire.specs.declared.link.Link.{Link}
-use Rattle.leg_wire.specs.Links.{LeadsTo}
-use Rattle.leg_wire.specs.Reached.{AreFrom, IsMarked, AreMarkedOn}
+use Rattle.leg_wire.specs.Steps.Links.{LeadsTo}
+use Rattle.leg_wire.specs.Steps.MarkStep.{AreFrom, IsMarked, AreMarkedOn}
 use Rattle.leg_wire.specs.Touch.{Joined, AreMarks}
 use Rattle.leg_wire.specs.Touch.Joined.{itself, through}
 use Rattle.leg_wire.proofs.MarkedOn.{marked_here, marked_cases}

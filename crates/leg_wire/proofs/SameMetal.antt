@@ -3,11 +3,10 @@ use Rattle.std.proofs.Common.{◌≡◌, ℕ, zero, suc, ◌<◌, List, [], ◌�
 use Rattle.std.proofs.lemmas.Option.{same_Some, slice_get_within, slice_get_read, get_or_from_slice_get}
 use Rattle.leg_geom.specs.Plane.{Spot, HasPoint, SharePoint}
 use Rattle.leg_sweep.specs.Pairs.{IsPair}
-use Rattle.leg_lib.specs.Scale.{OneForOne}
-use Rattle.leg_lib.specs.Records.{Contents}
+use Rattle.leg_cells.specs.Scale.{OneForOne}
+use Rattle.leg_cells.specs.Records.{Contents}
 use Rattle.leg_block.specs.Records.{DesignContents}
 use Rattle.leg_block.specs.declared.fault.Fault.{Fault}
-use Rattle.leg_block.specs.declared.fault.Fault.TheVariants.{Unplaced, Outside, OffSite, Overlap, Short, TooNear, OpenNet}
 use Rattle.leg_flat.specs.declared.piece.Piece.{Piece}
 use Rattle.leg_flat.specs.declared.shape.Shape.{Shape}
 use Rattle.leg_flat.specs.Metal.{Metal, metal_of}
@@ -15,10 +14,12 @@ use Rattle.leg_flat.specs.Flat.{FlatSaid, IsShapeOf, IsFlatOf}
 use Rattle.leg_wire.specs.Comparable.{AreComparable}
 use Rattle.leg_wire.specs.Spacing.{AreShort, AreNearer, AreTooNear}
 use Rattle.leg_wire.specs.Spacing as spacing
+use Rattle.leg_wire.specs.Spacing.Holds.{short, too_near}
 use Rattle.leg_wire.specs.Touch.{piece_count, LiesIn, Touch, Joined}
 use Rattle.leg_wire.specs.Touch.Joined.{itself, through}
 use Rattle.leg_wire.specs.Open.{IsOpen}
 use Rattle.leg_wire.specs.Open as joins
+use Rattle.leg_wire.specs.Open.Holds.{open_net}
 
 -- two shapes have the same points and all else the same
 record AreAlike (a b : Shape) : Type 0 where
@@ -127,24 +128,13 @@ module _ (design : DesignContents) (f g : FlatSaid) (of_f : IsFlatOf design f) (
 
 -- a violation of two shapes in one flat of a design is one in each
 pub spacing_same : (library : Contents) (design : DesignContents) (f g : FlatSaid) → IsFlatOf design f → IsFlatOf design g → (v : Fault) → spacing.Holds library f v → spacing.Holds library g v
-spacing_same library design f g of_f of_g (Short i j) h = pair_same design f g of_f of_g AreShort short_same (i, j) h
-spacing_same library design f g of_f of_g (TooNear i j) h = pair_same design f g of_f of_g (AreTooNear library) (too_near_same library) (i, j) h
-spacing_same library design f g of_f of_g (Unplaced c) h = absurd h
-spacing_same library design f g of_f of_g (Outside c) h = absurd h
-spacing_same library design f g of_f of_g (OffSite c) h = absurd h
-spacing_same library design f g of_f of_g (Overlap a b) h = absurd h
-spacing_same library design f g of_f of_g (OpenNet n k) h = absurd h
+spacing_same library design f g of_f of_g v (short {i = i} {j = j} h) = short (pair_same design f g of_f of_g AreShort short_same (i, j) h)
+spacing_same library design f g of_f of_g v (too_near {i = i} {j = j} h) = too_near (pair_same design f g of_f of_g (AreTooNear library) (too_near_same library) (i, j) h)
 
 -- and so is an open piece
 pub opens_same : (design : DesignContents) (f g : FlatSaid) → IsFlatOf design f → IsFlatOf design g → (v : Fault) → joins.Holds design f v → joins.Holds design g v
-opens_same design f g of_f of_g (OpenNet n k) h = record {
+opens_same design f g of_f of_g v (open_net {n = n} {k = k} h) = open_net (record {
   net = h.net;
   piece = (let there : k < piece_count g n = rw (counts_same design f g of_f of_g n) at h.piece in there);
   open_piece = λ j. h.open_piece (joined_same design g f of_g of_f n 0 k j);
-}
-opens_same design f g of_f of_g (Short i j) h = absurd h
-opens_same design f g of_f of_g (TooNear i j) h = absurd h
-opens_same design f g of_f of_g (Unplaced c) h = absurd h
-opens_same design f g of_f of_g (Outside c) h = absurd h
-opens_same design f g of_f of_g (OffSite c) h = absurd h
-opens_same design f g of_f of_g (Overlap a b) h = absurd h
+})

@@ -10,7 +10,7 @@ use Rattle.leg_geom.specs.Plane.{Spot}
 use Rattle.leg_wire.specs.contracts.corner.BesidePartialEq.TheImpl.{eq-value}
 use Rattle.leg_wire.specs.declared.corner.Beside.{Beside}
 use Rattle.leg_wire.specs.declared.piece_shape.PieceShape.{PieceShape}
-use Rattle.leg_wire.specs.Corners.{are_same_pieces, first_seen, pieces_beside, spot_at, IsOnlyShared, IsSeen}
+use Rattle.leg_wire.specs.Steps.SharedPoints.{are_same_pieces, first_seen, pieces_beside, spot_of, IsOnlyShared, IsSeen}
 
 -- what the comparison of two keys answers
 beside_eq_is : (a b : Beside) → eq-value.it a b ≡ are_same_pieces a b
@@ -51,7 +51,7 @@ same_point (a, b) (c, d) test =
     let y : b ≡ d = grind (arith, ints) in
     rw (x, y) refl
 
-other_point : (p q : ℤ × ℤ) → (int_eq p.0 q.0 && int_eq p.1 q.1) ≡ false → spot_at p ≡ spot_at q → ⊥
+other_point : (p q : ℤ × ℤ) → (int_eq p.0 q.0 && int_eq p.1 q.1) ≡ false → spot_of p ≡ spot_of q → ⊥
 other_point p q test same =
     let x : p.0 ≡ q.0 = ap (λ (s : Spot). s.x) same in
     let y : p.1 ≡ q.1 = ap (λ (s : Spot). s.y) same in
@@ -59,7 +59,7 @@ other_point p q test same =
     false≢true (sym test ∙ told)
 
 module _ {S : Type 0} (before : HashMap Beside (ℤ × ℤ) S) (a b : PieceShape) (key : Beside) (key_is : key ≡ pieces_beside a b)
-    (corner : ℤ × ℤ) (only : IsOnlyShared a.rect b.rect (spot_at corner)) where
+    (corner : ℤ × ℤ) (only : IsOnlyShared a.rect b.rect (spot_of corner)) where
   -- a point of these pieces was seen before
   pub seen_before : (first : ℤ × ℤ) (other : Bool) → get_by (eq-value.it key) before ≡ Some first
       → other ≡ not (int_eq first.0 corner.0 && int_eq first.1 corner.1)
@@ -74,7 +74,7 @@ module _ {S : Type 0} (before : HashMap Beside (ℤ × ℤ) S) (a b : PieceShape
         rw (same_point first corner test) only;
     differs = λ told shared.
         let test : (int_eq first.0 corner.0 && int_eq first.1 corner.1) ≡ false = grind (arith, told, is) in
-        other_point first corner test (only.only (spot_at first) shared);
+        other_point first corner test (only.only (spot_of first) shared);
   }
 
   -- none was seen, and this is the first one

@@ -3,7 +3,7 @@ use Rattle.std.proofs.Common.{◌≡◌, ℤ, ◌≤ℤ◌, ap, ◌∙◌, arith
 use Rattle.std.specs.Int.{int_max}
 use Rattle.std.proofs.lemmas.Int.{ints, by_lt_z}
 use Rattle.leg_geom.specs.Plane.{Spot, Sides, SharePoint, ShareTwoPoints}
-use Rattle.leg_wire.specs.Corners.{spot_at, IsShared, IsOnlyShared}
+use Rattle.leg_wire.specs.Steps.SharedPoints.{spot_of, IsShared, IsOnlyShared}
 
 -- the greater of two numbers is the least one that is below neither
 first_below_max : (a b : ℤ) → a ≤ℤ int_max a b
@@ -17,11 +17,11 @@ max_below a b z first second = grind (arith, ints)
 
 -- points with equal coordinates
 same_spot : (p q : Spot) → p.x ≡ q.x → p.y ≡ q.y → p ≡ q
-same_spot p q x y = ap (λ (u : ℤ). spot_at (u, p.y)) x ∙ ap (λ (v : ℤ). spot_at (q.x, v)) y
+same_spot p q x y = ap (λ (u : ℤ). spot_of (u, p.y)) x ∙ ap (λ (v : ℤ). spot_of (q.x, v)) y
 
 module _ (a b : Sides) (x y : ℤ) (x_is : x ≡ int_max a.x1 b.x1) (y_is : y ≡ int_max a.y1 b.y1) where
   -- the lower left corner of what two rectangles share
-  corner_shared : SharePoint a b → IsShared a b (spot_at (x, y))
+  corner_shared : SharePoint a b → IsShared a b (spot_of (x, y))
   corner_shared meet = record {
     in_a = record {
       left = rw x_is (first_below_max a.x1 b.x1);
@@ -38,16 +38,16 @@ module _ (a b : Sides) (x y : ℤ) (x_is : x ≡ int_max a.x1 b.x1) (y_is : y �
   }
 
   -- where they share a single point, it is this one
-  pub corner_only : SharePoint a b → (ShareTwoPoints a b → ⊥) → IsOnlyShared a b (spot_at (x, y))
-  corner_only meet single = record { shared = shared; only = λ q in_both. same_spot q (spot_at (x, y)) (same_x q in_both) (same_y q in_both) }
+  pub corner_only : SharePoint a b → (ShareTwoPoints a b → ⊥) → IsOnlyShared a b (spot_of (x, y))
+  corner_only meet single = record { shared = shared; only = λ q in_both. same_spot q (spot_of (x, y)) (same_x q in_both) (same_y q in_both) }
     where
-      shared : IsShared a b (spot_at (x, y))
+      shared : IsShared a b (spot_of (x, y))
       shared = corner_shared meet
 
-      none_other : (q : Spot) → IsShared a b q → (q ≡ spot_at (x, y) → ⊥) → ⊥
+      none_other : (q : Spot) → IsShared a b q → (q ≡ spot_of (x, y) → ⊥) → ⊥
       none_other q in_both differ = single (record {
         p = q;
-        q = spot_at (x, y);
+        q = spot_of (x, y);
         differ = differ;
         p_in_a = in_both.in_a;
         p_in_b = in_both.in_b;

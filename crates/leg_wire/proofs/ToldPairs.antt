@@ -9,8 +9,8 @@ use Rattle.leg_block.specs.declared.fault.Fault.{Fault}
 use Rattle.leg_block.specs.declared.fault.Fault.TheVariants.{Short, TooNear}
 use Rattle.leg_block.specs.Violation.{ComesBefore, IsListOf}
 use Rattle.leg_flat.specs.declared.shape.Shape.{Shape}
-use Rattle.leg_wire.specs.Told.{IsTold}
-use Rattle.leg_wire.specs.Added.{AreAdded}
+use Rattle.leg_wire.specs.Steps.PairViolations.{IsTold}
+use Rattle.leg_wire.specs.Steps.AddedFaults.{AreAdded}
 
 module _ (Told Next : Fault → Type 0) (into : (w : Fault) → Told w → Next w) where
   -- one more violation, which comes behind the others

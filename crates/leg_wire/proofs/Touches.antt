@@ -9,7 +9,7 @@ use Rattle.leg_flat.specs.declared.shape.Shape.{Shape}
 use Rattle.leg_flat.specs.Flat.{FlatSaid}
 use Rattle.leg_wire.specs.declared.piece_shape.PieceShape.{PieceShape}
 use Rattle.leg_wire.specs.declared.link.Link.{Link}
-use Rattle.leg_wire.specs.Links.{ArePieceShapes, LiesAmong, TouchAmong, AreLinks, AreOfNet, AreOfOneNet, LeadsTo}
+use Rattle.leg_wire.specs.Steps.Links.{ArePieceShapes, LiesAmong, TouchAmong, AreLinks, AreOfNet, AreOfOneNet, LeadsTo}
 use Rattle.leg_wire.specs.Touch.{piece_count, IsOfPiece, LiesIn, Touch, Joined, AreJoined, AreMarks}
 use Rattle.leg_wire.specs.Touch.Joined.{itself, through}
 

@@ -2,11 +2,4 @@ pub mod Comparable
 pub mod Spacing
 pub mod Touch
 pub mod Open
-pub mod Close
-pub mod Meet
-pub mod Links
-pub mod Added
-pub mod Told
-pub mod Corners
-pub mod Reached
-pub mod Unmarked
+pub mod Steps

@@ -2,7 +2,7 @@
 use Rattle.std.specs.Prelude.{◌<◌, ℕ, length}
 use Rattle.leg_block.specs.Records.{DesignContents}
 use Rattle.leg_block.specs.declared.fault.Fault.{Fault}
-use Rattle.leg_block.specs.declared.fault.Fault.TheVariants.{Unplaced, Outside, OffSite, Overlap, Short, TooNear, OpenNet}
+use Rattle.leg_block.specs.declared.fault.Fault.TheVariants.{OpenNet}
 use Rattle.leg_flat.specs.Flat.{FlatSaid}
 use Rattle.leg_wire.specs.Touch.{piece_count, AreJoined}
 
@@ -13,11 +13,5 @@ pub record IsOpen (design : DesignContents) (flat : FlatSaid) (n k : ℕ) : Type
   pub open_piece : ¬ AreJoined flat n 0 k
 
 -- A violation holds that speaks of the pieces of a net.
-abbrev pub Holds : DesignContents → FlatSaid → Fault → Type 0
-Holds design flat (OpenNet n k) = IsOpen design flat n k
-Holds design flat (Unplaced c) = ⊥
-Holds design flat (Outside c) = ⊥
-Holds design flat (OffSite c) = ⊥
-Holds design flat (Overlap a b) = ⊥
-Holds design flat (Short a b) = ⊥
-Holds design flat (TooNear a b) = ⊥
+pub data Holds (design : DesignContents) (flat : FlatSaid) : Fault → Type 0 where
+  open_net : {n k : ℕ} → IsOpen design flat n k → Holds design flat (OpenNet n k)

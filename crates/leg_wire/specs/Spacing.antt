@@ -3,10 +3,10 @@ use Rattle.std.specs.Prelude.{◌≡◌, ◌*◌, ◌<◌, ℕ, Some, slice_get,
 use Rattle.leg_geom.specs.Plane.{Spot, Sides, HasPoint, SharePoint}
 use Rattle.leg_geom.specs.Gap.{square_distance}
 use Rattle.leg_sweep.specs.Pairs.{IsPair}
-use Rattle.leg_lib.specs.declared.records.Layer.{Layer}
-use Rattle.leg_lib.specs.Records.{Contents}
+use Rattle.leg_cells.specs.declared.records.Layer.{Layer}
+use Rattle.leg_cells.specs.Records.{Contents}
 use Rattle.leg_block.specs.declared.fault.Fault.{Fault}
-use Rattle.leg_block.specs.declared.fault.Fault.TheVariants.{Unplaced, Outside, OffSite, Overlap, Short, TooNear, OpenNet}
+use Rattle.leg_block.specs.declared.fault.Fault.TheVariants.{Short, TooNear}
 use Rattle.leg_flat.specs.declared.shape.Shape.{Shape}
 use Rattle.leg_flat.specs.Flat.{FlatSaid}
 use Rattle.leg_wire.specs.Comparable.{AreComparable}
@@ -33,11 +33,6 @@ pub record AreTooNear (library : Contents) (a b : Shape) : Type 0 where
   pub near : AreNearer (unsigned_abs layer.spacing) a.rect b.rect
 
 -- A violation holds that speaks of two shapes of the flat. They are told by their numbers, the lower one first.
-abbrev pub Holds : Contents → FlatSaid → Fault → Type 0
-Holds library flat (Short i j) = IsPair AreShort flat.shapes (i, j)
-Holds library flat (TooNear i j) = IsPair (AreTooNear library) flat.shapes (i, j)
-Holds library flat (Unplaced c) = ⊥
-Holds library flat (Outside c) = ⊥
-Holds library flat (OffSite c) = ⊥
-Holds library flat (Overlap a b) = ⊥
-Holds library flat (OpenNet n k) = ⊥
+pub data Holds (library : Contents) (flat : FlatSaid) : Fault → Type 0 where
+  short : {i j : ℕ} → IsPair AreShort flat.shapes (i, j) → Holds library flat (Short i j)
+  too_near : {i j : ℕ} → IsPair (AreTooNear library) flat.shapes (i, j) → Holds library flat (TooNear i j)

@@ -3,7 +3,7 @@
 ghost use Rattle.std.specs.Prelude.{◌≡◌, None, IfOk};
 ghost use Rattle.leg_geom.specs.Plane.{SharePoint, ShareTwoPoints};
 ghost use Rattle.leg_wire.specs.declared.corner.Beside.{Beside};
-ghost use Rattle.leg_wire.specs.Corners.{first_seen, pieces_beside, spot_at, IsOnlyShared, IsSeen};
+ghost use Rattle.leg_wire.specs.Steps.SharedPoints.{first_seen, pieces_beside, spot_of, IsOnlyShared, IsSeen};
 
 use crate::piece_shape::PieceShape;
 use std::alloc::{AllocError, Allocator};
@@ -78,7 +78,7 @@ fn pieces_of(a: &PieceShape, b: &PieceShape) -> Beside
 fn corner_of(a: &PieceShape, b: &PieceShape) -> (i64, i64)
     requires meet { SharePoint a.now.rect b.now.rect }
     requires single { ShareTwoPoints a.now.rect b.now.rect → ⊥ }
-    ensures { IsOnlyShared a.now.rect b.now.rect (spot_at result) }
+    ensures { IsOnlyShared a.now.rect b.now.rect (spot_of result) }
 {
     (a.rect.x1().max(b.rect.x1()), a.rect.y1().max(b.rect.y1()))
 }

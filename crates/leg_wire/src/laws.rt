@@ -1,7 +1,7 @@
 //! What follows from the definitions alone, as functions whose contracts say it.
 
 ghost use Rattle.std.specs.Prelude.{ℕ};
-ghost use Rattle.leg_lib.specs.Records.{Contents};
+ghost use Rattle.leg_cells.specs.Records.{Contents};
 ghost use Rattle.leg_block.specs.Records.{DesignContents};
 ghost use Rattle.leg_block.specs.declared.fault.Fault.{Fault};
 ghost use Rattle.leg_flat.specs.Flat.{FlatSaid, IsFlatOf};

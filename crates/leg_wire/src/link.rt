@@ -1,7 +1,7 @@
 //! Which pieces of nets touch.
 
 ghost use Rattle.std.specs.Prelude.{◌≡◌, ◌<◌, ◌^◌, ◌++◌, ◌∷◌, [], length, IfOk, OnOk};
-ghost use Rattle.leg_wire.specs.Links.{AreLinks, AreOfNet, AreRising};
+ghost use Rattle.leg_wire.specs.Steps.Links.{AreLinks, AreOfNet, AreRising};
 
 use crate::corner::Corners;
 use crate::meeting::Meeting;

@@ -1,8 +1,8 @@
 //! Which pieces of a net can be reached from its first one.
 
 ghost use Rattle.std.specs.Prelude.{◌<◌, length, All, IfOk, OnOk};
-ghost use Rattle.leg_wire.specs.Links.{AreRising, AreOfOneNet, LeadsTo};
-ghost use Rattle.leg_wire.specs.Reached.{AreFrom, AreMarkedOn};
+ghost use Rattle.leg_wire.specs.Steps.Links.{AreRising, AreOfOneNet, LeadsTo};
+ghost use Rattle.leg_wire.specs.Steps.MarkStep.{AreFrom, AreMarkedOn};
 ghost use Rattle.leg_wire.specs.Touch.{Joined, AreMarks};
 
 use crate::link::Link;

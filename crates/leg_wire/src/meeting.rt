@@ -1,7 +1,7 @@
 //! Metal of pieces of one net that shares a point.
 
 ghost use Rattle.std.specs.Prelude.{◌≡◌};
-ghost use Rattle.leg_wire.specs.Meet.{DoMeet, DoMeet-symmetric, DoMeet-near};
+ghost use Rattle.leg_wire.specs.Steps.MeetingRule.{DoMeet, DoMeet-symmetric, DoMeet-near};
 
 use crate::piece_shape::PieceShape;
 use leg_sweep::{LayeredRule, PairRule};

@@ -4,8 +4,8 @@ ghost use Rattle.std.specs.Prelude.{◌<◌, ◌^◌, length, IfOk, OnOk};
 ghost use Rattle.leg_block.specs.Violation.{IsListOf};
 ghost use Rattle.leg_flat.specs.Flat.{IsFlatOf};
 ghost use Rattle.leg_wire.specs.Open.{Holds};
-ghost use Rattle.leg_wire.specs.Unmarked.{TellsUnmarked};
-ghost use Rattle.leg_wire.specs.Added.{AreAdded};
+ghost use Rattle.leg_wire.specs.Steps.OpenViolations.{TellsUnmarked};
+ghost use Rattle.leg_wire.specs.Steps.AddedFaults.{AreAdded};
 
 use crate::link::{links, links_of_net};
 use crate::mark::marks;

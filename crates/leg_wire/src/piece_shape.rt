@@ -1,7 +1,7 @@
 //! The metal of the pieces of nets.
 
 ghost use Rattle.std.specs.Prelude.{◌≡◌, ◌↔◌, ◌≤◌, ◌<◌, Some, length, IfOk};
-ghost use Rattle.leg_wire.specs.Links.{IsPieceShape, ArePieceShapes};
+ghost use Rattle.leg_wire.specs.Steps.Links.{IsPieceShape, ArePieceShapes};
 
 use leg_flat::{Flat, Owner, Shape};
 use leg_geom::Rect;

@@ -4,13 +4,13 @@ ghost use Rattle.std.specs.Prelude.{◌<◌, length, All, AllPairs, IfOk, OnOk};
 ghost use Rattle.leg_sweep.specs.Pairs.{Before};
 ghost use Rattle.leg_block.specs.Violation.{IsListOf};
 ghost use Rattle.leg_wire.specs.Spacing.{Holds};
-ghost use Rattle.leg_wire.specs.Told.{DoShare, AreApart, IsTold};
-ghost use Rattle.leg_wire.specs.Added.{AreAdded};
+ghost use Rattle.leg_wire.specs.Steps.PairViolations.{DoShare, ShareNoPoint, IsTold};
+ghost use Rattle.leg_wire.specs.Steps.AddedFaults.{AreAdded};
 
 use crate::too_close::TooClose;
 use leg_block::Fault;
+use leg_cells::Library;
 use leg_flat::{Flat, Shape};
-use leg_lib::Library;
 use leg_sweep::pairs_in_bands;
 use std::alloc::{AllocError, Allocator};
 
@@ -64,7 +64,7 @@ fn push_too_near<A: Allocator>(
     requires increasing { AllPairs Before close.now }
     requires first { All (λ p. p.0 < length shapes.now) close.now }
     requires second { All (λ p. p.1 < length shapes.now) close.now }
-    ensures { OnOk result (AreAdded (IsTold Fault.TooNear AreApart shapes.now close.now) found.old.items found.new.items) }
+    ensures { OnOk result (AreAdded (IsTold Fault.TooNear ShareNoPoint shapes.now close.now) found.old.items found.new.items) }
 {
     for (i, j) in close {
         let a = &shapes[*i as usize];

@@ -1,14 +1,14 @@
 //! Comparable shapes that share a point or stand nearer than their layer's spacing.
 
 ghost use Rattle.std.specs.Prelude.{◌≡◌, ◌≤◌, ◌<◌, ◌^◌, ◌↔◌, All, IsTrue, unsigned_abs};
-ghost use Rattle.leg_lib.specs.Sound.{IsSoundLayer};
+ghost use Rattle.leg_cells.specs.Sound.{IsSoundLayer};
 ghost use Rattle.leg_wire.specs.Spacing.{AreNearer};
-ghost use Rattle.leg_wire.specs.Close.{AreClose, limit_at, AreClose-symmetric, AreClose-near};
+ghost use Rattle.leg_wire.specs.Steps.TooCloseRule.{AreClose, limit_at, AreClose-symmetric, AreClose-near};
 
 use crate::comparable::are_comparable;
+use leg_cells::Layer;
 use leg_flat::Shape;
 use leg_geom::Rect;
-use leg_lib::Layer;
 use leg_sweep::{LayeredRule, PairRule};
 
 /// Holds of comparable shapes that share a point or lie nearer than the spacing of their layer, as far as that is within

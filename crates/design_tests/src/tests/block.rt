@@ -2,9 +2,9 @@
 
 use super::frame::{has_sides, is_at, is_shape, says};
 use leg_block::{Axis, Component, Design, Pin, Port, Row, Status, Track};
+use leg_cells::Via;
 use leg_geom::Orient;
 use leg_lex::Name;
-use leg_lib::Via;
 use std::alloc::Global;
 use std::test::Fail;
 

@@ -2,9 +2,9 @@
 
 use super::frame::{is_at, under_library};
 use leg_block::{Component, Design, Status, Wire};
+use leg_cells::Library;
 use leg_design::read_def;
 use leg_geom::{Orient, Place, Point};
-use leg_lib::Library;
 use std::alloc::Global;
 use std::test::Fail;
 

@@ -1,9 +1,10 @@
 //! The library that the tests read their designs under, and how they do it.
 
 use leg_block::Design;
+use leg_cells::{Library, RawLibrary, Shape};
 use leg_design::read_def;
 use leg_geom::{Point, Rect};
-use leg_lib::{Library, RawLibrary, Shape, read_lefs};
+use leg_lib::read_lefs;
 use std::alloc::Global;
 use std::test::Fail;
 

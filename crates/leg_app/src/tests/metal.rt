@@ -2,9 +2,10 @@
 
 use crate::check_texts;
 use leg_block::Fault;
+use leg_cells::Library;
 use leg_design::read_def;
 use leg_flat::flatten;
-use leg_lib::{Library, read_lefs};
+use leg_lib::read_lefs;
 use leg_print::print_faults;
 use leg_wire::{joined, spacing_faults};
 use std::alloc::{AllocError, Global};

@@ -4,14 +4,14 @@ ghost use Rattle.std.specs.Prelude.{◌≡◌};
 ghost use Rattle.leg_lex.specs.Words.{Reads};
 ghost use Rattle.leg_design.specs.Parts.{known, vias_form, components_form, pins_form, nets_form, special_form};
 
-use crate::component::components;
-use crate::known::Known;
-use crate::net::nets;
 use crate::parts::{Parts, once};
-use crate::pin::pins;
-use crate::via::vias;
+use leg_cells::Library;
+use leg_floorplan::Known;
+use leg_floorplan::component::components;
+use leg_floorplan::pin::pins;
+use leg_floorplan::via::vias;
 use leg_lex::{Cursor, ReadFault};
-use leg_lib::Library;
+use leg_nets::nets;
 use std::alloc::Allocator;
 use std::mem::replace;
 

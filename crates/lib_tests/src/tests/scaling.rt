@@ -4,7 +4,8 @@ ghost use Rattle.std.specs.Prelude.{◌≤◌};
 ghost use Rattle.leg_lex.specs.declared.limits.TheConstants.{UNITS_LIMIT};
 
 use super::standard::{are_shapes, standard_library};
-use leg_lib::{Library, RawLibrary, ScaleKind, Site, read_lefs};
+use leg_cells::{Library, RawLibrary, ScaleKind, Site};
+use leg_lib::read_lefs;
 use std::alloc::Global;
 use std::test::Fail;
 

@@ -1,10 +1,11 @@
 //! A small standard-cell library, every field of its record written down by hand.
 
-use leg_geom::Rect;
-use leg_lib::{
+use leg_cells::{
     Direction, Layer, LayerKind, Library, Master, RawKind, RawLayer, RawLibrary, RawMaster, RawPin,
-    RawRect, RawShape, RawSite, RawVia, Shape, Site, Supply, Via, read_lefs,
+    RawRect, RawShape, RawSite, RawVia, Shape, Site, Supply, Via,
 };
+use leg_geom::Rect;
+use leg_lib::read_lefs;
 use std::alloc::Global;
 use std::test::Fail;
 

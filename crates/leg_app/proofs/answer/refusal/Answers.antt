@@ -1,6 +1,6 @@
 use Rattle.std.proofs.Common.{◌≢◌, inl, inr, ap, ◌∙◌}
 use Rattle.leg_lex.specs.declared.read_fault.FaultKind.TheVariants as kinds
-use Rattle.leg_lib.specs.declared.scale_fault.ScaleKind.TheVariants as scale
+use Rattle.leg_cells.specs.declared.scale_fault.ScaleKind.TheVariants as scale
 use Rattle.leg_app.proofs.answer.refusal.Goals.{in-Read+in_ok-text-in-Read, in-Scale+in_ok-text-in-Scale, in-TooMany+in_ok-text-in-TooMany}
 use Rattle.leg_app.proofs.answer.refusal.Goals as goal
 

@@ -1,7 +1,7 @@
 use Rattle.std.proofs.Common.{◌≡◌, Some, take}
 use Rattle.leg_block.specs.Records.{DesignContents}
-use Rattle.leg_flat.specs.Places.{AreNetsOf}
-use Rattle.leg_flat.specs.Added.{AddsMetal, master_of}
+use Rattle.leg_flat.specs.Steps.Places.{AreNetsOf}
+use Rattle.leg_flat.specs.Steps.AddedMetal.{AddsMetal, master_of}
 use Rattle.leg_flat.proofs.MetalAdded.{walk}
 use Rattle.leg_flat.proofs.MetalWalks.{pin_metal}
 use Rattle.leg_flat.proofs.metal.add_pins.Given as goal

@@ -1,8 +1,8 @@
 use Rattle.std.proofs.Common.{◌≡◌, ℕ, length, take}
 use Rattle.leg_geom.specs.declared.place.Place.{Place}
-use Rattle.leg_lib.specs.Measure.{Lengths}
+use Rattle.leg_cells.specs.Measure.{Lengths}
 use Rattle.leg_block.specs.Records.{DesignContents}
-use Rattle.leg_flat.specs.Counted.{counted}
+use Rattle.leg_flat.specs.Steps.ShapeCount.{counted}
 use Rattle.leg_flat.proofs.MetalAdded.{walk}
 use Rattle.leg_flat.proofs.MetalWalks.{pin_metal}
 use Rattle.leg_flat.proofs.metal_count.count_pins.Given as goal

@@ -1,5 +1,5 @@
 use Rattle.std.proofs.Common.{◌≡◌, None, Some}
-use Rattle.leg_flat.specs.Places.{place_in}
+use Rattle.leg_flat.specs.Steps.Places.{place_in}
 use Rattle.leg_flat.proofs.MetalOwners.{placed_belongs, lone_belongs}
 use Rattle.leg_flat.proofs.metal_parts.of_terminal.Goals as goal
 

@@ -1,10 +1,10 @@
 use Rattle.std.proofs.Common.{◌≡◌, length}
 use Rattle.leg_lex.specs.Until.{until}
-use Rattle.leg_lib.specs.Form.{form_at, at_last}
+use Rattle.leg_lib.specs.Form.{lef_form_at, at_last}
 use Rattle.leg_lib.proofs.form.forms.Given as goal
 
 abbrev pub invariant-forms : goal.invariant-forms
-invariant-forms g l = until at_last form_at l.library l.words ≡ until at_last form_at l.initial.library l.initial.words
+invariant-forms g l = until at_last lef_form_at l.library l.words ≡ until at_last lef_form_at l.initial.library l.initial.words
 
 abbrev pub decreases-forms : goal.decreases-forms
 decreases-forms g l = length l.words

@@ -1,6 +1,5 @@
 use Rattle.std.proofs.Common.{map, take, drop}
-use Rattle.leg_lib.specs.Records.{empty_library}
-use Rattle.leg_lib.specs.Records.{RawContents}
+use Rattle.leg_cells.specs.Records.{empty_library, RawContents}
 use Rattle.leg_lib.specs.Say.{Extend}
 use Rattle.leg_lib.proofs.read.read_lefs.Given as goal
 

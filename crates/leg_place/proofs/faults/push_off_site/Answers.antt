@@ -2,6 +2,8 @@
 use Rattle.std.proofs.Common.{◌≡◌, ◌+◌, length, refl, arith}
 use Rattle.std.proofs.lemmas.Bool.{false≢true}
 use Rattle.leg_block.specs.declared.fault.Fault.TheVariants.{OffSite, Overlap}
+use Rattle.leg_place.specs.Faults.Holds.{off_site}
+use Rattle.leg_place.proofs.PlaceFaults.{off_site_there}
 use Rattle.leg_place.proofs.Listing.{Tells, listing_more, listing_skip, listing_end}
 use Rattle.leg_place.proofs.faults.push_off_site.Goals as goal
 use Rattle.leg_place.proofs.faults.push_off_site.Goals.{then-is_off_site+in_ok-push, else-is_off_site}
@@ -16,10 +18,10 @@ loop-i-preserved g c =
     elim c.if-is_off_site.branch [
       | then-is_off_site+in_ok-push w ↦
           rw (w.found-is, w.in_ok-push.ensures.items)
-          (listing_more library design (OffSite i) (OffSite (i + 1)) 2 i (omega arith) this after c.loop-i.found.items (w.if-is_off_site.ensures.0 refl) c.loop-i.invariant)
+          (listing_more library design (OffSite i) (OffSite (i + 1)) 2 i (omega arith) this after c.loop-i.found.items (off_site (w.if-is_off_site.ensures.0 refl)) c.loop-i.invariant)
       | else-is_off_site w ↦
           rw w.found-is
-          (listing_skip library design (OffSite i) (OffSite (i + 1)) 2 i (omega arith) this after c.loop-i.found.items (λ h. false≢true (w.if-is_off_site.ensures.1 h)) c.loop-i.invariant)
+          (listing_skip library design (OffSite i) (OffSite (i + 1)) 2 i (omega arith) this after c.loop-i.found.items (λ h. false≢true (w.if-is_off_site.ensures.1 (off_site_there library design i h))) c.loop-i.invariant)
     ]
 
 pub returns : goal.returns

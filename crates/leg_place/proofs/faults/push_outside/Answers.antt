@@ -2,6 +2,8 @@
 use Rattle.std.proofs.Common.{◌≡◌, ◌+◌, length, refl, arith}
 use Rattle.std.proofs.lemmas.Bool.{false≢true}
 use Rattle.leg_block.specs.declared.fault.Fault.TheVariants.{Outside, OffSite}
+use Rattle.leg_place.specs.Faults.Holds.{outside}
+use Rattle.leg_place.proofs.PlaceFaults.{outside_there}
 use Rattle.leg_place.proofs.Listing.{Tells, listing_more, listing_skip, listing_end}
 use Rattle.leg_place.proofs.faults.push_outside.Goals as goal
 use Rattle.leg_place.proofs.faults.push_outside.Goals.{then-is_outside+in_ok-push, else-is_outside}
@@ -16,10 +18,10 @@ loop-i-preserved g c =
     elim c.if-is_outside.branch [
       | then-is_outside+in_ok-push w ↦
           rw (w.found-is, w.in_ok-push.ensures.items)
-          (listing_more library design (Outside i) (Outside (i + 1)) 1 i (omega arith) this after c.loop-i.found.items (w.if-is_outside.ensures.0 refl) c.loop-i.invariant)
+          (listing_more library design (Outside i) (Outside (i + 1)) 1 i (omega arith) this after c.loop-i.found.items (outside (w.if-is_outside.ensures.0 refl)) c.loop-i.invariant)
       | else-is_outside w ↦
           rw w.found-is
-          (listing_skip library design (Outside i) (Outside (i + 1)) 1 i (omega arith) this after c.loop-i.found.items (λ h. false≢true (w.if-is_outside.ensures.1 h)) c.loop-i.invariant)
+          (listing_skip library design (Outside i) (Outside (i + 1)) 1 i (omega arith) this after c.loop-i.found.items (λ h. false≢true (w.if-is_outside.ensures.1 (outside_there library design i h))) c.loop-i.invariant)
     ]
 
 pub returns : goal.returns

@@ -5,6 +5,8 @@ use Rattle.std.proofs.lemmas.Bool.{false≢true}
 use Rattle.std.proofs.lemmas.Option.{same_Some, slice_get_read}
 use Rattle.leg_block.specs.declared.fault.Fault.TheVariants.{Unplaced, Outside}
 use Rattle.leg_place.specs.Faults.{IsUnplaced}
+use Rattle.leg_place.specs.Faults.Holds.{unplaced}
+use Rattle.leg_place.proofs.PlaceFaults.{unplaced_there}
 use Rattle.leg_place.proofs.Listing.{Tells, listing_more, listing_skip, listing_end}
 use Rattle.leg_place.proofs.faults.push_unplaced.Goals as goal
 use Rattle.leg_place.proofs.faults.push_unplaced.Goals.{then-is_none+in_ok-push, else-is_none}
@@ -28,16 +30,16 @@ loop-i-preserved g c =
           let none : c.component-item.result.place ≡ None = none_from_test _ w.if-is_none.ensures in
           let holds : IsUnplaced design i = record { component = c.component-item.result; there = there; unplaced = none } in
           rw (w.found-is, w.in_ok-push.ensures.items)
-          (listing_more library design (Unplaced i) (Unplaced (i + 1)) 0 i (omega arith) this after c.loop-i.found.items holds c.loop-i.invariant)
+          (listing_more library design (Unplaced i) (Unplaced (i + 1)) 0 i (omega arith) this after c.loop-i.found.items (unplaced holds) c.loop-i.invariant)
       | else-is_none w ↦
-          let not_holds = λ (u : IsUnplaced design i).
+          let not_holds : IsUnplaced design i → ⊥ = λ u.
           let same = same_Some u.component c.component-item.result (sym u.there ∙ there) in
           let some = w.if-is_none.ensures in
           let none = rw same at u.unplaced in
           let test : is_some c.component-item.result.place ≡ false = rw none in
           absurd (false≢true (sym test ∙ some)) in
           rw w.found-is
-          (listing_skip library design (Unplaced i) (Unplaced (i + 1)) 0 i (omega arith) this after c.loop-i.found.items not_holds c.loop-i.invariant)
+          (listing_skip library design (Unplaced i) (Unplaced (i + 1)) 0 i (omega arith) this after c.loop-i.found.items (λ h. not_holds (unplaced_there library design i h)) c.loop-i.invariant)
     ]
 
 pub returns : goal.returns

@@ -1,7 +1,7 @@
 use Rattle.std.proofs.Common.{◌≡◌, ℕ, ◌-◌, ◌+◌, ◌<◌, length, get_or, map, ap, sym, ◌∙◌, arith}
 use Rattle.std.proofs.lemmas.List.{get_or-map, length-map}
-use Rattle.leg_sweep.specs.Swept.{rect_at}
-use Rattle.leg_sweep.specs.Bands.{layer_key}
+use Rattle.leg_sweep.specs.Steps.Sweep.{rect_numbered}
+use Rattle.leg_sweep.specs.Steps.Bands.{layer_key}
 use Rattle.leg_sweep.proofs.CommonBands.{entries_more, entries_count}
 use Rattle.leg_sweep.proofs.Places.{rise_from_left, length_order}
 use Rattle.leg_sweep.proofs.Turns.{rect_of_read}
@@ -38,7 +38,7 @@ loop-place-preserved g c =
     let item = c.index-items-order.result in
     let from_left = rise_from_left (map rect_of items) order c.requires.order in
     let x_in : x < length items = omega (arith, from_left.below place 0 (omega arith), length-map items rect_of) in
-    let rect_is : rect_at (map rect_of items) x ≡ rect_of item = rect_of_read rect_of items x item x_in c.index-items-order.is in
+    let rect_is : rect_numbered (map rect_of items) x ≡ rect_of item = rect_of_read rect_of items x item x_in c.index-items-order.is in
     let layer_is : get_or (map layer_of items) x 0 ≡ layer_of item = get_or-map layer_of items x item 0 x_in ∙ ap layer_of (sym c.index-items-order.is) in
     let pushed = c.in_ok-push_bands.ensures in
     record {

@@ -1,6 +1,6 @@
 -- The entries of the items so far.
 use Rattle.std.proofs.Common.{◌≤◌, length, map}
-use Rattle.leg_sweep.specs.Bands.{AreEntriesTo}
+use Rattle.leg_sweep.specs.Steps.Bands.{AreEntriesTo}
 use Rattle.leg_sweep.proofs.bands.entries.Given as goal
 
 abbrev pub invariant-loop-place : goal.invariant-loop-place

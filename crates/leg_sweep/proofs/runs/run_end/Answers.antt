@@ -1,7 +1,7 @@
 use Rattle.std.proofs.Common.{◌≡◌, ℕ, Bool, false, not, ◌&&◌, eqb, inl, inr, arith}
 use Rattle.std.proofs.lemmas.Bool.{cases_lt}
 use Rattle.std.proofs.lemmas.Bool.Decides.{nat_tests}
-use Rattle.leg_sweep.specs.Bands.{entry_at}
+use Rattle.leg_sweep.specs.Steps.Bands.{entry_at}
 use Rattle.leg_sweep.proofs.runs.run_end.Goals as goal
 
 same_band : (p q : ℕ × ℕ) (answer : Bool) → answer ≡ not (eqb p.0 q.0 && eqb p.1 q.1) → answer ≡ false → p ≡ q

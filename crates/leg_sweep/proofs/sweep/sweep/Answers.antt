@@ -1,7 +1,7 @@
 use Rattle.std.proofs.Common.{◌≡◌, ℕ, ◌+◌, ◌<◌, ◌≤◌, [], ◌∷◌, ◌++◌, length, get_or, take, map, filter, count_by, ◌∙◌, arith}
 use Rattle.leg_sweep.specs.Pairs.{IsPair}
 use Rattle.leg_sweep.specs.Counts.{near_along_x, near_along_both, count_pairs}
-use Rattle.leg_sweep.specs.Swept.{test_at}
+use Rattle.leg_sweep.specs.Steps.Sweep.{test_at}
 use Rattle.std.proofs.lemmas.List.{length-map, length_push, take_more, take_all}
 use Rattle.std.proofs.lemmas.List.Sums.{length-filter, count_by-le-length}
 use Rattle.leg_sweep.proofs.Counts.{count_pairs_push}

@@ -2,7 +2,7 @@
 use Rattle.std.proofs.Common.{◌≡◌, ◌≤◌, ◌+◌, ◌*◌, length, map, take}
 use Rattle.leg_sweep.specs.Pairs.{IsPair}
 use Rattle.leg_sweep.specs.Counts.{near_along_x, near_along_both, count_pairs}
-use Rattle.leg_sweep.specs.Swept.{test_at}
+use Rattle.leg_sweep.specs.Steps.Sweep.{test_at}
 use Rattle.leg_sweep.proofs.Progress.{SweptTo}
 use Rattle.leg_sweep.proofs.sweep.sweep.Given as goal
 

@@ -5,7 +5,7 @@ use Rattle.std.proofs.lemmas.List.Sums.{sum_by_more}
 use Rattle.std.proofs.lemmas.Option.{slice_get_read}
 use Rattle.leg_sweep.specs.Pairs.{IsPair}
 use Rattle.leg_sweep.specs.Counts.{near_along_x, near_along_both}
-use Rattle.leg_sweep.specs.Swept.{test_at, ordered}
+use Rattle.leg_sweep.specs.Steps.Sweep.{test_at, ordered}
 use Rattle.leg_sweep.proofs.Progress.{place_in_front}
 use Rattle.leg_sweep.proofs.Turns.{new_pairs_none, new_pairs_skip, new_pairs_more, pair_from_holds, holds_from_pair, test_of_read, filter_yes, filter_no}
 use Rattle.leg_sweep.proofs.sweep.turn.Goals as goal

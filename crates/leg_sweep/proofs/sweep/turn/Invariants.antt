@@ -2,7 +2,7 @@
 use Rattle.std.proofs.Common.{◌≡◌, ◌≤◌, ◌+◌, length, map, take, filter, count_by}
 use Rattle.leg_sweep.specs.Pairs.{IsPair}
 use Rattle.leg_sweep.specs.Counts.{near_along_x, near_along_both}
-use Rattle.leg_sweep.specs.Swept.{test_at, AreNewPairs}
+use Rattle.leg_sweep.specs.Steps.Sweep.{test_at, AreNewPairs}
 use Rattle.leg_sweep.proofs.sweep.turn.Given as goal
 
 abbrev pub invariant-loop-other : goal.invariant-loop-other

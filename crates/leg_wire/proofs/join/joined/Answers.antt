@@ -1,7 +1,7 @@
 -- The links of the net are those of its pieces that touch.
 use Rattle.std.proofs.Common.{◌≡◌, ◌+◌, arith}
 use Rattle.std.proofs.lemmas.Result.{IfOk-weaker}
-use Rattle.leg_wire.specs.Links.{ArePieceShapes, AreLinks, AreOfNet, LeadsTo}
+use Rattle.leg_wire.specs.Steps.Links.{ArePieceShapes, AreLinks, AreOfNet, LeadsTo}
 use Rattle.leg_wire.specs.Touch.{piece_count, Joined, AreJoined, AreMarks}
 use Rattle.leg_wire.proofs.Touches.{piece_count-is, AreOfNet-one, links_within, marks_of_joined}
 use Rattle.leg_wire.proofs.join.joined.Goals as goal

@@ -3,7 +3,7 @@ use Rattle.std.proofs.Common.{◌≡◌, take, arith, rules}
 use Rattle.std.proofs.lemmas.List.{take_more, take_all}
 use Rattle.std.proofs.lemmas.List.Sorted.{answers_always}
 use Rattle.leg_sweep.specs.Pairs.{ArePairs}
-use Rattle.leg_wire.specs.Meet.{DoMeet}
+use Rattle.leg_wire.specs.Steps.MeetingRule.{DoMeet}
 use Rattle.leg_wire.proofs.NetLinks.{key_of}
 use Rattle.leg_wire.proofs.PiecesTouch.{first_within, second_within, meet_there, linked_by_two, linked_by_other, not_linked, links_from_sort}
 use Rattle.leg_wire.proofs.link.links.Goals as goal

@@ -1,6 +1,6 @@
 -- The pieces that the links so far lead to are marked.
 use Rattle.std.proofs.Common.{take}
-use Rattle.leg_wire.specs.Reached.{AreMarkedOn}
+use Rattle.leg_wire.specs.Steps.MarkStep.{AreMarkedOn}
 use Rattle.leg_wire.proofs.mark.mark_linked.Given as goal
 
 abbrev pub invariant-loop-link : goal.invariant-loop-link

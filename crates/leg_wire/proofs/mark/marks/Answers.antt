@@ -2,7 +2,7 @@
 use Rattle.std.proofs.Common.{◌≡◌, ◌<◌, false, [], ◌∷◌, ◌++◌, length, replicate, arith, rules}
 use Rattle.std.proofs.lemmas.List.Elements.{All-contains}
 use Rattle.leg_sweep.proofs.Lists.{All-from_contains}
-use Rattle.leg_wire.specs.Links.{LeadsTo}
+use Rattle.leg_wire.specs.Steps.Links.{LeadsTo}
 use Rattle.leg_wire.proofs.Reaching.{underway_none, underway_start, underway_more, underway_end}
 use Rattle.leg_wire.proofs.mark.marks.Goals as goal
 use Rattle.leg_wire.proofs.mark.marks.Goals.{then-count-ne0+in_ok-push, else-count-ne0}

@@ -1,6 +1,6 @@
 -- What is marked is joined to the first piece, and left to be followed or followed.
 use Rattle.std.proofs.Common.{◌+◌, not, length, count_by}
-use Rattle.leg_wire.specs.Links.{LeadsTo}
+use Rattle.leg_wire.specs.Steps.Links.{LeadsTo}
 use Rattle.leg_wire.proofs.Reaching.{IsUnderway}
 use Rattle.leg_wire.proofs.mark.marks.Given as goal
 

@@ -1,9 +1,9 @@
 -- The pieces of one net after the other that aren't joined.
 use Rattle.std.proofs.Common.{◌≡◌, ◌<◌, length, ap, arith}
-use Rattle.leg_wire.specs.Links.{ArePieceShapes, AreLinks, AreOfNet}
+use Rattle.leg_wire.specs.Steps.Links.{ArePieceShapes, AreLinks, AreOfNet}
 use Rattle.leg_wire.specs.Touch.{piece_count, AreJoined, AreMarks}
-use Rattle.leg_wire.specs.Unmarked.{TellsUnmarked}
-use Rattle.leg_wire.specs.Added.{AreAdded}
+use Rattle.leg_wire.specs.Steps.OpenViolations.{TellsUnmarked}
+use Rattle.leg_wire.specs.Steps.AddedFaults.{AreAdded}
 use Rattle.leg_wire.proofs.Touches.{piece_count-is, AreOfNet-one, links_within, marks_of_joined}
 use Rattle.leg_wire.proofs.OpenPieces.{nets_within, open_more, open_end}
 use Rattle.leg_wire.proofs.open_fault.open_faults.Goals as goal

@@ -1,9 +1,12 @@
 -- A piece without a mark is one more violation, and one with a mark none.
 use Rattle.std.proofs.Common.{◌≡◌, ◌+◌, ◌++◌, ◌∷◌, [], true, false, length, take, get_or, arith, rules}
 use Rattle.std.proofs.lemmas.List.{take_more, take_all, length-take-le}
-use Rattle.leg_wire.proofs.OpenPieces.{added_skip, added_more}
+use Rattle.leg_wire.proofs.OpenPieces.{added_none, added_skip, added_more}
 use Rattle.leg_wire.proofs.open_fault.push_open.Goals as goal
 use Rattle.leg_wire.proofs.open_fault.push_open.Goals.{then-not-joined+in_ok-push, else-not-joined}
+
+pub loop-piece-init : goal.loop-piece-init
+loop-piece-init g c = added_none c.args.net c.args.found.now.items
 
 pub loop-piece-preserved : goal.loop-piece-preserved
 loop-piece-preserved g c =

@@ -1,7 +1,7 @@
 -- The pieces so far that have no mark are listed.
 use Rattle.std.proofs.Common.{take}
-use Rattle.leg_wire.specs.Unmarked.{TellsUnmarked}
-use Rattle.leg_wire.specs.Added.{AreAdded}
+use Rattle.leg_wire.specs.Steps.OpenViolations.{TellsUnmarked}
+use Rattle.leg_wire.specs.Steps.AddedFaults.{AreAdded}
 use Rattle.leg_wire.proofs.open_fault.push_open.Given as goal
 
 abbrev pub invariant-loop-piece : goal.invariant-loop-piece

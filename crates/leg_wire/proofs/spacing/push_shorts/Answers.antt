@@ -3,7 +3,7 @@ use Rattle.std.proofs.Common.{◌≡◌, ◌↔◌, IsTrue, refl, sym, ◌∙◌
 use Rattle.std.proofs.lemmas.Bool.{false≢true}
 use Rattle.std.proofs.lemmas.Option.{slice_get_read}
 use Rattle.leg_block.specs.declared.fault.Fault.TheVariants.{Short}
-use Rattle.leg_wire.specs.Told.{DoShare, AreApart}
+use Rattle.leg_wire.specs.Steps.PairViolations.{DoShare, ShareNoPoint}
 use Rattle.leg_wire.proofs.ToldPairs.{Short-keeps, told_more, told_skip}
 use Rattle.leg_wire.proofs.spacing.push_shorts.Goals as goal
 use Rattle.leg_wire.proofs.spacing.push_shorts.Goals.{then-shares_point+in_ok-push, else-shares_point}
@@ -25,7 +25,7 @@ loop-i-preserved g c =
           rw (w.found-is, w.in_ok-push.ensures.items)
           (told_more Short Short-keeps DoShare shapes close c.requires.increasing k c.loop-i-test.true a b a_at b_at c.args.found.now.items c.loop-i.found.items shared c.loop-i.invariant)
       | else-shares_point w ↦
-          let apart : AreApart a b = λ shared. false≢true (sym w.if-shares_point.false ∙ says.1 shared) in
+          let apart : ShareNoPoint a b = λ shared. false≢true (sym w.if-shares_point.false ∙ says.1 shared) in
           rw w.found-is
           (told_skip Short Short-keeps DoShare shapes close c.requires.increasing k c.loop-i-test.true a b a_at b_at c.args.found.now.items c.loop-i.found.items apart c.loop-i.invariant)
     ]

@@ -3,7 +3,7 @@ use Rattle.std.proofs.Common.{◌≡◌, ◌↔◌, IsTrue, refl, sym, ◌∙◌
 use Rattle.std.proofs.lemmas.Bool.{false≢true}
 use Rattle.std.proofs.lemmas.Option.{slice_get_read}
 use Rattle.leg_block.specs.declared.fault.Fault.TheVariants.{TooNear}
-use Rattle.leg_wire.specs.Told.{DoShare, AreApart}
+use Rattle.leg_wire.specs.Steps.PairViolations.{DoShare, ShareNoPoint}
 use Rattle.leg_wire.proofs.ToldPairs.{TooNear-keeps, told_more, told_skip}
 use Rattle.leg_wire.proofs.spacing.push_too_near.Goals as goal
 use Rattle.leg_wire.proofs.spacing.push_too_near.Goals.{then-not-shares_point+in_ok-push, else-not-shares_point}
@@ -21,11 +21,11 @@ loop-i-preserved g c =
     let says : IsTrue c.shares_point.result ↔ DoShare a b = c.shares_point.ensures in
     elim c.if-not-shares_point.branch [
       | then-not-shares_point+in_ok-push w ↦
-          let apart : AreApart a b = λ shared. false≢true (sym w.if-not-shares_point.true ∙ says.1 shared) in
+          let apart : ShareNoPoint a b = λ shared. false≢true (sym w.if-not-shares_point.true ∙ says.1 shared) in
           rw (w.found-is, w.in_ok-push.ensures.items)
-          (told_more TooNear TooNear-keeps AreApart shapes close c.requires.increasing k c.loop-i-test.true a b a_at b_at c.args.found.now.items c.loop-i.found.items apart c.loop-i.invariant)
+          (told_more TooNear TooNear-keeps ShareNoPoint shapes close c.requires.increasing k c.loop-i-test.true a b a_at b_at c.args.found.now.items c.loop-i.found.items apart c.loop-i.invariant)
       | else-not-shares_point w ↦
           let shared : DoShare a b = says.0 w.if-not-shares_point.false in
           rw w.found-is
-          (told_skip TooNear TooNear-keeps AreApart shapes close c.requires.increasing k c.loop-i-test.true a b a_at b_at c.args.found.now.items c.loop-i.found.items (λ none. none shared) c.loop-i.invariant)
+          (told_skip TooNear TooNear-keeps ShareNoPoint shapes close c.requires.increasing k c.loop-i-test.true a b a_at b_at c.args.found.now.items c.loop-i.found.items (λ none. none shared) c.loop-i.invariant)
     ]

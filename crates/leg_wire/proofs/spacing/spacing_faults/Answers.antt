@@ -3,8 +3,8 @@ use Rattle.std.proofs.Common.{◌≡◌, ◌++◌, All, unsigned_abs, ◌≤◌}
 use Rattle.leg_sweep.specs.Pairs.{ArePairs}
 use Rattle.leg_block.specs.declared.fault.Fault.TheVariants.{Short, TooNear}
 use Rattle.leg_block.specs.Violation.{IsListOf}
-use Rattle.leg_wire.specs.Close.{AreClose}
-use Rattle.leg_wire.specs.Told.{DoShare, AreApart, IsTold}
+use Rattle.leg_wire.specs.Steps.TooCloseRule.{AreClose}
+use Rattle.leg_wire.specs.Steps.PairViolations.{DoShare, ShareNoPoint, IsTold}
 use Rattle.leg_wire.proofs.AllTold.{first_within, second_within, listing_told}
 use Rattle.leg_wire.proofs.spacing.spacing_faults.Goals as goal
 
@@ -34,6 +34,6 @@ returns g c =
     let s = c.in_ok-push_shorts.ensures in
     let n = c.in_ok-push_too_near.ensures in
     let shorts : IsListOf (IsTold Short DoShare flat.shapes close) s.more = rw (c.deref.ensures.value, c.shapes-shapes.ensures.is) at s.list in
-    let near : IsListOf (IsTold TooNear AreApart flat.shapes close) n.more = rw (c.deref-2.ensures.value, c.shapes-shapes.ensures.is) at n.list in
+    let near : IsListOf (IsTold TooNear ShareNoPoint flat.shapes close) n.more = rw (c.deref-2.ensures.value, c.shapes-shapes.ensures.is) at n.list in
     let found : c.push_too_near.new.found.items ≡ s.more ++ n.more = rw (n.is, s.is, c.new-found.ensures.items) in
     rw found (listing_told library reach within flat close are s.more n.more shorts near)

@@ -1,7 +1,7 @@
 use Rattle.std.proofs.Common.{◌≡◌, ◌++◌, ◌∷◌, [], length, None, sym, subst, arith}
 use Rattle.std.proofs.lemmas.Grind.{common_steps}
-use Rattle.leg_lex.specs.Named.{place_of, AreApart}
-use Rattle.leg_lex.proofs.Named.{index_push, apart_push}
+use Rattle.leg_lex.specs.NameLookup.{place_of, AreApart}
+use Rattle.leg_lex.proofs.NameLookup.{index_push, apart_push}
 use Rattle.leg_lex.proofs.name.Names.push.Goals as goal
 
 pub invariant_of-self-2 : goal.invariant_of-self-2

@@ -1,0 +1,7 @@
+-- Good vias
+mod Joined
+-- Lengths in database units
+mod Scaled
+mod Sound
+-- Libraries that say the same
+mod Same

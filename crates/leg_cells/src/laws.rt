@@ -1,0 +1,24 @@
+//! Laws of the definitions that contracts cite. Each function does nothing: its contract is the law.
+
+ghost use Rattle.std.specs.Prelude.{◌≡◌, ℕ, ◌↔◌, List, IsTrue};
+ghost use Rattle.leg_geom.specs.Plane.{Sides};
+ghost use Rattle.leg_cells.specs.declared.joins.LayerUse.{LayerUse};
+ghost use Rattle.leg_cells.specs.declared.joins.ViaPart.{ViaPart};
+ghost use Rattle.leg_cells.specs.Joins.{join_layers};
+ghost use Rattle.leg_cells.specs.JoinLaw.{Joins, HoldsOrigin};
+ghost use Rattle.leg_cells.specs.GoodVia.{holds_origin};
+ghost use Rattle.leg_cells.specs.Records.{RawContents, Contents};
+ghost use Rattle.leg_cells.specs.Scale.{IsLibraryAt};
+
+/// At so many units a micron, what is read is one library at most.
+#[tactic(auto, using(crate::proofs::Scaled::one_library))]
+pub fn one_library_at_units()
+    ensures { (n : ℕ) (raw : RawContents) (a b : Contents) → IsLibraryAt n raw a → IsLibraryAt n raw b → a ≡ b }
+{}
+
+/// The parts of a good via join two routing layers by cuts on a layer between them, and lie nowhere else.
+#[tactic(auto, using(crate::proofs::Joined::good_vias_join, crate::proofs::Joined::holds_is))]
+pub fn good_vias_join_layers()
+    ensures joined { (layers : List LayerUse) (parts : List ViaPart) → IsTrue (join_layers layers parts) ↔ ((low : ℕ) × (cut : ℕ) × (high : ℕ) × Joins layers parts low cut high) }
+    ensures origin { (r : Sides) → IsTrue (holds_origin r) ↔ HoldsOrigin r }
+{}

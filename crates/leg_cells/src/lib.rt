@@ -1,0 +1,29 @@
+//! A cell library as records: layers, vias, sites and macros, in millionths of a micron as LEF texts write them and in
+//! database units.
+//!
+//! `RawLibrary` is built a record at a time, and `RawLibrary::at` gives it in database units. `leg_lib` reads one from
+//! texts.
+#![tactic(auto)]
+
+mod equals;
+mod good_via;
+mod items;
+mod joins;
+pub mod laws;
+mod library;
+mod measure;
+mod raw;
+mod raw_library;
+mod records;
+mod scale;
+mod scale_fault;
+mod scale_shapes;
+
+pub use items::Items;
+pub use joins::{LayerUse, ViaPart, is_wiring_word};
+pub use library::Library;
+pub use measure::{Extent, RawExtent, RawPoint, RawRect};
+pub use raw::{RawKind, RawLayer, RawMaster, RawPin, RawShape, RawSite, RawVia};
+pub use raw_library::RawLibrary;
+pub use records::{Direction, Layer, LayerKind, Master, MasterPin, Shape, Site, Supply, Via};
+pub use scale_fault::{ScaleFault, ScaleKind};

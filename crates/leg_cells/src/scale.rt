@@ -1,0 +1,209 @@
+//! A library in database units: no length is rounded (own rule).
+
+ghost use Rattle.std.specs.Prelude.{◌≡◌, ◌≢◌, ◌≤◌, ℤ, List, map, IfOk, IfErr};
+ghost use Rattle.leg_cells.specs.declared.scale_fault.ScaleKind.TheVariants.{Memory};
+ghost use Rattle.leg_cells.specs.declared.records.Layer.{Layer};
+ghost use Rattle.leg_cells.specs.declared.records.LayerKind.{LayerKind};
+ghost use Rattle.leg_cells.specs.declared.records.Site.{Site};
+ghost use Rattle.leg_cells.specs.Measure.{Lengths};
+ghost use Rattle.leg_cells.specs.Records.{Contents, raw_layer_names, raw_site_names, raw_via_names, raw_master_names};
+ghost use Rattle.leg_cells.specs.Scale.{IsLengthAt, IsSizeAt, IsEven, IsKindAt, IsLayerAt, IsSiteAt, OneForOne, IsLibraryAt};
+ghost use Rattle.leg_cells.specs.Sound.{IsSound};
+
+use crate::library::Library;
+use crate::measure::{Extent, RawExtent};
+use crate::raw::{RawKind, RawLayer, RawSite};
+use crate::raw_library::RawLibrary;
+use crate::records::{Layer, LayerKind, Master, Site, Via};
+use crate::scale_fault::{ScaleFault, ScaleKind};
+use crate::scale_shapes::{masters_at, vias_at};
+use leg_lex::{Micron, Name, NumFault, UNITS_LIMIT};
+use std::alloc::{AllocError, Allocator};
+
+/// A length in database units.
+pub(crate) fn length_at(length: Micron, n: u32) -> Result<i64, ScaleKind>
+    requires above { 1 ≤ n }
+    requires within { n ≤ UNITS_LIMIT }
+    ensures ok { IfOk result (λ u. IsLengthAt n length u) }
+    ensures none { IfErr result (λ kind. (u : ℤ) → ¬ IsLengthAt n length u) }
+{
+    match length.to_units(n) {
+        Ok(units) => Ok(units),
+        Err(NumFault::NotOnUnit) => Err(ScaleKind::NotOnUnit),
+        Err(_) => Err(ScaleKind::TooLarge),
+    }
+}
+
+/// A size in database units.
+pub(crate) fn size_at(size: &RawExtent, n: u32) -> Result<Extent, ScaleKind>
+    requires above { 1 ≤ n }
+    requires within { n ≤ UNITS_LIMIT }
+    ensures ok { IfOk result (λ scaled. IsSizeAt n size.now scaled) }
+    ensures none { IfErr result (λ kind. (scaled : Lengths) → ¬ IsSizeAt n size.now scaled) }
+{
+    let width = length_at(size.width(), n)?;
+    let height = length_at(size.height(), n)?;
+    Ok(Extent::new(width, height))
+}
+
+/// The width of a routing layer in database units, which is even.
+#[tactic(auto, using(crate::proofs::Scaled::even_width, crate::proofs::Scaled::odd_width))]
+fn even_at(width: Micron, n: u32) -> Result<i64, ScaleKind>
+    requires above { 1 ≤ n }
+    requires within { n ≤ UNITS_LIMIT }
+    ensures exact { IfOk result (λ u. IsLengthAt n width u) }
+    ensures even { IfOk result (λ u. IsEven u) }
+    ensures none { IfErr result (λ kind. (u : ℤ) → IsLengthAt n width u → ¬ IsEven u) }
+{
+    let units = length_at(width, n)?;
+    if units.unsigned_abs() % 2 != 0 {
+        return Err(ScaleKind::OddWidth);
+    }
+    Ok(units)
+}
+
+/// What a layer is for, with its width in database units.
+fn kind_at(kind: RawKind, n: u32) -> Result<LayerKind, ScaleKind>
+    requires above { 1 ≤ n }
+    requires within { n ≤ UNITS_LIMIT }
+    ensures ok { IfOk result (λ scaled. IsKindAt n kind scaled) }
+    ensures none { IfErr result (λ fault. (scaled : LayerKind) → ¬ IsKindAt n kind scaled) }
+{
+    match kind {
+        RawKind::Routing { direction, width } => Ok(LayerKind::Routing {
+            direction,
+            width: even_at(width, n)?,
+        }),
+        RawKind::Cut => Ok(LayerKind::Cut),
+        RawKind::Other => Ok(LayerKind::Other),
+    }
+}
+
+/// A layer's kind and spacing in database units.
+fn layer_parts(layer: &RawLayer<'_>, n: u32) -> Result<(LayerKind, i64), ScaleKind>
+    requires above { 1 ≤ n }
+    requires within { n ≤ UNITS_LIMIT }
+    ensures kind { IfOk result (λ parts. IsKindAt n layer.now.kind parts.0) }
+    ensures spacing { IfOk result (λ parts. IsLengthAt n layer.now.spacing parts.1) }
+    ensures none { IfErr result (λ fault. (scaled : Layer) → ¬ IsLayerAt n layer.now scaled) }
+{
+    let kind = kind_at(layer.kind, n)?;
+    let spacing = length_at(layer.spacing, n)?;
+    Ok((kind, spacing))
+}
+
+/// A layer in database units.
+fn layer_at<'a>(layer: &RawLayer<'a>, n: u32) -> Result<Layer<'a>, ScaleFault<'a>>
+    requires above { 1 ≤ n }
+    requires within { n ≤ UNITS_LIMIT }
+    ensures ok { IfOk result (λ scaled. IsLayerAt n layer.now scaled) }
+    ensures none { IfErr result (λ fault. (scaled : Layer) → ¬ IsLayerAt n layer.now scaled) }
+{
+    let name = Name::new(layer.name.bytes());
+    match layer_parts(layer, n) {
+        Ok((kind, spacing)) => Ok(Layer {
+            name,
+            kind,
+            spacing,
+        }),
+        Err(kind) => Err(ScaleFault { name, kind }),
+    }
+}
+
+/// The layers in database units.
+#[tactic(auto, using(crate::proofs::Scaled::pair_more, crate::proofs::Scaled::pair_all, crate::proofs::Scaled::pair_none))]
+fn layers_at<'a, A: Allocator + Copy>(
+    alloc: A,
+    raw: &[RawLayer<'a>],
+    n: u32,
+) -> Result<Vec<Layer<'a>, A>, ScaleFault<'a>>
+    requires above { 1 ≤ n }
+    requires within { n ≤ UNITS_LIMIT }
+    ensures ok { IfOk result (λ layers. OneForOne (IsLayerAt n) raw.now layers.items) }
+    ensures none { IfErr result (λ fault. fault.kind ≢ Memory → (layers : List Layer) → ¬ OneForOne (IsLayerAt n) raw.now layers) }
+{
+    let mut layers = Vec::new(alloc);
+    for layer in raw {
+        layers.push(layer_at(layer, n)?)?;
+    }
+    Ok(layers)
+}
+
+/// A site in database units.
+fn site_at<'a>(site: &RawSite<'a>, n: u32) -> Result<Site<'a>, ScaleFault<'a>>
+    requires above { 1 ≤ n }
+    requires within { n ≤ UNITS_LIMIT }
+    ensures ok { IfOk result (λ scaled. IsSiteAt n site.now scaled) }
+    ensures none { IfErr result (λ fault. (scaled : Site) → ¬ IsSiteAt n site.now scaled) }
+{
+    let name = Name::new(site.name.bytes());
+    match size_at(&site.size, n) {
+        Ok(size) => Ok(Site { name, size }),
+        Err(kind) => Err(ScaleFault { name, kind }),
+    }
+}
+
+/// The sites in database units.
+#[tactic(auto, using(crate::proofs::Scaled::pair_more, crate::proofs::Scaled::pair_all, crate::proofs::Scaled::pair_none))]
+fn sites_at<'a, A: Allocator + Copy>(
+    alloc: A,
+    raw: &[RawSite<'a>],
+    n: u32,
+) -> Result<Vec<Site<'a>, A>, ScaleFault<'a>>
+    requires above { 1 ≤ n }
+    requires within { n ≤ UNITS_LIMIT }
+    ensures ok { IfOk result (λ sites. OneForOne (IsSiteAt n) raw.now sites.items) }
+    ensures none { IfErr result (λ fault. fault.kind ≢ Memory → (sites : List Site) → ¬ OneForOne (IsSiteAt n) raw.now sites) }
+{
+    let mut sites = Vec::new(alloc);
+    for site in raw {
+        sites.push(site_at(site, n)?)?;
+    }
+    Ok(sites)
+}
+
+impl<'a, A: Allocator + Copy> RawLibrary<'a, A> {
+    /// The library at `n` database units a micron, with each macro's origin added to its shapes.
+    ///
+    /// Lengths are looked at in file order: those of layers first, then those of sites, macros and vias.
+    #[tactic(auto, using(crate::proofs::Scaled::layers_named, crate::proofs::Scaled::sites_named, crate::proofs::Scaled::vias_named, crate::proofs::Scaled::masters_named, crate::proofs::Scaled::one_library))]
+    pub fn at(&self, alloc: A, n: u32) -> Result<Library<'a, A>, ScaleFault<'a>>
+        requires above { 1 ≤ n }
+        requires within { n ≤ UNITS_LIMIT }
+        ensures ok { IfOk result (λ library. IsLibraryAt n self.now library) }
+        ensures only { IfOk result (λ library. (said : Contents) → IsLibraryAt n self.now said → said ≡ library) }
+        ensures none { IfErr result (λ fault. fault.kind ≢ Memory → (library : Contents) → ¬ IsLibraryAt n self.now library) }
+    {
+        let layers = layers_at(alloc, self.layers(), n)?;
+        let sites = sites_at(alloc, self.sites(), n)?;
+        let masters = masters_at(alloc, self.masters(), n)?;
+        let vias = vias_at(alloc, self.vias(), n)?;
+        Ok(self.with_names(alloc, n, layers, sites, vias, masters)?)
+    }
+
+    /// The library of these records, which have the names of this one's and are those of a library.
+    fn with_names(
+        &self,
+        alloc: A,
+        units: u32,
+        layers: Vec<Layer<'a>, A>,
+        sites: Vec<Site<'a>, A>,
+        vias: Vec<Via<'a, A>, A>,
+        masters: Vec<Master<'a, A>, A>,
+    ) -> Result<Library<'a, A>, AllocError>
+        requires layers { map (λ l. l.name) layers.items ≡ raw_layer_names self.now }
+        requires sites { map (λ s. s.name) sites.items ≡ raw_site_names self.now }
+        requires vias { map (λ v. v.name) vias.items ≡ raw_via_names self.now }
+        requires masters { map (λ m. m.name) masters.items ≡ raw_master_names self.now }
+        requires sound { IsSound (record { units = units; layers = layers.items; sites = sites.items; vias = vias.items; masters = masters.items }) }
+        ensures { IfOk result (λ library. library ≡ record { units = units; layers = layers.entry.items; sites = sites.entry.items; vias = vias.entry.items; masters = masters.entry.items }) }
+    {
+        Ok(Library {
+            units,
+            layers: self.layers.with_items(alloc, layers)?,
+            sites: self.sites.with_items(alloc, sites)?,
+            vias: self.vias.with_items(alloc, vias)?,
+            masters: self.masters.with_items(alloc, masters)?,
+        })
+    }
+}

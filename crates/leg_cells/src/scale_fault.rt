@@ -1,0 +1,72 @@
+//! Why a library has no lengths in database units.
+
+ghost use Rattle.std.specs.Prelude.{◌≡◌};
+ghost use Rattle.leg_cells.specs.declared.scale_fault.ScaleKind.TheVariants.{Memory};
+
+use leg_lex::Name;
+use std::alloc::{AllocError, AllocFailed};
+use thiserror::Error;
+
+/// Why a length isn't said in database units.
+#[derive(Clone, Copy, PartialEq, Eq, Debug, Error)]
+pub enum ScaleKind {
+    /// The length is no whole number of units.
+    #[error("a length off the database unit")]
+    NotOnUnit,
+    /// The length is beyond its limit.
+    #[error("a length beyond its limit")]
+    TooLarge,
+    /// A routing layer's width is odd.
+    #[error("an odd width")]
+    OddWidth,
+    /// A growth was refused.
+    #[error("out of memory")]
+    Memory,
+}
+
+/// A length that the DEF's units don't say.
+#[derive(Debug, Drop)]
+pub struct ScaleFault<'a> {
+    /// What has the length: a layer, a site, a macro or a via. It may be empty where memory ran out.
+    pub name: Name<'a>,
+    /// Why.
+    pub kind: ScaleKind,
+}
+
+impl From<AllocError> for ScaleKind {
+    ghost from_gives = { λ _ e. e ≡ Memory };
+
+    fn from(_e: AllocError) -> ScaleKind {
+        ScaleKind::Memory
+    }
+}
+
+impl<T: Drop> From<AllocFailed<T>> for ScaleKind {
+    ghost from_gives = { λ _ e. e ≡ Memory };
+
+    fn from(_e: AllocFailed<T>) -> ScaleKind {
+        ScaleKind::Memory
+    }
+}
+
+impl From<AllocError> for ScaleFault<'_> {
+    ghost from_gives = { λ _ e. e.kind ≡ Memory };
+
+    fn from(_e: AllocError) -> Self {
+        ScaleFault {
+            name: Name::new(b""),
+            kind: ScaleKind::Memory,
+        }
+    }
+}
+
+impl<T: Drop> From<AllocFailed<T>> for ScaleFault<'_> {
+    ghost from_gives = { λ _ e. e.kind ≡ Memory };
+
+    fn from(_e: AllocFailed<T>) -> Self {
+        ScaleFault {
+            name: Name::new(b""),
+            kind: ScaleKind::Memory,
+        }
+    }
+}

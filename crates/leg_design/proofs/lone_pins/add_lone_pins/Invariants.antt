@@ -1,7 +1,0 @@
-use Rattle.std.proofs.Common.{◌≡◌, drop}
-use Rattle.leg_design.specs.LonePins.{with_lone_pins}
-use Rattle.leg_design.proofs.lone_pins.add_lone_pins.Given as goal
-
-abbrev pub invariant-loop-number : goal.invariant-loop-number
-invariant-loop-number g l =
-    with_lone_pins (record { nets = l.nets; special = l.special }) l.number (drop l.number l.pins) ≡ with_lone_pins (record { nets = l.initial.nets; special = l.initial.special }) 0 l.pins

@@ -1,0 +1,15 @@
+pub use Rattle.leg_block.specs.Records
+pub mod Guard
+pub mod Placement
+pub mod Clause
+pub mod Layers
+pub mod Section
+pub mod Die
+pub mod Row
+pub mod Track
+pub mod Via
+pub mod Component
+pub mod Port
+pub mod PinClauses
+pub mod Pin
+pub mod Namespace

@@ -1,0 +1,41 @@
+-- Pins of the design (LEF/DEF 5.8, "Pins"; how many there may be is an own rule).
+use Rattle.std.specs.Prelude.{ℕ, nat_le, List, [], ◌∷◌, ◌++◌, length, Option, None, Some, is_some, codes}
+use Rattle.leg_lex.specs.Words.{Words, ◌>>=◌, mark_at, name_at, nothing_at}
+use Rattle.leg_lex.specs.Until.{over}
+use Rattle.leg_lex.specs.Statements.{statement_at, clauses_of}
+use Rattle.leg_lex.specs.NameLookup.{place_of}
+use Rattle.leg_cells.specs.Records.{Contents}
+use Rattle.leg_block.specs.declared.limits.TheConstants.{ENTRY_LIMIT}
+use Rattle.leg_floorplan.specs.Guard.{unless}
+use Rattle.leg_floorplan.specs.Section.{section_at}
+use Rattle.leg_block.specs.Records.{PinSaid, pin_names}
+use Rattle.leg_floorplan.specs.PinClauses.{no_pin_clauses, all_ports, pin_clause}
+
+-- - NAME, a new one (45 is the dash)
+unfoldable pub pin_head : List (List ℕ) → Words → Option (List ℕ)
+pin_head names head = do
+  dash ← mark_at 45 head
+  name ← name_at dash.1
+  new ← unless (is_some (place_of name.0 names))
+  end ← nothing_at name.1
+  Some name.0
+
+-- the entry's head and its clauses, where these names stood before
+unfoldable pub pin_in : Contents → List (List ℕ) → List Words → Option PinSaid
+pin_in library names [] = None
+pin_in library names (head ∷ clauses) = do
+  name ← pin_head names head
+  parts ← over (pin_clause library) no_pin_clauses clauses
+  Some (record { name = name; net_name = parts.net_name; direction = parts.direction; usage = parts.usage; ports = all_ports parts })
+
+-- one more entry
+unfoldable pub pin_entry : Contents → List PinSaid → Words → Option (List PinSaid × Words)
+pin_entry library pins words = do
+  room ← unless (nat_le ENTRY_LIMIT (length pins))
+  statement ← statement_at words
+  pin ← pin_in library (pin_names pins) (clauses_of statement.0)
+  Some (pins ++ pin ∷ [], statement.1)
+
+-- PINS number ; entries END PINS
+unfoldable pub pins_at : Contents → Words → Option (List PinSaid × Words)
+pins_at library words = section_at (codes "PINS") (pin_entry library) [] words

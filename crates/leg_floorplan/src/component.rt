@@ -1,0 +1,201 @@
+//! Components of a DEF (LEF/DEF 5.8, "Components").
+
+ghost use Rattle.std.specs.Prelude.{◌≡◌, [], Some, None, filter};
+ghost use Rattle.leg_lex.specs.Words.{Reads, Means};
+ghost use Rattle.leg_lex.specs.Until.{until};
+ghost use Rattle.leg_lex.specs.Statements.{at_most_one, at_end};
+ghost use Rattle.leg_block.specs.Records.{component_names};
+ghost use Rattle.leg_floorplan.specs.Component.{is_placement, unplaced_in, placement_in, placement_in_any, placement_of, new_name_at, master_at, component_head, component_in, component_entry, components_at};
+
+use crate::clause::all_clauses;
+use crate::placement::{placed, says_place};
+use crate::section::section_start;
+use leg_block::{Component, ENTRY_LIMIT, Status};
+use leg_cells::Library;
+use leg_geom::Place;
+use leg_lex::{Cursor, FaultKind, Name, NamedList, ReadFault, clauses, is_keyword};
+use std::alloc::Allocator;
+
+/// Whether a clause says where the component stands.
+fn is_placement(clause: &Cursor<'_, '_>) -> bool
+    ensures { result ≡ is_placement clause.now }
+{
+    says_place(clause) || clause.is_at(b"UNPLACED")
+}
+
+/// `UNPLACED`, and nothing after it.
+#[tactic(auto, unfolding(crate::specs::Component::unplaced_in))]
+fn unplaced(clause: &mut Cursor<'_, '_>) -> Result<(), ReadFault>
+    ensures { Means (λ x. x) result (unplaced_in clause.old) }
+{
+    clause.keyword(b"UNPLACED")?;
+    clause.nothing_more()
+}
+
+/// The status and the place that a clause says.
+#[tactic(auto, unfolding(crate::specs::Component::placement_in))]
+fn placement(clause: &mut Cursor<'_, '_>) -> Result<(Status, Option<Place>), ReadFault>
+    ensures { Means (λ p. p) result (placement_in clause.old) }
+{
+    if says_place(clause) {
+        let (status, place) = placed(clause)?;
+        Ok((status, Some(place)))
+    } else {
+        unplaced(clause)?;
+        Ok((Status::Unplaced, None))
+    }
+}
+
+/// The clause that says where the component stands, if there is one. A second one is `Unexpected`.
+#[tactic(auto, using(crate::proofs::Sought::passed_over, crate::proofs::Sought::found_first, crate::proofs::Sought::found_second, crate::proofs::Sought::looked_through))]
+fn placement_clause<'t, 'a>(clauses: &[Cursor<'t, 'a>]) -> Result<Option<Cursor<'t, 'a>>, ReadFault>
+    ensures { Means (λ found. found) result (at_most_one (filter is_placement clauses.now)) }
+{
+    let mut found = None;
+    for clause in clauses {
+        if is_placement(clause) {
+            if found.is_some() {
+                return Err(clause.fault(FaultKind::Unexpected));
+            }
+            found = Some(clause.again());
+        }
+    }
+    Ok(found)
+}
+
+/// The status and the place that the clauses say; at most one of them says where the component stands.
+#[tactic(auto, unfolding(crate::specs::Component::placement_of))]
+fn placement_of(clauses: &[Cursor<'_, '_>]) -> Result<(Status, Option<Place>), ReadFault>
+    ensures { Means (λ p. p) result (placement_of clauses.now) }
+{
+    all_clauses(clauses)?;
+    match placement_clause(clauses)? {
+        Some(mut clause) => placement(&mut clause),
+        None => Ok((Status::Unplaced, None)),
+    }
+}
+
+/// A name that no component before has, and which isn't `PIN`, in capitals or small letters.
+#[tactic(auto, unfolding(crate::specs::Component::new_name_at))]
+fn new_name<'a, A: Allocator + Copy>(
+    components: &NamedList<'a, Component<'a>, A>,
+    head: &mut Cursor<'_, 'a>,
+) -> Result<&'a [u8], ReadFault>
+    ensures { Reads (λ name. name.now) result head.new (new_name_at (component_names components.now) head.old) }
+{
+    let first = head.again();
+    let name = head.name()?;
+    if is_keyword(b"PIN", name) {
+        return Err(first.fault(FaultKind::Unexpected));
+    }
+    if components.place_of(name).is_some() {
+        return Err(first.fault(FaultKind::DuplicateName));
+    }
+    Ok(name)
+}
+
+/// A macro of the library, by its number.
+#[tactic(auto, unfolding(crate::specs::Component::master_at))]
+fn master<A: Allocator + Copy>(
+    library: &Library<'_, A>,
+    head: &mut Cursor<'_, '_>,
+) -> Result<usize, ReadFault>
+    ensures { Reads (λ number. number) result head.new (master_at library.now head.old) }
+{
+    let first = head.again();
+    let name = head.name()?;
+    match library.master_named(name) {
+        Some(number) => Ok(number),
+        None => Err(first.fault(FaultKind::UnknownName)),
+    }
+}
+
+/// The entry's head: `- NAME macro`.
+#[tactic(auto, unfolding(crate::specs::Component::component_head))]
+fn component_head<'a, A: Allocator + Copy>(
+    library: &Library<'_, A>,
+    components: &NamedList<'a, Component<'a>, A>,
+    head: &mut Cursor<'_, 'a>,
+) -> Result<(&'a [u8], usize), ReadFault>
+    ensures { Means (λ h. (h.0.now, h.1)) result (component_head library.now (component_names components.now) head.old) }
+{
+    head.mark(b'-')?;
+    let name = new_name(components, head)?;
+    let master = master(library, head)?;
+    head.nothing_more()?;
+    Ok((name, master))
+}
+
+/// A component of the head and the clauses of its entry.
+#[tactic(auto, unfolding(crate::specs::Component::component_in))]
+fn component<'a, A: Allocator + Copy>(
+    library: &Library<'_, A>,
+    components: &NamedList<'a, Component<'a>, A>,
+    entry: &Cursor<'_, 'a>,
+    parts: &[Cursor<'_, 'a>],
+) -> Result<Component<'a>, ReadFault>
+    ensures { Means (λ c. c) result (component_in library.now (component_names components.now) parts.now) }
+{
+    let [head, clauses @ ..] = parts else {
+        return Err(entry.fault(FaultKind::Unexpected));
+    };
+    let (name, master) = component_head(library, components, &mut head.again())?;
+    let (status, place) = placement_of(clauses)?;
+    Ok(Component {
+        name: Name::new(name),
+        master,
+        status,
+        place,
+    })
+}
+
+/// One more component, up to the semicolon of its entry.
+#[tactic(auto, using(crate::proofs::Components::name_is_fresh), unfolding(crate::specs::Component::component_entry))]
+fn entry<'a, A: Allocator + Copy>(
+    alloc: A,
+    library: &Library<'_, A>,
+    components: &mut NamedList<'a, Component<'a>, A>,
+    words: &mut Cursor<'_, 'a>,
+) -> Result<(), ReadFault>
+    ensures { Reads (λ _. components.new) result words.new (component_entry library.now components.old words.old) }
+{
+    if components.len() as u64 >= ENTRY_LIMIT {
+        return Err(words.fault(FaultKind::TooMany));
+    }
+    let statement = words.statement()?;
+    let parts = clauses(alloc, &statement)?;
+    let component = component(library, components, &statement, &parts)?;
+    components.push(component.name.bytes(), component)?;
+    Ok(())
+}
+
+/// The entries of the section, up to its `END`.
+#[tactic(auto, using(leg_lex::proofs::Until::ends, leg_lex::proofs::Until::goes_on, leg_lex::proofs::Until::fails, crate::proofs::Components::entry_shortens, crate::proofs::Components::entry_shorter))]
+fn entries<'a, A: Allocator + Copy>(
+    alloc: A,
+    library: &Library<'_, A>,
+    words: &mut Cursor<'_, 'a>,
+) -> Result<NamedList<'a, Component<'a>, A>, ReadFault>
+    ensures { Reads (λ t. t) result words.new (until at_end (component_entry library.now) [] words.old) }
+{
+    let mut components = NamedList::new(alloc);
+    'entries: while !words.is_at(b"END") {
+        entry(alloc, library, &mut components, words)?;
+    }
+    Ok(components)
+}
+
+/// The section `COMPONENTS`.
+#[tactic(auto, unfolding(crate::specs::Component::components_at, crate::specs::Section::section_at))]
+pub fn components<'a, A: Allocator + Copy>(
+    alloc: A,
+    library: &Library<'_, A>,
+    words: &mut Cursor<'_, 'a>,
+) -> Result<NamedList<'a, Component<'a>, A>, ReadFault>
+    ensures { Reads (λ t. t) result words.new (components_at library.now words.old) }
+{
+    section_start(b"COMPONENTS", words)?;
+    let components = entries(alloc, library, words)?;
+    words.end(b"COMPONENTS")?;
+    Ok(components)
+}

@@ -1,6 +1,0 @@
-use Rattle.std.proofs.Common.{take}
-use Rattle.leg_lib.specs.Scale.{IsLayerAt, OneForOne}
-use Rattle.leg_lib.proofs.scale.layers_at.Given as goal
-
-abbrev pub invariant-loop-layer : goal.invariant-loop-layer
-invariant-loop-layer g l = OneForOne (IsLayerAt l.n) (take l.layer-index l.raw) l.layers.items

@@ -1,0 +1,119 @@
+-- Pins of the design that no net lists, one after the other, and an entry with one more terminal.
+use Rattle.std.proofs.Common.{◌≡◌, ◌≢◌, ℕ, zero, suc, ◌+◌, ◌<◌, ◌≤◌, false, cond, List, [], ◌∷◌, ◌++◌, length, get_or, take, drop, slice_get, slice_set, Option, Some, refl, sym, ap, ◌∙◌, arith, add-one, length-append}
+use Rattle.std.proofs.lemmas.List.{drop_all, take_all, append-nil}
+use Rattle.std.proofs.lemmas.Option.{slice_get-get_or}
+use Rattle.leg_lex.proofs.Over.{at_front}
+use Rattle.leg_block.specs.declared.records.Terminal.{Terminal}
+use Rattle.leg_block.specs.Terminals.{is_same_terminal}
+use Rattle.leg_block.specs.Records.{PinSaid, NetSaid, net_names, terminal_count, wire_count}
+use Rattle.leg_nets.specs.LonePins.{NetLists, is_listed, with_terminal, with_lone_pin, with_lone_pins}
+use Rattle.leg_nets.specs.Steps.Index.{lists_of, IsIndexOf}
+use Rattle.leg_nets.proofs.Listed.{index_more, index_by}
+use Rattle.leg_block.proofs.Blank.{blank}
+use Rattle.leg_nets.proofs.ListedNets.{not_listed}
+
+pub pin_added : (before after : NetLists) (pins : List PinSaid) (i : ℕ) (x : PinSaid) → i < length pins → x ≡ get_or pins i x → after ≡ with_lone_pin before i x → with_lone_pins before i (drop i pins) ≡ with_lone_pins after (i + 1) (drop (i + 1) pins)
+unfolding with_lone_pins
+pin_added before after pins i x less is added = rw (at_front pins i x less is, added, add-one i) refl
+
+pub all_added : (lists : NetLists) (pins : List PinSaid) (i : ℕ) → length pins ≤ i → with_lone_pins lists i (drop i pins) ≡ lists
+unfolding with_lone_pins
+all_added lists pins i past = rw (drop_all i pins past) refl
+
+-- another entry in the place k
+set_here : (nets : List NetSaid) (k : ℕ) (net : NetSaid) → k < length nets → get_or (lists_of (slice_set nets k net)) k [] ≡ net.terminals
+set_here [] k net less = absurd (omega arith)
+set_here (first ∷ nets) zero net less = refl
+set_here (first ∷ nets) (suc k) net less = set_here nets k net (omega arith)
+
+set_other : (nets : List NetSaid) (k j : ℕ) (net : NetSaid) → j ≢ k → get_or (lists_of (slice_set nets k net)) j [] ≡ get_or (lists_of nets) j []
+set_other [] k j net other = refl
+set_other (first ∷ nets) zero zero net other = absurd (other refl)
+set_other (first ∷ nets) zero (suc j) net other = refl
+set_other (first ∷ nets) (suc k) zero net other = refl
+set_other (first ∷ nets) (suc k) (suc j) net other = set_other nets k j net (λ e. other (ap suc e))
+
+list_here : (nets : List NetSaid) (k : ℕ) (net : NetSaid) → slice_get nets k ≡ Some net → get_or (lists_of nets) k [] ≡ net.terminals
+list_here [] k net there = absurd (let e : ⊥ = cc in e)
+list_here (first ∷ nets) zero net there =
+    let same : first ≡ net = cc in
+    ap (λ (x : NetSaid). x.terminals) same
+list_here (first ∷ nets) (suc k) net there = list_here nets k net there
+
+set_names : (nets : List NetSaid) (k : ℕ) (net after : NetSaid) → slice_get nets k ≡ Some net → after.name ≡ net.name → net_names (slice_set nets k after) ≡ net_names nets
+set_names [] k net after there same = refl
+set_names (first ∷ nets) zero net after there same =
+    let is : first ≡ net = cc in
+    ap (λ name. name ∷ net_names nets) (same ∙ ap (λ (x : NetSaid). x.name) (sym is))
+set_names (first ∷ nets) (suc k) net after there same = ap (λ names. first.name ∷ names) (set_names nets k net after there same)
+
+set_terminals : (nets : List NetSaid) (k : ℕ) (net after : NetSaid) → slice_get nets k ≡ Some net → length after.terminals ≡ length net.terminals + 1 → terminal_count (slice_set nets k after) ≡ terminal_count nets + 1
+set_terminals [] k net after there more = absurd (let e : ⊥ = cc in e)
+set_terminals (first ∷ nets) zero net after there more =
+    let is : first ≡ net = cc in
+    let size : length first.terminals ≡ length net.terminals = ap (λ (x : NetSaid). length x.terminals) is in
+    omega (arith, more, size)
+set_terminals (first ∷ nets) (suc k) net after there more =
+    let rest = set_terminals nets k net after there more in
+    omega (arith, rest)
+
+set_wires : (nets : List NetSaid) (k : ℕ) (net after : NetSaid) → slice_get nets k ≡ Some net → after.wires ≡ net.wires → wire_count (slice_set nets k after) ≡ wire_count nets
+set_wires [] k net after there same = refl
+set_wires (first ∷ nets) zero net after there same =
+    let is : first ≡ net = cc in
+    ap (λ wires. length wires + wire_count nets) (same ∙ ap (λ (x : NetSaid). x.wires) (sym is))
+set_wires (first ∷ nets) (suc k) net after there same =
+    ap (λ n. length first.wires + n) (set_wires nets k net after there same)
+
+get_within : (nets : List NetSaid) (k : ℕ) (net : NetSaid) → slice_get nets k ≡ Some net → k < length nets
+get_within [] k net there = absurd (let e : ⊥ = cc in e)
+get_within (first ∷ nets) zero net there = omega arith
+get_within (first ∷ nets) (suc k) net there = let rest = get_within nets k net there in omega (arith, rest)
+
+-- the entry k lists one more terminal
+pub kept_with : (nets after : List NetSaid) (k : ℕ) (net : NetSaid) (t : Terminal) (names : List (List ℕ)) (number reserved last : Terminal → Option ℕ) (terminals wires : ℕ) → IsIndexOf nets (lists_of nets) names number terminals wires → slice_get nets k ≡ Some net → after ≡ slice_set nets k (record net { terminals = net.terminals ++ t ∷ [] }) → is_listed t nets ≡ false → ((q : Terminal) → reserved q ≡ number q) → ((q : Terminal) → last q ≡ cond (is_same_terminal t q) (Some k) (reserved q)) → IsIndexOf after (lists_of after) names last (terminals + 1) wires
+kept_with nets after k net t names number reserved last terminals wires kept there put not same updates =
+    let more : NetSaid = record net { terminals = net.terminals ++ t ∷ [] } in
+    rw put (record {
+      named = kept.named ∙ sym (set_names nets k net more there refl);
+      indexed =
+          index_more number last (lists_of nets) (lists_of (slice_set nets k more)) k t kept.indexed (not_listed number nets kept.indexed t not)
+          (λ q. updates q ∙ rw (same q) refl)
+          (set_here nets k more (get_within nets k net there) ∙ ap (λ xs. xs ++ t ∷ []) (sym (list_here nets k net there)))
+          (λ j other. set_other nets k j more other);
+      listed = rw (kept.listed) (sym (set_terminals nets k net more there (length-append net.terminals (t ∷ []))));
+      wired = kept.wired ∙ sym (set_wires nets k net more there refl);
+    })
+
+pub kept_reserved : (nets : List NetSaid) (names : List (List ℕ)) (number reserved : Terminal → Option ℕ) (terminals wires : ℕ) → IsIndexOf nets (lists_of nets) names number terminals wires → ((q : Terminal) → reserved q ≡ number q) → IsIndexOf nets (lists_of nets) names reserved terminals wires
+kept_reserved nets names number reserved terminals wires kept same = record {
+  named = kept.named;
+  indexed = index_by number reserved (lists_of nets) kept.indexed same;
+  listed = kept.listed;
+  wired = kept.wired;
+}
+
+set_length : (nets : List NetSaid) (k : ℕ) (net : NetSaid) → length (slice_set nets k net) ≡ length nets
+set_length [] k net = refl
+set_length (first ∷ nets) zero net = refl
+set_length (first ∷ nets) (suc k) net = ap suc (set_length nets k net)
+
+with_is : (nets : List NetSaid) (k : ℕ) (net : NetSaid) (t : Terminal) → slice_get nets k ≡ Some net → with_terminal t k nets ≡ slice_set nets k (record net { terminals = net.terminals ++ t ∷ [] })
+with_is nets k net t there = rw there refl
+
+-- a whole slice is written back
+pub written_back : (nets after : List NetSaid) (n : ℕ) → n ≡ length nets → length after ≡ length nets → take n (after ++ drop (length after) nets) ≡ after
+written_back nets after n whole size =
+    rw (drop_all (length after) nets (omega (arith, size)), append-nil after) (take_all n after (omega (arith, whole, size)))
+
+pub kept_listed : (nets after : List NetSaid) (n k : ℕ) (t : Terminal) (names : List (List ℕ)) (number reserved last : Terminal → Option ℕ) (terminals more wires : ℕ) → IsIndexOf nets (lists_of nets) names number terminals wires → n ≡ length nets → k < length nets → after ≡ with_terminal t k nets → is_listed t nets ≡ false → ((q : Terminal) → reserved q ≡ number q) → ((q : Terminal) → last q ≡ cond (is_same_terminal t q) (Some k) (reserved q)) → more ≡ terminals + 1 → IsIndexOf (take n (after ++ drop (length after) nets)) (lists_of (take n (after ++ drop (length after) nets))) names last more wires
+kept_listed nets after n k t names number reserved last terminals more wires kept whole less put not same updates one =
+    let net : NetSaid = get_or nets k blank in
+    let there : slice_get nets k ≡ Some net = slice_get-get_or nets k blank less in
+    let is : after ≡ slice_set nets k (record net { terminals = net.terminals ++ t ∷ [] }) = put ∙ with_is nets k net t there in
+    let size : length after ≡ length nets = ap (λ (xs : List NetSaid). length xs) is ∙ set_length nets k (record net { terminals = net.terminals ++ t ∷ [] }) in
+    rw (written_back nets after n whole size, one) (kept_with nets after k net t names number reserved last terminals wires kept there is not same updates)
+
+pub kept_unlisted : (nets after : List NetSaid) (n : ℕ) (names : List (List ℕ)) (number reserved : Terminal → Option ℕ) (terminals wires : ℕ) → IsIndexOf nets (lists_of nets) names number terminals wires → n ≡ length nets → after ≡ nets → ((q : Terminal) → reserved q ≡ number q) → IsIndexOf (take n (after ++ drop (length after) nets)) (lists_of (take n (after ++ drop (length after) nets))) names reserved terminals wires
+kept_unlisted nets after n names number reserved terminals wires kept whole is same =
+    rw (written_back nets after n whole (ap (λ (xs : List NetSaid). length xs) is), is) (kept_reserved nets names number reserved terminals wires kept same)

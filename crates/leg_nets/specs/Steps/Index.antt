@@ -1,0 +1,31 @@
+-- Which entry of a section lists a terminal, as a table of terminals tells it.
+use Rattle.std.specs.Prelude.{◌≡◌, ◌↔◌, ℕ, true, List, [], map, get_or, Option, Some}
+use Rattle.std.specs.HashMap.{HashMap, get_by}
+use Rattle.leg_block.specs.declared.records.Terminal.{Terminal}
+use Rattle.leg_block.specs.Terminals.{is_same_terminal, is_among}
+use Rattle.leg_block.specs.Records.{NetSaid, net_names, terminal_count, wire_count}
+
+-- the number that the table has for the terminal
+abbrev pub number_of : {S : Type 0} → HashMap Terminal ℕ S → Terminal → Option ℕ
+number_of table terminal = get_by (is_same_terminal terminal) table
+
+-- the terminals of each entry
+abbrev pub lists_of : List NetSaid → List (List Terminal)
+lists_of nets = map (λ net. net.terminals) nets
+
+-- A terminal has the number of the list that it is in: so it is in one list at most.
+abbrev pub IsIndex : (Terminal → Option ℕ) → List (List Terminal) → Type 0
+IsIndex number lists = (terminal : Terminal) (k : ℕ) → (number terminal ≡ Some k) ↔ (is_among terminal (get_or lists k []) ≡ true)
+
+-- the whole entries of a section, and the terminals so far of the entry that is being read
+pub record BegunNets : Type 0 where
+  pub nets : List NetSaid
+  pub terminals : List Terminal
+
+-- what is kept beside the entries tells their names, how many terminals and wires they have, and the entry of a
+-- terminal
+pub record IsIndexOf (nets : List NetSaid) (lists : List (List Terminal)) (names : List (List ℕ)) (number : Terminal → Option ℕ) (terminals wires : ℕ) : Type 0 where
+  pub named : names ≡ net_names nets
+  pub indexed : IsIndex number lists
+  pub listed : terminals ≡ terminal_count nets
+  pub wired : wires ≡ wire_count nets

@@ -1,0 +1,58 @@
+//! Coordinates that a text writes.
+
+ghost use Rattle.std.specs.Prelude.{◌≡◌, unwrap_or};
+ghost use Rattle.leg_lex.specs.Words.{Reads, whole_at};
+ghost use Rattle.leg_geom.specs.Plane.{IsCoordinate};
+
+use leg_geom::Point;
+use leg_lex::{Cursor, ReadFault};
+use std::marker::Model;
+
+/// A coordinate that a text writes, at most `NUMBER_LIMIT` either way. Contracts see it as that number.
+#[derive(Clone, Copy)]
+pub(crate) struct Coordinate {
+    number: i64,
+}
+
+impl Model for Coordinate {
+    ghost use Rattle.std.specs.Prelude.{ℤ};
+    ghost use Rattle.leg_lex.specs.Number.{IsNumber};
+
+    ghost Value = { ℤ };
+
+    ghost view = { λ c. c.number };
+
+    ghost invariant = { λ c. IsNumber c.number };
+
+    ghost inverse = { λ z. record { number = z } };
+}
+
+impl Coordinate {
+    /// Reads a coordinate. Another word is `BadNumber`, or `TooLarge` beyond the limit.
+    #[tactic(auto, using(leg_floorplan::proofs::Numbers::whole_is_number))]
+    pub(crate) fn read(words: &mut Cursor<'_, '_>) -> Result<Coordinate, ReadFault>
+        ensures { Reads (λ c. c) result words.new (whole_at words.old) }
+    {
+        let number = words.whole()?;
+        Ok(Coordinate { number })
+    }
+}
+
+/// The coordinate, or that of the point before where none is written.
+pub(crate) fn coordinate_or(coordinate: Option<Coordinate>, before: i64) -> i64
+    requires { IsCoordinate before }
+    ensures is { result ≡ unwrap_or coordinate before }
+    ensures within { IsCoordinate result }
+{
+    match coordinate {
+        Some(Coordinate { number }) => number,
+        None => before,
+    }
+}
+
+/// The point with these coordinates.
+pub(crate) fn point(x: Coordinate, y: Coordinate) -> Point
+    ensures { result ≡ record { x = x; y = y } }
+{
+    Point::new(x.number, y.number).unwrap()
+}

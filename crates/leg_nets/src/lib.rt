@@ -1,0 +1,19 @@
+//! The nets of a DEF text: their terminals and their wiring, exactly, in database units (LEF/DEF 5.8, "Nets",
+//! "Special Nets").
+//!
+//! `nets` reads a section. `add_lone_pins` adds the pins of the design that no net lists.
+#![tactic(auto)]
+
+mod coordinate;
+mod lone_pins;
+mod net;
+mod net_table;
+mod path;
+mod path_item;
+mod terminal;
+mod terminal_index;
+mod wiring;
+
+pub use lone_pins::add_lone_pins;
+pub use net::nets;
+pub use net_table::NetTable;

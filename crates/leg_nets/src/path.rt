@@ -1,0 +1,361 @@
+//! The wires that a path says (LEF/DEF 5.8, "Regular Wiring Statement", "Special Wiring Statement").
+
+ghost use Rattle.std.specs.Prelude.{◌≡◌, ◌==◌, pos};
+ghost use Rattle.std.specs.List.{list_any};
+ghost use Rattle.leg_lex.specs.Words.{Means};
+ghost use Rattle.leg_geom.specs.Plane.{halfway};
+ghost use Rattle.leg_nets.specs.Path.{next_spot, is_same_spot, last_given, extension_at, segment_width, segment_to, other_layer, across, path_wires};
+ghost use Rattle.leg_block.specs.Wires.{is_straight, default_extension};
+ghost use Rattle.leg_nets.specs.Steps.Walk.{wires_with, walked_to, walked_past};
+
+use crate::coordinate::{Coordinate, coordinate_or};
+use leg_block::Wire;
+use leg_cells::{Library, Shape};
+use leg_floorplan::{Known, is_routing, width_of_layer};
+use leg_geom::{Point, Rect};
+use leg_lex::{Cursor, FaultKind, ReadFault};
+use std::alloc::Allocator;
+use std::marker::Model;
+
+/// An item of a path.
+#[derive(Clone, Copy)]
+pub(crate) enum Item {
+    /// To a point, with an extension where one is written. A coordinate that isn't written is that of the
+    /// point before.
+    ToPoint {
+        x: Option<Coordinate>,
+        y: Option<Coordinate>,
+        extension: Option<i64>,
+    },
+    /// A via, by its number.
+    AtVia(usize),
+    /// A rectangle, given from the point.
+    AtRect(Rect),
+}
+
+/// An item and the words from its first one on, which tell its place in faults. Contracts see it as the item.
+#[derive(Drop)]
+pub(crate) struct ItemAt<'t, 'a> {
+    item: Item,
+    words: Cursor<'t, 'a>,
+}
+
+impl<'t, 'a> Model for ItemAt<'t, 'a> {
+    ghost use Rattle.leg_nets.specs.declared.path.Item.{Item};
+
+    ghost Value = { Item };
+
+    ghost view = { λ i. i.item };
+}
+
+impl<'t, 'a> ItemAt<'t, 'a> {
+    /// The item that begins with the first of these words.
+    pub(crate) fn new(item: Item, words: Cursor<'t, 'a>) -> ItemAt<'t, 'a>
+        ensures { result ≡ item }
+    {
+        ItemAt { item, words }
+    }
+
+    /// The item.
+    fn item(&self) -> Item
+        ensures { result ≡ self.now }
+    {
+        self.item
+    }
+
+    /// Where it stands.
+    fn place(&self) -> &Cursor<'t, 'a> {
+        &self.words
+    }
+}
+
+/// The point to which an item leads from this one.
+fn next_spot(at: Point, x: Option<Coordinate>, y: Option<Coordinate>) -> Point
+    ensures { result ≡ next_spot at x y }
+{
+    Point::new(coordinate_or(x, at.x()), coordinate_or(y, at.y())).unwrap()
+}
+
+fn is_same_spot(p: Point, q: Point) -> bool
+    ensures { result ≡ is_same_spot p q }
+{
+    p.x() == q.x() && p.y() == q.y()
+}
+
+/// Whether a segment is horizontal or vertical.
+fn is_straight(p: Point, q: Point) -> bool
+    ensures { result ≡ is_straight p q }
+{
+    p.x() == q.x() || p.y() == q.y()
+}
+
+/// An extension that is given replaces the one before.
+fn last_given(before: Option<i64>, given: Option<i64>) -> Option<i64>
+    ensures { result ≡ last_given before given }
+{
+    given.or(before)
+}
+
+/// The extension that is given last before the path leaves the point.
+#[tactic(auto, using(crate::proofs::Paths::extension_ends, crate::proofs::Paths::extension_leaves, crate::proofs::Paths::extension_stays, crate::proofs::Paths::extension_at_via, crate::proofs::Paths::extension_at_rect))]
+fn extension_at(at: Point, given: Option<i64>, items: &[ItemAt<'_, '_>]) -> Option<i64>
+    ensures { result ≡ extension_at at given items.now }
+{
+    let mut extension = given;
+    for next in items {
+        if let Item::ToPoint {
+            x,
+            y,
+            extension: written,
+        } = next.item()
+        {
+            if !is_same_spot(at, next_spot(at, x, y)) {
+                return extension;
+            }
+            extension = last_given(extension, written);
+        }
+    }
+    extension
+}
+
+/// The width of a segment, which the path writes or the layer says. A width of 0 is `EmptyRect`.
+#[tactic(auto, unfolding(crate::specs::Path::segment_width))]
+fn segment_width<A: Allocator + Copy>(
+    library: &Library<'_, A>,
+    written: Option<i64>,
+    layer: usize,
+    place: &Cursor<'_, '_>,
+) -> Result<i64, ReadFault>
+    ensures { Means (λ width. width) result (segment_width library.now written layer) }
+{
+    let Some(width) = written else {
+        return match width_of_layer(library, layer) {
+            Some(width) => Ok(width),
+            None => Err(place.fault(FaultKind::Unexpected)),
+        };
+    };
+    if width == 0 {
+        return Err(place.fault(FaultKind::EmptyRect));
+    }
+    Ok(width)
+}
+
+/// Half a width, rounded down.
+pub(crate) fn half(width: i64) -> i64
+    ensures { result ≡ halfway (pos 0) width }
+{
+    width.div_euclid(2)
+}
+
+/// How far a segment reaches past an end of which nothing is said.
+#[tactic(auto, unfolding(leg_block::specs::Wires::default_extension))]
+fn default_extension<A: Allocator + Copy>(
+    library: &Library<'_, A>,
+    written: Option<i64>,
+    layer: usize,
+) -> i64
+    ensures { result ≡ default_extension library.now written layer }
+{
+    match written {
+        Some(_) => 0,
+        None => half(width_of_layer(library, layer).unwrap_or(0)),
+    }
+}
+
+/// The layer of the first shape on another routing layer than this.
+#[tactic(auto, using(crate::proofs::ViaLayers::other_here, crate::proofs::ViaLayers::other_later, crate::proofs::ViaLayers::other_nowhere))]
+fn other_layer<A: Allocator + Copy>(
+    library: &Library<'_, A>,
+    layer: usize,
+    shapes: &[Shape],
+) -> Option<usize>
+    ensures { result ≡ other_layer library.now layer shapes.now }
+{
+    for shape in shapes {
+        if is_routing(library, shape.layer) && shape.layer != layer {
+            return Some(shape.layer);
+        }
+    }
+    None
+}
+
+/// Whether one of the shapes lies on this layer.
+fn has_layer(layer: usize, shapes: &[Shape]) -> bool
+    ensures { result ≡ list_any (λ shape. shape.layer == layer) shapes.now }
+{
+    shapes.iter().any(|shape| shape.layer == layer)
+}
+
+/// The routing layer to which a via leads from this one. A via that isn't good is `BadVia`, and one that
+/// hasn't this layer `ViaLayer`.
+#[tactic(auto, using(crate::proofs::ViaLayers::across_lacks, crate::proofs::ViaLayers::across_is), unfolding(crate::specs::Path::across))]
+fn across<A: Allocator + Copy>(
+    known: &Known<'_, '_, A>,
+    number: usize,
+    layer: usize,
+    place: &Cursor<'_, '_>,
+) -> Result<usize, ReadFault>
+    ensures { Means (λ other. other) result (across known.now number layer) }
+{
+    let Some(via) = known.via_numbered(number) else {
+        return Err(place.fault(FaultKind::UnknownName));
+    };
+    if !via.good {
+        return Err(place.fault(FaultKind::BadVia));
+    }
+    let shapes = via.shapes.as_slice();
+    if !has_layer(layer, shapes) {
+        return Err(place.fault(FaultKind::ViaLayer));
+    }
+    match other_layer(known.library, layer, shapes) {
+        Some(other) => Ok(other),
+        None => Err(place.fault(FaultKind::ViaLayer)),
+    }
+}
+
+/// Where a path stands after some of its items: its layer, its point with the extension there, and its
+/// wires so far.
+#[derive(Drop)]
+struct Walk<A: Allocator> {
+    layer: usize,
+    at: Point,
+    extension: Option<i64>,
+    wires: Vec<Wire, A>,
+}
+
+impl<A: Allocator> Model for Walk<A> {
+    ghost use Rattle.leg_nets.specs.Steps.Walk.{Walked};
+
+    ghost Value = { Walked };
+
+    ghost view = { λ w. record { layer = w.layer; at = w.at; extension = w.extension; wires = w.wires.items } };
+}
+
+impl<A: Allocator + Copy> Walk<A> {
+    /// The segment from here to another point. One that is neither horizontal nor vertical is `Diagonal`.
+    #[tactic(auto, unfolding(crate::specs::Path::segment_to))]
+    fn segment_to(
+        &self,
+        library: &Library<'_, A>,
+        written: Option<i64>,
+        to: Point,
+        extension: Option<i64>,
+        place: &Cursor<'_, '_>,
+    ) -> Result<Wire, ReadFault>
+        ensures { Means (λ w. w) result (segment_to library.now written self.now.layer self.now.at self.now.extension to extension) }
+    {
+        if !is_straight(self.at, to) {
+            return Err(place.fault(FaultKind::Diagonal));
+        }
+        let width = segment_width(library, written, self.layer, place)?;
+        let default = default_extension(library, written, self.layer);
+        Ok(Wire::Segment {
+            layer: self.layer,
+            from: self.at,
+            to,
+            width,
+            ext_from: self.extension.unwrap_or(default),
+            ext_to: extension.unwrap_or(default),
+        })
+    }
+
+    /// Goes on to another point with this extension.
+    #[tactic(auto, unfolding(crate::specs::Steps::Walk::walked_to))]
+    fn go_to(
+        &mut self,
+        known: &Known<'_, '_, A>,
+        written: Option<i64>,
+        to: Point,
+        extension: Option<i64>,
+        place: &Cursor<'_, '_>,
+    ) -> Result<(), ReadFault>
+        ensures { Means (λ _. self.new) result (walked_to known.now written to extension self.old) }
+    {
+        let segment = self.segment_to(known.library, written, to, extension, place)?;
+        self.wires.push(segment)?;
+        self.at = to;
+        self.extension = extension;
+        Ok(())
+    }
+
+    /// Goes on past one more item, after which `later` stand.
+    #[tactic(auto, unfolding(crate::specs::Steps::Walk::walked_past))]
+    fn go_past(
+        &mut self,
+        known: &Known<'_, '_, A>,
+        written: Option<i64>,
+        item: &ItemAt<'_, '_>,
+        later: &[ItemAt<'_, '_>],
+    ) -> Result<(), ReadFault>
+        ensures { Means (λ _. self.new) result (walked_past known.now written item.now later.now self.old) }
+    {
+        match item.item() {
+            Item::ToPoint { x, y, extension } => {
+                let to = next_spot(self.at, x, y);
+                if is_same_spot(self.at, to) {
+                    return Ok(());
+                }
+                self.go_to(
+                    known,
+                    written,
+                    to,
+                    extension_at(to, extension, later),
+                    item.place(),
+                )
+            }
+            Item::AtVia(via) => {
+                let other = across(known, via, self.layer, item.place())?;
+                self.wires.push(Wire::ViaAt { via, at: self.at })?;
+                self.layer = other;
+                Ok(())
+            }
+            Item::AtRect(rect) => {
+                self.wires.push(Wire::Patch {
+                    layer: self.layer,
+                    at: self.at,
+                    rect,
+                })?;
+                Ok(())
+            }
+        }
+    }
+
+    /// Goes on past all items.
+    #[tactic(auto, using(crate::proofs::Walks::walk_on, crate::proofs::Walks::walk_fails, crate::proofs::Walks::walk_ends))]
+    fn go_past_all(
+        &mut self,
+        known: &Known<'_, '_, A>,
+        written: Option<i64>,
+        items: &[ItemAt<'_, '_>],
+    ) -> Result<(), ReadFault>
+        ensures { Means (λ _. self.new.wires) result (wires_with known.now written self.old items.now) }
+    {
+        for (i, item) in items.iter().enumerate() {
+            self.go_past(known, written, item, &items[i + 1..])?;
+        }
+        Ok(())
+    }
+}
+
+/// The wires of a path that begins at this point with this extension.
+#[tactic(auto, using(crate::proofs::Walks::walk_starts))]
+pub(crate) fn path_wires<A: Allocator + Copy>(
+    alloc: A,
+    known: &Known<'_, '_, A>,
+    written: Option<i64>,
+    layer: usize,
+    first: Point,
+    given: Option<i64>,
+    items: &[ItemAt<'_, '_>],
+) -> Result<Vec<Wire, A>, ReadFault>
+    ensures { Means (λ v. v.items) result (path_wires known.now written layer first given items.now) }
+{
+    let mut walk = Walk {
+        layer,
+        at: first,
+        extension: extension_at(first, given, items),
+        wires: Vec::new(alloc),
+    };
+    walk.go_past_all(known, written, items)?;
+    Ok(walk.wires)
+}

@@ -1,0 +1,3 @@
+-- What the search knows on its way. No meaning of a public call speaks of it.
+pub mod Sweep
+pub mod Bands

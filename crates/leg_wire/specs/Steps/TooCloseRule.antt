@@ -1,0 +1,59 @@
+-- Shapes that a search with a reach finds too close. Its rule wants the two laws that stand behind the definition.
+use Rattle.std.proofs.Common.{◌≡◌, ◌*◌, ◌<◌, ◌≤◌, ◌⊎◌, ℕ, min, unsigned_abs, List, Option, None, Some, slice_get, inl, inr, refl, sym, arith}
+use Rattle.leg_geom.specs.Plane.{SharePoint}
+use Rattle.leg_geom.specs.Gap.{apart, x_gap, y_gap}
+use Rattle.leg_geom.proofs.Gaps.{SharePoint-symmetric, SharePoint-gaps, x_gap-least, y_gap-least, square_distance-symmetric, less_from_squares}
+use Rattle.leg_cells.specs.declared.records.Layer.{Layer}
+use Rattle.leg_flat.specs.declared.shape.Shape.{Shape}
+use Rattle.leg_wire.specs.Comparable.{AreComparable}
+use Rattle.leg_wire.specs.Spacing.{AreNearer}
+
+-- the spacing of the layer of this number, within the reach
+abbrev pub limit_at : List Layer → ℕ → ℕ → ℕ
+limit_at layers reach number = within (slice_get layers number) where
+  within : Option Layer → ℕ
+  within None = 0
+  within (Some layer) = min (unsigned_abs layer.spacing) reach
+
+-- two comparable shapes share a point, or lie nearer than their layer's spacing, as far as that is within the reach
+pub record AreClose (layers : List Layer) (reach : ℕ) (a b : Shape) : Type 0 where
+  pub comparable : AreComparable a b
+  pub close : SharePoint a.rect b.rect ⊎ AreNearer (limit_at layers reach a.layer) a.rect b.rect
+
+-- shapes are too close in either order
+pub AreClose-symmetric : (layers : List Layer) (reach : ℕ) (a b : Shape) → AreClose layers reach a b → AreClose layers reach b a
+AreClose-symmetric layers reach a b h = record {
+  comparable = record {
+    layer = sym h.comparable.layer;
+    owners = λ same. h.comparable.owners (sym same);
+    apart = λ one. h.comparable.apart (record { component = one.component; of_a = one.of_b; of_b = one.of_a });
+    metal = λ second first. h.comparable.metal first second;
+  };
+  close = elim h.close [
+    | inl s ↦ inl (SharePoint-symmetric a.rect b.rect s)
+    | inr n ↦
+        let near : AreNearer (limit_at layers reach a.layer) b.rect a.rect = record { p = n.q; q = n.p; in_a = n.in_b; in_b = n.in_a; near = rw (square_distance-symmetric n.q n.p) n.near } in
+        inr (rw (← h.comparable.layer) near)
+  ];
+}
+
+limit-within : (reach : ℕ) (layers : List Layer) (number : ℕ) → limit_at layers reach number ≤ reach
+limit-within reach layers number = by (slice_get layers number) refl where
+  by : (layer : Option Layer) → slice_get layers number ≡ layer → limit_at layers reach number ≤ reach
+  by None is = rw is (omega arith)
+  by (Some layer) is = rw is (omega arith)
+
+-- and have both gaps within the reach
+pub AreClose-near : (layers : List Layer) (reach : ℕ) (a b : Shape) → AreClose layers reach a b → (x_gap a.rect b.rect ≤ reach) × (y_gap a.rect b.rect ≤ reach)
+AreClose-near layers reach a b h =
+    elim h.close [
+      | inl s ↦ let gaps = SharePoint-gaps a.rect b.rect s in (omega (arith, gaps.0), omega (arith, gaps.1))
+      | inr n ↦
+          let limit = limit_at layers reach a.layer in
+          let x = apart n.p.x n.q.x in
+          let y = apart n.p.y n.q.y in
+          let x_less : x < limit = less_from_squares x limit (y * y) n.near in
+          let y_less : y < limit = less_from_squares y limit (x * x) (omega (arith, n.near)) in
+          let within = limit-within reach layers a.layer in
+          (omega (arith, x_less, within, x_gap-least a.rect b.rect n.p n.q n.in_a n.in_b), omega (arith, y_less, within, y_gap-least a.rect b.rect n.p n.q n.in_a n.in_b))
+    ]
