@@ -9,8 +9,6 @@ mod lines;
 mod run_command;
 mod status;
 mod stream;
-#[cfg(test)]
-mod tests;
 mod text_fault;
 mod texts;
 

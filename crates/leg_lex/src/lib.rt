@@ -13,8 +13,6 @@ mod number;
 mod past;
 mod pieces;
 mod read_fault;
-#[cfg(test)]
-mod tests;
 mod token;
 mod word;
 mod words;

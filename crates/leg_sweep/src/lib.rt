@@ -9,8 +9,6 @@ mod pair_list;
 mod rule;
 mod runs;
 mod sweep;
-#[cfg(test)]
-mod tests;
 
 pub use banded::pairs_in_bands;
 pub use pair_list::{Found, pairs, pairs_counted};

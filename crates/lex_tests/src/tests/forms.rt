@@ -1,6 +1,6 @@
 //! Forms read from words.
 
-use crate::{Cursor, FaultKind, Names, Token, clauses, is_name, is_word, only, the};
+use leg_lex::{Cursor, FaultKind, Names, Token, clauses, is_name, is_word, only, the};
 use std::alloc::Global;
 use std::test::Fail;
 

@@ -1,6 +1,6 @@
 //! Metal from its texts to its violations and their lines.
 
-use crate::check_texts;
+use leg_app::check_texts;
 use leg_block::Fault;
 use leg_cells::Library;
 use leg_design::read_def;

@@ -1,6 +1,6 @@
 //! The words of small texts.
 
-use crate::{LexFault, tokens};
+use leg_lex::{LexFault, tokens};
 use std::alloc::Global;
 use std::process::Abort;
 use std::test::Fail;

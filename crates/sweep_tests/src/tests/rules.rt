@@ -3,8 +3,8 @@
 ghost use Rattle.std.specs.Prelude.{◌≡◌, ◌≤◌, ◌↔◌, IsTrue};
 ghost use Rattle.leg_geom.specs.Gap.{x_gap, y_gap};
 
-use crate::{LayeredRule, PairRule};
 use leg_geom::Rect;
+use leg_sweep::{LayeredRule, PairRule};
 use std::cell::Cell;
 
 /// Holds of rectangles that share a cell.

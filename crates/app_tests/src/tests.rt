@@ -4,7 +4,7 @@ mod metal;
 
 ghost use Rattle.std.specs.Prelude.{Some};
 
-use crate::{Command, RunFault, Status, line_of, run, split_stream};
+use leg_app::{Command, RunFault, Status, line_of, run, split_stream};
 use std::alloc::{AllocError, Global};
 use std::io;
 use std::io::{ErrorKind, Write};

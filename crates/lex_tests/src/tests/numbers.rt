@@ -1,6 +1,6 @@
 //! Numbers by worked values.
 
-use crate::{NumFault, micron, whole};
+use leg_lex::{NumFault, micron, whole};
 
 #[test]
 fn lengths_at_a_thousand_units(rt: HostRuntime) {

@@ -4,8 +4,8 @@ mod rules;
 
 ghost use Rattle.std.specs.Prelude.{◌<◌, ◌^◌, length};
 
-use crate::{PairRule, pairs, pairs_counted, pairs_in_bands};
 use leg_geom::Rect;
+use leg_sweep::{PairRule, pairs, pairs_counted, pairs_in_bands};
 use rules::{Overlap, Shape, Within};
 use std::alloc::{AllocError, Global};
 use std::cell::Cell;

@@ -1,0 +1,5 @@
+//! What texts, numbers and forms of words say: tests of `leg_lex` by values.
+#![tactic(auto)]
+
+#[cfg(test)]
+mod tests;
