@@ -16,7 +16,7 @@ use crate::text_fault::TextFault;
 use crate::texts::{behind_lefs, library_for};
 use leg_block::{Design, Fault};
 use leg_cells::{Library, ScaleKind};
-use leg_design::read_def;
+use leg_design::DefText;
 use leg_flat::{Flat, FlatFault};
 use leg_lex::FaultKind;
 use leg_place::place_faults;
@@ -40,7 +40,7 @@ pub(crate) fn answer_to<'a, A: Allocator + Copy>(
         IsAnswer command (map (λ t. t.now) lefs.now) def.now answer.status answer.text.items) }
 {
     match library_for(alloc, lefs, def) {
-        Ok(library) => library_answer(alloc, command, lefs.len(), &library, def),
+        Ok((library, text)) => library_answer(alloc, command, lefs.len(), &library, text),
         Err(fault) => refusal(alloc, command, &fault),
     }
 }
@@ -51,12 +51,12 @@ fn library_answer<A: Allocator + Copy>(
     command: Command,
     count: usize,
     library: &Library<'_, A>,
-    def: &[u8],
+    def: DefText<'_, A>,
 ) -> Result<Answer<A>, AllocError>
     ensures { IfOk result (λ answer. (lefs : List (List ℕ)) →
-        SaysJust lefs def.now library.now → IsAnswer command lefs def.now answer.status answer.text.items) }
+        SaysJust lefs def.entry library.now → IsAnswer command lefs def.entry answer.status answer.text.items) }
 {
-    match read_def(alloc, library, def) {
+    match def.design(alloc, library) {
         Ok(design) => design_answer(alloc, command, &design),
         Err(fault) => refusal(alloc, command, &TextFault::Read(behind_lefs(count, fault))),
     }

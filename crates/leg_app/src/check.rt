@@ -15,7 +15,7 @@ use crate::text_fault::TextFault;
 use crate::texts::{behind_lefs, library_for};
 use leg_block::{Design, Fault};
 use leg_cells::Library;
-use leg_design::read_def;
+use leg_design::DefText;
 use leg_flat::{Flat, FlatFault, flatten};
 use leg_place::place_faults;
 use leg_wire::{open_faults, spacing_faults};
@@ -42,8 +42,8 @@ pub fn check_texts<'a, A: Allocator + Copy>(
     ensures refused { IfErr result (λ fault. Refuses (SayNothing (map (λ t. t.now) lefs.now) def.now)
         (SayTooMany (map (λ t. t.now) lefs.now) def.now) fault) }
 {
-    let library = library_for(alloc, lefs, def)?;
-    check_def(alloc, lefs.len(), &library, def)
+    let (library, text) = library_for(alloc, lefs, def)?;
+    check_def(alloc, lefs.len(), &library, text)
 }
 
 /// The violations of the design that a DEF behind so many LEFs says under the library.
@@ -51,13 +51,13 @@ fn check_def<'e, A: Allocator + Copy>(
     alloc: A,
     count: usize,
     library: &Library<'_, A>,
-    def: &[u8],
+    def: DefText<'_, A>,
 ) -> Result<Vec<Fault, A>, TextFault<'e>>
-    ensures found { IfOk result (λ found. (lefs : List (List ℕ)) → SaysJust lefs def.now library.now → AreViolationsOf lefs def.now found.items) }
-    ensures refused { IfErr result (λ fault. (lefs : List (List ℕ)) → SaysJust lefs def.now library.now
-        → Refuses (SayNothing lefs def.now) (SayTooMany lefs def.now) fault) }
+    ensures found { IfOk result (λ found. (lefs : List (List ℕ)) → SaysJust lefs def.entry library.now → AreViolationsOf lefs def.entry found.items) }
+    ensures refused { IfErr result (λ fault. (lefs : List (List ℕ)) → SaysJust lefs def.entry library.now
+        → Refuses (SayNothing lefs def.entry) (SayTooMany lefs def.entry) fault) }
 {
-    match read_def(alloc, library, def) {
+    match def.design(alloc, library) {
         Ok(design) => violations_of(alloc, &design),
         Err(fault) => Err(TextFault::Read(behind_lefs(count, fault))),
     }

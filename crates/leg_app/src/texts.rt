@@ -8,7 +8,7 @@ ghost use Rattle.leg_app.specs.Refusal.{Refuses};
 
 use crate::text_fault::TextFault;
 use leg_cells::Library;
-use leg_design::def_units;
+use leg_design::DefText;
 use leg_lex::ReadFault;
 use leg_lib::{file_number, read_lefs};
 use std::alloc::Allocator;
@@ -23,22 +23,28 @@ pub(crate) fn behind_lefs(lefs: usize, fault: ReadFault) -> ReadFault
     }
 }
 
-/// The library that the LEFs say, at the DEF's own units.
-pub(crate) fn library_for<'a, A: Allocator + Copy>(
+/// The library that the LEFs say, at the DEF's own units, and the DEF with its words.
+pub(crate) fn library_for<'a, 'd, A: Allocator + Copy>(
     alloc: A,
     lefs: &[&'a [u8]],
-    def: &[u8],
-) -> Result<Library<'a, A>, TextFault<'a>>
-    ensures found { IfOk result (λ library. SayLibraryFor (map (λ t. t.now) lefs.now) def.now library) }
+    def: &'d [u8],
+) -> Result<(Library<'a, A>, DefText<'d, A>), TextFault<'a>>
+    ensures found { IfOk result (λ both. SayLibraryFor (map (λ t. t.now) lefs.now) def.now both.0) }
     // The texts say no other library.
-    ensures only { IfOk result (λ library. (said : Contents)
-        → SayLibraryFor (map (λ t. t.now) lefs.now) def.now said → said ≡ library) }
+    ensures only { IfOk result (λ both. (said : Contents)
+        → SayLibraryFor (map (λ t. t.now) lefs.now) def.now said → said ≡ both.0) }
+    ensures text { IfOk result (λ both. both.1 ≡ def.now) }
     ensures none { IfErr result (λ fault. Refuses (SayNoLibrary (map (λ t. t.now) lefs.now) def.now) ⊥ fault) }
 {
     let raw = read_lefs(alloc, lefs)?;
-    let n = match def_units(alloc, def) {
+    let text = match DefText::new(alloc, def) {
+        Ok(text) => text,
+        Err(fault) => return Err(TextFault::Read(behind_lefs(lefs.len(), fault))),
+    };
+    let n = match text.units() {
         Ok(n) => n,
         Err(fault) => return Err(TextFault::Read(behind_lefs(lefs.len(), fault))),
     };
-    Ok(raw.at(alloc, n)?)
+    let library = raw.at(alloc, n)?;
+    Ok((library, text))
 }

@@ -1,9 +1,10 @@
 //! DEF designs: what a DEF text says under a library, exactly, in database units (LEF/DEF 5.8, "DEF Syntax").
 //!
-//! `read_def` reads a text and gives a `Design`, or tells the fault and its line. The records of a design are those of
+//! `read_def` reads a text and gives a `Design`, or tells the fault and its line; `DefText` is for who wants its units first. The records of a design are those of
 //! `leg_block`.
 #![tactic(auto)]
 
+mod def_text;
 mod form;
 mod header;
 pub mod laws;
@@ -11,6 +12,7 @@ mod parts;
 mod read;
 mod skipped;
 
+pub use def_text::DefText;
 pub use leg_block::{
     Axis, Component, Design, ENTRY_LIMIT, Fault, Net, PART_LIMIT, Pin, Port, Row, Status, Terminal,
     Track, Wire,

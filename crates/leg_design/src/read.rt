@@ -8,11 +8,10 @@ ghost use Rattle.leg_block.specs.Records.{DesignContents};
 ghost use Rattle.leg_design.specs.Header.{units_in};
 ghost use Rattle.leg_design.specs.Form.{design_in};
 
-use crate::form::design_words;
-use crate::header::units_anywhere;
+use crate::def_text::DefText;
 use leg_block::Design;
 use leg_cells::Library;
-use leg_lex::{Cursor, ReadFault, file_words};
+use leg_lex::ReadFault;
 use std::alloc::Allocator;
 
 /// The database units of a micron that a DEF says, from 1 to 20,000, at the first place where its `UNITS` stand.
@@ -27,8 +26,8 @@ pub fn def_units<A: Allocator + Copy>(alloc: A, text: &[u8]) -> Result<u32, Read
     ensures too_long { IfErr result (λ fault. TEXT_LIMIT < length text.now → fault.kind ≢ Memory) }
     ensures none { IfErr result (λ fault. fault.kind ≢ Memory → (said : ℕ) → ¬ Says units_in text.now said) }
 {
-    let tokens = file_words(alloc, 0, text)?;
-    units_anywhere(&mut Cursor::new(0, &tokens))
+    let def = DefText::new(alloc, text)?;
+    def.units()
 }
 
 /// The design that a DEF says under a library.
@@ -48,6 +47,6 @@ pub fn read_def<'a, A: Allocator + Copy>(
     ensures none { IfErr result (λ fault. fault.kind ≢ Memory
         → (said : DesignContents) → ¬ Says (design_in library.now) text.now said) }
 {
-    let tokens = file_words(alloc, 0, text)?;
-    design_words(alloc, library, &mut Cursor::new(0, &tokens))
+    let def = DefText::new(alloc, text)?;
+    def.design(alloc, library)
 }

@@ -5,8 +5,12 @@ pub mod ReadNets
 pub mod MoreKnown
 pub mod ReadLonePins
 pub mod LonePinsListed
+-- Pins of macros by their names.
+mod NamedNumbers
+mod PinTables
+mod PinLookups
+mod PinsOfAll
 -- Terminals, and which entry lists them.
-mod PinNames
 mod Listed
 mod ListedNets
 mod LonePins

@@ -1,3 +1,4 @@
 -- What the code knows on its way. No meaning of a public call speaks of it.
 pub mod Index
 pub mod Walk
+pub mod Pins

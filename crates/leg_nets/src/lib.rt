@@ -4,12 +4,15 @@
 //! `nets` reads a section. `add_lone_pins` adds the pins of the design that no net lists.
 #![tactic(auto)]
 
+mod by_name;
 mod coordinate;
+mod known_pins;
 mod lone_pins;
 mod net;
 mod net_table;
 mod path;
 mod path_item;
+mod pin_index;
 mod terminal;
 mod terminal_index;
 mod wiring;

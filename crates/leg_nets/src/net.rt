@@ -11,6 +11,7 @@ ghost use Rattle.leg_block.specs.Records.{net_names};
 ghost use Rattle.leg_nets.specs.Terminal.{add_terminal, terminal_form, at_no_terminal};
 ghost use Rattle.leg_nets.specs.Net.{no_net_parts, is_left_out_of_wiring, is_left_out, use_clause, wiring_clause, from_plus, past_clause, clause_at, net_clause, net_name_at, net_in, net_entry, section_word, nets_at};
 
+use crate::known_pins::KnownPins;
 use crate::net_table::{NetTable, NetsBegun};
 use crate::terminal::terminals;
 use crate::wiring::{is_wiring, wiring};
@@ -189,7 +190,7 @@ fn add_all<'a, A: Allocator + Copy>(
 #[tactic(auto, unfolding(crate::specs::Terminal::terminal_form))]
 fn terminal_form<'a, A: Allocator + Copy>(
     alloc: A,
-    known: &Known<'_, 'a, A>,
+    known: &KnownPins<'_, '_, 'a, A>,
     special: bool,
     others: &NetTable<'a, A>,
     name: &[u8],
@@ -210,7 +211,7 @@ fn terminal_form<'a, A: Allocator + Copy>(
 #[tactic(auto, using(crate::proofs::NetEntries::terminals_on, crate::proofs::NetEntries::terminals_fail, crate::proofs::NetEntries::terminals_end, crate::proofs::NetEntries::terminal_form_shorter))]
 fn all_terminals<'a, A: Allocator + Copy>(
     alloc: A,
-    known: &Known<'_, 'a, A>,
+    known: &KnownPins<'_, '_, 'a, A>,
     special: bool,
     others: &NetTable<'a, A>,
     name: &[u8],
@@ -252,7 +253,7 @@ fn net_name<'a, A: Allocator + Copy>(
 #[tactic(auto, unfolding(crate::specs::Net::net_in))]
 fn net<'a, A: Allocator + Copy>(
     alloc: A,
-    known: &Known<'_, 'a, A>,
+    known: &KnownPins<'_, '_, 'a, A>,
     special: bool,
     others: &NetTable<'a, A>,
     table: &mut NetsBegun<'a, A>,
@@ -267,7 +268,7 @@ fn net<'a, A: Allocator + Copy>(
     statement.mark(b'-')?;
     let name = net_name(table, statement)?;
     all_terminals(alloc, known, special, others, name, table, statement)?;
-    let parts = all_clauses(alloc, known, special, statement)?;
+    let parts = all_clauses(alloc, known.known(), special, statement)?;
     Ok((name, parts))
 }
 
@@ -282,7 +283,7 @@ fn is_full(entries: usize, others: usize) -> bool
 #[tactic(auto, using(crate::proofs::NetEntries::too_many, crate::proofs::NetEntries::few_terminals, crate::proofs::NetEntries::few_wires), unfolding(crate::specs::Net::net_entry))]
 fn entry<'a, A: Allocator + Copy>(
     alloc: A,
-    known: &Known<'_, 'a, A>,
+    known: &KnownPins<'_, '_, 'a, A>,
     special: bool,
     others: &NetTable<'a, A>,
     table: &mut NetsBegun<'a, A>,
@@ -309,7 +310,7 @@ fn entry<'a, A: Allocator + Copy>(
 #[tactic(auto, using(leg_lex::proofs::Until::ends, leg_lex::proofs::Until::goes_on, leg_lex::proofs::Until::fails, crate::proofs::NetEntries::net_entry_shortens, crate::proofs::NetEntries::net_entry_shorter))]
 fn entries<'a, A: Allocator + Copy>(
     alloc: A,
-    known: &Known<'_, 'a, A>,
+    known: &KnownPins<'_, '_, 'a, A>,
     special: bool,
     others: &NetTable<'a, A>,
     words: &mut Cursor<'_, 'a>,
@@ -321,6 +322,20 @@ fn entries<'a, A: Allocator + Copy>(
         entry(alloc, known, special, others, &mut table, words)?;
     }
     Ok(table.finish())
+}
+
+/// The same, with an index of what the entries name, which is made first.
+fn indexed_entries<'a, A: Allocator + Copy>(
+    alloc: A,
+    known: &Known<'_, 'a, A>,
+    special: bool,
+    others: &NetTable<'a, A>,
+    words: &mut Cursor<'_, 'a>,
+) -> Result<NetTable<'a, A>, ReadFault>
+    ensures { Reads (λ t. t) result words.new (until at_end (net_entry known.now special others.now) [] words.old) }
+{
+    let known = KnownPins::new(alloc, known)?;
+    entries(alloc, &known, special, others, words)
 }
 
 /// The keyword of a section of nets.
@@ -342,7 +357,7 @@ pub fn nets<'a, A: Allocator + Copy>(
     ensures { Reads (λ t. t) result words.new (nets_at known.now special others.now words.old) }
 {
     section_start(section_word(special), words)?;
-    let table = entries(alloc, known, special, others, words)?;
+    let table = indexed_entries(alloc, known, special, others, words)?;
     words.end(section_word(special))?;
     Ok(table)
 }

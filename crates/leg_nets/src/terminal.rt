@@ -1,67 +1,19 @@
 //! Terminals of nets (LEF/DEF 5.8, "Nets", "Special Nets").
 
-ghost use Rattle.std.specs.Prelude.{◌≡◌, ◌≤◌, ◌∷◌, [], ◌&&◌, if◌then◌else◌, codes, length, map, IfOk};
+ghost use Rattle.std.specs.Prelude.{◌≡◌, ◌∷◌, [], ◌&&◌, if◌then◌else◌, codes};
 ghost use Rattle.leg_lex.specs.Words.{Reads, Means, is_at};
-ghost use Rattle.leg_lex.specs.NameLookup.{place_of};
-ghost use Rattle.leg_block.specs.declared.limits.TheConstants.{ENTRY_LIMIT};
-ghost use Rattle.leg_nets.specs.Terminal.{pin_of_component, pins_of_all, component_terminal, pin_terminal, one_terminal_at, all_terminals_at, past_synthesized, terminals_at};
+ghost use Rattle.leg_nets.specs.Terminal.{component_terminal, pin_terminal, one_terminal_at, all_terminals_at, past_synthesized, terminals_at};
 
-use leg_block::{Component, Terminal};
-use leg_cells::{Library, MasterPin};
+use crate::known_pins::KnownPins;
+use leg_block::Terminal;
 use leg_floorplan::Known;
 use leg_lex::{Cursor, FaultKind, ReadFault, is_keyword};
-use std::alloc::{AllocError, Allocator};
-
-/// The number of the pin of this name.
-#[tactic(auto, using(crate::proofs::PinNames::passed_pin, crate::proofs::PinNames::found_pin, crate::proofs::PinNames::no_pin))]
-fn pin_named<A: Allocator>(pins: &[MasterPin<'_, A>], name: &[u8]) -> Option<usize>
-    ensures { result ≡ place_of name.now (map (λ p. p.name) pins.now) }
-{
-    for (k, pin) in pins.iter().enumerate() {
-        if pin.name.bytes() == name {
-            return Some(k);
-        }
-    }
-    None
-}
-
-/// The number of the pin of this name of the component's macro.
-fn pin_of_component<A: Allocator + Copy>(
-    library: &Library<'_, A>,
-    component: &Component<'_>,
-    name: &[u8],
-) -> Option<usize>
-    ensures { result ≡ pin_of_component library.now component.now name.now }
-{
-    let master = library.masters().get(component.master)?;
-    pin_named(master.pins.as_slice(), name)
-}
-
-/// The pin of this name of each component that has it, in order.
-#[tactic(auto, using(crate::proofs::PinNames::one_has, crate::proofs::PinNames::one_has_not, crate::proofs::PinNames::all_seen))]
-fn pins_of_all<A: Allocator + Copy>(
-    alloc: A,
-    library: &Library<'_, A>,
-    name: &[u8],
-    components: &[Component<'_>],
-) -> Result<Vec<Terminal, A>, AllocError>
-    requires { length components.now ≤ ENTRY_LIMIT }
-    ensures { IfOk result (λ v. v.items ≡ pins_of_all library.now name.now 0 components.now) }
-{
-    let mut terminals = Vec::new(alloc);
-    for (c, component) in components.iter().enumerate() {
-        if let Some(pin) = pin_of_component(library, component, name) {
-            let component = c as u32;
-            terminals.push(Terminal::Comp { component, pin })?;
-        }
-    }
-    Ok(terminals)
-}
+use std::alloc::Allocator;
 
 /// The component of this name, with its pin of this name. The fault of an unknown name is at the words `of_component` or
 /// `of_pin`.
 fn component_terminal<A: Allocator + Copy>(
-    known: &Known<'_, '_, A>,
+    known: &KnownPins<'_, '_, '_, A>,
     component: &[u8],
     pin: &[u8],
     of_component: &Cursor<'_, '_>,
@@ -69,13 +21,11 @@ fn component_terminal<A: Allocator + Copy>(
 ) -> Result<Terminal, ReadFault>
     ensures { Means (λ t. t) result (component_terminal known.now component.now pin.now) }
 {
-    let Some(c) = known.components.place_of(component) else {
+    let components = known.known().components;
+    let Some(c) = components.place_of(component) else {
         return Err(of_component.fault(FaultKind::UnknownName));
     };
-    let Some(component) = known.components.as_slice().get(c) else {
-        return Err(of_component.fault(FaultKind::UnknownName));
-    };
-    let Some(pin) = pin_of_component(known.library, component, pin) else {
+    let Some(pin) = known.pin_of_numbered(c, pin) else {
         return Err(of_pin.fault(FaultKind::UnknownName));
     };
     Ok(Terminal::Comp {
@@ -101,7 +51,7 @@ fn pin_terminal<A: Allocator + Copy>(
 /// `component pin`, or `PIN` and a pin of the design.
 #[tactic(auto, unfolding(crate::specs::Terminal::one_terminal_at))]
 fn one_terminal<A: Allocator + Copy>(
-    known: &Known<'_, '_, A>,
+    known: &KnownPins<'_, '_, '_, A>,
     words: &mut Cursor<'_, '_>,
 ) -> Result<Terminal, ReadFault>
     ensures { Reads (λ t. t ∷ []) result words.new (one_terminal_at known.now words.old) }
@@ -111,7 +61,7 @@ fn one_terminal<A: Allocator + Copy>(
     let of_pin = words.again();
     let pin = words.name()?;
     if is_keyword(b"PIN", component) {
-        pin_terminal(known, pin, &of_pin)
+        pin_terminal(known.known(), pin, &of_pin)
     } else {
         component_terminal(known, component, pin, &of_component, &of_pin)
     }
@@ -121,14 +71,14 @@ fn one_terminal<A: Allocator + Copy>(
 #[tactic(auto, unfolding(crate::specs::Terminal::all_terminals_at))]
 fn all_terminals<A: Allocator + Copy>(
     alloc: A,
-    known: &Known<'_, '_, A>,
+    known: &KnownPins<'_, '_, '_, A>,
     words: &mut Cursor<'_, '_>,
 ) -> Result<Vec<Terminal, A>, ReadFault>
     ensures { Reads (λ v. v.items) result words.new (all_terminals_at known.now words.old) }
 {
     words.mark(b'*')?;
     let name = words.name()?;
-    let terminals = pins_of_all(alloc, known.library, name, known.components.as_slice())?;
+    let terminals = known.pins_of_all(alloc, name)?;
     Ok(terminals)
 }
 
@@ -147,7 +97,7 @@ fn past_synthesized(words: &mut Cursor<'_, '_>) -> Result<(), ReadFault>
 /// What stands in a pair of parentheses, before `+ SYNTHESIZED`.
 fn named<A: Allocator + Copy>(
     alloc: A,
-    known: &Known<'_, '_, A>,
+    known: &KnownPins<'_, '_, '_, A>,
     special: bool,
     words: &mut Cursor<'_, '_>,
 ) -> Result<Vec<Terminal, A>, ReadFault>
@@ -166,7 +116,7 @@ fn named<A: Allocator + Copy>(
 #[tactic(auto, unfolding(crate::specs::Terminal::terminals_at))]
 pub(crate) fn terminals<A: Allocator + Copy>(
     alloc: A,
-    known: &Known<'_, '_, A>,
+    known: &KnownPins<'_, '_, '_, A>,
     special: bool,
     words: &mut Cursor<'_, '_>,
 ) -> Result<Vec<Terminal, A>, ReadFault>

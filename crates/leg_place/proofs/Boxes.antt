@@ -1,11 +1,10 @@
 -- The boxes of components.
 use Rattle.std.proofs.Common.{◌≡◌, ℕ, Bool, true, false, not, IsTrue, refl, ◌+◌, ◌<◌, ◌↔◌, List, [], ◌∷◌, ◌++◌, Some, None, slice_get, inl, inr, sym, ◌∙◌, arith}
 use Rattle.std.proofs.lemmas.Bool.{cases_lt, false≢true}
-use Rattle.std.proofs.lemmas.List.Elements.{All-nil, All-push, All-weaker, Contains-append_left, Contains-push}
+use Rattle.std.proofs.lemmas.List.Elements.{All-push, All-weaker, Contains-append_left, Contains-push}
 use Rattle.std.proofs.lemmas.List.Quantifiers.{all_pairs_push}
 use Rattle.std.proofs.lemmas.Option.{same_Some, none-some}
 use Rattle.leg_geom.specs.Plane.{Sides, IsRect, HasAllPoints}
-use Rattle.leg_sweep.proofs.Lists.{AllPairs-nil}
 use Rattle.leg_block.specs.declared.records.Component.{Component}
 use Rattle.leg_place.specs.declared.placed_box.PlacedBox.{PlacedBox}
 use Rattle.leg_cells.specs.Records.{Contents}

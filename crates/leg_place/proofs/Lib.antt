@@ -3,9 +3,13 @@ mod Places
 mod Cells
 mod Boxes
 -- Sites of rows
-mod RowKeys
 mod Mirrors
 mod OnSites
+mod SpanOrder
+mod KeptSpans
+mod CoveredSpans
+mod Shift
+mod RowSites
 mod OnRows
 -- The list of violations
 mod Listing

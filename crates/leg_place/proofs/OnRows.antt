@@ -1,66 +1,86 @@
--- Whether a macro stands on one of the rows whose keys are looked at.
-use Rattle.std.proofs.Common.{◌≡◌, ◌↔◌, ℕ, ◌+◌, ◌<◌, Bool, true, false, not, IsTrue, ℤ, pos, List, Some, None, slice_get, length, get_or, inl, inr, refl, sym, ◌∙◌, arith}
-use Rattle.std.proofs.lemmas.Bool.{cases_lt, false≢true}
-use Rattle.std.proofs.lemmas.List.{get_or_default}
-use Rattle.std.proofs.lemmas.Option.{same_Some, none-some, slice_get_within, get_or_from_slice_get}
+-- Whether a macro stands on the sites of some row, by the spans of the rows.
+use Rattle.std.proofs.Common.{◌≡◌, ◌↔◌, ◌≤◌, ℕ, Bool, true, false, not, IsTrue, List, Some, None, slice_get, length, refl, sym, ap, ◌∙◌, arith}
+use Rattle.std.proofs.lemmas.Bool.{false≢true}
+use Rattle.std.proofs.lemmas.List.Elements.{All-contains}
+use Rattle.std.proofs.lemmas.Option.{same_Some, none-some, slice_get_within}
+use Rattle.leg_geom.specs.Plane.{Sides}
+use Rattle.leg_geom.specs.declared.orient.Orient.{Orient}
 use Rattle.leg_geom.specs.declared.place.Place.{Place}
+use Rattle.leg_cells.specs.declared.records.Site.{Site}
+use Rattle.leg_cells.specs.Measure.{Lengths, HasArea}
 use Rattle.leg_cells.specs.Records.{MasterSaid}
 use Rattle.leg_block.specs.Records.{DesignContents}
 use Rattle.leg_block.specs.declared.records.Component.{Component}
 use Rattle.leg_block.specs.declared.records.Row.{Row}
 use Rattle.leg_place.specs.Box.{placed_box}
-use Rattle.leg_place.specs.Sites.{IsOnRow, IsOffSite}
-use Rattle.leg_place.specs.Steps.RowOrder.{IsKey, IsRowOrder, AreAt}
-use Rattle.leg_place.specs.Steps.OnRow.{IsOnSomeRow}
-use Rattle.leg_place.proofs.OnSites.{IsWide, bottom_is}
-use Rattle.leg_place.proofs.Places.{place_of_contained}
+use Rattle.leg_place.specs.Sites.{IsOnSites, IsOffSite}
+use Rattle.leg_place.specs.declared.site_span.SiteSpan.{SiteSpan}
+use Rattle.leg_place.specs.Steps.SiteSpan.{span_of, row_box, covers}
+use Rattle.leg_place.specs.Steps.RowSpans.{IsRowSpan, IsOfSomeRow, AreRowSpans, IsWhole, IsCovered, HasSites, IsOnSomeRow}
+use Rattle.leg_place.proofs.OnSites.{IsWide}
+use Rattle.leg_place.proofs.RowSites.{whole_on_sites, covers_on_sites, orient_of_covering, on_covering}
+use Rattle.leg_place.proofs.SpanOrder.{covers-trans, reaches_from_covers}
 
-module _ (design : DesignContents) (master : MasterSaid) (number : ℕ) (place : Place) where
-  -- the macro doesn't stand on the row of this key
-  abbrev pub IsOffKey : ℤ × ℕ → Type 0
-  IsOffKey key = (row : Row) → slice_get design.rows key.1 ≡ Some row → IsOnRow design.library master number place row → ⊥
+-- what is covered by a row's sites is of its site
+site_of_span : (row : Row) (size : Lengths) (number : ℕ) (orient : Orient) (box : Sides) (other : Lengths) → IsTrue (covers (span_of row.site size row.orient (row_box row size)) (span_of number other orient box)) → row.site ≡ number
+site_of_span row size number orient box other all = ap (λ l. l.site) (reaches_from_covers (span_of row.site size row.orient (row_box row size)) (span_of number other orient box) all).line
 
-  -- nor on that of any of the first keys
-  abbrev pub IsOffKeys : List (ℤ × ℕ) → ℕ → Type 0
-  IsOffKeys keys end = (k : ℕ) → k < end → IsOffKey (get_or keys k (pos 0, 0))
+-- what has all sites of a span has those of what that one covers
+covered_through : (spans : List SiteSpan) (span wanted : SiteSpan) → IsCovered spans span → IsTrue (covers span wanted) → IsCovered spans wanted
+covered_through spans span wanted covered all = record { span = covered.span; has = covered.has; has_all = covers-trans covered.span span wanted covered.has_all all }
 
-  pub off_keys_more : (keys : List (ℤ × ℕ)) (i : ℕ) → IsOffKey (get_or keys i (pos 0, 0)) → IsOffKeys keys i → IsOffKeys keys (i + 1)
-  off_keys_more keys i off done k below =
-      elim (cases_lt k i) [
-        | inl earlier ↦ done k earlier
-        | inr late ↦ let here : k ≡ i = omega arith in rw here off
-      ]
+-- a macro of the site of this number, at a place; the sites of the rows are given
+module _ (design : DesignContents) (master : MasterSaid) (number : ℕ) (place : Place) (site : Site) (there : slice_get design.library.sites number ≡ Some site)
+    (area : HasArea site.size) (proper : IsWide (placed_box master.size place))
+    (spans : List SiteSpan) (spans_are : AreRowSpans design.library design.rows spans) where
+  -- where it stands on a row it is whole, and the row has its sites, in an orientation that fits
+  pub whole_on_row : IsOnSomeRow design master number place → IsWhole site.size (placed_box master.size place)
+  whole_on_row some =
+      let on = some.on in
+      let same : on.site ≡ site = same_Some on.site site (sym on.there ∙ there) in
+      whole_on_sites some.row site.size (placed_box master.size place) area proper (rw same at on.sites)
 
-  -- a row on which it stands has the y of the macro's box
-  bottom_of_row : IsWide (placed_box master.size place) → (row : Row) → IsOnRow design.library master number place row → (placed_box master.size place).y1 ≡ row.at.y
-  bottom_of_row proper row on = bottom_is row on.site.size (placed_box master.size place) proper on.sites
+  pub sites_on_row : IsOnSomeRow design master number place → HasSites spans number site.size (placed_box master.size place) place.orient master.y_symmetric
+  sites_on_row some =
+      let on = some.on in
+      let same : on.site ≡ site = same_Some on.site site (sym on.there ∙ there) in
+      let sites : IsOnSites some.row site.size (placed_box master.size place) = rw same at on.sites in
+      let row_span = span_of some.row.site site.size some.row.orient (row_box some.row site.size) in
+      let told : IsRowSpan design.library some.row row_span = record { site = site; there = rw on.same there; is = refl } in
+      let wanted = span_of some.row.site site.size some.row.orient (placed_box master.size place) in
+      let covered : IsCovered spans wanted =
+      covered_through spans row_span wanted (spans_are.all some.row row_span some.has told)
+      (covers_on_sites some.row site.size (placed_box master.size place) area proper sites) in
+      record { row_orient = some.row.orient; fits = on.fits; covered = rw on.same at covered }
 
-  -- so it is enough to look at the rows of that y
-  pub on_no_row : (order keys : List (ℤ × ℕ)) → IsRowOrder design.rows order → IsWide (placed_box master.size place) → AreAt order (placed_box master.size place).y1 keys → IsOffKeys keys (length keys) → IsOnSomeRow design master number place → ⊥
-  on_no_row order keys is_order proper at off some =
-      let there = place_of_contained design.rows some.row some.has in
-      let within = slice_get_within design.rows there.0 some.row there.1 in
-      let has = is_order.keys.all there.0 some.row within there.1 in
-      let listed = at.all (some.row.at.y, there.0) has (sym (bottom_of_row proper some.row some.on)) in
-      let key_is : get_or keys listed.0 (pos 0, 0) ≡ (some.row.at.y, there.0) = get_or_default keys listed.0 (pos 0, 0) (some.row.at.y, there.0) listed.1 ∙ listed.2 in
-      let off_here = off listed.0 listed.1 some.row in
-      off_here (rw key_is there.1) some.on
+  -- and the other way round
+  pub on_row_of_sites : IsWhole site.size (placed_box master.size place) → HasSites spans number site.size (placed_box master.size place) place.orient master.y_symmetric → IsOnSomeRow design master number place
+  on_row_of_sites whole sites =
+      let covered = sites.covered in
+      let of_row = All-contains (IsOfSomeRow design.library design.rows) spans covered.span spans_are.each covered.has in
+      let row = of_row.row in
+      let told = of_row.is in
+      let wanted = span_of number site.size sites.row_orient (placed_box master.size place) in
+      let all : IsTrue (covers (span_of row.site told.site.size row.orient (row_box row told.site.size)) wanted) = rw told.is at covered.has_all in
+      let number_is : row.site ≡ number = site_of_span row told.site.size number sites.row_orient (placed_box master.size place) site.size all in
+      let same : told.site ≡ site = same_Some told.site site (sym told.there ∙ ap (slice_get design.library.sites) number_is ∙ there) in
+      let all_here : IsTrue (covers (span_of row.site site.size row.orient (row_box row site.size)) wanted) = rw same at all in
+      let orient_is : row.orient ≡ sites.row_orient = orient_of_covering row site.size (placed_box master.size place) area proper number sites.row_orient all_here in
+      record {
+        row = row;
+        has = of_row.has;
+        on = record {
+          same = number_is;
+          site = site;
+          there = there;
+          fits = rw orient_is sites.fits;
+          sites = on_covering row site.size (placed_box master.size place) area proper number sites.row_orient all_here of_row.some whole;
+        };
+      }
 
-  -- a row by its number
-  pub on_some_row : (i : ℕ) (row : Row) → slice_get design.rows i ≡ Some row → IsOnRow design.library master number place row → IsOnSomeRow design master number place
-  on_some_row i row there on = record {
-    row = row;
-    has = (i, slice_get_within design.rows i row there, get_or_from_slice_get design.rows i row row there);
-    on = on;
-  }
-
--- the key at a place among those of one y is a row's
-pub key_of_row : (rows : List Row) (order keys : List (ℤ × ℕ)) (y : ℤ) (i : ℕ) → IsRowOrder rows order → AreAt order y keys → i < length keys → IsKey rows (get_or keys i (pos 0, 0))
-key_of_row rows order keys y i is_order at within =
-    let key = get_or keys i (pos 0, 0) in
-    let has = (at.each i (pos 0, 0) within).0 in
-    let told : IsKey rows (get_or order has.0 key) = is_order.keys.each has.0 key has.1 in
-    rw has.2 at told
+-- nor does a macro stand on a row whose site the library doesn't have
+pub on_no_row : (design : DesignContents) (master : MasterSaid) (number : ℕ) (place : Place) → length design.library.sites ≤ number → IsOnSomeRow design master number place → ⊥
+on_no_row design master number place beyond some = omega (arith, beyond, slice_get_within design.library.sites number some.on.site some.on.there)
 
 module _ (design : DesignContents) (c : ℕ) (component : Component) (there : slice_get design.components c ≡ Some component) where
   placed_of : (off : IsOffSite design.library design c) → component.place ≡ Some off.place

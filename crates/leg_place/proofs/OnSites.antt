@@ -1,8 +1,7 @@
 -- The rectangles whose cells are those of consecutive sites of a row.
-use Rattle.std.proofs.Common.{◌≡◌, ℕ, ◌+◌, ◌-◌, ◌*◌, ◌/◌, ◌%◌, ◌<◌, ◌≤◌, ℤ, pos, ◌+ℤ◌, ◌-ℤ◌, ◌*ℤ◌, ◌≤ℤ◌, ◌<ℤ◌, unsigned_abs, inl, inr, sym, ap, ◌∙◌, arith}
+use Rattle.std.proofs.Common.{◌≡◌, ℕ, ◌+◌, ◌-◌, ◌*◌, ◌/◌, ◌<◌, ◌≤◌, ℤ, pos, ◌+ℤ◌, ◌-ℤ◌, ◌*ℤ◌, ◌≤ℤ◌, ◌<ℤ◌, unsigned_abs, inl, inr, arith}
 use Rattle.std.proofs.Math.IntN.{pos-*ℤ-pos}
-use Rattle.std.proofs.Math.Nat.{div-mul-le_self, lt-div-mul-add, mul-le-mul_right, mul-mod_left, mul-div_cancel}
-use Rattle.std.proofs.lemmas.Nat.{div-add-mod'}
+use Rattle.std.proofs.Math.Nat.{div-mul-le_self, lt-div-mul-add, mul-le-mul_right}
 use Rattle.std.proofs.lemmas.Bool.{cases_lt}
 use Rattle.std.proofs.lemmas.Grind.{common_steps}
 use Rattle.std.proofs.lemmas.Int.{ints}
@@ -10,19 +9,29 @@ use Rattle.leg_geom.specs.Plane.{Spot, Sides, HasCell}
 use Rattle.leg_cells.specs.Measure.{Lengths, HasArea}
 use Rattle.leg_block.specs.declared.records.Row.{Row}
 use Rattle.leg_place.specs.Sites.{SitesHave, IsOnSites}
-use Rattle.leg_place.specs.Steps.OnRow.{IsLevel, IsEdge}
 
 -- a rectangle has area
 pub record IsWide (box : Sides) : Type 0 where
   pub wide : box.x1 <ℤ box.x2
   pub high : box.y1 <ℤ box.y2
 
+-- the box reaches from the lower edge of the row's sites to their upper one
+pub record IsLevel (row : Row) (size : Lengths) (box : Sides) : Type 0 where
+  pub bottom : box.y1 ≡ row.at.y
+  pub top : box.y2 ≡ row.at.y +ℤ size.height
+
+-- a site of the row begins or ends at this x: so many sites lie to the left of it
+pub record IsEdge (row : Row) (size : Lengths) (x : ℤ) : Type 0 where
+  pub k : ℕ
+  pub is : x ≡ row.at.x +ℤ pos k *ℤ size.width
+  pub within : pos k ≤ℤ row.count
+
 -- so many sites on, one more site ends
 product_more : (k n : ℕ) → (k + 1) * n ≡ k * n + n
 product_more k n = grind (arith, common_steps)
 
 -- more sites reach no less far
-product_up : (j k n : ℕ) → j ≤ k → j * n ≤ k * n
+pub product_up : (j k n : ℕ) → j ≤ k → j * n ≤ k * n
 product_up j k n order = mul-le-mul_right n order
 
 -- the first of the sites with the number k lies at or before d, and the next one behind it, where k is d / n
@@ -49,7 +58,7 @@ module _ (d n : ℕ) (some : 0 < n) where
 
 module _ (row : Row) (size : Lengths) (box : Sides) (n : ℕ) (width : size.width ≡ pos n) (some : 0 < n) where
   -- the left edge of a site
-  edge_is : (k : ℕ) → pos k *ℤ size.width ≡ pos (k * n)
+  pub edge_is : (k : ℕ) → pos k *ℤ size.width ≡ pos (k * n)
   edge_is k = rw width (pos-*ℤ-pos k n)
 
   module _ (f l : ℕ) (left : box.x1 ≡ row.at.x +ℤ pos (f * n)) (right : box.x2 ≡ row.at.x +ℤ pos (l * n))
@@ -231,40 +240,3 @@ module _ (row : Row) (size : Lengths) (box : Sides) (area : HasArea size) (prope
   right_from_on_sites on =
       let n = unsigned_abs size.width in
       right_edge row size box n (omega (arith, ints, area.wide)) (omega (arith, ints, area.wide)) proper on
-
--- an edge by the quotient and the remainder
-module _ (row : Row) (size : Lengths) (area : HasArea size) (x : ℤ) (d n m : ℕ) (offset : d ≡ unsigned_abs (x -ℤ row.at.x)) (width : n ≡ unsigned_abs size.width)
-    (count : pos m ≡ row.count) where
-  width_is : size.width ≡ pos n
-  width_is = omega (arith, ints, width, area.wide)
-
-  some_width : 0 < n
-  some_width = omega (arith, ints, width, area.wide)
-
-  pub edge_right : IsEdge row size x → row.at.x ≤ℤ x
-  edge_right edge =
-      let at : x ≡ row.at.x +ℤ pos (edge.k * n) = edge.is ∙ ap (λ w. row.at.x +ℤ pos edge.k *ℤ w) width_is ∙ ap (λ p. row.at.x +ℤ p) (pos-*ℤ-pos edge.k n) in
-      omega (arith, ints, at)
-
-  edge_offset : (edge : IsEdge row size x) → d ≡ edge.k * n
-  edge_offset edge =
-      let at : x ≡ row.at.x +ℤ pos (edge.k * n) = edge.is ∙ ap (λ w. row.at.x +ℤ pos edge.k *ℤ w) width_is ∙ ap (λ p. row.at.x +ℤ p) (pos-*ℤ-pos edge.k n) in
-      omega (arith, ints, at, offset)
-
-  pub edge_exact : IsEdge row size x → d % n ≡ 0
-  edge_exact edge = rw (edge_offset edge) (mul-mod_left edge.k n)
-
-  pub edge_within : IsEdge row size x → d / n ≤ m
-  edge_within edge =
-      let quotient : d / n ≡ edge.k = rw (edge_offset edge) (mul-div_cancel edge.k some_width) in
-      omega (arith, ints, quotient, edge.within, count)
-
-  pub edge_from : row.at.x ≤ℤ x → d % n ≡ 0 → d / n ≤ m → IsEdge row size x
-  edge_from right exact within =
-      let whole : d / n * n ≡ d = omega (arith, div-add-mod' d n, exact) in
-      let at : x ≡ row.at.x +ℤ pos (d / n * n) = omega (arith, ints, right, offset, whole) in
-      record {
-        k = d / n;
-        is = at ∙ ap (λ p. row.at.x +ℤ p) (sym (pos-*ℤ-pos (d / n) n)) ∙ ap (λ w. row.at.x +ℤ pos (d / n) *ℤ w) (sym width_is);
-        within = omega (arith, ints, within, count);
-      }

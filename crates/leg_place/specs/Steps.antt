@@ -1,4 +1,4 @@
 -- What the code knows on its way. No meaning of a public call speaks of it.
 pub mod ListPrefix
-pub mod RowOrder
-pub mod OnRow
+pub mod SiteSpan
+pub mod RowSpans

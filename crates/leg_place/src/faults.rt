@@ -7,7 +7,7 @@ ghost use Rattle.leg_place.specs.Steps.ListPrefix.{IsListBefore};
 
 use crate::overlap::push_overlaps;
 use crate::placed_box::box_of;
-use crate::row_order::row_order;
+use crate::row_spans::row_spans;
 use crate::sites::is_off_site;
 use leg_block::{Design, Fault};
 use leg_cells::Library;
@@ -85,9 +85,9 @@ fn push_off_site<A: Allocator + Copy>(
     requires { IsListBefore design.now.library design.now (Fault.OffSite 0) found.old.items }
     ensures { OnOk result (IsListBefore design.now.library design.now (Fault.Overlap 0 0) found.new.items) }
 {
-    let order = row_order(alloc, design.rows())?;
+    let rows = row_spans(alloc, design)?;
     for i in 0..design.components().len() {
-        if is_off_site(design, &order, i) {
+        if is_off_site(design, &rows, i) {
             found.push(Fault::OffSite(i as u32))?;
         }
     }

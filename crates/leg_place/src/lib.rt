@@ -7,7 +7,8 @@
 mod faults;
 mod overlap;
 mod placed_box;
-mod row_order;
+mod row_spans;
+mod site_span;
 mod sites;
 
 pub use faults::place_faults;

@@ -68,9 +68,21 @@ impl PairRule for OnOneAnother {
 
 // All boxes lie on one layer.
 impl LayeredRule for OnOneAnother {
+    ghost layers_of = { λ r. 1 };
+
     ghost layer_of = { λ r a. 0 };
 
+    ghost layer_reach_of = { λ r layer. 0 };
+
+    fn layers(&self) -> usize {
+        1
+    }
+
     fn layer(&self, _item: &PlacedBox) -> usize {
+        0
+    }
+
+    fn layer_reach(&self, _layer: usize) -> u64 {
         0
     }
 
@@ -83,6 +95,8 @@ impl LayeredRule for OnOneAnother {
     }
 
     ghost layered = { λ r a b h. refl };
+
+    ghost near_on_layer = { λ r a b h. ShareCell-gaps _ _ h };
 }
 
 /// Adds the pairs of placed components that share a cell to the violations of the other kinds.

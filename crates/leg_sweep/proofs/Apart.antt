@@ -1,5 +1,5 @@
 -- Lists whose elements differ from one another, in another order.
-use Rattle.std.proofs.Common.{◌≡◌, ◌≢◌, ℕ, ◌<◌, true, false, List, length, get_or, eqb, All, AllPairs, Contains, IsPermutation, IsSorted, arith}
+use Rattle.std.proofs.Common.{◌≡◌, ◌≢◌, ℕ, ◌<◌, true, false, List, length, get_or, eqb, AllPairs, IsPermutation, IsSorted, arith}
 use Rattle.std.specs.Ordering.{is_lt, is_eq, eq_by_cmp}
 use Rattle.std.specs.List.{range_with_len, IsDistinct}
 use Rattle.std.specs.Cmp.{IsTotalOrder}
@@ -9,14 +9,8 @@ use Rattle.std.proofs.lemmas.Cmp.{nat_eq_equiv, nat_cmp_total, on_total, then_to
 use Rattle.std.proofs.lemmas.List.FromFn.{length-range_with_len, get_or-range_with_len}
 use Rattle.std.proofs.lemmas.List.Sorted.{ranks_by, sorted_far, All-permutation, Contains-permutation}
 use Rattle.std.proofs.lemmas.Map.Keys.{IsDistinct-from_apart, apart_from_distinct, IsDistinct-IsPermutation}
-use Rattle.leg_sweep.specs.Pairs.{Before, IsPair, ArePairs}
+use Rattle.leg_sweep.specs.Pairs.{Before, IsPair, ArePairs, HasPairs}
 use Rattle.leg_sweep.specs.Steps.Sweep.{pair_cmp}
-
--- exactly the pairs of items for which a rule holds, each once, in any order
-pub record HasPairs {Item : Type 0} (Holds : Item → Item → Type 0) (items : List Item) (found : List (ℕ × ℕ)) : Type 0 where
-  pub each : All (IsPair Holds items) found
-  pub all : (p : ℕ × ℕ) → IsPair Holds items p → Contains found p
-  pub distinct : AllPairs (λ p q. p ≢ q) found
 
 -- the numbers up to n in another order
 pub numbers_apart : (n : ℕ) (order : List ℕ) → IsPermutation (range_with_len 0 n) order → (a b : ℕ) → a < b → b < length order → get_or order a 0 ≡ get_or order b 0 → ⊥

@@ -1,17 +1,26 @@
 -- Pairs and their order
 mod Unique
 mod Apart
-mod SortedOnce
 mod Listed
 mod Counts
 -- The sweep from left to right
+mod Taken
 mod Nearness
-mod Places
-mod Turns
 mod Progress
--- The search band by band
-mod SweptRuns
-mod CommonBands
+mod Turns
+mod Places
+mod Swept
+mod MetItems
+mod FoundSoFar
+mod OnLayers
+mod OneBand
 -- What the proofs of other crates cite
 pub mod Lists
 pub mod Edges
+-- The bands of each layer
+mod GridHeights
+mod GridSums
+mod GridSpans
+mod GridBands
+mod GridPlaces
+mod GridStretches

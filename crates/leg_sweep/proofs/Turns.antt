@@ -1,14 +1,16 @@
 -- One turn of the sweep: the pairs that a new item makes with active ones.
-use Rattle.std.proofs.Common.{◌≡◌, ◌≢◌, ℕ, ◌+◌, ◌<◌, ◌≤◌, min, max, Bool, true, false, List, [], ◌∷◌, ◌++◌, length, get_or, take, map, filter, Some, slice_get, Contains, inl, inr, refl, sym, ap, subst, ◌∙◌, append_assoc, arith}
+use Rattle.std.proofs.Common.{◌≡◌, ◌≢◌, ℕ, ◌+◌, ◌<◌, ◌≤◌, min, max, Bool, true, false, List, [], ◌∷◌, ◌++◌, length, get_or, take, map, filter, Some, slice_get, Contains, inl, inr, refl, sym, ap, subst, ◌∙◌, arith}
 use Rattle.std.proofs.lemmas.Bool.{cases_lt}
-use Rattle.std.proofs.lemmas.List.{append-nil, get_or-map}
-use Rattle.std.proofs.lemmas.List.Elements.{filter_more, All-nil, All-push, All-weaker, Contains-append_left, Contains-push, Contains-push_cases}
+use Rattle.std.proofs.lemmas.List.{append-nil, get_or-map, length-append, length_push}
+use Rattle.std.proofs.lemmas.List.Elements.{filter_more, All-nil, All-push, All-append, All-weaker, Contains-append_left, Contains-append_right, Contains-append_cases, Contains-push, Contains-push_cases}
 use Rattle.std.proofs.lemmas.List.Quantifiers.{all_pairs_push}
 use Rattle.std.proofs.lemmas.Option.{same_Some}
 use Rattle.leg_sweep.specs.Pairs.{IsPair}
 use Rattle.leg_geom.specs.Plane.{Sides}
 use Rattle.leg_sweep.specs.Steps.Sweep.{unit_square, rect_numbered, test_at, ordered, AreNewPairs}
-use Rattle.leg_sweep.proofs.Lists.{Contains-nil, AllPairs-nil}
+use Rattle.leg_sweep.specs.Pairs.TakesAll.{none, more}
+use Rattle.leg_sweep.proofs.Lists.{Contains-nil, AllPairs-nil, AllPairs-append_by}
+use Rattle.leg_sweep.proofs.Taken.{takes_append}
 
 pub ordered_below : (x n : ℕ) → x < n → ordered x n ≡ (x, n)
 ordered_below x n below =
@@ -56,23 +58,24 @@ module _ {Item : Type 0} (Holds : Item → Item → Type 0) (symmetric : (a b : 
             symmetric b a (rw (a_is, b_is) at h.holds)
       ]
 
-module _ (IsOne : ℕ × ℕ → Type 0) (new : ℕ) (before : List (ℕ × ℕ)) where
+module _ {Sink : Type 0} (Takes : Sink → ℕ × ℕ → Sink → Type 0) (IsOne : ℕ × ℕ → Type 0) (new : ℕ) (before : Sink) where
   -- no pair yet
-  pub new_pairs_none : AreNewPairs IsOne [] new before before
+  pub new_pairs_none : AreNewPairs Takes IsOne [] new 0 before before
   new_pairs_none = record {
     more = [];
-    behind = sym (append-nil before);
+    taken = none;
     each = All-nil IsOne;
     named = All-nil (λ p. (x : ℕ) × Contains [] x × (p ≡ ordered x new));
     distinct = AllPairs-nil (λ p q. p ≢ q);
     all = λ x c h. absurd (Contains-nil x c);
+    enough = omega arith;
   }
 
-  -- one more active item, which makes no pair
-  pub new_pairs_skip : (done : List ℕ) (x : ℕ) (found : List (ℕ × ℕ)) → (IsOne (ordered x new) → ⊥) → AreNewPairs IsOne done new before found → AreNewPairs IsOne (done ++ x ∷ []) new before found
-  new_pairs_skip done x found is_none so_far = record {
+  -- one more waiting item, which makes no pair
+  pub new_pairs_skip : (done : List ℕ) (x tests later : ℕ) (after : Sink) → (IsOne (ordered x new) → ⊥) → tests ≤ later → AreNewPairs Takes IsOne done new tests before after → AreNewPairs Takes IsOne (done ++ x ∷ []) new later before after
+  new_pairs_skip done x tests later after is_none grown so_far = record {
     more = so_far.more;
-    behind = so_far.behind;
+    taken = so_far.taken;
     each = so_far.each;
     named =
         All-weaker (λ p. (y : ℕ) × Contains done y × (p ≡ ordered y new)) (λ p. (y : ℕ) × Contains (done ++ x ∷ []) y × (p ≡ ordered y new))
@@ -82,15 +85,17 @@ module _ (IsOne : ℕ × ℕ → Type 0) (new : ℕ) (before : List (ℕ × ℕ)
       | inl earlier ↦ so_far.all y earlier h
       | inr here ↦ absurd (is_none (rw here h))
     ];
+    enough = omega (arith, so_far.enough, grown);
   }
 
-  -- one more active item, which makes one
-  pub new_pairs_more : (done : List ℕ) (x : ℕ) (found : List (ℕ × ℕ)) → IsOne (ordered x new) → (Contains done x → ⊥) → AreNewPairs IsOne done new before found → AreNewPairs IsOne (done ++ x ∷ []) new before (found ++ ordered x new ∷ [])
-  new_pairs_more done x found is_one not_done so_far =
+  -- one more waiting item, which makes one
+  pub new_pairs_more : (done : List ℕ) (x tests : ℕ) (between after : Sink) → IsOne (ordered x new) → (Contains done x → ⊥) → Takes between (ordered x new) after → AreNewPairs Takes IsOne done new tests before between
+      → AreNewPairs Takes IsOne (done ++ x ∷ []) new (tests + 1) before after
+  new_pairs_more done x tests between after is_one not_done step so_far =
       let pair = ordered x new in
       record {
         more = so_far.more ++ pair ∷ [];
-        behind = rw so_far.behind (append_assoc before so_far.more (pair ∷ []));
+        taken = more so_far.taken step;
         each = All-push IsOne so_far.more pair so_far.each is_one;
         named =
             All-push (λ p. (y : ℕ) × Contains (done ++ x ∷ []) y × (p ≡ ordered y new)) so_far.more pair
@@ -107,7 +112,34 @@ module _ (IsOne : ℕ × ℕ → Type 0) (new : ℕ) (before : List (ℕ × ℕ)
           | inl earlier ↦ Contains-append_left so_far.more (pair ∷ []) (ordered y new) (so_far.all y earlier h)
           | inr here ↦ rw (← here) (Contains-push so_far.more pair)
         ];
+        enough = omega (arith, so_far.enough, length_push so_far.more pair);
       }
+
+  -- the pairs with the items of a list, and then with those of another one
+  pub new_pairs_append : (first second : List ℕ) (tests later : ℕ) (between after : Sink) → ((x : ℕ) → Contains first x → Contains second x → ⊥)
+      → AreNewPairs Takes IsOne first new tests before between → AreNewPairs Takes IsOne second new later between after → AreNewPairs Takes IsOne (first ++ second) new (tests + later) before after
+  new_pairs_append first second tests later between after differ a b = record {
+    more = a.more ++ b.more;
+    taken = takes_append Takes before a.more between b.more after a.taken b.taken;
+    each = All-append IsOne a.more b.more a.each b.each;
+    named =
+        All-append (λ p. (y : ℕ) × Contains (first ++ second) y × (p ≡ ordered y new)) a.more b.more
+        (All-weaker (λ p. (y : ℕ) × Contains first y × (p ≡ ordered y new)) (λ p. (y : ℕ) × Contains (first ++ second) y × (p ≡ ordered y new))
+        (λ p n. (n.0, Contains-append_left first second n.0 n.1, n.2)) a.more a.named)
+        (All-weaker (λ p. (y : ℕ) × Contains second y × (p ≡ ordered y new)) (λ p. (y : ℕ) × Contains (first ++ second) y × (p ≡ ordered y new))
+        (λ p n. (n.0, Contains-append_right first second n.0 n.1, n.2)) b.more b.named);
+    distinct =
+        AllPairs-append_by (λ p q. p ≢ q) (λ p. (y : ℕ) × Contains first y × (p ≡ ordered y new)) (λ p. (y : ℕ) × Contains second y × (p ≡ ordered y new))
+        (λ p q in_first in_second same.
+        let partner : in_first.0 ≡ in_second.0 = same_partner in_first.0 in_second.0 new (sym in_first.2 ∙ same ∙ in_second.2) in
+        differ in_first.0 in_first.1 (rw (sym partner) at in_second.1))
+        a.more b.more a.named b.named a.distinct b.distinct;
+    all = λ y c h. elim (Contains-append_cases first second y c) [
+      | inl in_first ↦ Contains-append_left a.more b.more (ordered y new) (a.all y in_first h)
+      | inr in_second ↦ Contains-append_right a.more b.more (ordered y new) (b.all y in_second h)
+    ];
+    enough = omega (arith, a.enough, b.enough, length-append a.more b.more);
+  }
 
 module _ {Item : Type 0} (rect_of : Item → Sides) (items : List Item) where
   -- the rectangle of an item that was read

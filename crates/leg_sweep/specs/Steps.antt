@@ -1,3 +1,4 @@
 -- What the search knows on its way. No meaning of a public call speaks of it.
 pub mod Sweep
 pub mod Bands
+pub mod Grid

@@ -1,16 +1,20 @@
-//! The pairs of items for which a rule holds, band by band.
+//! The pairs of items for which a rule holds, found band by band.
 
-ghost use Rattle.std.specs.Prelude.{◌≡◌, ◌<◌, ◌^◌, length, AllPairs, Contains, IfOk};
-ghost use Rattle.leg_sweep.specs.Pairs.{Before, ArePairs};
+ghost use Rattle.std.specs.Prelude.{◌≡◌, ◌≤◌, ◌<◌, ◌+◌, ◌*◌, ◌^◌, length, IfOk, OnOk};
+ghost use Rattle.leg_sweep.specs.Pairs.{ArePairs, TookPairs};
+ghost use Rattle.leg_sweep.specs.Counts.{near_on_layer_along_x, near_on_layer, count_pairs};
+ghost use Rattle.leg_sweep.specs.Steps.Sweep.{TookTested};
 
-use crate::bands::{band_height, entries, sort_entries};
+use crate::grid::stretches_and_bands;
 use crate::left_to_right::left_to_right;
-use crate::pair_list::pairs;
+use crate::pair_list::sort_pairs;
 use crate::rule::LayeredRule;
-use crate::runs::sweep_runs;
+use crate::sink::PairSink;
+use crate::sweep::sweep;
 use std::alloc::{AllocError, Allocator};
 
-/// The pairs as `pairs` answers them, by sweeps over bands of y on each layer, where few items stand in many bands.
+/// The pairs of numbers of items for which the rule holds, lower number first, in increasing order, found by a sweep over
+/// bands of y on each layer. The rule's counts tell afterwards how often it was asked.
 pub fn pairs_in_bands<R: LayeredRule, A: Allocator + Copy>(
     alloc: A,
     items: &[R::Item],
@@ -20,27 +24,63 @@ pub fn pairs_in_bands<R: LayeredRule, A: Allocator + Copy>(
     requires untested { R.tests_of rule.old ≡ 0 }
     requires unseen { R.looks_of rule.old ≡ 0 }
     ensures pairs { IfOk result (λ found. ArePairs (R.Holds (R.fixed rule.old)) items.now found.items) }
+    ensures tests { IfOk result (λ found. length found.items ≤ R.tests_of rule.new) }
+    ensures looks { OnOk result (R.tests_of rule.new ≤ R.looks_of rule.new) }
+    ensures few_tests { let fixed = R.fixed rule.old in OnOk result (R.tests_of rule.new
+        ≤ count_pairs (near_on_layer (R.rect_of fixed) (R.layer_of fixed) (R.layer_reach_of fixed)) items.now) }
+    ensures few_looks { let fixed = R.fixed rule.old in OnOk result (R.looks_of rule.new
+        ≤ 4 * length items.now + count_pairs (near_on_layer_along_x (R.rect_of fixed) (R.layer_of fixed) (R.layer_reach_of fixed)) items.now) }
+    ensures same { R.fixed rule.new ≡ R.fixed rule.old }
+{
+    let mut found = Vec::new(alloc);
+    search(alloc, items, rule, &mut found)?;
+    sort_pairs(&mut found);
+    Ok(found)
+}
+
+/// Hands the sink each pair that `pairs_in_bands` answers, once, in any order.
+pub fn each_pair<R: LayeredRule, S: PairSink, A: Allocator + Copy>(
+    alloc: A,
+    items: &[R::Item],
+    rule: &mut R,
+    sink: &mut S,
+) -> Result<(), AllocError>
+    requires few { length items.now < 2 ^ 32 }
+    requires room { length items.now ≤ S.room_of sink.old }
+    requires untested { R.tests_of rule.old ≡ 0 }
+    requires unseen { R.looks_of rule.old ≡ 0 }
+    ensures pairs { OnOk result (TookPairs S.Takes (R.Holds (R.fixed rule.old)) items.now sink.old sink.new) }
+    ensures looks { OnOk result (R.tests_of rule.new ≤ R.looks_of rule.new) }
+    ensures few_tests { let fixed = R.fixed rule.old in OnOk result (R.tests_of rule.new
+        ≤ count_pairs (near_on_layer (R.rect_of fixed) (R.layer_of fixed) (R.layer_reach_of fixed)) items.now) }
+    ensures few_looks { let fixed = R.fixed rule.old in OnOk result (R.looks_of rule.new
+        ≤ 4 * length items.now + count_pairs (near_on_layer_along_x (R.rect_of fixed) (R.layer_of fixed) (R.layer_reach_of fixed)) items.now) }
+    ensures same { R.fixed rule.new ≡ R.fixed rule.old }
+{
+    search(alloc, items, rule, sink)
+}
+
+/// The sweep over the bands of all layers.
+fn search<R: LayeredRule, S: PairSink, A: Allocator + Copy>(
+    alloc: A,
+    items: &[R::Item],
+    rule: &mut R,
+    sink: &mut S,
+) -> Result<(), AllocError>
+    requires few { length items.now < 2 ^ 32 }
+    requires room { length items.now ≤ S.room_of sink.old }
+    requires untested { R.tests_of rule.old ≡ 0 }
+    requires unseen { R.looks_of rule.old ≡ 0 }
+    ensures pairs { OnOk result (TookTested S.Takes (R.Holds (R.fixed rule.old)) items.now (R.tests_of rule.new) sink.old sink.new) }
+    ensures looks { OnOk result (R.tests_of rule.new ≤ R.looks_of rule.new) }
+    ensures few_tests { let fixed = R.fixed rule.old in OnOk result (R.tests_of rule.new
+        ≤ count_pairs (near_on_layer (R.rect_of fixed) (R.layer_of fixed) (R.layer_reach_of fixed)) items.now) }
+    ensures few_looks { let fixed = R.fixed rule.old in OnOk result (R.looks_of rule.new
+        ≤ 4 * length items.now + count_pairs (near_on_layer_along_x (R.rect_of fixed) (R.layer_of fixed) (R.layer_reach_of fixed)) items.now) }
     ensures same { R.fixed rule.new ≡ R.fixed rule.old }
 {
     let order = left_to_right(alloc, items, rule)?;
-    let height = band_height(items, rule);
-    match entries(alloc, items, rule, &order, height)? {
-        Some(mut entries) => {
-            sort_entries(&mut entries);
-            let mut found = sweep_runs(alloc, items, rule, &order, &entries)?;
-            sort_pairs_once(&mut found);
-            Ok(found)
-        }
-        None => pairs(alloc, items, rule),
-    }
-}
-
-/// Puts the pairs in increasing order, each once.
-fn sort_pairs_once<A: Allocator>(found: &mut Vec<(u32, u32), A>)
-    ensures increasing { AllPairs Before found.new.items }
-    ensures all { (p : _) → Contains found.old.items p → Contains found.new.items p }
-    ensures each { (p : _) → Contains found.new.items p → Contains found.old.items p }
-{
-    found.sort_unstable();
-    found.dedup();
+    let (stretches, mut bands) = stretches_and_bands(alloc, items, rule)?;
+    sweep(alloc, items, rule, sink, &order, &stretches, &mut bands)?;
+    Ok(())
 }

@@ -1,15 +1,19 @@
 //! Which pairs of rectangles meet, under a rule of the caller's own.
 #![tactic(auto)]
 
+mod band;
 mod banded;
-mod bands;
+mod grid;
 pub mod laws;
 mod left_to_right;
 mod pair_list;
 mod rule;
-mod runs;
+mod sink;
 mod sweep;
+mod visit;
+mod waiting;
 
-pub use banded::pairs_in_bands;
+pub use banded::{each_pair, pairs_in_bands};
 pub use pair_list::{Found, pairs, pairs_counted};
 pub use rule::{LayeredRule, PairRule};
+pub use sink::PairSink;

@@ -1,10 +1,12 @@
 //! The pairs of items for which a rule holds.
 
-ghost use Rattle.std.specs.Prelude.{◌≡◌, ◌≤◌, ◌<◌, ◌+◌, ◌^◌, length, map, IfOk, OnOk, IsPermutation, IsSorted};
+ghost use Rattle.std.specs.Prelude.{◌≡◌, ◌≤◌, ◌<◌, ◌+◌, ◌^◌, [], ◌∷◌, length, map, replicate, IfOk, OnOk, IsPermutation, IsSorted};
 ghost use Rattle.leg_sweep.specs.Pairs.{ArePairs};
 ghost use Rattle.leg_sweep.specs.Counts.{near_along_x, near_along_both, count_pairs};
+ghost use Rattle.leg_sweep.specs.Steps.Bands.{empty_band};
 ghost use Rattle.leg_sweep.specs.Steps.Sweep.{pair_cmp};
 
+use crate::band::{Band, Stretch};
 use crate::left_to_right::left_to_right;
 use crate::rule::PairRule;
 use crate::sweep::sweep;
@@ -65,7 +67,12 @@ pub fn pairs_counted<R: PairRule, A: Allocator + Copy>(
     ensures same { R.fixed rule.new ≡ R.fixed rule.old }
 {
     let order = left_to_right(alloc, items, rule)?;
-    let mut pairs = sweep(alloc, items, rule, &order)?;
+    let stretches = lowest_stretches(alloc, items.len())?;
+    let mut bands = one_band(alloc, reach_of(rule))?;
+    let mut pairs = Vec::new(alloc);
+    sweep(
+        alloc, items, rule, &mut pairs, &order, &stretches, &mut bands,
+    )?;
     sort_pairs(&mut pairs);
     Ok(Found {
         pairs,
@@ -74,8 +81,31 @@ pub fn pairs_counted<R: PairRule, A: Allocator + Copy>(
     })
 }
 
+/// The reach of the rule.
+fn reach_of<R: PairRule>(rule: &R) -> u64
+    ensures { result ≡ R.reach_of (R.fixed rule.now) }
+{
+    rule.reach().unsigned_abs()
+}
+
+/// For so many items the lowest band alone.
+fn lowest_stretches<A: Allocator>(alloc: A, count: usize) -> Result<Vec<Stretch, A>, AllocError>
+    ensures { IfOk result (λ stretches. stretches.items ≡ replicate count (record { first = 0; last = 0 })) }
+{
+    Vec::from_elem(alloc, Stretch { first: 0, last: 0 }, count)
+}
+
+/// A single band of this reach, for all items.
+fn one_band<A: Allocator + Copy>(alloc: A, reach: u64) -> Result<Vec<Band<A>, A>, AllocError>
+    ensures { IfOk result (λ bands. bands.items ≡ empty_band reach ∷ []) }
+{
+    let mut bands = Vec::new(alloc);
+    bands.push(Band::new(alloc, reach))?;
+    Ok(bands)
+}
+
 /// Puts the pairs in increasing order.
-fn sort_pairs<A: Allocator>(pairs: &mut Vec<(u32, u32), A>)
+pub(crate) fn sort_pairs<A: Allocator>(pairs: &mut Vec<(u32, u32), A>)
     ensures moved { IsPermutation pairs.old.items pairs.new.items }
     ensures count { length pairs.new.items ≡ length pairs.old.items }
     ensures sorted { IsSorted pair_cmp pairs.new.items }

@@ -67,13 +67,26 @@ pub trait PairRule {
         (x_gap (rect_of r a) (rect_of r b) ≤ reach_of r) × (y_gap (rect_of r a) (rect_of r b) ≤ reach_of r) };
 }
 
-/// A rule whose items lie on layers, and which holds only of items of one layer.
+/// A rule whose items lie on layers, and which holds only of items of one layer. Each layer has a reach of its own.
 pub trait LayeredRule: PairRule {
+    ghost layers_of: { Self → ℕ };
+
     ghost layer_of: { Self → Self.Item → ℕ };
+
+    ghost layer_reach_of: { Self → ℕ → ℕ };
+
+    /// How many layers there are.
+    fn layers(&self) -> usize
+        ensures { result ≡ layers_of (Self.fixed self.now) };
 
     /// The number of the item's layer.
     fn layer(&self, item: &Self::Item) -> usize
-        ensures { result ≡ layer_of (Self.fixed self.now) item.now };
+        ensures is { result ≡ layer_of (Self.fixed self.now) item.now }
+        ensures below { result < layers_of (Self.fixed self.now) };
+
+    /// How far apart two items of the layer can be for which the rule holds, along each axis.
+    fn layer_reach(&self, layer: usize) -> u64
+        ensures { result ≡ layer_reach_of (Self.fixed self.now) layer };
 
     /// The bottom edge of the item's rectangle.
     fn bottom(&self, item: &Self::Item) -> i64
@@ -87,4 +100,8 @@ pub trait LayeredRule: PairRule {
 
     // Where the rule holds, both items lie on one layer.
     ghost layered: { (r : Self) (a b : Self.Item) → Self.Holds r a b → layer_of r a ≡ layer_of r b };
+
+    // Where the rule holds, both gaps are within the reach of the layer.
+    ghost near_on_layer: { (r : Self) (a b : Self.Item) → Self.Holds r a b →
+        (x_gap (Self.rect_of r a) (Self.rect_of r b) ≤ layer_reach_of r (layer_of r a)) × (y_gap (Self.rect_of r a) (Self.rect_of r b) ≤ layer_reach_of r (layer_of r a)) };
 }

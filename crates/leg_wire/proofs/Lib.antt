@@ -1,18 +1,19 @@
 -- Shorts, and shapes too near
 mod ToldPairs
 mod AllTold
+-- Disjoint sets
+mod SetRoots
+mod WayUp
+mod SetsUnited
 -- Pieces that touch
 mod SinglePoints
 mod SeenPoints
 mod PieceMetal
-mod NetLinks
-mod LinkRuns
 mod PiecesTouch
-mod Touches
 -- Pieces that are joined
-mod MarkedOn
-mod Reaching
-mod OpenPieces
 mod JoinedLaws
+mod Touches
+mod SetsTaken
+mod OpenPieces
 -- What the proofs of other crates cite
 pub mod SameMetal

@@ -6,7 +6,7 @@ use Rattle.std.proofs.lemmas.Option.{same_Some, none-some}
 use Rattle.leg_flat.specs.declared.shape.Shape.{Shape}
 use Rattle.leg_flat.specs.Flat.{FlatSaid}
 use Rattle.leg_wire.specs.declared.piece_shape.PieceShape.{PieceShape}
-use Rattle.leg_wire.specs.Steps.Links.{IsPieceShape, ArePieceShapes}
+use Rattle.leg_wire.specs.Steps.PieceMetal.{IsPieceShape, ArePieceShapes}
 
 module _ (flat : FlatSaid) (first end : ℕ) where
   -- the piece's metal is what a shape says, of one of these nets

@@ -1,41 +1,34 @@
 -- Pieces of a net touch where two of their rectangles share two points, or where two pairs of their rectangles share single
--- points that differ.
-use Rattle.std.proofs.Common.{◌≡◌, ◌≢◌, ℕ, min, max, Bool, true, ℤ, List, [], ◌∷◌, ◌++◌, length, get_or, ◌<◌, Some, slice_get, Contains, false, IsPermutation, ◌⊎◌, inl, inr, refl, sym, ap, ◌∙◌, arith}
-use Rattle.std.proofs.lemmas.Bool.{cases_lt, cases_eq}
-use Rattle.std.proofs.lemmas.List.{append-nil}
-use Rattle.std.proofs.lemmas.List.Elements.{Contains-append_left, Contains-append_right, Contains-append_cases, Contains-push_cases}
-use Rattle.std.proofs.lemmas.Option.{same_Some, slice_get_within, slice_get_read}
-use Rattle.std.specs.Ordering.{is_lt}
-use Rattle.std.specs.List.Sorted.{IsSortedBy}
-use Rattle.std.proofs.lemmas.List.Sorted.{IsPermutation-sym, Contains-permutation}
-use Rattle.leg_sweep.specs.Steps.Sweep.{pair_cmp}
-use Rattle.leg_sweep.specs.Pairs.{IsPair, ArePairs}
-use Rattle.leg_sweep.proofs.Lists.{Contains-nil, Contains-here, Contains-there, Contains-cons_cases}
+-- points that differ. By the pairs of rectangles that meet, the sets of pieces come to be those of the pieces that are joined.
+use Rattle.std.proofs.Common.{◌≡◌, ◌≢◌, ℕ, ◌-◌, min, max, Bool, true, false, ℤ, List, [], ◌∷◌, ◌++◌, length, get_or, set, ◌<◌, ◌≤◌, Some, slice_get, Contains, ◌⊎◌, inl, inr, refl, sym, ap, ◌∙◌, arith}
+use Rattle.std.proofs.lemmas.Bool.{false≢true, cases_lt, cases_eq}
+use Rattle.std.proofs.lemmas.List.{length-set, set-get_or, get_or-set_same, get_or-set_other}
+use Rattle.std.proofs.lemmas.List.Elements.{Contains-push_cases}
+use Rattle.std.proofs.lemmas.Option.{same_Some, slice_get_within, slice_get_read, get_or_from_slice_get}
+use Rattle.leg_sweep.specs.Pairs.{IsPair, HasPairs}
 use Rattle.leg_geom.specs.Plane.{Spot, ShareTwoPoints}
 use Rattle.leg_wire.specs.declared.corner.Beside.{Beside}
-use Rattle.leg_wire.specs.declared.link.Link.{Link}
 use Rattle.leg_wire.specs.declared.piece_shape.PieceShape.{PieceShape}
+use Rattle.leg_wire.specs.Touch.{Joined}
+use Rattle.leg_wire.specs.Touch.Joined.{itself, through}
 use Rattle.leg_wire.specs.Steps.MeetingRule.{DoMeet, DoMeet-symmetric}
-use Rattle.leg_wire.specs.Steps.Links.{LiesAmong, TouchAmong, AreLinks}
-use Rattle.leg_wire.specs.Steps.SharedPoints.{first_seen, pieces_beside, spot_of, IsShared, IsSeen}
-use Rattle.leg_wire.proofs.NetLinks.{key_of, AreRising-from_sort}
+use Rattle.leg_wire.specs.Steps.PieceMetal.{LiesAmong, TouchAmong}
+use Rattle.leg_wire.specs.Steps.NumberSets.{AreTogether, AreUnited}
+use Rattle.leg_wire.specs.Steps.SharedPoints.{first_seen, pieces_beside, spot_of, IsShared}
+use Rattle.leg_wire.specs.Steps.JoinSteps.{TellsTouch, IsJoinStep, IsStepAt}
+use Rattle.leg_wire.specs.Steps.JoinSteps.TellsTouch.{share_two, share_none, share_one}
+use Rattle.leg_wire.specs.Steps.JoinSteps.IsJoinStep.{were_together, are_united, stay_apart}
+use Rattle.leg_wire.proofs.JoinedLaws.{Joined-onward}
+use Rattle.leg_wire.proofs.SetsUnited.{AreTogether-itself, AreTogether-back, AreTogether-onward}
 
--- the link from the piece of the first rectangle to that of the second
-abbrev pub link_between : PieceShape → PieceShape → Link
-link_between s t = record { net = s.net; from = s.piece; to = t.piece }
+-- the sets of a net's pieces, where those of the first net stand first
+abbrev pub sets_at : ℕ → List (List ℕ) → ℕ → List ℕ
+sets_at first nets net = get_or nets (net - first) []
 
--- and the one back
-abbrev pub link_back : PieceShape → PieceShape → Link
-link_back s t = record { net = s.net; from = t.piece; to = s.piece }
-
--- both links are there
-pub record AreLinked (links : List Link) (s t : PieceShape) : Type 0 where
-  pub there : Contains links (link_between s t)
-  pub back : Contains links (link_back s t)
-
--- each point of both rectangles is the first that was seen for their pieces, or the links are there
-abbrev pub IsDone : List Link → List (Beside × (ℤ × ℤ)) → PieceShape → PieceShape → Type 0
-IsDone links seen s t = (p : Spot) → IsShared s.rect t.rect p → AreLinked links s t ⊎ (first_seen seen (pieces_beside s t) ≡ Some (p.x, p.y))
+-- each point of both rectangles is the first that was seen for their pieces, or these are together
+abbrev pub IsDone : ℕ → List (List ℕ) → List (Beside × (ℤ × ℤ)) → PieceShape → PieceShape → Type 0
+IsDone first nets seen s t =
+    (p : Spot) → IsShared s.rect t.rect p → AreTogether (sets_at first nets s.net) s.piece t.piece ⊎ (first_seen seen (pieces_beside s t) ≡ Some (p.x, p.y))
 
 -- two pieces, in either order, and a layer
 abbrev pub beside : ℕ → ℕ → ℕ → ℕ → Beside
@@ -49,11 +42,11 @@ beside-back net a b layer =
     rw (low, high) refl
 
 -- what is done is done in either order
-IsDone-back : (links : List Link) (seen : List (Beside × (ℤ × ℤ))) (s t : PieceShape) → s.net ≡ t.net → s.layer ≡ t.layer → IsDone links seen s t → IsDone links seen t s
-IsDone-back links seen s t net layer done p shared = elim (done p (record { in_a = shared.in_b; in_b = shared.in_a })) [
-  | inl linked ↦ inl (record { there = rw net at linked.back; back = rw net at linked.there })
-  | inr first ↦
-      let back : first_seen seen (beside s.net t.piece s.piece s.layer) ≡ Some (p.x, p.y) = rw (beside-back s.net s.piece t.piece s.layer) at first in
+IsDone-back : (first : ℕ) (nets : List (List ℕ)) (seen : List (Beside × (ℤ × ℤ))) (s t : PieceShape) → s.net ≡ t.net → s.layer ≡ t.layer → IsDone first nets seen s t → IsDone first nets seen t s
+IsDone-back first nets seen s t net layer done p shared = elim (done p (record { in_a = shared.in_b; in_b = shared.in_a })) [
+  | inl together ↦ inl (rw net at (AreTogether-back (sets_at first nets s.net) s.piece t.piece together))
+  | inr there ↦
+      let back : first_seen seen (beside s.net t.piece s.piece s.layer) ≡ Some (p.x, p.y) = rw (beside-back s.net s.piece t.piece s.layer) at there in
       inr (rw (net, layer) at back)
 ]
 
@@ -62,12 +55,6 @@ module _ (shapes : List PieceShape) where
   pub record LiesInBoth (pieces : Beside) (point : ℤ × ℤ) : Type 0 where
     pub low : LiesAmong shapes pieces.net pieces.low pieces.layer (spot_of point)
     pub high : LiesAmong shapes pieces.net pieces.high pieces.layer (spot_of point)
-
-  -- the links and the points by the meetings so far
-  pub record AreSoFar (meetings : List (ℕ × ℕ)) (links : List Link) (seen : List (Beside × (ℤ × ℤ))) : Type 0 where
-    pub each : (link : Link) → Contains links link → TouchAmong shapes link.net link.from link.to
-    pub points : (pieces : Beside) (point : ℤ × ℤ) → first_seen seen pieces ≡ Some point → LiesInBoth pieces point
-    pub done : (p : ℕ × ℕ) (s t : PieceShape) → Contains meetings p → slice_get shapes p.0 ≡ Some s → slice_get shapes p.1 ≡ Some t → IsDone links seen s t
 
   -- pieces touch one another
   TouchAmong-back : (net a b : ℕ) → TouchAmong shapes net a b → TouchAmong shapes net b a
@@ -150,83 +137,216 @@ module _ (shapes : List PieceShape) where
           q_in_b = lies_in_second meet.shared.point here;
         }
 
-  -- one more meeting
-  module _ (meetings : List (ℕ × ℕ)) (links : List Link) (before after : List (Beside × (ℤ × ℤ))) (done : AreSoFar meetings links before)
-      (m : ℕ × ℕ) (s t : PieceShape) (s_at : slice_get shapes m.0 ≡ Some s) (t_at : slice_get shapes m.1 ≡ Some t)
-      (kept : (pieces : Beside) (point : ℤ × ℤ) → first_seen before pieces ≡ Some point → first_seen after pieces ≡ Some point)
-      (points : (pieces : Beside) (point : ℤ × ℤ) → first_seen after pieces ≡ Some point → LiesInBoth pieces point) where
-    -- what was done stays so
-    done_stays : (more : List Link) (u v : PieceShape) → IsDone links before u v → IsDone (links ++ more) after u v
-    done_stays more u v was p shared = elim (was p shared) [
-      | inl linked ↦ inl (record {
-        there = Contains-append_left links more (link_between u v) linked.there;
-        back = Contains-append_left links more (link_back u v) linked.back;
-      })
-      | inr first ↦ inr (kept (pieces_beside u v) (p.x, p.y) first)
+    -- what two rectangles tell of the points that were seen
+    pub points_told : (before after : List (Beside × (ℤ × ℤ))) (touch : Bool) → TellsTouch s t before after touch
+        → ((pieces : Beside) (point : ℤ × ℤ) → first_seen before pieces ≡ Some point → LiesInBoth pieces point)
+        → (pieces : Beside) (point : ℤ × ℤ) → first_seen after pieces ≡ Some point → LiesInBoth pieces point
+    points_told before after touch (share_two told two same) points pieces point at = points pieces point (rw same at at)
+    points_told before after touch (share_none told none same) points pieces point at = points pieces point (rw same at at)
+    points_told before after touch (share_one seen) points pieces point at = elim (seen.new pieces point at) [
+      | inl old ↦ points pieces point old
+      | inr new ↦ rw new.0 (lies_in_both point new.1)
     ]
 
+    -- none is forgotten
+    pub points_kept : (before after : List (Beside × (ℤ × ℤ))) (touch : Bool) → TellsTouch s t before after touch
+        → (pieces : Beside) (point : ℤ × ℤ) → first_seen before pieces ≡ Some point → first_seen after pieces ≡ Some point
+    points_kept before after touch (share_two told two same) pieces point there = rw same there
+    points_kept before after touch (share_none told none same) pieces point there = rw same there
+    points_kept before after touch (share_one seen) pieces point there = seen.kept pieces point there
+
+    -- they make their pieces touch
+    pub touch_told : (before after : List (Beside × (ℤ × ℤ))) (touch : Bool) → touch ≡ true → TellsTouch s t before after touch
+        → ((pieces : Beside) (point : ℤ × ℤ) → first_seen before pieces ≡ Some point → LiesInBoth pieces point)
+        → TouchAmong shapes s.net s.piece t.piece
+    touch_told before after touch is (share_two told two same) points = touch_by_two two
+    touch_told before after touch is (share_none told none same) points = absurd (false≢true (sym told ∙ is))
+    touch_told before after touch is (share_one seen) points =
+        touch_by_other seen.first
+        (points_told before after touch (share_one seen) points (pieces_beside s t) seen.first seen.there) (seen.differs is)
+
+    -- they don't: the point that they share is the first one
+    pub apart_told : (before after : List (Beside × (ℤ × ℤ))) (touch : Bool) → touch ≡ false → TellsTouch s t before after touch
+        → (p : Spot) → IsShared s.rect t.rect p → first_seen after (pieces_beside s t) ≡ Some (p.x, p.y)
+    apart_told before after touch is (share_two told two same) p shared = absurd (false≢true (sym is ∙ told))
+    apart_told before after touch is (share_none told none same) p shared = absurd (none (record { point = p; in_a = shared.in_a; in_b = shared.in_b }))
+    apart_told before after touch is (share_one seen) p shared =
+        let here : (p.x, p.y) ≡ seen.first = ap (λ (q : Spot). (q.x, q.y)) ((seen.same is).only p shared) in
+        seen.there ∙ ap Some (sym here)
+
+-- the sets and the points by the meetings so far, where the sets had these sizes at first
+pub record AreSoFar (shapes : List PieceShape) (first : ℕ) (start : List (List ℕ)) (meetings : List (ℕ × ℕ)) (nets : List (List ℕ)) (seen : List (Beside × (ℤ × ℤ))) : Type 0 where
+  pub count : length nets ≡ length start
+  pub sizes : (place : ℕ) → length (get_or nets place []) ≡ length (get_or start place [])
+  pub joined : (net a b : ℕ) → first ≤ net → AreTogether (sets_at first nets net) a b → Joined (TouchAmong shapes net) a b
+  pub points : (pieces : Beside) (point : ℤ × ℤ) → first_seen seen pieces ≡ Some point → LiesInBoth shapes pieces point
+  pub done : (p : ℕ × ℕ) (s t : PieceShape) → Contains meetings p → slice_get shapes p.0 ≡ Some s → slice_get shapes p.1 ≡ Some t → IsDone first nets seen s t
+
+module _ (shapes : List PieceShape) (first : ℕ) (start : List (List ℕ)) where
+  -- one more meeting
+  module _ (meetings : List (ℕ × ℕ)) (nets : List (List ℕ)) (before : List (Beside × (ℤ × ℤ))) (done : AreSoFar shapes first start meetings nets before)
+      (m : ℕ × ℕ) (s t : PieceShape) (s_at : slice_get shapes m.0 ≡ Some s) (t_at : slice_get shapes m.1 ≡ Some t) where
     -- each meeting so far is done, and this one
-    done_or_this : (more : List Link) → IsDone (links ++ more) after s t → (p : ℕ × ℕ) (u v : PieceShape) → Contains (meetings ++ m ∷ []) p → slice_get shapes p.0 ≡ Some u → slice_get shapes p.1 ≡ Some v → IsDone (links ++ more) after u v
-    done_or_this more this p u v has u_at v_at = elim (Contains-push_cases meetings m p has) [
-      | inl earlier ↦ done_stays more u v (done.done p u v earlier u_at v_at)
+    done_or_this : (nets_after : List (List ℕ)) (after : List (Beside × (ℤ × ℤ)))
+        → ((net a b : ℕ) → AreTogether (sets_at first nets net) a b → AreTogether (sets_at first nets_after net) a b)
+        → ((pieces : Beside) (point : ℤ × ℤ) → first_seen before pieces ≡ Some point → first_seen after pieces ≡ Some point)
+        → IsDone first nets_after after s t
+        → (p : ℕ × ℕ) (u v : PieceShape) → Contains (meetings ++ m ∷ []) p → slice_get shapes p.0 ≡ Some u → slice_get shapes p.1 ≡ Some v → IsDone first nets_after after u v
+    done_or_this nets_after after stay kept this p u v has u_at v_at = elim (Contains-push_cases meetings m p has) [
+      | inl earlier ↦ λ q shared. elim (done.done p u v earlier u_at v_at q shared) [
+        | inl together ↦ inl (stay u.net u.piece v.piece together)
+        | inr there ↦ inr (kept (pieces_beside u v) (q.x, q.y) there)
+      ]
       | inr here ↦
           let u_is : s ≡ u = same_Some s u (sym s_at ∙ ap (λ (n : ℕ × ℕ). slice_get shapes n.0) here ∙ u_at) in
           let v_is : t ≡ v = same_Some t v (sym t_at ∙ ap (λ (n : ℕ × ℕ). slice_get shapes n.1) here ∙ v_at) in
           rw (u_is, v_is) at this
     ]
 
-    -- it gives links
-    pub so_far_linked : TouchAmong shapes s.net s.piece t.piece → AreSoFar (meetings ++ m ∷ []) (links ++ link_between s t ∷ link_back s t ∷ []) after
-    so_far_linked touch = record {
-      each = λ link has. elim (Contains-append_cases links (link_between s t ∷ link_back s t ∷ []) link has) [
-        | inl earlier ↦ done.each link earlier
-        | inr new ↦ elim (Contains-cons_cases (link_between s t) (link_back s t ∷ []) link new) [
-          | inl first ↦ rw (← first) touch
-          | inr later ↦ elim (Contains-cons_cases (link_back s t) [] link later) [
-            | inl second ↦ rw (← second) (TouchAmong-back s.net s.piece t.piece touch)
-            | inr none ↦ absurd (Contains-nil link none)
-          ]
-        ]
-      ];
+    -- the sets stay
+    so_far_same : (after : List (Beside × (ℤ × ℤ)))
+        → ((pieces : Beside) (point : ℤ × ℤ) → first_seen before pieces ≡ Some point → first_seen after pieces ≡ Some point)
+        → ((pieces : Beside) (point : ℤ × ℤ) → first_seen after pieces ≡ Some point → LiesInBoth shapes pieces point)
+        → IsDone first nets after s t → AreSoFar shapes first start (meetings ++ m ∷ []) nets after
+    so_far_same after kept points this = record {
+      count = done.count;
+      sizes = done.sizes;
+      joined = done.joined;
       points = points;
-      done = done_or_this (link_between s t ∷ link_back s t ∷ []) (λ p shared. inl (record {
-        there = Contains-append_right links (link_between s t ∷ link_back s t ∷ []) (link_between s t) (Contains-here (link_between s t) (link_back s t ∷ []));
-        back = Contains-append_right links (link_between s t ∷ link_back s t ∷ []) (link_back s t) (Contains-there (link_between s t) (link_back s t ∷ []) (link_back s t) (Contains-here (link_back s t) []));
-      }));
+      done = done_or_this nets after (λ net a b together. together) kept this;
     }
 
-    -- it gives none: its single point is the first one of the pieces
-    pub so_far_single : IsDone links after s t → AreSoFar (meetings ++ m ∷ []) links after
-    so_far_single this = record {
-      each = done.each;
-      points = points;
-      done = λ p u v has u_at v_at. rw append-nil at (done_or_this [] (rw append-nil this) p u v has u_at v_at);
-    }
+    module _ (s_in : Contains shapes s) (t_in : Contains shapes t) (meet : DoMeet s t) (above : first ≤ s.net) where
+      -- the sets of the net's pieces change
+      module _ (sets sets_after : List ℕ) (at : slice_get nets (s.net - first) ≡ Some sets) where
+        place_in : s.net - first < length nets
+        place_in = slice_get_within nets (s.net - first) sets at
 
-  module _ (meetings : List (ℕ × ℕ)) (are : ArePairs DoMeet shapes meetings) (links : List Link) (seen : List (Beside × (ℤ × ℤ))) (done : AreSoFar meetings links seen) where
+        sets_are : get_or nets (s.net - first) [] ≡ sets
+        sets_are = get_or_from_slice_get nets (s.net - first) sets [] at
+
+        changed_here : get_or (set nets (s.net - first) sets_after) (s.net - first) [] ≡ sets_after
+        changed_here = get_or-set_same nets (s.net - first) sets_after [] place_in
+
+        changed_other : (place : ℕ) → place ≢ s.net - first → get_or (set nets (s.net - first) sets_after) place [] ≡ get_or nets place []
+        changed_other place other = get_or-set_other nets (s.net - first) place sets_after [] other
+
+        module _ (united : AreUnited s.piece t.piece sets sets_after) (touch : TouchAmong shapes s.net s.piece t.piece) where
+          sizes_stay : (place : ℕ) → length (get_or (set nets (s.net - first) sets_after) place []) ≡ length (get_or start place [])
+          sizes_stay place =
+              elim (cases_eq place (s.net - first)) [
+                | inl same ↦ rw same (ap length changed_here ∙ united.count ∙ ap length (sym sets_are) ∙ done.sizes (s.net - first))
+                | inr other ↦ ap length (changed_other place other) ∙ done.sizes place
+              ]
+
+          together_stay : (net a b : ℕ) → AreTogether (sets_at first nets net) a b → AreTogether (sets_at first (set nets (s.net - first) sets_after) net) a b
+          together_stay net a b together =
+              elim (cases_eq (net - first) (s.net - first)) [
+                | inl same ↦
+                    let old : AreTogether sets a b = rw (same, sets_are) at together in
+                    rw (same, changed_here) (united.kept a b old)
+                | inr other ↦ rw (changed_other (net - first) other) together
+              ]
+
+          joined_by_step : (a b : ℕ) → AreTogether sets_after a b → Joined (TouchAmong shapes s.net) a b
+          joined_by_step a b together =
+              let old = λ (x y : ℕ) (h : AreTogether sets x y). done.joined s.net x y above (rw sets_are h) in
+              let meets = TouchAmong shapes s.net in
+              elim (united.no_more a b together) [
+                | inl was ↦ old a b was
+                | inr new ↦ elim new [
+                  | inl over ↦
+                      Joined-onward meets a t.piece b (through (old a s.piece over.0) touch) (old t.piece b over.1)
+                  | inr back ↦
+                      Joined-onward meets a s.piece b (through (old a t.piece back.0) (TouchAmong-back shapes s.net s.piece t.piece touch)) (old s.piece b back.1)
+                ]
+              ]
+
+          joined_after : (net a b : ℕ) → first ≤ net → AreTogether (sets_at first (set nets (s.net - first) sets_after) net) a b → Joined (TouchAmong shapes net) a b
+          joined_after net a b low together =
+              elim (cases_eq net s.net) [
+                | inl same ↦
+                    let now : AreTogether sets_after a b = rw (same, changed_here) at together in
+                    rw same (joined_by_step a b now)
+                | inr other ↦
+                    let apart_place : net - first ≢ s.net - first = λ same. other (omega (arith, low, above, same)) in
+                    done.joined net a b low (rw (changed_other (net - first) apart_place) at together)
+              ]
+
+          so_far_united : (after : List (Beside × (ℤ × ℤ)))
+              → ((pieces : Beside) (point : ℤ × ℤ) → first_seen before pieces ≡ Some point → first_seen after pieces ≡ Some point)
+              → ((pieces : Beside) (point : ℤ × ℤ) → first_seen after pieces ≡ Some point → LiesInBoth shapes pieces point)
+              → AreSoFar shapes first start (meetings ++ m ∷ []) (set nets (s.net - first) sets_after) after
+          so_far_united after kept points = record {
+            count = length-set nets (s.net - first) sets_after ∙ done.count;
+            sizes = sizes_stay;
+            joined = joined_after;
+            points = points;
+            done = done_or_this (set nets (s.net - first) sets_after) after together_stay kept (λ p shared. inl (rw changed_here united.both));
+          }
+
+        -- they are the same
+        nets_same : sets_after ≡ sets → set nets (s.net - first) sets_after ≡ nets
+        nets_same same = rw (same, ← sets_are) (set-get_or nets (s.net - first) [])
+
+        -- two rectangles that meet are taken
+        pub so_far_step : (after : List (Beside × (ℤ × ℤ))) → IsJoinStep s t sets sets_after before after
+            → AreSoFar shapes first start (meetings ++ m ∷ []) (set nets (s.net - first) sets_after) after
+        so_far_step after (were_together together same seen_same) =
+            rw (nets_same same, seen_same)
+            (so_far_same before (λ pieces point is. is) done.points (λ p shared. inl (rw sets_are together)))
+        so_far_step after (are_united told united) =
+            so_far_united united (touch_told shapes s t s_in t_in meet before after true refl told done.points) after
+            (points_kept shapes s t s_in t_in meet before after true told)
+            (points_told shapes s t s_in t_in meet before after true told done.points)
+        so_far_step after (stay_apart told same) =
+            rw (nets_same same)
+            (so_far_same after (points_kept shapes s t s_in t_in meet before after false told)
+            (points_told shapes s t s_in t_in meet before after false told done.points)
+            (λ p shared. inr (apart_told shapes s t s_in t_in meet before after false refl told p shared)))
+
+  -- a pair of rectangles that meet is taken
+  pub so_far_more : ((shape : PieceShape) → Contains shapes shape → first ≤ shape.net)
+      → (meetings : List (ℕ × ℕ)) (nets nets_after : List (List ℕ)) (before after : List (Beside × (ℤ × ℤ))) (m : ℕ × ℕ) → IsPair DoMeet shapes m
+      → ((s t : PieceShape) → slice_get shapes m.0 ≡ Some s → slice_get shapes m.1 ≡ Some t → s.net ≡ t.net → IsStepAt (s.net - first) s t nets nets_after before after)
+      → AreSoFar shapes first start meetings nets before → AreSoFar shapes first start (meetings ++ m ∷ []) nets_after after
+  so_far_more low meetings nets nets_after before after m pair takes done =
+      let s = pair.a in
+      let t = pair.b in
+      let s_in : Contains shapes s = contained m.0 s pair.a_at in
+      let t_in : Contains shapes t = contained m.1 t pair.b_at in
+      let taken = takes s t pair.a_at pair.b_at pair.holds.net in
+      rw taken.is
+      (so_far_step meetings nets before done m s t pair.a_at pair.b_at s_in t_in pair.holds (low s s_in) taken.sets taken.sets_after taken.at after taken.step)
+    where
+      contained : (place : ℕ) (shape : PieceShape) → slice_get shapes place ≡ Some shape → Contains shapes shape
+      contained place shape at = (place, slice_get_within shapes place shape at, get_or_from_slice_get shapes place shape shape at)
+
+  -- all meetings were taken
+  module _ (meetings : List (ℕ × ℕ)) (are : HasPairs DoMeet shapes meetings) (nets : List (List ℕ)) (seen : List (Beside × (ℤ × ℤ))) (done : AreSoFar shapes first start meetings nets seen) where
     -- rectangles that meet are done, here the one of the lower number first
-    done_at : (i j : ℕ) (s t : PieceShape) → slice_get shapes i ≡ Some s → slice_get shapes j ≡ Some t → i < j → DoMeet s t → IsDone links seen s t
+    done_at : (i j : ℕ) (s t : PieceShape) → slice_get shapes i ≡ Some s → slice_get shapes j ≡ Some t → i < j → DoMeet s t → IsDone first nets seen s t
     done_at i j s t s_at t_at order meet = done.done (i, j) s t (are.all (i, j) (record { a = s; b = t; a_at = s_at; b_at = t_at; in_order = order; holds = meet })) s_at t_at
 
     -- or in any order
-    all_done : (s t : PieceShape) → Contains shapes s → Contains shapes t → DoMeet s t → IsDone links seen s t
+    all_done : (s t : PieceShape) → Contains shapes s → Contains shapes t → DoMeet s t → IsDone first nets seen s t
     all_done s t s_in t_in meet =
         let s_at : slice_get shapes s_in.0 ≡ Some s = slice_get_read shapes _ s_in.0 s refl s_in.1 (sym s_in.2) in
         let t_at : slice_get shapes t_in.0 ≡ Some t = slice_get_read shapes _ t_in.0 t refl t_in.1 (sym t_in.2) in
         elim (cases_lt s_in.0 t_in.0) [
-          | inl first ↦ done_at s_in.0 t_in.0 s t s_at t_at first meet
+          | inl sooner ↦ done_at s_in.0 t_in.0 s t s_at t_at sooner meet
           | inr later ↦ elim (cases_eq s_in.0 t_in.0) [
             | inl same ↦
                 let alike : s ≡ t = same_Some s t (sym s_at ∙ ap (slice_get shapes) same ∙ t_at) in
                 absurd (meet.others (ap (λ (u : PieceShape). u.piece) alike))
-            | inr apart ↦ IsDone-back links seen t s (sym meet.net) (sym meet.layer) (done_at t_in.0 s_in.0 t s t_at s_at (omega (arith, later, apart)) (DoMeet-symmetric s t meet))
+            | inr differ ↦ IsDone-back first nets seen t s (sym meet.net) (sym meet.layer) (done_at t_in.0 s_in.0 t s t_at s_at (omega (arith, later, differ)) (DoMeet-symmetric s t meet))
           ]
         ]
 
-    -- a point of two pieces is the first one that was seen for them, or the link is there
-    linked_or_first : (net a b layer : ℕ) (p : Spot) → a ≢ b → LiesAmong shapes net a layer p → LiesAmong shapes net b layer p
-        → Contains links (record { net = net; from = a; to = b }) ⊎ (first_seen seen (beside net a b layer) ≡ Some (p.x, p.y))
-    linked_or_first net a b layer p others in_a in_b =
+    -- a point of two pieces is the first one that was seen for them, or they are together
+    together_or_first : (net a b layer : ℕ) (p : Spot) → a ≢ b → LiesAmong shapes net a layer p → LiesAmong shapes net b layer p
+        → AreTogether (sets_at first nets net) a b ⊎ (first_seen seen (beside net a b layer) ≡ Some (p.x, p.y))
+    together_or_first net a b layer p others in_a in_b =
         let s = in_a.shape in
         let t = in_b.shape in
         let meet : DoMeet s t = record {
@@ -236,83 +356,25 @@ module _ (shapes : List PieceShape) where
           shared = record { point = p; in_a = in_a.inside; in_b = in_b.inside };
         } in
         elim (all_done s t in_a.has in_b.has meet p (record { in_a = in_a.inside; in_b = in_b.inside })) [
-          | inl linked ↦ inl (rw (in_a.of_net, in_a.of_piece, in_b.of_piece) at linked.there)
-          | inr first ↦ inr (rw (in_a.of_net, in_a.of_piece, in_b.of_piece, in_a.on_layer) at first)
+          | inl together ↦ inl (rw (in_a.of_net, in_a.of_piece, in_b.of_piece) at together)
+          | inr there ↦ inr (rw (in_a.of_net, in_a.of_piece, in_b.of_piece, in_a.on_layer) at there)
         ]
 
-    -- the links of all pieces that touch are there
-    pub all_linked : (link : Link) → TouchAmong shapes link.net link.from link.to → Contains links link
-    all_linked link h =
-        elim (linked_or_first link.net link.from link.to h.layer h.p h.others h.p_in_a h.p_in_b) [
-          | inl there ↦ there
-          | inr first_p ↦ elim (linked_or_first link.net link.from link.to h.layer h.q h.others h.q_in_a h.q_in_b) [
-            | inl there ↦ there
+    -- pieces that touch are together
+    touch_together : (net a b : ℕ) → TouchAmong shapes net a b → AreTogether (sets_at first nets net) a b
+    touch_together net a b h =
+        elim (together_or_first net a b h.layer h.p h.others h.p_in_a h.p_in_b) [
+          | inl together ↦ together
+          | inr first_p ↦ elim (together_or_first net a b h.layer h.q h.others h.q_in_a h.q_in_b) [
+            | inl together ↦ together
             | inr first_q ↦
                 let same : (h.p.x, h.p.y) ≡ (h.q.x, h.q.y) = same_Some (h.p.x, h.p.y) (h.q.x, h.q.y) (sym first_p ∙ first_q) in
                 absurd (h.differ (ap spot_of same))
           ]
         ]
 
-    -- once they are sorted
-    pub links_from_sort : (sorted : List Link) → IsPermutation links sorted → IsSortedBy (λ x y. is_lt (pair_cmp (key_of x) (key_of y))) sorted → AreLinks shapes sorted
-    links_from_sort sorted moved up = record {
-      each = λ link has. done.each link (Contains-permutation sorted links link (IsPermutation-sym links sorted moved) has);
-      all = λ link touch. Contains-permutation links sorted link moved (all_linked link touch);
-      rising = AreRising-from_sort sorted up;
-    }
-
-  -- two rectangles that meet, by the numbers of a pair
-  module _ (m : ℕ × ℕ) (pair : IsPair DoMeet shapes m) where
-    -- the numbers are numbers of rectangles
-    pub first_within : m.0 < length shapes
-    first_within = slice_get_within shapes m.0 pair.a pair.a_at
-
-    pub second_within : m.1 < length shapes
-    second_within = slice_get_within shapes m.1 pair.b pair.b_at
-
-    module _ (s t : PieceShape) (s_is : s ≡ get_or shapes m.0 s) (t_is : t ≡ get_or shapes m.1 t) where
-      -- which stand at their places
-      s_at : slice_get shapes m.0 ≡ Some s
-      s_at = slice_get_read shapes _ m.0 s refl first_within s_is
-
-      t_at : slice_get shapes m.1 ≡ Some t
-      t_at = slice_get_read shapes _ m.1 t refl second_within t_is
-
-      s_in : Contains shapes s
-      s_in = (m.0, first_within, sym s_is)
-
-      t_in : Contains shapes t
-      t_in = (m.1, second_within, sym t_is)
-
-      -- and meet
-      pub meet_there : DoMeet s t
-      meet_there = rw (same_Some pair.a s (sym pair.a_at ∙ s_at), same_Some pair.b t (sym pair.b_at ∙ t_at)) at pair.holds
-
-      module _ (meetings : List (ℕ × ℕ)) (links : List Link) (before : List (Beside × (ℤ × ℤ))) (done : AreSoFar meetings links before) where
-        -- they share two points
-        pub linked_by_two : ShareTwoPoints s.rect t.rect → AreSoFar (meetings ++ m ∷ []) (links ++ link_between s t ∷ link_back s t ∷ []) before
-        linked_by_two two =
-            so_far_linked meetings links before before done m s t s_at t_at (λ pieces point at. at) done.points
-            (touch_by_two s t s_in t_in meet_there two)
-
-        module _ (after : List (Beside × (ℤ × ℤ))) (other : Bool) (seen : IsSeen before after s t other) where
-          -- the points seen first still lie in both pieces
-          points_after : (pieces : Beside) (point : ℤ × ℤ) → first_seen after pieces ≡ Some point → LiesInBoth pieces point
-          points_after pieces point at = elim (seen.new pieces point at) [
-            | inl old ↦ done.points pieces point old
-            | inr new ↦ rw new.0 (lies_in_both s t s_in t_in meet_there point new.1)
-          ]
-
-          -- their single point isn't the first one
-          pub linked_by_other : other ≡ true → AreSoFar (meetings ++ m ∷ []) (links ++ link_between s t ∷ link_back s t ∷ []) after
-          linked_by_other told =
-              so_far_linked meetings links before after done m s t s_at t_at seen.kept points_after
-              (touch_by_other s t s_in t_in meet_there seen.first (points_after (pieces_beside s t) seen.first seen.there) (seen.differs told))
-
-          -- it is
-          pub not_linked : other ≡ false → AreSoFar (meetings ++ m ∷ []) links after
-          not_linked told =
-              so_far_single meetings links before after done m s t s_at t_at seen.kept points_after
-              (λ p shared.
-              let is : (p.x, p.y) ≡ seen.first = ap (λ (q : Spot). (q.x, q.y)) ((seen.same told).only p shared) in
-              inr (seen.there ∙ ap Some (sym is)))
+    -- and so are those that are joined
+    pub joined_together : (net a b : ℕ) → a < length (sets_at first nets net) → Joined (TouchAmong shapes net) a b → AreTogether (sets_at first nets net) a b
+    joined_together net a b within itself = AreTogether-itself (sets_at first nets net) a within
+    joined_together net a b within (through {b = c} joined touch) =
+        AreTogether-onward (sets_at first nets net) a c b (joined_together net a c within joined) (touch_together net c b touch)

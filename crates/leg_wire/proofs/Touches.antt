@@ -1,17 +1,27 @@
--- Which pieces touch, by the links that the metal of pieces gives.
-use Rattle.std.proofs.Common.{◌≡◌, ◌≢◌, ℕ, ◌<◌, ◌≤◌, Bool, List, All, Option, None, Some, option_map, length, slice_get, Contains, inl, inr, refl, sym, ◌∙◌}
-use Rattle.std.proofs.lemmas.Bool.{cases_eq}
-use Rattle.std.proofs.lemmas.Option.{same_Some, none-some}
+-- Which pieces touch and which are joined, by the metal of pieces.
+use Rattle.std.proofs.Common.{◌≡◌, ◌≢◌, ℕ, ◌+◌, ◌-◌, ◌<◌, ◌≤◌, ◌^◌, ℤ, Bool, List, [], All, Option, None, Some, option_map, length, get_or, slice_get, ◌∷◌, ◌++◌, inl, inr, refl, sym, ap, ◌∙◌, arith}
+use Rattle.std.specs.List.{range_with_len}
+use Rattle.std.proofs.lemmas.Bool.{cases_eq, cases_lt}
+use Rattle.std.proofs.lemmas.List.{get_or_past, get_or_read}
+use Rattle.std.proofs.lemmas.List.Elements.{All-contains}
+use Rattle.std.proofs.lemmas.List.FromFn.{length-range_with_len, get_or-range_with_len, length-map-range_with_len, get_or-map-range_with_len, map-range_with_len_more}
+use Rattle.std.proofs.lemmas.Option.{same_Some, none-some, slice_get_within, get_or_from_slice_get}
+use Rattle.leg_sweep.specs.Pairs.{HasPairs}
+use Rattle.leg_sweep.proofs.Lists.{Contains-nil}
 use Rattle.leg_geom.specs.Plane.{Spot}
-use Rattle.leg_sweep.proofs.Lists.{All-from_contains}
 use Rattle.leg_flat.specs.declared.piece.Piece.{Piece}
 use Rattle.leg_flat.specs.declared.shape.Shape.{Shape}
 use Rattle.leg_flat.specs.Flat.{FlatSaid}
+use Rattle.leg_wire.specs.declared.corner.Beside.{Beside}
 use Rattle.leg_wire.specs.declared.piece_shape.PieceShape.{PieceShape}
-use Rattle.leg_wire.specs.declared.link.Link.{Link}
-use Rattle.leg_wire.specs.Steps.Links.{ArePieceShapes, LiesAmong, TouchAmong, AreLinks, AreOfNet, AreOfOneNet, LeadsTo}
+use Rattle.leg_wire.specs.Steps.MeetingRule.{DoMeet}
+use Rattle.leg_wire.specs.Steps.NumberSets.{AreTogether}
+use Rattle.leg_wire.specs.Steps.PieceMetal.{ArePieceShapes, LiesAmong, TouchAmong}
+use Rattle.leg_wire.specs.Steps.SharedPoints.{first_seen}
+use Rattle.leg_wire.specs.Steps.JoinSteps.{lone_pieces, HavePlaces, AreJoinedSets, AreSetsOfNets}
 use Rattle.leg_wire.specs.Touch.{piece_count, IsOfPiece, LiesIn, Touch, Joined, AreJoined, AreMarks}
 use Rattle.leg_wire.specs.Touch.Joined.{itself, through}
+use Rattle.leg_wire.proofs.PiecesTouch.{sets_at, AreSoFar, joined_together}
 
 -- the pieces of a net that the flat tells are counted
 pub piece_count-is : (flat : FlatSaid) (n count : ℕ) → option_map length (slice_get flat.pieces n) ≡ Some count → piece_count flat n ≡ count
@@ -20,9 +30,15 @@ piece_count-is flat n count told = by (slice_get flat.pieces n) refl where
   by None is = absurd (none-some count (rw is at told))
   by (Some pieces) is = rw is (same_Some (length pieces) count (rw is at told))
 
--- the links of one net
-pub AreOfNet-one : (links : List Link) (n : ℕ) (found : List Link) → AreOfNet links n found → AreOfOneNet found
-AreOfNet-one links n found are = λ l m l_in m_in. (are.each l l_in).1 ∙ sym (are.each m m_in).1
+-- and few enough
+pub few_pieces : (flat : FlatSaid) (n : ℕ) → All (λ pieces. length pieces < 2 ^ 32) flat.pieces → piece_count flat n < 2 ^ 32
+few_pieces flat n few = by (slice_get flat.pieces n) refl where
+  by : (o : Option (List Piece)) → slice_get flat.pieces n ≡ o → piece_count flat n < 2 ^ 32
+  by None is = rw is (omega arith)
+  by (Some pieces) is =
+      rw is
+      (All-contains (λ pieces. length pieces < 2 ^ 32) flat.pieces pieces few
+      (n, slice_get_within flat.pieces n pieces is, get_or_from_slice_get flat.pieces n pieces pieces is))
 
 of_piece_at : (flat : FlatSaid) (m n j k : ℕ) (shape : Shape) → m ≡ n → j ≡ k → IsOfPiece flat m j shape → IsOfPiece flat n k shape
 of_piece_at flat m n j k shape net piece is = rw (← net, ← piece) is
@@ -80,46 +96,118 @@ module _ (flat : FlatSaid) (first end : ℕ) (pieces : List PieceShape) (are : A
       q_in_b = lies_among b t.layer t.q t.q_in_b;
     }
 
-  module _ (links : List Link) (all : AreLinks pieces links) (found : List Link) (ours : AreOfNet links n found) where
-    -- a link of the net leads from a piece to one that it touches
-    link_touches : (link : Link) → Contains found link → Touch flat n link.from link.to
-    link_touches link has =
-        let told = ours.each link has in
-        touch_in link.from link.to (rw told.1 at (all.each link told.0))
+    -- what is joined in the flat is so by the metal of pieces; a piece that touches itself goes nowhere
+    joined_among : (a k : ℕ) → AreJoined flat n a k → Joined (TouchAmong pieces n) a k
+    joined_among a k itself = itself
+    joined_among a k (through {b = b} joined touch) =
+        elim (cases_eq b k) [
+          | inl same ↦ rw same at (joined_among a b joined)
+          | inr others ↦ through (joined_among a b joined) (touch_among b k others touch)
+        ]
 
-    -- the links lead to pieces of the net
-    pub links_within : All (λ link. link.to < piece_count flat n) found
-    links_within = All-from_contains (λ link. link.to < piece_count flat n) found (λ link has. (link_touches link has).p_in_b.of_piece.there)
+  -- and the other way round
+  joined_in : (a k : ℕ) → Joined (TouchAmong pieces n) a k → AreJoined flat n a k
+  joined_in a k itself = itself
+  joined_in a k (through {b = b} joined touch) = through (joined_in a b joined) (touch_in b k touch)
 
-    leads_touches : (a b : ℕ) → LeadsTo found a b → Touch flat n a b
-    leads_touches a b leads = rw (leads.from, leads.to) at (link_touches leads.link leads.has)
+-- one more net
+pub lone_more : (flat : FlatSaid) (first net : ℕ) → first ≤ net → (nets nets_after : List (List ℕ)) (count : ℕ) → piece_count flat net ≡ count → (sets : List ℕ) → sets ≡ range_with_len 0 count
+    → nets_after ≡ nets ++ sets ∷ [] → nets ≡ lone_pieces flat first net → nets_after ≡ lone_pieces flat first (net + 1)
+lone_more flat first net low nets nets_after count counted sets alone pushed so_far =
+    let many : net + 1 - first ≡ (net - first) + 1 = omega (arith, low) in
+    let more = map-range_with_len_more (λ n. range_with_len 0 (piece_count flat n)) first (net - first) net (omega (arith, low)) in
+    rw (pushed, so_far, many, alone, ← counted) (sym more)
 
-    -- pieces that the links join are joined
-    joined_by_links : (a k : ℕ) → Joined (LeadsTo found) a k → AreJoined flat n a k
-    joined_by_links a k itself = itself
-    joined_by_links a k (through {b = b} joined leads) = through (joined_by_links a b joined) (leads_touches b k leads)
+-- the sets of a net at first
+module _ (flat : FlatSaid) (first end : ℕ) where
+  pub length-lone_pieces : length (lone_pieces flat first end) ≡ end - first
+  length-lone_pieces = length-map-range_with_len (λ net. range_with_len 0 (piece_count flat net)) first (end - first)
 
-    module _ (low : first ≤ n) (high : n < end) where
-      touches_lead : (a b : ℕ) → a ≢ b → Touch flat n a b → LeadsTo found a b
-      touches_lead a b others t =
-          let link : Link = record { net = n; from = a; to = b } in
-          record { link = link; has = ours.all link (all.all link (touch_among low high a b others t)) refl; from = refl; to = refl }
+  lone_at : (place : ℕ) → place < end - first → get_or (lone_pieces flat first end) place [] ≡ range_with_len 0 (piece_count flat (first + place))
+  lone_at place within = get_or-map-range_with_len (λ net. range_with_len 0 (piece_count flat net)) first (end - first) place (first + place) [] within refl
 
-      -- and the other way round; a piece that touches itself needs no link
-      links_join : (a k : ℕ) → AreJoined flat n a k → Joined (LeadsTo found) a k
-      links_join a k itself = itself
-      links_join a k (through {b = b} joined touch) =
-          elim (cases_eq b k) [
-            | inl same ↦ rw same at (links_join a b joined)
-            | inr others ↦ through (links_join a b joined) (touches_lead b k others touch)
-          ]
+  lone_of : (net : ℕ) → first ≤ net → net < end → get_or (lone_pieces flat first end) (net - first) [] ≡ range_with_len 0 (piece_count flat net)
+  lone_of net low high =
+      let sum : first + (net - first) ≡ net = omega (arith, low) in
+      lone_at (net - first) (omega (arith, low, high)) ∙ ap (λ m. range_with_len 0 (piece_count flat m)) sum
 
-      -- marks along links are marks of what is joined
-      pub marks_of_joined : (size : ℕ) (marks : List Bool) → AreMarks (Joined (LeadsTo found) 0) size marks → AreMarks (AreJoined flat n 0) size marks
-      marks_of_joined size marks done = record {
-        count = done.count;
-        each = λ k mark at. (
-          λ set. joined_by_links 0 k ((done.each k mark at).0 set),
-          λ joined. (done.each k mark at).1 (links_join 0 k joined),
-        );
-      }
+  -- each piece whose metal is there has its number
+  pub lone_places : (pieces : List PieceShape) → ArePieceShapes flat first end pieces → HavePlaces first (lone_pieces flat first end) pieces
+  lone_places pieces are shape has =
+      let told = are.each shape has in
+      let is = lone_of shape.net told.3 told.4 in
+      let many : length (range_with_len 0 (piece_count flat shape.net)) ≡ piece_count flat shape.net = length-range_with_len 0 (piece_count flat shape.net) in
+      record { net = told.3; piece = rw (is, many) told.2.of_piece.there }
+
+  -- and is with itself alone
+  lone_alone : (place a b : ℕ) → AreTogether (get_or (lone_pieces flat first end) place []) a b → a ≡ b
+  lone_alone place a b together =
+      let sets = get_or (lone_pieces flat first end) place [] in
+      let a_in : a < length sets = slice_get_within sets a together.least together.of_a in
+      let b_in : b < length sets = slice_get_within sets b together.least together.of_b in
+      elim (cases_lt place (end - first)) [
+        | inl within ↦
+            let is = lone_at place within in
+            let count = piece_count flat (first + place) in
+            let many : length (range_with_len 0 count) ≡ count = length-range_with_len 0 count in
+            let all : length sets ≡ count = ap length is ∙ many in
+            let least_a : get_or sets a 0 ≡ together.least = get_or_from_slice_get sets a together.least 0 together.of_a in
+            let least_b : get_or sets b 0 ≡ together.least = get_or_from_slice_get sets b together.least 0 together.of_b in
+            let own_a : get_or sets a 0 ≡ 0 + a = ap (λ xs. get_or xs a 0) is ∙ get_or-range_with_len 0 count a 0 (omega (arith, all, a_in)) in
+            let own_b : get_or sets b 0 ≡ 0 + b = ap (λ xs. get_or xs b 0) is ∙ get_or-range_with_len 0 count b 0 (omega (arith, all, b_in)) in
+            omega (arith, least_a, least_b, own_a, own_b)
+        | inr beyond ↦
+            let many = length-lone_pieces in
+            let none_there : sets ≡ [] = get_or_past (lone_pieces flat first end) place [] (omega (arith, many, beyond)) in
+            let none_count : length sets ≡ 0 = ap length none_there in
+            absurd (omega (arith, none_count, a_in))
+      ]
+
+  -- nothing was taken
+  pub so_far_none : (pieces : List PieceShape) (seen : List (Beside × (ℤ × ℤ))) → ((beside : Beside) → first_seen seen beside ≡ None)
+      → AreSoFar pieces first (lone_pieces flat first end) [] (lone_pieces flat first end) seen
+  so_far_none pieces seen unseen = record {
+    count = refl;
+    sizes = λ place. refl;
+    joined = λ net a b low together. rw (lone_alone (net - first) a b together) itself;
+    points = λ beside point at. absurd (none-some point (sym (unseen beside) ∙ at));
+    done = λ p s t has s_at t_at. absurd (Contains-nil p has);
+  }
+
+  -- all meetings were taken
+  pub sets_of_nets : (pieces : List PieceShape) → ArePieceShapes flat first end pieces
+      → (meetings : List (ℕ × ℕ)) → HasPairs DoMeet pieces meetings → (nets : List (List ℕ)) (seen : List (Beside × (ℤ × ℤ)))
+      → AreSoFar pieces first (lone_pieces flat first end) meetings nets seen → AreSetsOfNets flat first end nets
+  sets_of_nets pieces are meetings has nets seen done = record {
+    count = done.count ∙ length-lone_pieces;
+    each = λ net low high.
+        let sets = sets_at first nets net in
+        let many : length sets ≡ piece_count flat net =
+        done.sizes (net - first) ∙ ap length (lone_of net low high) ∙ length-range_with_len 0 (piece_count flat net) in
+        record {
+          count = many;
+          each = λ a b a_in. (
+            λ together. joined_in flat first end pieces are net a b (done.joined net a b low together),
+            λ joined. joined_together pieces first (lone_pieces flat first end) meetings has nets seen done net a b (omega (arith, many, a_in)) (joined_among flat first end pieces are net low high a b joined),
+          );
+        };
+  }
+
+-- the sets of a net that are read at their place
+pub sets_read : (flat : FlatSaid) (first end : ℕ) (nets : List (List ℕ)) → AreSetsOfNets flat first end nets → (net place : ℕ) → first ≤ net → net < end → place ≡ net - first
+    → (sets : List ℕ) → sets ≡ get_or nets place sets → AreJoinedSets flat net sets
+sets_read flat first end nets are net place low high at sets read =
+    let within : net - first < length nets = omega (arith, are.count, low, high) in
+    let is : sets ≡ get_or nets (net - first) [] = get_or_read nets (net - first) sets within (rw at at read) [] in
+    rw is (are.each net low high)
+
+-- marks of what is together with the first piece are marks of what is joined to it
+pub marks_of_joined : (flat : FlatSaid) (net : ℕ) (sets : List ℕ) (marks : List Bool) → AreJoinedSets flat net sets → AreMarks (AreTogether sets 0) (length sets) marks → AreMarks (AreJoined flat net 0) (piece_count flat net) marks
+marks_of_joined flat net sets marks joined done = record {
+  count = done.count ∙ joined.count;
+  each = λ k mark at.
+      let within : k < length marks = slice_get_within marks k mark at in
+      let some : 0 < piece_count flat net = omega (arith, within, done.count, joined.count) in
+      let same = joined.each 0 k some in
+      (λ set_mark. same.0 ((done.each k mark at).0 set_mark), λ joins. (done.each k mark at).1 (same.1 joins));
+}

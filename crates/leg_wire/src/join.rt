@@ -3,9 +3,7 @@
 ghost use Rattle.std.specs.Prelude.{◌<◌, length, IfOk};
 ghost use Rattle.leg_wire.specs.Touch.{piece_count, AreJoined, AreMarks};
 
-use crate::link::{links, links_of_net};
-use crate::mark::marks;
-use crate::piece_shape::piece_shapes;
+use crate::joining::joined_sets;
 use leg_flat::Flat;
 use std::alloc::{AllocError, Allocator};
 
@@ -21,8 +19,7 @@ pub fn joined<A: Allocator + Copy>(
     requires { net < length flat.now.pieces }
     ensures { IfOk result (λ marks. AreMarks (AreJoined flat.now net 0) (piece_count flat.now net) marks.items) }
 {
-    let count = flat.pieces_of_net(net) as usize;
-    let shapes = piece_shapes(alloc, flat, net, net + 1)?;
-    let links = links(alloc, &shapes)?;
-    marks(alloc, count, links_of_net(&links, net))
+    prove!(net < flat.net_count());
+    let nets = joined_sets(alloc, flat, net, net + 1)?;
+    nets[0].marks(alloc)
 }

@@ -8,12 +8,12 @@
 mod comparable;
 mod corner;
 mod join;
+mod joining;
 pub mod laws;
-mod link;
-mod mark;
 mod meeting;
 mod open_fault;
 mod piece_shape;
+mod sets;
 mod spacing;
 mod too_close;
 

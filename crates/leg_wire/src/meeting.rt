@@ -1,6 +1,7 @@
 //! Metal of pieces of one net that shares a point.
 
-ghost use Rattle.std.specs.Prelude.{◌≡◌};
+ghost use Rattle.std.specs.Prelude.{◌≡◌, ◌+◌, min};
+ghost use Rattle.std.proofs.Common.{ap};
 ghost use Rattle.leg_wire.specs.Steps.MeetingRule.{DoMeet, DoMeet-symmetric, DoMeet-near};
 
 use crate::piece_shape::PieceShape;
@@ -9,24 +10,34 @@ use leg_sweep::{LayeredRule, PairRule};
 /// Holds of metal of two pieces of one net that shares a point on one layer.
 #[derive(Drop)]
 pub(crate) struct Meeting {
+    /// The highest layer that is told apart from those above it.
+    highest: u32,
     tests: u64,
     looks: u64,
 }
 
 impl Meeting {
-    /// The rule, of which nothing was asked yet.
-    pub(crate) fn new() -> Meeting
+    /// The rule for these shapes, of which nothing was asked yet.
+    pub(crate) fn new(shapes: &[PieceShape]) -> Meeting
         ensures untested { result.tests ≡ 0 }
         ensures unseen { result.looks ≡ 0 }
     {
-        Meeting { tests: 0, looks: 0 }
+        let mut highest = 0;
+        for shape in shapes {
+            highest = highest.max(shape.layer.min(u32::MAX as usize) as u32);
+        }
+        Meeting {
+            highest,
+            tests: 0,
+            looks: 0,
+        }
     }
 }
 
 impl PairRule for Meeting {
     type Item = PieceShape;
 
-    ghost fixed = { λ r. record { tests = 0; looks = 0 } };
+    ghost fixed = { λ r. record r { tests = 0; looks = 0 } };
 
     ghost Holds = { λ r a b. DoMeet a b };
 
@@ -70,10 +81,22 @@ impl PairRule for Meeting {
 }
 
 impl LayeredRule for Meeting {
-    ghost layer_of = { λ r a. a.layer };
+    ghost layers_of = { λ r. r.highest + 1 };
+
+    ghost layer_of = { λ r a. min a.layer r.highest };
+
+    ghost layer_reach_of = { λ r layer. 0 };
+
+    fn layers(&self) -> usize {
+        self.highest as usize + 1
+    }
 
     fn layer(&self, item: &PieceShape) -> usize {
-        item.layer
+        item.layer.min(self.highest as usize)
+    }
+
+    fn layer_reach(&self, _layer: usize) -> u64 {
+        0
     }
 
     fn bottom(&self, item: &PieceShape) -> i64 {
@@ -84,5 +107,7 @@ impl LayeredRule for Meeting {
         item.rect.y2()
     }
 
-    ghost layered = { λ r a b h. h.layer };
+    ghost layered = { λ r a b h. ap (λ layer. min layer r.highest) h.layer };
+
+    ghost near_on_layer = { λ r a b h. DoMeet-near _ _ h };
 }

@@ -7,9 +7,7 @@ ghost use Rattle.leg_wire.specs.Open.{Holds};
 ghost use Rattle.leg_wire.specs.Steps.OpenViolations.{TellsUnmarked};
 ghost use Rattle.leg_wire.specs.Steps.AddedFaults.{AreAdded};
 
-use crate::link::{links, links_of_net};
-use crate::mark::marks;
-use crate::piece_shape::piece_shapes;
+use crate::joining::joined_sets;
 use leg_block::{Design, Fault};
 use leg_flat::Flat;
 use std::alloc::{AllocError, Allocator};
@@ -28,15 +26,10 @@ pub fn open_faults<A: Allocator + Copy>(
 {
     let nets = design.nets().len() as u32;
     prove!(nets <= flat.net_count());
-    let shapes = piece_shapes(alloc, flat, 0, nets)?;
-    let links = links(alloc, &shapes)?;
+    let sets = joined_sets(alloc, flat, 0, nets)?;
     let mut found = Vec::new(alloc);
     for net in 0..nets {
-        let marks = marks(
-            alloc,
-            flat.pieces_of_net(net) as usize,
-            links_of_net(&links, net),
-        )?;
+        let marks = sets[net as usize].marks(alloc)?;
         push_open(net, &marks, &mut found)?;
     }
     Ok(found)

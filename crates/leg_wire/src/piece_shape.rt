@@ -1,7 +1,7 @@
 //! The metal of the pieces of nets.
 
-ghost use Rattle.std.specs.Prelude.{◌≡◌, ◌↔◌, ◌≤◌, ◌<◌, Some, length, IfOk};
-ghost use Rattle.leg_wire.specs.Steps.Links.{IsPieceShape, ArePieceShapes};
+ghost use Rattle.std.specs.Prelude.{◌≡◌, ◌↔◌, ◌≤◌, ◌<◌, ◌^◌, Some, length, IfOk};
+ghost use Rattle.leg_wire.specs.Steps.PieceMetal.{IsPieceShape, ArePieceShapes};
 
 use leg_flat::{Flat, Owner, Shape};
 use leg_geom::Rect;
@@ -27,7 +27,7 @@ pub(crate) fn piece_shapes<A: Allocator + Copy>(
 ) -> Result<Vec<PieceShape, A>, AllocError>
     requires { end ≤ length flat.now.pieces }
     ensures shapes { IfOk result (λ pieces. ArePieceShapes flat.now first end pieces.items) }
-    ensures few { IfOk result (λ pieces. length pieces.items ≤ length flat.now.shapes) }
+    ensures few { IfOk result (λ pieces. length pieces.items < 2 ^ 32) }
 {
     let mut pieces = Vec::new(alloc);
     for shape in flat.shapes() {

@@ -1,9 +1,10 @@
 //! Comparable shapes that share a point or stand nearer than their layer's spacing.
 
-ghost use Rattle.std.specs.Prelude.{◌≡◌, ◌≤◌, ◌<◌, ◌^◌, ◌↔◌, All, IsTrue, unsigned_abs};
+ghost use Rattle.std.specs.Prelude.{◌≡◌, ◌≤◌, ◌<◌, ◌+◌, ◌^◌, ◌↔◌, length, min, All, IsTrue, unsigned_abs};
+ghost use Rattle.std.proofs.Common.{ap};
 ghost use Rattle.leg_cells.specs.Sound.{IsSoundLayer};
 ghost use Rattle.leg_wire.specs.Spacing.{AreNearer};
-ghost use Rattle.leg_wire.specs.Steps.TooCloseRule.{AreClose, limit_at, AreClose-symmetric, AreClose-near};
+ghost use Rattle.leg_wire.specs.Steps.TooCloseRule.{AreClose, limit_at, AreClose-symmetric, AreClose-near, AreClose-near_on_layer};
 
 use crate::comparable::are_comparable;
 use leg_cells::Layer;
@@ -117,11 +118,24 @@ impl<'l, 'a> PairRule for TooClose<'l, 'a> {
     ghost near = { λ r a b h. AreClose-near _ _ _ _ h };
 }
 
+// What lies on no layer of the library lies on one more.
 impl<'l, 'a> LayeredRule for TooClose<'l, 'a> {
-    ghost layer_of = { λ r a. a.layer };
+    ghost layers_of = { λ r. length r.layers.now + 1 };
+
+    ghost layer_of = { λ r a. min a.layer (length r.layers.now) };
+
+    ghost layer_reach_of = { λ r layer. limit_at r.layers.now r.reach layer };
+
+    fn layers(&self) -> usize {
+        self.layers.len() + 1
+    }
 
     fn layer(&self, item: &Shape) -> usize {
-        item.layer
+        item.layer.min(self.layers.len())
+    }
+
+    fn layer_reach(&self, layer: usize) -> u64 {
+        self.limit(layer)
     }
 
     fn bottom(&self, item: &Shape) -> i64 {
@@ -132,5 +146,7 @@ impl<'l, 'a> LayeredRule for TooClose<'l, 'a> {
         item.rect.y2()
     }
 
-    ghost layered = { λ r a b h. h.comparable.layer };
+    ghost layered = { λ r a b h. ap (λ layer. min layer (length r.layers.now)) h.comparable.layer };
+
+    ghost near_on_layer = { λ r a b h. AreClose-near_on_layer _ _ _ _ h };
 }

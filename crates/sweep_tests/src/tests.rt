@@ -158,37 +158,68 @@ fn the_same_as_one_by_one(rt: HostRuntime) -> Result<(), Fail> {
 
 #[test]
 fn asked_once(rt: HostRuntime) -> Result<(), Fail> {
-    let shapes = scattered(rt.alloc(), 150, 1)?;
-    assert!(rt; shapes.len() == 150);
-    let mut asked = Vec::new(rt.alloc());
-    for _ in 0..150 * 150 {
-        asked.push(Cell::new(0))?;
+    for in_bands in [false, true] {
+        let shapes = crossed(rt.alloc(), 75)?;
+        assert!(rt; shapes.len() == 150);
+        let mut asked = Vec::new(rt.alloc());
+        for _ in 0..150 * 150 {
+            asked.push(Cell::new(0))?;
+        }
+        let mut rule = Within::new(200, 150, &asked);
+        let found = if in_bands {
+            pairs_in_bands(rt.alloc(), &shapes, &mut rule)?
+        } else {
+            pairs(rt.alloc(), &shapes, &mut rule)?
+        };
+        let mut total = 0u64;
+        for times in &asked {
+            assert!(rt; times.get() <= 1);
+            total = total.wrapping_add(u64::from(times.get()));
+        }
+        assert_eq!(rt; total, rule.tests());
+        assert!(rt; 0 < found.len() && rule.tests() < 150 * 149 / 2);
     }
-    let mut rule = Within::new(200, 150, &asked);
-    let found = pairs(rt.alloc(), &shapes, &mut rule)?;
-    let mut total = 0u64;
-    for times in &asked {
-        assert!(rt; times.get() <= 1);
-        total = total.wrapping_add(u64::from(times.get()));
-    }
-    assert_eq!(rt; total, rule.tests());
-    assert!(rt; 0 < found.len() && rule.tests() < 150 * 149 / 2);
     Ok(())
 }
 
 #[test]
 fn wide(rt: HostRuntime) -> Result<(), Fail> {
     let mut cells = Vec::new(rt.alloc());
-    for place in 0..20_000u32 {
-        let left = i64::from(100 * (19_999 - place));
+    for place in 0..1_000_000u32 {
+        let left = i64::from(100 * (999_999 - place));
         cells.push(Rect::new(left, 0, left + 50, 10).ok_or("empty")?)?;
     }
-    assert!(rt; cells.len() == 20_000);
+    assert!(rt; cells.len() == 1_000_000);
+    for in_bands in [false, true] {
+        let mut rule = Overlap::new();
+        let found = if in_bands {
+            pairs_in_bands(rt.alloc(), &cells, &mut rule)?
+        } else {
+            pairs(rt.alloc(), &cells, &mut rule)?
+        };
+        assert!(rt; found.is_empty());
+        assert_eq!(rt; rule.tests(), 0);
+        assert!(rt; rule.looks() <= 1_000_000);
+    }
+    Ok(())
+}
+
+#[test]
+fn few_looks_at_tall_items_among_small_ones(rt: HostRuntime) -> Result<(), Fail> {
+    let mut rects = Vec::new(rt.alloc());
+    for place in 0..2u32 {
+        let left = 100_000 * i64::from(place);
+        rects.push(Rect::new(left, 0, left + 400, 1_000_000).ok_or("empty")?)?;
+    }
+    for place in 0..2000u32 {
+        let left = 400 * i64::from(place);
+        rects.push(Rect::new(left, 0, left + 400, 2000).ok_or("empty")?)?;
+    }
+    assert!(rt; rects.len() == 2002);
     let mut rule = Overlap::new();
-    let found = pairs_counted(rt.alloc(), &cells, &mut rule)?;
-    assert!(rt; found.pairs.is_empty());
-    assert_eq!(rt; found.tests, 0);
-    assert!(rt; found.looks <= 20_000);
+    let found = pairs_in_bands(rt.alloc(), &rects, &mut rule)?;
+    assert_eq!(rt; found.as_slice(), [(0, 2), (1, 252)].as_slice());
+    assert!(rt; rule.tests() <= 2004 && rule.looks() <= 4 * 2002 + 2004);
     Ok(())
 }
 
@@ -215,6 +246,13 @@ fn few_looks_in_rows(rt: HostRuntime) -> Result<(), Fail> {
         assert!(rt;
             rule.tests() <= tests && rule.looks() <= looks,
             "at {count}"
+        );
+        let mut rule = Overlap::new();
+        let found = pairs_in_bands(rt.alloc(), &rects, &mut rule)?;
+        assert!(rt; found.is_empty());
+        assert!(rt;
+            rule.tests() <= tests && rule.looks() <= 10 * rects.len() as u64,
+            "in bands at {count}"
         );
     }
     Ok(())
@@ -251,7 +289,7 @@ fn crossed(alloc: Global, count: usize) -> Result<Vec<Shape>, Fail> {
         let x = (number % 40) as i64 * 50;
         let rect = Rect::new(x, 0, x + 10, 2000).ok_or("empty")?;
         shapes.push(Shape {
-            number,
+            number: count.saturating_add(number),
             layer: 0,
             rect,
         })?;

@@ -1,45 +1,96 @@
--- Items in bands. A band is a stretch of y on one layer, which goes by the layer and a number. An entry says that an item
--- stands in a band: the band, and the item's place in an order.
-use Rattle.std.specs.Prelude.{◌≡◌, ℕ, ◌+◌, ◌*◌, ◌/◌, ◌≤◌, ◌<◌, min, ℤ, pos, ◌+ℤ◌, unsigned_abs, List, slice_index, slice_index_or, All, Contains}
-use Rattle.leg_geom.specs.declared.limits.TheConstants.{COORDINATE_LIMIT}
+-- Bands, in which items wait for later ones. Items and bands go by their numbers.
+use Rattle.std.specs.Prelude.{◌≡◌, ℕ, zero, suc, ◌+◌, ◌-◌, ◌≤◌, ◌<◌, Bool, true, ◌&&◌, nat_le, List, [], ◌∷◌, ◌++◌, length, filter, sum_by, slice_index, slice_index_or, Contains}
 use Rattle.leg_geom.specs.Plane.{Sides}
+use Rattle.leg_sweep.specs.declared.band.Stretch.{Stretch}
 use Rattle.leg_sweep.specs.Pairs.{IsPair}
-use Rattle.leg_sweep.specs.Steps.Sweep.{rect_numbered}
+use Rattle.leg_sweep.specs.Counts.{near_along_x, near_along_both}
+use Rattle.leg_sweep.specs.Steps.Sweep.{test_at, AreInReach, CanMeet}
 
--- how far a y lies above the lowest coordinate
-abbrev pub height_of : ℤ → ℕ
-height_of y = unsigned_abs (y +ℤ pos COORDINATE_LIMIT)
+-- the items of a band that wait: those that begin there, and those that stand in a lower band too
+pub record Waiting : Type 0 where
+  pub reach : ℕ
+  pub begun : List ℕ
+  pub passing : List ℕ
 
--- the band of the bottom edge, where a band has the height
-abbrev pub first_band : ℕ → Sides → ℕ
-first_band height r = height_of r.y1 / height
+abbrev pub empty_band : ℕ → Waiting
+empty_band reach = record { reach = reach; begun = []; passing = [] }
 
--- the band of what lies the reach above the top edge, or of the highest coordinate
-abbrev pub last_band : ℕ → ℕ → Sides → ℕ
-last_band height reach r = min (height_of r.y2 + reach) (2 * COORDINATE_LIMIT) / height
+abbrev pub waiting_at : List Waiting → ℕ → Waiting
+waiting_at bands k = slice_index_or bands k (empty_band 0)
 
--- a layer's number in 32 bits
-abbrev pub layer_key : ℕ → ℕ
-layer_key layer = min layer 4294967295
+-- no item waits
+abbrev pub AreEmpty : List Waiting → Type 0
+AreEmpty bands = (k : ℕ) → waiting_at bands k ≡ empty_band (waiting_at bands k).reach
 
--- the entry at a place of a list
-abbrev pub entry_at : List ((ℕ × ℕ) × ℕ) → ℕ → (ℕ × ℕ) × ℕ
-entry_at entries k = slice_index_or entries k ((0, 0), 0)
+abbrev pub stretch_at : List Stretch → ℕ → Stretch
+stretch_at stretches x = slice_index_or stretches x (record { first = 0; last = 0 })
 
--- entries rise by their bands, and in one band by their places
-pub record IsBefore (e f : (ℕ × ℕ) × ℕ) : Type 0 where
-  pub layer : e.0.0 ≤ f.0.0
-  pub band : e.0.0 ≡ f.0.0 → e.0.1 ≤ f.0.1
-  pub place : e.0 ≡ f.0 → e.1 < f.1
+-- in how many bands an item stands
+abbrev pub entries_at : List Stretch → ℕ → ℕ
+entries_at stretches x = (stretch_at stretches x).last + 1 - (stretch_at stretches x).first
 
--- each item of the order up to a place stands in all bands from its first to its last one
-pub record AreEntriesTo (place height reach : ℕ) (rects : List Sides) (layers order : List ℕ) (entries : List ((ℕ × ℕ) × ℕ)) : Type 0 where
-  pub places : All (λ e. e.1 < place) entries
-  pub all : (q k : ℕ) → q < place → let r = rect_numbered rects (slice_index order q) in first_band height r ≤ k → k ≤ last_band height reach r
-      → Contains entries ((layer_key (slice_index layers (slice_index order q)), k), q)
+-- two items stand in a common band
+abbrev pub share_band : List Stretch → ℕ → ℕ → Bool
+share_band stretches x y =
+    nat_le (stretch_at stretches x).first (stretch_at stretches y).last && nat_le (stretch_at stretches y).first (stretch_at stretches x).last
 
--- pairs of items for which a rule holds, and among them those that stand in one band
-pub record HasPairsInBands {Item : Type 0} (Holds : Item → Item → Type 0) (items : List Item) (order : List ℕ) (entries : List ((ℕ × ℕ) × ℕ)) (found : List (ℕ × ℕ)) : Type 0 where
-  pub each : All (IsPair Holds items) found
-  pub all : (p : ℕ × ℕ) → IsPair Holds items p → (e f : (ℕ × ℕ) × ℕ) → Contains entries e → Contains entries f → e.0 ≡ f.0
-      → slice_index order e.1 ≡ p.0 → slice_index order f.1 ≡ p.1 → Contains found p
+-- the reach of the bands of an item
+abbrev pub reach_at : List Stretch → List Waiting → ℕ → ℕ
+reach_at stretches bands x = (waiting_at bands (stretch_at stretches x).first).reach
+
+-- two items stand in a common band, and their x gap is within its reach
+abbrev pub near_in_band : List Sides → List Stretch → List Waiting → ℕ → ℕ → Bool
+near_in_band rects stretches bands x y = share_band stretches x y && test_at (near_along_x (reach_at stretches bands x)) rects x y
+
+-- two items stand in a common band, and both gaps are within its reach
+abbrev pub near_both_in_band : List Sides → List Stretch → List Waiting → ℕ → ℕ → Bool
+near_both_in_band rects stretches bands x y = share_band stretches x y && test_at (near_along_both (reach_at stretches bands x)) rects x y
+
+-- Each item stands in bands of one reach. Two items for which the rule holds stand in a common band, whose reach both gaps are within.
+pub record AreStretches {Item : Type 0} (Holds : Item → Item → Type 0) (rect_of : Item → Sides) (items : List Item) (stretches : List Stretch) (bands : List Waiting) : Type 0 where
+  pub count : length stretches ≡ length items
+  pub upward : (x : ℕ) → x < length items → (stretch_at stretches x).first ≤ (stretch_at stretches x).last
+  pub there : (x : ℕ) → x < length items → (stretch_at stretches x).last < length bands
+  pub one_reach : (x k : ℕ) → x < length items → (stretch_at stretches x).first ≤ k → k ≤ (stretch_at stretches x).last → (waiting_at bands k).reach ≡ reach_at stretches bands x
+  pub meet : (p : ℕ × ℕ) → IsPair Holds items p → ((stretch_at stretches p.0).first ≤ (stretch_at stretches p.1).last) × ((stretch_at stretches p.1).first ≤ (stretch_at stretches p.0).last)
+  pub in_reach : (x y : ℕ) → AreInReach Holds rect_of items (reach_at stretches bands x) x y
+
+-- what waits in a band after a new item began there
+abbrev pub after_begin : (ℕ → Bool) → ℕ → Waiting → Waiting
+after_begin near new band = record { reach = band.reach; begun = filter near band.begun ++ new ∷ []; passing = filter near band.passing }
+
+-- what waits in a band after a new item came there from below
+abbrev pub after_pass : (ℕ → Bool) → ℕ → Waiting → Waiting
+after_pass near new band = record { reach = band.reach; begun = filter near band.begun; passing = band.passing ++ new ∷ [] }
+
+-- a new item visited the bands from the first to the last
+pub record AreVisited (near : ℕ → Bool) (first last new : ℕ) (before after : List Waiting) : Type 0 where
+  pub count : length after ≡ length before
+  pub begun : waiting_at after first ≡ after_begin near new (waiting_at before first)
+  pub passed : (k : ℕ) → first < k → k ≤ last → waiting_at after k ≡ after_pass near new (waiting_at before k)
+  pub below : (k : ℕ) → k < first → waiting_at after k ≡ waiting_at before k
+  pub above : (k : ℕ) → last < k → waiting_at after k ≡ waiting_at before k
+
+-- the items that a new one meets in its first band, and in so many after it
+abbrev pub met : List Waiting → ℕ → ℕ → List ℕ
+met bands first zero = (waiting_at bands first).begun ++ (waiting_at bands first).passing
+met bands first (suc count) = met bands first count ++ (waiting_at bands (first + suc count)).begun
+
+-- how many items wait, each as often as it waits
+abbrev pub waiting_count : List Waiting → ℕ
+waiting_count bands = sum_by (λ band. length band.begun + length band.passing) bands
+
+-- A new item can visit the bands from the first to the last: it can meet those that wait there, none of which it would meet twice.
+pub record CanVisit {Item : Type 0} (Holds : Item → Item → Type 0) (rect_of : Item → Sides) (items : List Item) (bands : List Waiting) (first last new : ℕ) : Type 0 where
+  pub upward : first ≤ last
+  pub there : last < length bands
+  pub one_reach : (k : ℕ) → first ≤ k → k ≤ last → (waiting_at bands k).reach ≡ (waiting_at bands first).reach
+  pub begun : (k : ℕ) → first ≤ k → k ≤ last → CanMeet Holds rect_of items (waiting_at bands first).reach (waiting_at bands k).begun new
+  pub passing : CanMeet Holds rect_of items (waiting_at bands first).reach (waiting_at bands first).passing new
+  pub apart : (j k x : ℕ) → first ≤ j → j < k → k ≤ last → Contains (waiting_at bands j).begun x → Contains (waiting_at bands k).begun x → ⊥
+  pub apart_passing : (k x : ℕ) → first ≤ k → k ≤ last → Contains (waiting_at bands k).begun x → Contains (waiting_at bands first).passing x → ⊥
+
+-- Items that stand in a common band lie on one layer, whose reach the bands have.
+pub record AreByLayer (layers : List ℕ) (reach_of : ℕ → ℕ) (stretches : List Stretch) (bands : List Waiting) : Type 0 where
+  pub apart : (x y : ℕ) → x < length layers → y < length layers → share_band stretches x y ≡ true → slice_index layers x ≡ slice_index layers y
+  pub reach : (x : ℕ) → x < length layers → reach_at stretches bands x ≡ reach_of (slice_index layers x)

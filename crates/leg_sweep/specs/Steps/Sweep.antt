@@ -1,10 +1,11 @@
 -- What a sweep from left to right knows on its way. Items go by their numbers.
-use Rattle.std.specs.Prelude.{◌≡◌, ◌≢◌, ℕ, ◌≤◌, ◌<◌, min, max, Bool, ℤ, pos, ◌≤ℤ◌, List, ◌++◌, length, slice_index, slice_index_or, All, AllPairs, Contains, IsPermutation}
+use Rattle.std.specs.Prelude.{◌≡◌, ◌≢◌, ℕ, ◌≤◌, ◌<◌, min, max, Bool, ℤ, pos, ◌≤ℤ◌, List, length, Some, slice_get, slice_index, slice_index_or, All, AllPairs, Contains, IsPermutation}
 use Rattle.std.specs.Ordering.{nat_cmp, ordering_then}
 use Rattle.std.specs.declared.cmp.Ordering.{Ordering}
 use Rattle.std.specs.List.{range_with_len}
 use Rattle.leg_geom.specs.Plane.{Sides, IsRect}
-use Rattle.leg_sweep.specs.Pairs.{IsPair}
+use Rattle.leg_geom.specs.Gap.{x_gap, y_gap}
+use Rattle.leg_sweep.specs.Pairs.{HasPairs, TakesAll}
 
 -- a rectangle for a number that no item has
 abbrev pub unit_square : Sides
@@ -36,24 +37,32 @@ pub record IsLeftToRight (rects : List Sides) (order : List ℕ) : Type 0 where
   pub numbers : IsPermutation (range_with_len 0 (length rects)) order
   pub rising : (a b : ℕ) → a ≤ b → b < length order → (rect_numbered rects (slice_index order a)).x1 ≤ℤ (rect_numbered rects (slice_index order b)).x1
 
--- numbers of some of the rectangles, each once, in the order of their left edges
-pub record RiseFromLeft (rects : List Sides) (order : List ℕ) : Type 0 where
-  pub proper : All IsRect rects
-  pub below : All (λ x. x < length rects) order
-  pub differ : AllPairs (λ x y. x ≢ y) order
-  pub rising : (a b : ℕ) → a ≤ b → b < length order → (rect_numbered rects (slice_index order a)).x1 ≤ℤ (rect_numbered rects (slice_index order b)).x1
+-- If the rule holds of the items with these numbers, their gaps are within the reach.
+abbrev pub AreInReach : {Item : Type 0} → (Item → Item → Type 0) → (Item → Sides) → List Item → ℕ → ℕ → ℕ → Type 0
+AreInReach {Item} Holds rect_of items reach x y =
+    (a b : Item) → slice_get items x ≡ Some a → slice_get items y ≡ Some b → Holds a b → (x_gap (rect_of a) (rect_of b) ≤ reach) × (y_gap (rect_of a) (rect_of b) ≤ reach)
 
--- the pairs that a new item makes with active ones, each once, stand behind those found before
-pub record AreNewPairs (IsOne : ℕ × ℕ → Type 0) (active : List ℕ) (new : ℕ) (before found : List (ℕ × ℕ)) : Type 0 where
+-- waiting items, each once, and a new one that is none of them
+pub record CanMeet {Item : Type 0} (Holds : Item → Item → Type 0) (rect_of : Item → Sides) (items : List Item) (reach : ℕ) (waiting : List ℕ) (new : ℕ) : Type 0 where
+  pub new_in : new < length items
+  pub waiting_in : All (λ x. x < length items) waiting
+  pub others : All (λ x. x ≢ new) waiting
+  pub apart : AllPairs (λ x y. x ≢ y) waiting
+  pub in_reach : All (λ x. AreInReach Holds rect_of items reach x new) waiting
+
+-- The sink took the pairs that a new item makes with waiting ones, each once. They are no more than the tests that were made.
+pub record AreNewPairs {Sink : Type 0} (Takes : Sink → ℕ × ℕ → Sink → Type 0) (IsOne : ℕ × ℕ → Type 0) (waiting : List ℕ) (new tests : ℕ) (before after : Sink) : Type 0 where
   pub more : List (ℕ × ℕ)
-  pub behind : found ≡ before ++ more
+  pub taken : TakesAll Takes before more after
   pub each : All IsOne more
-  pub named : All (λ p. (x : ℕ) × Contains active x × (p ≡ ordered x new)) more
+  pub named : All (λ p. (x : ℕ) × Contains waiting x × (p ≡ ordered x new)) more
   pub distinct : AllPairs (λ p q. p ≢ q) more
-  pub all : (x : ℕ) → Contains active x → IsOne (ordered x new) → Contains more (ordered x new)
+  pub all : (x : ℕ) → Contains waiting x → IsOne (ordered x new) → Contains more (ordered x new)
+  pub enough : length more ≤ tests
 
--- exactly the pairs of the items with these numbers for which a rule holds, each once, in any order
-pub record HasPairsOf {Item : Type 0} (Holds : Item → Item → Type 0) (items : List Item) (order : List ℕ) (found : List (ℕ × ℕ)) : Type 0 where
-  pub each : All (IsPair Holds items) found
-  pub all : (p : ℕ × ℕ) → IsPair Holds items p → Contains order p.0 → Contains order p.1 → Contains found p
-  pub distinct : AllPairs (λ p q. p ≢ q) found
+-- The sink took exactly the pairs of items for which a rule holds, each once. They are no more than the tests that were made.
+pub record TookTested {Sink Item : Type 0} (Takes : Sink → ℕ × ℕ → Sink → Type 0) (Holds : Item → Item → Type 0) (items : List Item) (tests : ℕ) (before after : Sink) : Type 0 where
+  pub found : List (ℕ × ℕ)
+  pub are : HasPairs Holds items found
+  pub taken : TakesAll Takes before found after
+  pub enough : length found ≤ tests

@@ -1,5 +1,7 @@
 -- Shapes that a search with a reach finds too close. Its rule wants the two laws that stand behind the definition.
-use Rattle.std.proofs.Common.{◌≡◌, ◌*◌, ◌<◌, ◌≤◌, ◌⊎◌, ℕ, min, unsigned_abs, List, Option, None, Some, slice_get, inl, inr, refl, sym, arith}
+use Rattle.std.proofs.Common.{◌≡◌, ◌*◌, ◌<◌, ◌≤◌, ◌⊎◌, ℕ, min, unsigned_abs, List, length, Option, None, Some, slice_get, inl, inr, refl, sym, arith}
+use Rattle.std.proofs.lemmas.Bool.{cases_lt}
+use Rattle.std.proofs.lemmas.Option.{slice_get_past}
 use Rattle.leg_geom.specs.Plane.{SharePoint}
 use Rattle.leg_geom.specs.Gap.{apart, x_gap, y_gap}
 use Rattle.leg_geom.proofs.Gaps.{SharePoint-symmetric, SharePoint-gaps, x_gap-least, y_gap-least, square_distance-symmetric, less_from_squares}
@@ -43,9 +45,9 @@ limit-within reach layers number = by (slice_get layers number) refl where
   by None is = rw is (omega arith)
   by (Some layer) is = rw is (omega arith)
 
--- and have both gaps within the reach
-pub AreClose-near : (layers : List Layer) (reach : ℕ) (a b : Shape) → AreClose layers reach a b → (x_gap a.rect b.rect ≤ reach) × (y_gap a.rect b.rect ≤ reach)
-AreClose-near layers reach a b h =
+-- and have both gaps within the spacing of their layer
+AreClose-near_limit : (layers : List Layer) (reach : ℕ) (a b : Shape) → AreClose layers reach a b → (x_gap a.rect b.rect ≤ limit_at layers reach a.layer) × (y_gap a.rect b.rect ≤ limit_at layers reach a.layer)
+AreClose-near_limit layers reach a b h =
     elim h.close [
       | inl s ↦ let gaps = SharePoint-gaps a.rect b.rect s in (omega (arith, gaps.0), omega (arith, gaps.1))
       | inr n ↦
@@ -54,6 +56,27 @@ AreClose-near layers reach a b h =
           let y = apart n.p.y n.q.y in
           let x_less : x < limit = less_from_squares x limit (y * y) n.near in
           let y_less : y < limit = less_from_squares y limit (x * x) (omega (arith, n.near)) in
-          let within = limit-within reach layers a.layer in
-          (omega (arith, x_less, within, x_gap-least a.rect b.rect n.p n.q n.in_a n.in_b), omega (arith, y_less, within, y_gap-least a.rect b.rect n.p n.q n.in_a n.in_b))
+          (omega (arith, x_less, x_gap-least a.rect b.rect n.p n.q n.in_a n.in_b), omega (arith, y_less, y_gap-least a.rect b.rect n.p n.q n.in_a n.in_b))
     ]
+
+-- which is within the reach
+pub AreClose-near : (layers : List Layer) (reach : ℕ) (a b : Shape) → AreClose layers reach a b → (x_gap a.rect b.rect ≤ reach) × (y_gap a.rect b.rect ≤ reach)
+AreClose-near layers reach a b h =
+    let gaps = AreClose-near_limit layers reach a b h in
+    let within = limit-within reach layers a.layer in
+    (omega (arith, gaps.0, within), omega (arith, gaps.1, within))
+
+-- a number beyond the layers has no spacing
+limit-beyond : (layers : List Layer) (reach number : ℕ) → limit_at layers reach (min number (length layers)) ≡ limit_at layers reach number
+limit-beyond layers reach number =
+    elim (cases_lt number (length layers)) [
+      | inl there ↦ let same : min number (length layers) ≡ number = omega (arith, there) in rw same refl
+      | inr beyond ↦
+          let same : min number (length layers) ≡ length layers = omega (arith, beyond) in
+          rw (same, slice_get_past layers (length layers) (omega arith), slice_get_past layers number beyond) refl
+    ]
+
+-- The reach of the search is that of the layer, where the layers above the highest count as one.
+pub AreClose-near_on_layer : (layers : List Layer) (reach : ℕ) (a b : Shape) → AreClose layers reach a b
+    → (x_gap a.rect b.rect ≤ limit_at layers reach (min a.layer (length layers))) × (y_gap a.rect b.rect ≤ limit_at layers reach (min a.layer (length layers)))
+AreClose-near_on_layer layers reach a b h = rw (limit-beyond layers reach a.layer) (AreClose-near_limit layers reach a b h)

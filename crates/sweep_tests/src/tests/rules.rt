@@ -71,6 +71,42 @@ impl PairRule for Overlap {
     ghost near = { λ r a b. ShareCell-gaps a b };
 }
 
+// All rectangles lie on one layer.
+impl LayeredRule for Overlap {
+    ghost use Rattle.std.proofs.Common.{refl};
+    ghost use Rattle.leg_geom.proofs.Gaps.{ShareCell-gaps};
+
+    ghost layers_of = { λ r. 1 };
+
+    ghost layer_of = { λ r a. 0 };
+
+    ghost layer_reach_of = { λ r layer. 0 };
+
+    fn layers(&self) -> usize {
+        1
+    }
+
+    fn layer(&self, _item: &Rect) -> usize {
+        0
+    }
+
+    fn layer_reach(&self, _layer: usize) -> u64 {
+        0
+    }
+
+    fn bottom(&self, item: &Rect) -> i64 {
+        item.y1()
+    }
+
+    fn top(&self, item: &Rect) -> i64 {
+        item.y2()
+    }
+
+    ghost layered = { λ r a b h. refl };
+
+    ghost near_on_layer = { λ r a b. ShareCell-gaps a b };
+}
+
 /// A rectangle on a layer, with its number.
 #[derive(Drop)]
 pub(crate) struct Shape {
@@ -177,11 +213,27 @@ impl<'a> PairRule for Within<'a> {
     ghost near = { λ r a b h. (h.1, h.2) };
 }
 
+// There are 16 layers, and what lies higher lies on the last one.
 impl<'a> LayeredRule for Within<'a> {
-    ghost layer_of = { λ r a. a.layer };
+    ghost use Rattle.std.specs.Prelude.{min};
+    ghost use Rattle.std.proofs.Common.{ap};
+
+    ghost layers_of = { λ r. 16 };
+
+    ghost layer_of = { λ r a. min a.layer 15 };
+
+    ghost layer_reach_of = { λ r layer. r.reach };
+
+    fn layers(&self) -> usize {
+        16
+    }
 
     fn layer(&self, item: &Shape) -> usize {
-        item.layer
+        item.layer.min(15)
+    }
+
+    fn layer_reach(&self, _layer: usize) -> u64 {
+        u64::from(self.reach)
     }
 
     fn bottom(&self, item: &Shape) -> i64 {
@@ -192,5 +244,7 @@ impl<'a> LayeredRule for Within<'a> {
         item.rect.y2()
     }
 
-    ghost layered = { λ r a b h. h.0 };
+    ghost layered = { λ r a b h. ap (λ layer. min layer 15) h.0 };
+
+    ghost near_on_layer = { λ r a b h. (h.1, h.2) };
 }

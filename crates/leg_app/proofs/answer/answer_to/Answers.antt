@@ -4,7 +4,8 @@ use Rattle.leg_app.proofs.answer.answer_to.Goals as goal
 
 pub returns-in-Ok : goal.returns-in-Ok
 returns-in-Ok g c =
-    ok_weaker _ _ c.library_answer.result (λ answer all. all _ (record { found = c.in-Ok.ensures.found; only = c.in-Ok.ensures.only })) c.library_answer.ensures
+    let said = c.in-Ok.ensures in
+    ok_weaker _ _ c.library_answer.result (λ answer all. all _ (record { found = said.found; only = said.only })) (rw said.text at c.library_answer.ensures)
 
 pub returns-in-Err : goal.returns-in-Err
 returns-in-Err g c =

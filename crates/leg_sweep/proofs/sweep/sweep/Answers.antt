@@ -1,102 +1,126 @@
-use Rattle.std.proofs.Common.{◌≡◌, ℕ, ◌+◌, ◌<◌, ◌≤◌, [], ◌∷◌, ◌++◌, length, get_or, take, map, filter, count_by, ◌∙◌, arith}
-use Rattle.leg_sweep.specs.Pairs.{IsPair}
+use Rattle.std.proofs.Common.{◌≡◌, ℕ, ◌+◌, ◌-◌, ◌<◌, ◌≤◌, length, get_or, take, map, count_by, sum_by, refl, ◌∙◌, arith}
+use Rattle.std.proofs.lemmas.List.{length-map, length-take-le, take_more}
+use Rattle.std.proofs.lemmas.List.Sums.{sum_by_push, sum_by-take-le, count_by-le-length}
+use Rattle.std.proofs.lemmas.Nat.{mul-le}
 use Rattle.leg_sweep.specs.Counts.{near_along_x, near_along_both, count_pairs}
+use Rattle.leg_sweep.specs.Steps.Bands.{waiting_at, entries_at, near_in_band, near_both_in_band, met}
 use Rattle.leg_sweep.specs.Steps.Sweep.{test_at}
-use Rattle.std.proofs.lemmas.List.{length-map, length_push, take_more, take_all}
-use Rattle.std.proofs.lemmas.List.Sums.{length-filter, count_by-le-length}
-use Rattle.leg_sweep.proofs.Counts.{count_pairs_push}
-use Rattle.leg_sweep.proofs.Places.{active_below, active_others, order_differs, order_between, pairs_close, looks_fit, looks_more}
-use Rattle.leg_sweep.proofs.Progress.{swept_more, swept_all}
+use Rattle.leg_sweep.proofs.Counts.{count_pairs_push, count_pairs_square}
+use Rattle.leg_sweep.proofs.FoundSoFar.{first_at, last_at, found_none, found_more, found_all, can_visit, met_near, met_near_both, met_few, reaches_after}
+use Rattle.leg_sweep.proofs.MetItems.{waiting_none}
+use Rattle.leg_sweep.proofs.Places.{order_below, length_order, looks_fit}
 use Rattle.leg_sweep.proofs.sweep.sweep.Goals as goal
 
-pub turn-requires-clause-new_in_range : goal.turn-requires-clause-new_in_range
-turn-requires-clause-new_in_range g c =
-    let rects = map (g.R.PairRule.rect_of (g.R.PairRule.fixed c.args.rule.now)) c.args.items.now in
-    omega (arith, c.requires.order.below c.loop-new.new-index 0 (omega arith), length-map c.args.items.now (g.R.PairRule.rect_of (g.R.PairRule.fixed c.args.rule.now)))
-
-pub turn-requires-clause-in_range : goal.turn-requires-clause-in_range
-turn-requires-clause-in_range g c =
+pub bounds-stretches-new : goal.bounds-stretches-new
+bounds-stretches-new g c =
     let rect_of = g.R.PairRule.rect_of (g.R.PairRule.fixed c.args.rule.now) in
-    let below = active_below (map rect_of c.args.items.now) c.args.order.now c.requires.order c.loop-new.active.items c.loop-new.new-index c.loop-new.invariant.swept.come in
-    rw c.deref.ensures.value (rw (length-map c.args.items.now rect_of) at below)
+    omega (arith, order_below (map rect_of c.args.items.now) c.args.order.now c.requires.order c.loop-new.new-index (omega arith), length-map c.args.items.now rect_of, c.requires.stretches.count)
 
-pub turn-requires-clause-others : goal.turn-requires-clause-others
-turn-requires-clause-others g c =
-    let rects = map (g.R.PairRule.rect_of (g.R.PairRule.fixed c.args.rule.now)) c.args.items.now in
-    rw c.deref.ensures.value (active_others rects c.args.order.now c.requires.order c.loop-new.active.items c.loop-new.new-index c.loop-new.invariant.swept.come (omega arith))
+pub visit-requires-clause-can : goal.visit-requires-clause-can
+visit-requires-clause-can g c =
+    let rule = g.R.PairRule in
+    let fixed = rule.fixed c.args.rule.now in
+    let so_far = c.loop-new.invariant in
+    rw so_far.same
+    (can_visit (rule.Holds fixed) (g.met.R.PairRule.symmetric fixed) (rule.rect_of fixed) c.args.items.now c.args.stretches.now c.args.bands.now c.requires.stretches c.args.order.now c.requires.order
+    c.loop-new.new-index (omega arith) c.loop-new.bands so_far.found.found so_far.found.swept so_far.reaches so_far.count)
 
-pub turn-requires-clause-room : goal.turn-requires-clause-room
-turn-requires-clause-room g c =
-    let n : ℕ = length c.args.order.now in
+pub visit-requires-clause-looks : goal.visit-requires-clause-looks
+visit-requires-clause-looks g c =
+    let rule = g.R.PairRule in
+    let fixed = rule.fixed c.args.rule.now in
+    let items = c.args.items.now in
+    let rects = map (rule.rect_of fixed) items in
+    let order = c.args.order.now in
+    let stretches = c.args.stretches.now in
     let i : ℕ = c.loop-new.new-index in
-    let active : length c.deref.result.now ≤ i = rw c.deref.ensures.value c.loop-new.invariant.short in
-    looks_fit i n (g.R.PairRule.looks_of c.args.rule.now) (g.R.PairRule.looks_of c.loop-new.rule) (length c.deref.result.now) (omega arith) c.requires.room c.loop-new.invariant.room active
+    let x : ℕ = get_or order i 0 in
+    let near = near_in_band rects stretches c.args.bands.now in
+    let so_far = c.loop-new.invariant in
+    let within : i < length order = omega arith in
+    let few = met_few (rule.Holds fixed) (g.met.R.PairRule.symmetric fixed) (rule.rect_of fixed) items stretches c.args.bands.now c.requires.stretches order c.requires.order
+    i within c.loop-new.bands so_far.found.found so_far.found.swept so_far.reaches so_far.count in
+    let all = length_order rects order c.requires.order in
+    let n : ℕ = length items in
+    let short : i ≤ n = omega (arith, all, length-map items (rule.rect_of fixed)) in
+    let half = count_pairs_square near (take i order) in
+    let taken = length-take-le i order (omega arith) in
+    let square = mul-le (length (take i order)) (length (take i order)) n n (omega (arith, taken, short)) (omega (arith, taken, short)) in
+    looks_fit n (sum_by (entries_at stretches) order) (count_pairs near (take i order)) (length (met c.loop-new.bands (first_at stretches x) (last_at stretches x - first_at stretches x))) (rule.looks_of c.loop-new.rule)
+    c.requires.few c.requires.entries (omega (arith, half, square)) (omega (arith, few, short))
+    (omega (arith, so_far.looks, sum_by-take-le (entries_at stretches) order i))
+
+pub loop-new-init : goal.loop-new-init
+loop-new-init g c =
+    let rule = g.R.PairRule in
+    let fixed = rule.fixed c.args.rule.now in
+    let bands = c.args.bands.now in
+    record {
+      found =
+          rw c.requires.untested
+          (found_none g.S.PairSink.Takes (rule.Holds fixed) (g.met.R.PairRule.symmetric fixed) (rule.rect_of fixed) c.args.items.now c.args.stretches.now bands c.requires.stretches c.args.order.now c.requires.order
+          c.args.sink.now c.requires.empty);
+      reaches = λ k. refl;
+      count = refl;
+      looks = omega (arith, c.requires.unseen, waiting_none bands c.requires.empty);
+      tests = omega (arith, c.requires.untested);
+      counts = omega (arith, c.requires.untested);
+      same = refl;
+      same_room = refl;
+    }
 
 pub loop-new-preserved : goal.loop-new-preserved
 loop-new-preserved g c =
     let rule = g.R.PairRule in
     let fixed = rule.fixed c.args.rule.now in
-    let rect_of = rule.rect_of fixed in
     let items = c.args.items.now in
+    let rect_of = rule.rect_of fixed in
     let rects = map rect_of items in
-    let reach = rule.reach_of fixed in
-    let is_one = IsPair (rule.Holds fixed) items in
-    let near = test_at (near_along_x reach) rects in
-    let both = test_at (near_along_both reach) rects in
     let order = c.args.order.now in
-    let sorted = c.requires.order in
+    let stretches = c.args.stretches.now in
+    let start = c.args.bands.now in
     let i : ℕ = c.loop-new.new-index in
     let n : ℕ = get_or order i 0 in
-    let active = c.loop-new.active.items in
     let so_far = c.loop-new.invariant in
-    let turn = c.in_ok-turn.ensures in
+    let bands = c.loop-new.bands in
+    let visit = c.in_ok-visit.ensures in
+    let symmetric = g.met.R.PairRule.symmetric fixed in
+    let holds = rule.Holds fixed in
+    let near = near_in_band rects stretches start in
+    let both = near_both_in_band rects stretches start in
     let within : i < length order = omega arith in
-    let kept = rw (so_far.same, c.deref.ensures.value) at turn.kept in
-    let turned = rw (so_far.same, c.deref.ensures.value) at turn.found in
-    let looks = rw c.deref.ensures.value at turn.looks in
-    let tests = rw (so_far.same, c.deref.ensures.value) at turn.tests in
-    let grown : c.swap.new.x.items ≡ filter (λ x. near x n) active ++ n ∷ [] = rw (c.swap.ensures.x_after, c.in_ok-push.ensures.items, kept) in
-    let longer : length c.swap.new.x.items ≡ count_by (λ x. near x n) active + 1 =
-    rw grown (omega (arith, length_push (filter (λ x. near x n) active) n, length-filter (λ x. near x n) active)) in
-    let near_more : count_pairs near (take (i + 1) order) ≡ count_pairs near (take i order) + count_by (λ x. near x n) (take i order) =
-    rw (take_more order i 0 within) (count_pairs_push near (take i order) n) in
-    let both_more : count_pairs both (take (i + 1) order) ≡ count_pairs both (take i order) + count_by (λ x. both x n) (take i order) =
-    rw (take_more order i 0 within) (count_pairs_push both (take i order) n) in
+    let reach : ℕ = (waiting_at bands (first_at stretches n)).reach in
+    let seen = met bands (first_at stretches n) (last_at stretches n - first_at stretches n) in
+    let narrow = λ (x : ℕ). test_at (near_along_x reach) rects x n in
+    let counts = λ (x : ℕ). test_at (near_along_both reach) rects x n in
+    let visited = rw so_far.same at visit.visited in
+    let found = rw so_far.same at visit.found in
+    let tests = rw so_far.same at visit.tests in
+    let left = rw so_far.same at visit.left in
+    let few_near = met_near holds symmetric rect_of items stretches start c.requires.stretches order c.requires.order i within bands so_far.found.found so_far.found.swept so_far.reaches so_far.count in
+    let few_both = met_near_both holds symmetric rect_of items stretches start c.requires.stretches order c.requires.order i within bands so_far.found.found so_far.found.swept so_far.reaches so_far.count in
+    let grown = take_more order i 0 within in
+    let near_more : count_pairs near (take (i + 1) order) ≡ count_pairs near (take i order) + count_by (λ x. near x n) (take i order) = rw grown (count_pairs_push near (take i order) n) in
+    let both_more : count_pairs both (take (i + 1) order) ≡ count_pairs both (take i order) + count_by (λ x. both x n) (take i order) = rw grown (count_pairs_push both (take i order) n) in
+    let entries_more : sum_by (entries_at stretches) (take (i + 1) order) ≡ sum_by (entries_at stretches) (take i order) + entries_at stretches n = rw grown (sum_by_push (entries_at stretches) (take i order) n) in
     record {
-      swept =
-          rw grown
-          (swept_more near is_one order (order_differs rects order sorted) (order_between rects order sorted reach)
-          (pairs_close (rule.Holds fixed) rect_of reach (g.met.R.PairRule.near fixed) items sorted.proper)
-          i within active c.loop-new.found.items c.turn.new.found.items so_far.swept turned);
-      looks = omega (arith, looks, longer, near_more, so_far.looks, so_far.swept.few (λ x. near x n));
-      tests = omega (arith, tests, both_more, so_far.tests, so_far.swept.few (λ x. both x n));
-      counts = omega (arith, looks, tests, so_far.counts, count_by-le-length (λ x. both x n) active);
-      enough = omega (arith, turn.enough, so_far.enough);
-      short = omega (arith, longer, so_far.short, count_by-le-length (λ x. near x n) active);
-      room = rw looks (looks_more i (length order) (rule.looks_of c.args.rule.now) (rule.looks_of c.loop-new.rule) (length active) within so_far.room so_far.short);
-      same = c.turn.ensures.same ∙ so_far.same;
+      found =
+          rw tests
+          (found_more g.S.PairSink.Takes holds symmetric rect_of items stretches start c.requires.stretches order c.requires.order
+          i (rule.tests_of c.loop-new.rule) (count_by counts seen) within bands c.visit.new.bands c.args.sink.now c.loop-new.sink c.visit.new.sink so_far.found so_far.reaches so_far.count visited found);
+      reaches = λ k. reaches_after narrow (first_at stretches n) (last_at stretches n) n bands c.visit.new.bands visited k ∙ so_far.reaches k;
+      count = visited.count ∙ so_far.count;
+      looks = omega (arith, visit.looks, left, so_far.looks, few_near, near_more, entries_more);
+      tests = omega (arith, tests, so_far.tests, few_both, both_more);
+      counts = omega (arith, visit.looks, tests, so_far.counts, count_by-le-length counts seen);
+      same = c.visit.ensures.same ∙ so_far.same;
+      same_room = c.visit.ensures.same_room ∙ so_far.same_room;
     }
 
 pub returns-clause-pairs : goal.returns-clause-pairs
 returns-clause-pairs g c =
     let rule = g.R.PairRule in
     let fixed = rule.fixed c.args.rule.now in
-    let items = c.args.items.now in
-    let order = c.args.order.now in
-    let end : c.loop-new.new-index ≡ length order = omega arith in
-    swept_all (rule.Holds fixed) items (test_at (near_along_x (rule.reach_of fixed)) (map (rule.rect_of fixed) items)) order c.loop-new.active.items c.loop-new.found.items
-    (rw end at c.loop-new.invariant.swept)
-
-pub returns-clause-few_tests : goal.returns-clause-few_tests
-returns-clause-few_tests g c = rw (take_all c.loop-new.new-index c.args.order.now (omega arith)) at c.loop-new.invariant.tests
-
-pub returns-clause-few_looks : goal.returns-clause-few_looks
-returns-clause-few_looks g c =
     let end : c.loop-new.new-index ≡ length c.args.order.now = omega arith in
-    let looks = rw (take_all c.loop-new.new-index c.args.order.now (omega arith)) at c.loop-new.invariant.looks in
-    omega (arith, looks, end)
-
-pub returns-clause-bounded : goal.returns-clause-bounded
-returns-clause-bounded g c =
-    let end : c.loop-new.new-index ≡ length c.args.order.now = omega arith in
-    rw end at c.loop-new.invariant.room
+    found_all g.S.PairSink.Takes (rule.Holds fixed) (g.met.R.PairRule.symmetric fixed) (rule.rect_of fixed) c.args.items.now c.args.stretches.now c.args.bands.now c.requires.stretches c.args.order.now c.requires.order
+    c.loop-new.bands (rule.tests_of c.loop-new.rule) c.args.sink.now c.loop-new.sink (rw end at c.loop-new.invariant.found)

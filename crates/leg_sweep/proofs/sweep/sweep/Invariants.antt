@@ -1,24 +1,26 @@
--- The items up to the next place of the order are in. Each look keeps an item active, which is a near pair, or retires it.
-use Rattle.std.proofs.Common.{◌≡◌, ◌≤◌, ◌+◌, ◌*◌, length, map, take}
+-- The items up to the next place of the order are in. Each look keeps an item waiting, which is a near pair, or retires it.
+use Rattle.std.proofs.Common.{◌≡◌, ℕ, ◌≤◌, ◌+◌, length, map, take, sum_by}
 use Rattle.leg_sweep.specs.Pairs.{IsPair}
-use Rattle.leg_sweep.specs.Counts.{near_along_x, near_along_both, count_pairs}
-use Rattle.leg_sweep.specs.Steps.Sweep.{test_at}
-use Rattle.leg_sweep.proofs.Progress.{SweptTo}
+use Rattle.leg_sweep.specs.Counts.{count_pairs}
+use Rattle.leg_sweep.specs.Steps.Bands.{waiting_at, waiting_count, entries_at, near_in_band, near_both_in_band}
+use Rattle.leg_sweep.proofs.FoundSoFar.{FoundTo}
 use Rattle.leg_sweep.proofs.sweep.sweep.Given as goal
 
 abbrev pub invariant-loop-new : goal.invariant-loop-new
 invariant-loop-new g l =
     let rule = g.R.PairRule in
+    let sink = g.S.PairSink in
     let fixed = rule.fixed l.fn.rule in
     let rects = map (rule.rect_of fixed) l.items in
-    let reach = rule.reach_of fixed in
+    let near = near_in_band rects l.stretches l.fn.bands in
+    let both = near_both_in_band rects l.stretches l.fn.bands in
     let done = take l.new-index l.order in record {
-      swept : SweptTo (test_at (near_along_x reach) rects) (IsPair (rule.Holds fixed) l.items) l.order l.new-index l.active.items l.found.items;
-      looks : rule.looks_of l.rule + length l.active.items ≤ rule.looks_of l.fn.rule + l.new-index + count_pairs (test_at (near_along_x reach) rects) done;
-      tests : rule.tests_of l.rule ≤ rule.tests_of l.fn.rule + count_pairs (test_at (near_along_both reach) rects) done;
+      found : FoundTo sink.Takes near (IsPair (rule.Holds fixed) l.items) l.stretches l.order l.new-index l.bands (rule.tests_of l.rule) l.fn.sink l.sink;
+      reaches : (k : ℕ) → (waiting_at l.bands k).reach ≡ (waiting_at l.fn.bands k).reach;
+      count : length l.bands ≡ length l.fn.bands;
+      looks : rule.looks_of l.rule + waiting_count l.bands ≤ sum_by (entries_at l.stretches) done + count_pairs near done;
+      tests : rule.tests_of l.rule ≤ count_pairs both done;
       counts : rule.tests_of l.rule ≤ rule.looks_of l.rule;
-      enough : length l.found.items + rule.tests_of l.fn.rule ≤ rule.tests_of l.rule;
-      short : length l.active.items ≤ l.new-index;
-      room : rule.looks_of l.rule ≤ rule.looks_of l.fn.rule + l.new-index * length l.order;
       same : rule.fixed l.rule ≡ fixed;
+      same_room : sink.room_of l.sink ≡ sink.room_of l.fn.sink;
     }

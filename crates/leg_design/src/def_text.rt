@@ -1,0 +1,73 @@
+//! A DEF text with its words.
+
+ghost use Rattle.std.specs.Prelude.{ℕ, ◌≡◌, ◌≢◌, ◌<◌, ◌≤◌, length, IfOk, IfErr};
+ghost use Rattle.leg_lex.specs.declared.limits.TheConstants.{TEXT_LIMIT, UNITS_LIMIT};
+ghost use Rattle.leg_lex.specs.declared.read_fault.FaultKind.TheVariants.{Memory};
+ghost use Rattle.leg_lex.specs.Say.{Says, HasNoWords};
+ghost use Rattle.leg_block.specs.Records.{DesignContents};
+ghost use Rattle.leg_design.specs.Header.{units_in};
+ghost use Rattle.leg_design.specs.Form.{design_in};
+
+use crate::form::design_words;
+use crate::header::units_anywhere;
+use leg_block::Design;
+use leg_cells::Library;
+use leg_lex::{Cursor, ReadFault, Token, file_words};
+use std::alloc::Allocator;
+use std::marker::Model;
+
+/// A DEF text whose words are made once, for its units and for its design. Contracts see it as the text.
+///
+/// A fault tells the text by the number 0, and in it the line of the word at fault.
+#[derive(Drop)]
+pub struct DefText<'a, A: Allocator> {
+    text: &'a [u8],
+    words: Vec<Token<'a>, A>,
+}
+
+impl<'a, A: Allocator> Model for DefText<'a, A> {
+    ghost use Rattle.std.specs.Prelude.{ℕ, List};
+    ghost use Rattle.leg_lex.specs.Say.{HasWords};
+
+    ghost Value = { List ℕ };
+
+    ghost view = { λ d. d.text.now };
+
+    ghost invariant = { λ d. HasWords d.text.now d.words.items };
+}
+
+impl<'a, A: Allocator + Copy> DefText<'a, A> {
+    /// The text with its words. Refused as `file_words` refuses it.
+    pub fn new(alloc: A, text: &'a [u8]) -> Result<DefText<'a, A>, ReadFault>
+        ensures is { IfOk result (λ def. def ≡ text.now) }
+        // A text that is too long is never told as want of memory.
+        ensures too_long { IfErr result (λ fault. TEXT_LIMIT < length text.now → fault.kind ≢ Memory) }
+        ensures none { IfErr result (λ fault. fault.kind ≢ Memory → HasNoWords text.now) }
+    {
+        let words = file_words(alloc, 0, text)?;
+        Ok(DefText { text, words })
+    }
+
+    /// The database units of a micron that the DEF says, from 1 to 20,000, at the first place where its `UNITS` stand.
+    pub fn units(&self) -> Result<u32, ReadFault>
+        ensures found { IfOk result (λ n. Says units_in self.now n) }
+        ensures limits { IfOk result (λ n. (1 ≤ n) × (n ≤ UNITS_LIMIT)) }
+        // The text says no other number.
+        ensures only { IfOk result (λ n. (said : ℕ) → Says units_in self.now said → said ≡ n) }
+        ensures none { IfErr result (λ fault. fault.kind ≢ Memory → (said : ℕ) → ¬ Says units_in self.now said) }
+    {
+        units_anywhere(&mut Cursor::new(0, &self.words))
+    }
+
+    /// The design that the DEF says under a library. The words go with it, so that they take no memory any more.
+    pub fn design(self, alloc: A, library: &'a Library<'a, A>) -> Result<Design<'a, A>, ReadFault>
+        ensures found { IfOk result (λ design. Says (design_in library.now) self.entry design) }
+        // The text says no other design.
+        ensures only { IfOk result (λ design. (said : DesignContents)
+            → Says (design_in library.now) self.entry said → said ≡ design) }
+        ensures none { IfErr result (λ fault. fault.kind ≢ Memory
+            → (said : DesignContents) → ¬ Says (design_in library.now) self.entry said) }
+    {
+        design_words(alloc, library, &mut Cursor::new(0, &self.words))
+    }
+}

@@ -1,0 +1,54 @@
+use Rattle.std.proofs.Common.{◌<◌, ◌^◌, length, map, sum_by, arith}
+use Rattle.std.specs.List.{range_with_len}
+use Rattle.std.proofs.lemmas.List.{length-map}
+use Rattle.std.proofs.lemmas.List.Sorted.{sum_by-IsPermutation}
+use Rattle.leg_sweep.specs.Counts.{near_along_x, near_along_both}
+use Rattle.leg_sweep.specs.Steps.Bands.{entries_at}
+use Rattle.leg_sweep.proofs.Nearness.{near_along_x_symmetric, near_along_both_symmetric}
+use Rattle.leg_sweep.proofs.OnLayers.{on_layers}
+use Rattle.leg_sweep.proofs.banded.search.Goals as goal
+
+pub sweep-requires-clause-stretches : goal.sweep-requires-clause-stretches
+sweep-requires-clause-stretches g c = rw (c.deref-2.ensures.value, c.deref_mut.ensures.value) c.in_ok-stretches.ensures.stretches
+
+pub sweep-requires-clause-entries : goal.sweep-requires-clause-entries
+sweep-requires-clause-entries g c =
+    let rect_of = g.R.PairRule.rect_of (g.R.PairRule.fixed c.args.rule.now) in
+    let items = c.args.items.now in
+    let order = c.in_ok-order.order.items in
+    let stretches = c.in_ok-stretches.stretches.items in
+    let moved = sum_by-IsPermutation (entries_at stretches) (range_with_len 0 (length items)) order (rw (length-map items rect_of) at c.in_ok-order.ensures.numbers) in
+    let few : sum_by (entries_at stretches) order < 2 ^ 62 = omega (arith, moved, c.in_ok-stretches.ensures.entries, c.requires.few) in
+    rw (c.deref-2.ensures.value, c.deref.ensures.value) few
+
+pub returns-clause-few_tests : goal.returns-clause-few_tests
+returns-clause-few_tests g c =
+    let rule = g.R.PairRule in
+    let layered = g.R.LayeredRule in
+    let fixed = rule.fixed c.args.rule.now in
+    let items = c.args.items.now in
+    let rects = map (rule.rect_of fixed) items in
+    let order = c.in_ok-order.order.items in
+    let sorted = c.in_ok-order.ensures in
+    let tests = rw (c.deref-2.ensures.value, c.deref_mut.ensures.value, c.deref.ensures.value) at c.in_ok-sweep.ensures.few_tests in
+    let fewer =
+    on_layers near_along_both (layered.layer_reach_of fixed) (rule.rect_of fixed) (layered.layer_of fixed) items (near_along_both_symmetric rects sorted.proper)
+    c.in_ok-stretches.stretches.items c.in_ok-stretches.bands.items order sorted c.in_ok-stretches.ensures.layers in
+    omega (arith, tests, fewer)
+
+pub returns-clause-few_looks : goal.returns-clause-few_looks
+returns-clause-few_looks g c =
+    let rule = g.R.PairRule in
+    let layered = g.R.LayeredRule in
+    let fixed = rule.fixed c.args.rule.now in
+    let items = c.args.items.now in
+    let rects = map (rule.rect_of fixed) items in
+    let order = c.in_ok-order.order.items in
+    let sorted = c.in_ok-order.ensures in
+    let stretches = c.in_ok-stretches.stretches.items in
+    let looks = rw (c.deref-2.ensures.value, c.deref_mut.ensures.value, c.deref.ensures.value) at c.in_ok-sweep.ensures.few_looks in
+    let moved = sum_by-IsPermutation (entries_at stretches) (range_with_len 0 (length items)) order (rw (length-map items (rule.rect_of fixed)) at sorted.numbers) in
+    let fewer =
+    on_layers near_along_x (layered.layer_reach_of fixed) (rule.rect_of fixed) (layered.layer_of fixed) items (near_along_x_symmetric rects sorted.proper)
+    stretches c.in_ok-stretches.bands.items order sorted c.in_ok-stretches.ensures.layers in
+    omega (arith, looks, fewer, moved, c.in_ok-stretches.ensures.entries)

@@ -1,0 +1,39 @@
+use Rattle.std.proofs.Common.{◌≡◌, ℕ, map, count_by, cond, sym, ◌∙◌, arith}
+use Rattle.std.proofs.lemmas.List.{get_or_default}
+use Rattle.std.proofs.lemmas.List.Sums.{sum_by-append}
+use Rattle.leg_sweep.specs.Pairs.{IsPair}
+use Rattle.leg_sweep.specs.Counts.{near_along_both}
+use Rattle.leg_sweep.specs.Steps.Bands.{empty_band, waiting_at}
+use Rattle.leg_sweep.specs.Steps.Sweep.{test_at}
+use Rattle.leg_sweep.proofs.Turns.{new_pairs_append}
+use Rattle.leg_sweep.proofs.visit.begin.Goals as goal
+
+pub returns-clause-found : goal.returns-clause-found
+returns-clause-found g c =
+    let rule = g.R.PairRule in
+    let fixed = rule.fixed c.args.rule.now in
+    let items = c.args.items.now in
+    let begun = c.band.inside.begun.items in
+    let passing = c.band.inside.passing.items in
+    let counts = λ (x : ℕ). test_at (near_along_both c.band.inside.reach) (map (rule.rect_of fixed) items) x c.args.new in
+    let band_is : waiting_at c.args.bands.now c.args.number ≡ record { reach = c.band.inside.reach; begun = begun; passing = passing } =
+    get_or_default c.args.bands.now c.args.number (empty_band 0) c.index-bands-number.result c.requires.there ∙ sym c.band.view_is in
+    let differ = rw band_is at c.requires.apart in
+    let first = c.in_ok-meet_waiting.ensures.found in
+    let second = rw c.meet_waiting.ensures.same at c.in_ok-meet_waiting-2.ensures.found in
+    rw (band_is, sum_by-append (λ x. cond (counts x) 1 0) begun passing)
+    (new_pairs_append g.S.PairSink.Takes (IsPair (rule.Holds fixed) items) c.args.new c.args.sink.now begun passing (count_by counts begun) (count_by counts passing) c.meet_waiting.new.sink c.meet_waiting-2.new.sink differ first second)
+
+pub returns-clause-tests : goal.returns-clause-tests
+returns-clause-tests g c =
+    let rule = g.R.PairRule in
+    let fixed = rule.fixed c.args.rule.now in
+    let items = c.args.items.now in
+    let begun = c.band.inside.begun.items in
+    let passing = c.band.inside.passing.items in
+    let counts = λ (x : ℕ). test_at (near_along_both c.band.inside.reach) (map (rule.rect_of fixed) items) x c.args.new in
+    let band_is : waiting_at c.args.bands.now c.args.number ≡ record { reach = c.band.inside.reach; begun = begun; passing = passing } =
+    get_or_default c.args.bands.now c.args.number (empty_band 0) c.index-bands-number.result c.requires.there ∙ sym c.band.view_is in
+    let first = c.in_ok-meet_waiting.ensures.tests in
+    let second = rw c.meet_waiting.ensures.same at c.in_ok-meet_waiting-2.ensures.tests in
+    rw band_is (omega (arith, first, second, sum_by-append (λ x. cond (counts x) 1 0) begun passing))

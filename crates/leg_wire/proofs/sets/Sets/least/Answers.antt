@@ -1,0 +1,11 @@
+-- There are as many parents as numbers.
+use Rattle.std.proofs.Common.{◌<◌, length, arith}
+use Rattle.leg_wire.specs.Steps.NumberSets.{roots_of}
+use Rattle.leg_wire.proofs.SetRoots.{length-roots_of}
+use Rattle.leg_wire.proofs.sets.Sets.least.Goals as goal
+
+pub root-requires-clause-within : goal.root-requires-clause-within
+root-requires-clause-within g c =
+    let parents = c.self.inside.parents.items in
+    let within : c.args.number < length (roots_of parents) = rw (← c.self.view_is) at c.requires in
+    omega (arith, within, length-roots_of parents)

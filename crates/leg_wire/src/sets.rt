@@ -1,0 +1,117 @@
+//! Disjoint sets of numbers, of which two at a time are made one.
+
+ghost use Rattle.std.specs.Prelude.{◌≡◌, ◌↔◌, ◌<◌, IsTrue, length, Some, IfOk, slice_get};
+ghost use Rattle.std.specs.List.{range_with_len};
+ghost use Rattle.leg_wire.specs.Touch.{AreMarks};
+ghost use Rattle.leg_wire.specs.Steps.NumberSets.{AreTogether, AreUnited, IsForest, roots_of};
+
+use std::alloc::{AllocError, Allocator};
+use std::marker::Model;
+
+/// Sets of the numbers below a size; each number is in one. Contracts see the list of the least number of each number's
+/// set.
+#[derive(Drop)]
+pub(crate) struct Sets<A: Allocator> {
+    /// A number of the same set for each, and no greater one. The least of a set has itself.
+    parents: Vec<u32, A>,
+}
+
+impl<A: Allocator> Model for Sets<A> {
+    ghost use Rattle.std.specs.Prelude.{ℕ, List};
+    ghost use Rattle.leg_wire.specs.Steps.NumberSets.{IsForest, roots_of};
+
+    ghost Value = { List ℕ };
+
+    ghost view = { λ s. roots_of s.parents.items };
+
+    ghost invariant = { λ s. IsForest s.parents.items };
+}
+
+impl<A: Allocator> Sets<A> {
+    /// Each of the numbers below the count is in a set of its own.
+    pub(crate) fn new(alloc: A, count: u32) -> Result<Sets<A>, AllocError>
+        ensures { IfOk result (λ sets. sets ≡ range_with_len 0 count) }
+    {
+        Ok(Sets {
+            parents: numbers_below(alloc, count)?,
+        })
+    }
+
+    /// Whether the numbers are in one set.
+    pub(crate) fn are_together(&mut self, a: u32, b: u32) -> bool
+        requires a { a < length self.old }
+        requires b { b < length self.old }
+        ensures answer { IsTrue result ↔ AreTogether self.old a b }
+        ensures same { self.new ≡ self.old }
+    {
+        self.least(a) == self.least(b)
+    }
+
+    /// Makes the sets of the numbers one.
+    pub(crate) fn unite(&mut self, a: u32, b: u32)
+        requires a { a < length self.old }
+        requires b { b < length self.old }
+        ensures { AreUnited a b self.old self.new }
+    {
+        let first = self.least(a);
+        let second = self.least(b);
+        self.parents[first.max(second) as usize] = first.min(second);
+    }
+
+    /// The least number of the number's set.
+    fn least(&mut self, number: u32) -> u32
+        requires { number < length self.old }
+        ensures is { slice_get self.old number ≡ Some result }
+        ensures same { self.new ≡ self.old }
+    {
+        root(&mut self.parents, number)
+    }
+
+    /// For each number whether it is in the set of the number 0.
+    pub(crate) fn marks<B: Allocator>(&self, alloc: B) -> Result<Vec<bool, B>, AllocError>
+        ensures { IfOk result (λ marks. AreMarks (AreTogether self.now 0) (length self.now) marks.items) }
+    {
+        let parents = self.parents.as_slice();
+        let mut marks = Vec::with_capacity(alloc, parents.len())?;
+        for number in 0..parents.len() {
+            let parent = parents[number] as usize;
+            let with_first = if parent < number {
+                marks[parent]
+            } else {
+                number == 0
+            };
+            marks.push(with_first)?;
+        }
+        Ok(marks)
+    }
+}
+
+/// The numbers below the count.
+fn numbers_below<A: Allocator>(alloc: A, count: u32) -> Result<Vec<u32, A>, AllocError>
+    ensures { IfOk result (λ numbers. numbers.items ≡ range_with_len 0 count) }
+{
+    let mut numbers = Vec::with_capacity(alloc, count as usize)?;
+    for number in 0..count {
+        numbers.push(number)?;
+    }
+    Ok(numbers)
+}
+
+/// The root of the number's tree. Each number on the way gets its parent's parent (path halving), which changes no root.
+fn root<A: Allocator>(parents: &mut Vec<u32, A>, number: u32) -> u32
+    requires forest { IsForest parents.old.items }
+    requires within { number < length parents.old.items }
+    ensures is { slice_get (roots_of parents.old.items) number ≡ Some result }
+    ensures same { roots_of parents.new.items ≡ roots_of parents.old.items }
+    ensures forest { IsForest parents.new.items }
+{
+    let mut at = number;
+    let mut parent = parents[at as usize];
+    'up: while parent != at {
+        let above = parents[parent as usize];
+        parents[at as usize] = above;
+        at = above;
+        parent = parents[at as usize];
+    }
+    at
+}
