@@ -21,10 +21,11 @@ impl<T, A: Allocator> Model for Items<T, A> {
 }
 
 impl<T, A: Allocator> Items<T, A> {
-    /// The list of these elements.
-    pub fn from_vec(items: Vec<T, A>) -> Items<T, A>
+    /// The list of these elements. Room that they don't need is given back.
+    pub fn from_vec(mut items: Vec<T, A>) -> Items<T, A>
         ensures { result ≡ items.items }
     {
+        items.shrink_to_fit();
         Items { items }
     }
 

@@ -12,7 +12,7 @@ use crate::form::design_words;
 use crate::header::units_anywhere;
 use leg_block::Design;
 use leg_cells::Library;
-use leg_lex::{Cursor, ReadFault, Token, file_words};
+use leg_lex::{Cursor, ReadFault, Words, file_words};
 use std::alloc::Allocator;
 use std::marker::Model;
 
@@ -22,7 +22,7 @@ use std::marker::Model;
 #[derive(Drop)]
 pub struct DefText<'a, A: Allocator> {
     text: &'a [u8],
-    words: Vec<Token<'a>, A>,
+    words: Words<'a, A>,
 }
 
 impl<'a, A: Allocator> Model for DefText<'a, A> {
@@ -33,7 +33,7 @@ impl<'a, A: Allocator> Model for DefText<'a, A> {
 
     ghost view = { λ d. d.text.now };
 
-    ghost invariant = { λ d. HasWords d.text.now d.words.items };
+    ghost invariant = { λ d. HasWords d.text.now d.words };
 }
 
 impl<'a, A: Allocator + Copy> DefText<'a, A> {

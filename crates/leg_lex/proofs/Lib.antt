@@ -14,6 +14,7 @@ mod Units
 -- Loops over words
 mod Skipped
 mod Marks
+mod WordsAt
 mod Asked
 -- What the proofs of other crates cite
 pub mod Said

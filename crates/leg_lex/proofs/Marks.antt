@@ -1,8 +1,7 @@
 -- Where a mark stands, and what is cut there.
-use Rattle.std.proofs.Common.{◌≡◌, ℕ, zero, suc, ◌+◌, ◌<◌, ◌≤◌, Bool, true, false, List, [], ◌∷◌, length, get_or, take, drop, Option, None, Some, refl, arith, add-one}
+use Rattle.std.proofs.Common.{◌≡◌, ℕ, zero, suc, ◌+◌, ◌<◌, ◌≤◌, Bool, true, false, List, [], ◌∷◌, length, map, get_or, take, drop, Option, None, Some, refl, arith, add-one}
 use Rattle.std.specs.Str.{bytes_eq}
 use Rattle.std.specs.List.{slice_split}
-use Rattle.leg_lex.specs.Word.{Word, texts}
 use Rattle.leg_lex.specs.Words.{Words, ◌>>=◌}
 use Rattle.leg_lex.specs.Statements.{up_to}
 use Rattle.leg_lex.proofs.Said.{made_is, rest_is}
@@ -11,33 +10,34 @@ use Rattle.leg_lex.proofs.Said.{made_is, rest_is}
 abbrev pub is_this : ℕ → List ℕ → Bool
 is_this mark word = bytes_eq word (mark ∷ [])
 
--- no word before the place i is this mark
-abbrev pub NoneBefore : ℕ → ℕ → List Word → Type 0
-NoneBefore mark i tokens = (k : ℕ) (d : Word) → k < i → k < length tokens → is_this mark (get_or tokens k d).text ≡ false
+module _ {X : Type 0} (bytes : X → List ℕ) where
+  -- no word before the place i is this mark
+  abbrev pub NoneBefore : ℕ → ℕ → List X → Type 0
+  NoneBefore mark i ts = (k : ℕ) (d : X) → k < i → k < length ts → is_this mark (bytes (get_or ts k d)) ≡ false
 
-later : (mark i : ℕ) (t : Word) (ts : List Word) → NoneBefore mark (suc i) (t ∷ ts) → NoneBefore mark i ts
-later mark i t ts none = λ k d less there. none (suc k) d (omega arith) (omega arith)
+  later : (mark i : ℕ) (t : X) (ts : List X) → NoneBefore mark (suc i) (t ∷ ts) → NoneBefore mark i ts
+  later mark i t ts none = λ k d less there. none (suc k) d (omega arith) (omega arith)
 
--- the words are cut at the first such mark
-pub cut_there : (mark i : ℕ) (d : Word) (ts : List Word) → i < length ts → is_this mark (get_or ts i d).text ≡ true → NoneBefore mark i ts → up_to (is_this mark) (texts ts) ≡ Some (texts (take i ts), texts (drop (i + 1) ts))
-unfolding up_to
-cut_there mark i d [] less is none = absurd (omega arith)
-cut_there mark zero d (t ∷ ts) less is none = rw is refl
-cut_there mark (suc i) d (t ∷ ts) less is none =
-    let here : is_this mark t.text ≡ false = none 0 d (omega arith) (omega arith) in
-    let there = cut_there mark i d ts (omega arith) is (later mark i t ts none) in
-    rw (here, there, add-one, add-one) refl
+  -- the words are cut at the first such mark
+  pub cut_there : (mark i : ℕ) (d : X) (ts : List X) → i < length ts → is_this mark (bytes (get_or ts i d)) ≡ true → NoneBefore mark i ts → up_to (is_this mark) (map bytes ts) ≡ Some (map bytes (take i ts), map bytes (drop (i + 1) ts))
+  unfolding up_to
+  cut_there mark i d [] less is none = absurd (omega arith)
+  cut_there mark zero d (t ∷ ts) less is none = rw is refl
+  cut_there mark (suc i) d (t ∷ ts) less is none =
+      let here : is_this mark (bytes t) ≡ false = none 0 d (omega arith) (omega arith) in
+      let there = cut_there mark i d ts (omega arith) is (later mark i t ts none) in
+      rw (here, there, add-one, add-one) refl
 
--- without such a mark they aren't cut
-pub not_cut : (mark i : ℕ) (ts : List Word) → length ts ≤ i → NoneBefore mark i ts → up_to (is_this mark) (texts ts) ≡ None
-unfolding up_to
-not_cut mark i [] past none = refl
-not_cut mark zero (t ∷ ts) past none = absurd (omega arith)
-not_cut mark (suc i) (t ∷ ts) past none =
-    let d : Word = t in
-    let here : is_this mark t.text ≡ false = none 0 d (omega arith) (omega arith) in
-    let there = not_cut mark i ts (omega arith) (later mark i t ts none) in
-    rw (here, there) refl
+  -- without such a mark they aren't cut
+  pub not_cut : (mark i : ℕ) (ts : List X) → length ts ≤ i → NoneBefore mark i ts → up_to (is_this mark) (map bytes ts) ≡ None
+  unfolding up_to
+  not_cut mark i [] past none = refl
+  not_cut mark zero (t ∷ ts) past none = absurd (omega arith)
+  not_cut mark (suc i) (t ∷ ts) past none =
+      let d : X = t in
+      let here : is_this mark (bytes t) ≡ false = none 0 d (omega arith) (omega arith) in
+      let there = not_cut mark i ts (omega arith) (later mark i t ts none) in
+      rw (here, there) refl
 
 none_later : (said : Option (Words × Words)) (word : List ℕ) → ◌>>=◌ {B = Words × Words} said (λ others. Some (word ∷ others.0, others.1)) ≡ None → said ≡ None
 none_later None word e = refl

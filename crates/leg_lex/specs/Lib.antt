@@ -8,3 +8,4 @@ pub mod Statements
 pub mod Past
 pub mod NameLookup
 pub mod Say
+pub mod Steps

@@ -1,14 +1,16 @@
 //! A place in a text's words, from which forms are read.
 
-ghost use Rattle.std.specs.Prelude.{◌≡◌, ◌≢◌, ◌↔◌, IsTrue, [], ◌∷◌, ◌+◌, ◌<◌, length, take, drop, MatchOption, None, Some, is_some};
+ghost use Rattle.std.specs.Prelude.{◌≡◌, ◌≢◌, ◌↔◌, IsTrue, [], ◌∷◌, ◌+◌, ◌<◌, length, map, take, drop, All, MatchOption, None, Some, is_some};
 ghost use Rattle.std.specs.Str.{bytes_eq};
 ghost use Rattle.leg_lex.specs.Word.{texts};
 ghost use Rattle.leg_lex.specs.Words.{Reads, Means, is_at, next_at, keyword_at, mark_at, name_at, word_at, whole_at, length_at, end_at, end_of, nothing_at};
 ghost use Rattle.leg_lex.specs.Statements.{up_to, statement_at, statements_at};
+ghost use Rattle.leg_lex.specs.Steps.WordPlaces.{bytes_at, IsPlaceIn};
 
 use crate::length::Micron;
 use crate::read_fault::{FaultKind, ReadFault};
-use crate::token::Token;
+use crate::word_place::{WordPlace, bytes_at};
+use crate::words::Words;
 use crate::{number, word};
 use std::alloc::Allocator;
 use std::marker::Model;
@@ -17,7 +19,8 @@ use std::marker::Model;
 /// words.
 #[derive(Drop)]
 pub struct Cursor<'t, 'a> {
-    rest: &'t [Token<'a>],
+    text: &'a [u8],
+    rest: &'t [WordPlace],
     // For faults: the text's number, the line of the word before, and the line of the mark that ends
     // these words, if a mark does.
     file: u32,
@@ -26,21 +29,24 @@ pub struct Cursor<'t, 'a> {
 }
 
 impl<'t, 'a> Model for Cursor<'t, 'a> {
-    ghost use Rattle.leg_lex.specs.Word.{texts};
-    ghost use Rattle.std.specs.Prelude.{List, ℕ};
+    ghost use Rattle.std.specs.Prelude.{List, ℕ, map, All};
+    ghost use Rattle.leg_lex.specs.Steps.WordPlaces.{bytes_at, IsPlaceIn};
 
     ghost Value = { List (List ℕ) };
 
-    ghost view = { λ c. texts c.rest.now };
+    ghost view = { λ c. map (bytes_at c.text.now) c.rest.now };
+
+    ghost invariant = { λ c. All (IsPlaceIn c.text.now) c.rest.now };
 }
 
 impl<'t, 'a> Cursor<'t, 'a> {
     /// The words of the text of this number.
-    pub fn new(file: u32, tokens: &'t [Token<'a>]) -> Cursor<'t, 'a>
-        ensures { result ≡ texts tokens.now }
+    pub fn new<A: Allocator>(file: u32, words: &'t Words<'a, A>) -> Cursor<'t, 'a>
+        ensures { result ≡ texts words.now }
     {
         Cursor {
-            rest: tokens,
+            text: words.text,
+            rest: words.places.as_slice(),
             file,
             line: 1,
             closed_at: None,
@@ -52,6 +58,7 @@ impl<'t, 'a> Cursor<'t, 'a> {
         ensures { result ≡ self.now }
     {
         Cursor {
+            text: self.text,
             rest: self.rest,
             file: self.file,
             line: self.line,
@@ -116,7 +123,7 @@ impl<'t, 'a> Cursor<'t, 'a> {
         ensures { result ≡ is_at keyword.now self.now }
     {
         match self.rest {
-            [next, ..] => word::is_keyword(keyword, next.text),
+            [next, ..] => word::is_keyword(keyword, bytes_at(self.text, next)),
             [] => false,
         }
     }
@@ -128,7 +135,8 @@ impl<'t, 'a> Cursor<'t, 'a> {
     {
         match self.rest {
             [end, next, ..] => {
-                word::is_keyword(b"END", end.text) && word::is_keyword(keyword, next.text)
+                word::is_keyword(b"END", bytes_at(self.text, end))
+                    && word::is_keyword(keyword, bytes_at(self.text, next))
             }
             _ => false,
         }
@@ -141,7 +149,10 @@ impl<'t, 'a> Cursor<'t, 'a> {
     {
         match self.rest {
             [end, next, ..] => {
-                word::is_keyword(b"END", end.text) && word::is_name(next.text) && next.text == name
+                let next = bytes_at(self.text, next);
+                word::is_keyword(b"END", bytes_at(self.text, end))
+                    && word::is_name(next)
+                    && next == name
             }
             _ => false,
         }
@@ -160,7 +171,7 @@ impl<'t, 'a> Cursor<'t, 'a> {
         ensures { Means (λ word. (word.now, drop 1 self.now)) result (next_at self.now) }
     {
         match self.rest {
-            [next, ..] => Ok(next.text),
+            [next, ..] => Ok(bytes_at(self.text, next)),
             [] => Err(self.cut_short(in_place)),
         }
     }
@@ -319,17 +330,18 @@ impl<'t, 'a> Cursor<'t, 'a> {
             ((up_to (λ word. bytes_eq word (mark ∷ [])) self.old ≡ None) × (self.new ≡ self.old))
             (λ front. up_to (λ word. bytes_eq word (mark ∷ [])) self.old ≡ Some (front, self.new)) }
     {
-        let tokens = self.rest;
-        let end = place_of_mark(mark, tokens)?;
-        let last = &tokens[end];
+        let words = self.rest;
+        let end = place_of_mark(mark, self.text, words)?;
+        let last = &words[end];
         let front = Cursor {
-            rest: &tokens[..end],
+            text: self.text,
+            rest: &words[..end],
             file: self.file,
             line: self.line,
             closed_at: Some(last.line),
         };
         self.line = last.line;
-        self.rest = &tokens[end + 1..];
+        self.rest = &words[end + 1..];
         Some(front)
     }
 
@@ -349,17 +361,18 @@ impl<'t, 'a> Cursor<'t, 'a> {
     }
 }
 
-// Where the first such mark stands.
+// Where the first such mark stands among the words at these places of the text.
 #[tactic(auto, using(crate::proofs::Marks::cut_there))]
-fn place_of_mark(mark: u8, tokens: &[Token]) -> Option<usize>
+fn place_of_mark(mark: u8, text: &[u8], words: &[WordPlace]) -> Option<usize>
+    requires { All (IsPlaceIn text.now) words.now }
     ensures { MatchOption result
-        (up_to (λ word. bytes_eq word (mark ∷ [])) (texts tokens.now) ≡ None)
-        (λ end. (end < length tokens.now)
-        × (up_to (λ word. bytes_eq word (mark ∷ [])) (texts tokens.now)
-        ≡ Some (texts (take end tokens.now), texts (drop (end + 1) tokens.now)))) }
+        (up_to (λ word. bytes_eq word (mark ∷ [])) (map (bytes_at text.now) words.now) ≡ None)
+        (λ end. (end < length words.now)
+        × (up_to (λ word. bytes_eq word (mark ∷ [])) (map (bytes_at text.now) words.now)
+        ≡ Some (map (bytes_at text.now) (take end words.now), map (bytes_at text.now) (drop (end + 1) words.now)))) }
 {
-    for (i, token) in tokens.iter().enumerate() {
-        if token.text == [mark].as_slice() {
+    for (i, place) in words.iter().enumerate() {
+        if bytes_at(text, place) == [mark].as_slice() {
             return Some(i);
         }
     }

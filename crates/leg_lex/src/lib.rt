@@ -15,6 +15,7 @@ mod pieces;
 mod read_fault;
 mod token;
 mod word;
+mod word_place;
 mod words;
 mod words_of_file;
 
@@ -29,5 +30,5 @@ pub use number::{micron, whole};
 pub use read_fault::{FaultKind, ReadFault};
 pub use token::Token;
 pub use word::{is_keyword, is_mark, is_name, is_word};
-pub use words::tokens;
+pub use words::{Words, tokens};
 pub use words_of_file::file_words;

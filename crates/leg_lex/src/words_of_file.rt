@@ -6,8 +6,7 @@ ghost use Rattle.leg_lex.specs.declared.read_fault.FaultKind.TheVariants.{Memory
 ghost use Rattle.leg_lex.specs.Say.{HasWords, HasNoWords};
 
 use crate::read_fault::ReadFault;
-use crate::token::Token;
-use crate::words::tokens;
+use crate::words::Words;
 use std::alloc::Allocator;
 
 /// The words of the text of this number, in order.
@@ -17,13 +16,13 @@ pub fn file_words<'a, A: Allocator + Copy>(
     alloc: A,
     file: u32,
     text: &'a [u8],
-) -> Result<Vec<Token<'a>, A>, ReadFault>
-    ensures found { IfOk result (λ tokens. HasWords text.now tokens.items) }
+) -> Result<Words<'a, A>, ReadFault>
+    ensures found { IfOk result (λ words. HasWords text.now words) }
     // A text that is too long is never told as want of memory.
     ensures too_long { IfErr result (λ fault. TEXT_LIMIT < length text.now → fault.kind ≢ Memory) }
     ensures none { IfErr result (λ fault. fault.kind ≢ Memory → HasNoWords text.now) }
 {
-    match tokens(alloc, text) {
+    match Words::new(alloc, text) {
         Ok(words) => Ok(words),
         Err(fault) => Err(ReadFault::of_text(file, fault)),
     }

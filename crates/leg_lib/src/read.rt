@@ -27,8 +27,8 @@ fn add_lef<'a, A: Allocator + Copy>(
     ensures none { IfErr result (λ fault. fault.kind ≢ Memory
         → (said : RawContents) → ¬ Says (lef_in library.old) text.now said) }
 {
-    let tokens = file_words(alloc, file, text)?;
-    form::lef_words(alloc, library, &mut Cursor::new(file, &tokens))
+    let words = file_words(alloc, file, text)?;
+    form::lef_words(alloc, library, &mut Cursor::new(file, &words))
 }
 
 /// The library that LEF texts say, taken one after the other, in millionths of a micron.

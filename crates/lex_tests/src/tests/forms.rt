@@ -1,30 +1,15 @@
 //! Forms read from words.
 
-use leg_lex::{Cursor, FaultKind, Names, Token, clauses, is_name, is_word, only, the};
-use std::alloc::Global;
+use leg_lex::{Cursor, FaultKind, Names, Words, clauses, is_name, is_word, only, the};
 use std::test::Fail;
-
-// The words of a text, cut at single blanks, each in a line of its own.
-fn words<'a>(alloc: Global, text: &'a str) -> Result<Vec<Token<'a>>, Fail> {
-    let mut tokens = Vec::new(alloc);
-    let mut line = 1u32;
-    for word in text.split(' ') {
-        tokens.push(Token {
-            text: word.as_bytes(),
-            line,
-        })?;
-        line = line.saturating_add(1);
-    }
-    Ok(tokens)
-}
 
 #[test]
 fn reads_forms_word_by_word(rt: HostRuntime) -> Result<(), Fail> {
-    let tokens = words(
+    let words = Words::new(
         rt.alloc(),
-        "site Core ( -7 0.25 ) \"a_b\" end SITE End Core",
+        b"site Core ( -7 0.25 ) \"a_b\" end SITE End Core",
     )?;
-    let mut cursor = Cursor::new(0, &tokens);
+    let mut cursor = Cursor::new(0, &words);
     assert!(rt; cursor.is_at(b"SITE"));
     cursor.keyword(b"SITE")?;
     assert_eq!(rt; cursor.name()?, b"Core".as_slice());
@@ -57,8 +42,8 @@ fn tells_names_and_words(rt: HostRuntime) -> Result<(), Fail> {
 
 #[test]
 fn tells_the_word_at_fault(rt: HostRuntime) -> Result<(), Fail> {
-    let tokens = words(rt.alloc(), "SIZE 1 BY ; SIZE x")?;
-    let mut cursor = Cursor::new(3, &tokens);
+    let words = Words::new(rt.alloc(), b"SIZE\n1\nBY\n;\nSIZE\nx")?;
+    let mut cursor = Cursor::new(3, &words);
     let mut size = cursor.statement()?;
     size.any()?;
     let Err(fault) = size.keyword(b"BY") else {
@@ -83,8 +68,8 @@ fn tells_the_word_at_fault(rt: HostRuntime) -> Result<(), Fail> {
 
 #[test]
 fn cuts_a_block_into_statements(rt: HostRuntime) -> Result<(), Fail> {
-    let tokens = words(rt.alloc(), "SIZE 1 BY 2 ; ; END")?;
-    let mut cursor = Cursor::new(0, &tokens);
+    let words = Words::new(rt.alloc(), b"SIZE 1 BY 2 ; ; END")?;
+    let mut cursor = Cursor::new(0, &words);
     let statements = cursor.statements(rt.alloc())?;
     assert!(rt; cursor.is_at(b"END"));
     assert_eq!(rt; statements.len(), 2);
@@ -99,8 +84,8 @@ fn cuts_a_block_into_statements(rt: HostRuntime) -> Result<(), Fail> {
 
 #[test]
 fn refuses_a_second_statement(rt: HostRuntime) -> Result<(), Fail> {
-    let tokens = words(rt.alloc(), "TYPE a ; Type b ; END")?;
-    let mut cursor = Cursor::new(0, &tokens);
+    let words = Words::new(rt.alloc(), b"TYPE\na\n;\nType b ; END")?;
+    let mut cursor = Cursor::new(0, &words);
     let statements = cursor.statements(rt.alloc())?;
     let Err(fault) = only(&statements, b"TYPE") else {
         return Ok(assert!(rt; false));
@@ -112,8 +97,8 @@ fn refuses_a_second_statement(rt: HostRuntime) -> Result<(), Fail> {
 
 #[test]
 fn cuts_a_statement_into_clauses(rt: HostRuntime) -> Result<(), Fail> {
-    let tokens = words(rt.alloc(), "- u1 INV + SOURCE DIST + PLACED ( 0 0 ) N ;")?;
-    let statement = Cursor::new(0, &tokens).statement()?;
+    let words = Words::new(rt.alloc(), b"- u1 INV + SOURCE DIST + PLACED ( 0 0 ) N ;")?;
+    let statement = Cursor::new(0, &words).statement()?;
     let clauses = clauses(rt.alloc(), &statement)?;
     assert_eq!(rt; clauses.len(), 3);
     assert!(rt; clauses[0].is_at(b"-"));
@@ -124,8 +109,8 @@ fn cuts_a_statement_into_clauses(rt: HostRuntime) -> Result<(), Fail> {
 
 #[test]
 fn reads_past_forms(rt: HostRuntime) -> Result<(), Fail> {
-    let tokens = words(rt.alloc(), "x ENDEXT END y End Units end a END A z")?;
-    let mut cursor = Cursor::new(0, &tokens);
+    let words = Words::new(rt.alloc(), b"x ENDEXT END y End Units end a END A z")?;
+    let mut cursor = Cursor::new(0, &words);
     cursor.past_keyword(b"EndExt")?;
     cursor.past_end(b"UNITS")?;
     cursor.past_end_of(b"A")?;

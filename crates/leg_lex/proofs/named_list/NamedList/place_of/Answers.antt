@@ -1,5 +1,5 @@
 -- A place among the names of things is a thing's.
-use Rattle.std.proofs.Common.{◌≡◌, ◌<◌, length, map, Option, IfSome, ap, ◌∙◌}
+use Rattle.std.proofs.Common.{length, map, ap, ◌∙◌}
 use Rattle.leg_lex.specs.NameLookup.{place_of}
 use Rattle.leg_lex.proofs.NameLookup.{place_in_list, fits_up_to}
 use Rattle.leg_lex.proofs.named_list.NamedList.place_of.Goals as goal

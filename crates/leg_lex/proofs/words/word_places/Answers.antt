@@ -1,0 +1,33 @@
+use Rattle.std.proofs.Common.{drop, sym, arith}
+use Rattle.leg_lex.proofs.Cuts.{read_only, unclosed_has_none}
+use Rattle.leg_lex.proofs.WordsAt.{read_on, white_on, next_inside, range_piece, piece_there, stuck_at, inside, lines_below, nothing_left}
+use Rattle.leg_lex.proofs.words.word_places.Goals as goal
+
+pub returns-in_default-clause-unclosed : goal.returns-in_default-clause-unclosed
+returns-in_default-clause-unclosed g c =
+    λ _. unclosed_has_none c.args.text.now c.pieces.line (stuck_at c.args.text.now c.pieces.at c.pieces.line _ c.pieces-test.true c.pieces.invariant.read c.in_default.ensures.quote c.in_default.ensures.ends)
+
+pub pieces-preserved-then-is_white : goal.pieces-preserved-then-is_white
+pieces-preserved-then-is_white g c = record {
+  read = rw c.line_feeds_of-line.ensures.is (white_on c.args.text.now c.pieces.at c.pieces.line c.pieces.places.items c.pieces-test.true (sym c.if-is_white.ensures) c.pieces.invariant.read);
+  within = c.pieces.invariant.within;
+  inside = next_inside c.args.text.now c.pieces.at c.pieces-test.true;
+  lines = omega (arith, c.line_feeds_of-line.ensures.one, c.pieces.invariant.lines);
+}
+
+pub line_feeds-requires : goal.line_feeds-requires
+line_feeds-requires g c =
+    range_piece c.args.text.now c.pieces.at c.in-Some.len (piece_there c.args.text.now c.pieces.at c.in-Some.len c.in-Some.ensures.ends)
+
+pub pieces-preserved : goal.pieces-preserved
+pieces-preserved g c =
+    let is_piece = piece_there c.args.text.now c.pieces.at c.in-Some.len c.in-Some.ensures.ends in record {
+      read = rw c.line_feeds.ensures (read_on c.args.text.now c.pieces.at c.pieces.line c.in-Some.len c.pieces.places.items _ c.pieces.invariant.read is_piece c.in_ok-push_words.ensures.pushed);
+      within = c.in_ok-push_words.ensures.pushed.within c.pieces.invariant.within;
+      inside = inside c.args.text.now c.pieces.at c.in-Some.len c.pieces.invariant.inside c.in-Some.ensures.within;
+      lines = rw c.line_feeds.ensures (lines_below c.args.text.now c.pieces.at c.in-Some.len c.pieces.line c.pieces.invariant.lines);
+    }
+
+pub returns-clause-only : goal.returns-clause-only
+returns-clause-only g c =
+    read_only c.args.text.now (drop c.pieces.at c.args.text.now) c.pieces.line _ c.pieces.invariant.read (nothing_left c.args.text.now c.pieces.at c.pieces-test.false)
