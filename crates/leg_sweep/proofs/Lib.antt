@@ -9,9 +9,11 @@ mod Nearness
 mod Progress
 mod Turns
 mod Places
+mod InOrder
 mod Swept
 mod MetItems
 mod FoundSoFar
+mod FewPairs
 mod OnLayers
 mod OneBand
 -- What the proofs of other crates cite
@@ -24,3 +26,5 @@ mod GridSpans
 mod GridBands
 mod GridPlaces
 mod GridStretches
+-- The left edges in buckets
+mod Buckets

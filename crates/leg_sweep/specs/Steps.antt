@@ -2,3 +2,4 @@
 pub mod Sweep
 pub mod Bands
 pub mod Grid
+pub mod Buckets

@@ -5,6 +5,7 @@ ghost use Rattle.leg_sweep.specs.Pairs.{ArePairs, TookPairs};
 ghost use Rattle.leg_sweep.specs.Counts.{near_on_layer_along_x, near_on_layer, count_pairs};
 ghost use Rattle.leg_sweep.specs.Steps.Sweep.{TookTested};
 
+use crate::few::few_pairs;
 use crate::grid::stretches_and_bands;
 use crate::left_to_right::left_to_right;
 use crate::pair_list::sort_pairs;
@@ -12,6 +13,9 @@ use crate::rule::LayeredRule;
 use crate::sink::PairSink;
 use crate::sweep::sweep;
 use std::alloc::{AllocError, Allocator};
+
+/// So many items at most are looked at directly: their pairs are no more than four times as many.
+const FEW: usize = 9;
 
 /// The pairs of numbers of items for which the rule holds, lower number first, in increasing order, found by a sweep over
 /// bands of y on each layer. The rule's counts tell afterwards how often it was asked.
@@ -60,7 +64,7 @@ pub fn each_pair<R: LayeredRule, S: PairSink, A: Allocator + Copy>(
     search(alloc, items, rule, sink)
 }
 
-/// The sweep over the bands of all layers.
+/// The sweep over the bands of all layers. A few items are looked at directly, which needs no memory.
 fn search<R: LayeredRule, S: PairSink, A: Allocator + Copy>(
     alloc: A,
     items: &[R::Item],
@@ -79,6 +83,9 @@ fn search<R: LayeredRule, S: PairSink, A: Allocator + Copy>(
         ≤ 4 * length items.now + count_pairs (near_on_layer_along_x (R.rect_of fixed) (R.layer_of fixed) (R.layer_reach_of fixed)) items.now) }
     ensures same { R.fixed rule.new ≡ R.fixed rule.old }
 {
+    if items.len() <= FEW {
+        return few_pairs(items, rule, sink);
+    }
     let order = left_to_right(alloc, items, rule)?;
     let (stretches, mut bands) = stretches_and_bands(alloc, items, rule)?;
     sweep(alloc, items, rule, sink, &order, &stretches, &mut bands)?;

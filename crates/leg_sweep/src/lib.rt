@@ -3,6 +3,7 @@
 
 mod band;
 mod banded;
+mod few;
 mod grid;
 pub mod laws;
 mod left_to_right;

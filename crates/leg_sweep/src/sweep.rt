@@ -1,8 +1,8 @@
 //! A sweep over the items from left to right, past bands in which they wait for one another.
 
-ghost use Rattle.std.specs.Prelude.{◌≡◌, ◌≤◌, ◌<◌, ◌+◌, ◌^◌, length, map, sum_by, All, OnOk};
+ghost use Rattle.std.specs.Prelude.{◌≡◌, ◌≤◌, ◌<◌, ◌+◌, ◌^◌, length, map, sum_by, All, IfOk, OnOk};
 ghost use Rattle.leg_sweep.specs.Counts.{count_pairs};
-ghost use Rattle.leg_sweep.specs.Steps.Bands.{entries_at, near_in_band, near_both_in_band, AreStretches, AreEmpty};
+ghost use Rattle.leg_sweep.specs.Steps.Bands.{stretch_at, entries_at, near_in_band, near_both_in_band, AreStretches, AreEmpty};
 ghost use Rattle.leg_sweep.specs.Steps.Sweep.{IsLeftToRight, TookTested};
 
 use crate::band::{Band, Stretch};
@@ -38,10 +38,27 @@ pub(crate) fn sweep<R: PairRule, S: PairSink, A: Allocator + Copy>(
         + count_pairs (near_in_band (map (R.rect_of (R.fixed rule.old)) items.now) stretches.now bands.old) order.now) }
     ensures same { R.fixed rule.new ≡ R.fixed rule.old }
 {
+    let in_order = stretches_in_order(alloc, order, stretches)?;
     let mut kept = Vec::new(alloc);
-    for new in order {
-        let stretch = stretches[*new as usize];
-        visit(items, rule, sink, bands, stretch, *new, &mut kept)?;
+    for (i, new) in order.iter().enumerate() {
+        visit(items, rule, sink, bands, in_order[i], *new, &mut kept)?;
     }
     Ok(())
+}
+
+/// The stretches of the items in this order, one after the other: the sweep reads them so, and goes back and forth in memory
+/// for nothing but the items.
+fn stretches_in_order<A: Allocator>(
+    alloc: A,
+    order: &[u32],
+    stretches: &[Stretch],
+) -> Result<Vec<Stretch, A>, AllocError>
+    requires { All (λ x. x < length stretches.now) order.now }
+    ensures { IfOk result (λ in_order. in_order.items ≡ map (stretch_at stretches.now) order.now) }
+{
+    let mut in_order = Vec::with_capacity(alloc, order.len())?;
+    for number in order {
+        in_order.push(stretches[*number as usize])?;
+    }
+    Ok(in_order)
 }

@@ -84,7 +84,7 @@ fn turn<R: PairRule, S: PairSink, A: Allocator>(
 
 /// Whether the two items are within the reach along x, and whether the rule holds of them: one look, and a
 /// test only where both gaps are within the reach.
-fn ask<R: PairRule>(rule: &mut R, reach: u64, a: &R::Item, b: &R::Item) -> (bool, bool)
+pub(crate) fn ask<R: PairRule>(rule: &mut R, reach: u64, a: &R::Item, b: &R::Item) -> (bool, bool)
     requires in_reach { R.Holds (R.fixed rule.old) a.now b.now → (x_gap (R.rect_of (R.fixed rule.old) a.now) (R.rect_of (R.fixed rule.old) b.now) ≤ reach)
         × (y_gap (R.rect_of (R.fixed rule.old) a.now) (R.rect_of (R.fixed rule.old) b.now) ≤ reach) }
     requires tests { R.tests_of rule.old < 2 ^ 64 - 1 }

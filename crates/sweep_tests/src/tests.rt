@@ -263,6 +263,8 @@ fn the_same_in_bands(rt: HostRuntime) -> Result<(), Fail> {
     for (count, layers, reach) in [
         (0, 1, 0),
         (1, 1, 5),
+        (6, 2, 1000),
+        (9, 1, 800),
         (40, 2, 0),
         (300, 3, 30),
         (300, 1, 500),

@@ -8,22 +8,24 @@ use Rattle.leg_sweep.specs.Steps.Sweep.{test_at}
 use Rattle.leg_sweep.proofs.Counts.{count_pairs_push, count_pairs_square}
 use Rattle.leg_sweep.proofs.FoundSoFar.{first_at, last_at, found_none, found_more, found_all, can_visit, met_near, met_near_both, met_few, reaches_after}
 use Rattle.leg_sweep.proofs.MetItems.{waiting_none}
-use Rattle.leg_sweep.proofs.Places.{order_below, length_order, looks_fit}
+use Rattle.leg_sweep.proofs.InOrder.{in_order_is, all_have_stretches}
+use Rattle.leg_sweep.proofs.Places.{length_order, looks_fit}
 use Rattle.leg_sweep.proofs.sweep.sweep.Goals as goal
 
-pub bounds-stretches-new : goal.bounds-stretches-new
-bounds-stretches-new g c =
+pub stretches_in_order-requires : goal.stretches_in_order-requires
+stretches_in_order-requires g c =
     let rect_of = g.R.PairRule.rect_of (g.R.PairRule.fixed c.args.rule.now) in
-    omega (arith, order_below (map rect_of c.args.items.now) c.args.order.now c.requires.order c.loop-new.new-index (omega arith), length-map c.args.items.now rect_of, c.requires.stretches.count)
+    all_have_stretches (map rect_of c.args.items.now) c.args.stretches.now c.args.order.now c.requires.order (omega (arith, length-map c.args.items.now rect_of, c.requires.stretches.count))
 
 pub visit-requires-clause-can : goal.visit-requires-clause-can
 visit-requires-clause-can g c =
     let rule = g.R.PairRule in
     let fixed = rule.fixed c.args.rule.now in
-    let so_far = c.loop-new.invariant in
-    rw so_far.same
+    let so_far = c.loop-i.invariant in
+    let is = in_order_is c.args.stretches.now c.args.order.now c.in_ok-in_order.in_order.items c.loop-i.i c.index.result.now c.in_ok-in_order.ensures (omega arith) c.index.ensures in
+    rw (so_far.same, is)
     (can_visit (rule.Holds fixed) (g.met.R.PairRule.symmetric fixed) (rule.rect_of fixed) c.args.items.now c.args.stretches.now c.args.bands.now c.requires.stretches c.args.order.now c.requires.order
-    c.loop-new.new-index (omega arith) c.loop-new.bands so_far.found.found so_far.found.swept so_far.reaches so_far.count)
+    c.loop-i.i (omega arith) c.loop-i.bands so_far.found.found so_far.found.swept so_far.reaches so_far.count)
 
 pub visit-requires-clause-looks : goal.visit-requires-clause-looks
 visit-requires-clause-looks g c =
@@ -33,25 +35,27 @@ visit-requires-clause-looks g c =
     let rects = map (rule.rect_of fixed) items in
     let order = c.args.order.now in
     let stretches = c.args.stretches.now in
-    let i : ℕ = c.loop-new.new-index in
+    let i : ℕ = c.loop-i.i in
     let x : ℕ = get_or order i 0 in
     let near = near_in_band rects stretches c.args.bands.now in
-    let so_far = c.loop-new.invariant in
+    let so_far = c.loop-i.invariant in
     let within : i < length order = omega arith in
     let few = met_few (rule.Holds fixed) (g.met.R.PairRule.symmetric fixed) (rule.rect_of fixed) items stretches c.args.bands.now c.requires.stretches order c.requires.order
-    i within c.loop-new.bands so_far.found.found so_far.found.swept so_far.reaches so_far.count in
+    i within c.loop-i.bands so_far.found.found so_far.found.swept so_far.reaches so_far.count in
     let all = length_order rects order c.requires.order in
     let n : ℕ = length items in
     let short : i ≤ n = omega (arith, all, length-map items (rule.rect_of fixed)) in
     let half = count_pairs_square near (take i order) in
     let taken = length-take-le i order (omega arith) in
     let square = mul-le (length (take i order)) (length (take i order)) n n (omega (arith, taken, short)) (omega (arith, taken, short)) in
-    looks_fit n (sum_by (entries_at stretches) order) (count_pairs near (take i order)) (length (met c.loop-new.bands (first_at stretches x) (last_at stretches x - first_at stretches x))) (rule.looks_of c.loop-new.rule)
+    let is = in_order_is stretches order c.in_ok-in_order.in_order.items i c.index.result.now c.in_ok-in_order.ensures within c.index.ensures in
+    rw is
+    (looks_fit n (sum_by (entries_at stretches) order) (count_pairs near (take i order)) (length (met c.loop-i.bands (first_at stretches x) (last_at stretches x - first_at stretches x))) (rule.looks_of c.loop-i.rule)
     c.requires.few c.requires.entries (omega (arith, half, square)) (omega (arith, few, short))
-    (omega (arith, so_far.looks, sum_by-take-le (entries_at stretches) order i))
+    (omega (arith, so_far.looks, sum_by-take-le (entries_at stretches) order i)))
 
-pub loop-new-init : goal.loop-new-init
-loop-new-init g c =
+pub loop-i-init : goal.loop-i-init
+loop-i-init g c =
     let rule = g.R.PairRule in
     let fixed = rule.fixed c.args.rule.now in
     let bands = c.args.bands.now in
@@ -69,8 +73,8 @@ loop-new-init g c =
       same_room = refl;
     }
 
-pub loop-new-preserved : goal.loop-new-preserved
-loop-new-preserved g c =
+pub loop-i-preserved : goal.loop-i-preserved
+loop-i-preserved g c =
     let rule = g.R.PairRule in
     let fixed = rule.fixed c.args.rule.now in
     let items = c.args.items.now in
@@ -79,10 +83,10 @@ loop-new-preserved g c =
     let order = c.args.order.now in
     let stretches = c.args.stretches.now in
     let start = c.args.bands.now in
-    let i : ℕ = c.loop-new.new-index in
+    let i : ℕ = c.loop-i.i in
     let n : ℕ = get_or order i 0 in
-    let so_far = c.loop-new.invariant in
-    let bands = c.loop-new.bands in
+    let so_far = c.loop-i.invariant in
+    let bands = c.loop-i.bands in
     let visit = c.in_ok-visit.ensures in
     let symmetric = g.met.R.PairRule.symmetric fixed in
     let holds = rule.Holds fixed in
@@ -93,10 +97,12 @@ loop-new-preserved g c =
     let seen = met bands (first_at stretches n) (last_at stretches n - first_at stretches n) in
     let narrow = λ (x : ℕ). test_at (near_along_x reach) rects x n in
     let counts = λ (x : ℕ). test_at (near_along_both reach) rects x n in
-    let visited = rw so_far.same at visit.visited in
-    let found = rw so_far.same at visit.found in
-    let tests = rw so_far.same at visit.tests in
-    let left = rw so_far.same at visit.left in
+    let is = in_order_is stretches order c.in_ok-in_order.in_order.items i c.index.result.now c.in_ok-in_order.ensures within c.index.ensures in
+    let visited = rw (so_far.same, is) at visit.visited in
+    let found = rw (so_far.same, is) at visit.found in
+    let tests = rw (so_far.same, is) at visit.tests in
+    let left = rw (so_far.same, is) at visit.left in
+    let looks = rw is at visit.looks in
     let few_near = met_near holds symmetric rect_of items stretches start c.requires.stretches order c.requires.order i within bands so_far.found.found so_far.found.swept so_far.reaches so_far.count in
     let few_both = met_near_both holds symmetric rect_of items stretches start c.requires.stretches order c.requires.order i within bands so_far.found.found so_far.found.swept so_far.reaches so_far.count in
     let grown = take_more order i 0 within in
@@ -107,12 +113,12 @@ loop-new-preserved g c =
       found =
           rw tests
           (found_more g.S.PairSink.Takes holds symmetric rect_of items stretches start c.requires.stretches order c.requires.order
-          i (rule.tests_of c.loop-new.rule) (count_by counts seen) within bands c.visit.new.bands c.args.sink.now c.loop-new.sink c.visit.new.sink so_far.found so_far.reaches so_far.count visited found);
+          i (rule.tests_of c.loop-i.rule) (count_by counts seen) within bands c.visit.new.bands c.args.sink.now c.loop-i.sink c.visit.new.sink so_far.found so_far.reaches so_far.count visited found);
       reaches = λ k. reaches_after narrow (first_at stretches n) (last_at stretches n) n bands c.visit.new.bands visited k ∙ so_far.reaches k;
       count = visited.count ∙ so_far.count;
-      looks = omega (arith, visit.looks, left, so_far.looks, few_near, near_more, entries_more);
+      looks = omega (arith, looks, left, so_far.looks, few_near, near_more, entries_more);
       tests = omega (arith, tests, so_far.tests, few_both, both_more);
-      counts = omega (arith, visit.looks, tests, so_far.counts, count_by-le-length counts seen);
+      counts = omega (arith, looks, tests, so_far.counts, count_by-le-length counts seen);
       same = c.visit.ensures.same ∙ so_far.same;
       same_room = c.visit.ensures.same_room ∙ so_far.same_room;
     }
@@ -121,6 +127,6 @@ pub returns-clause-pairs : goal.returns-clause-pairs
 returns-clause-pairs g c =
     let rule = g.R.PairRule in
     let fixed = rule.fixed c.args.rule.now in
-    let end : c.loop-new.new-index ≡ length c.args.order.now = omega arith in
+    let end : c.loop-i.i ≡ length c.args.order.now = omega arith in
     found_all g.S.PairSink.Takes (rule.Holds fixed) (g.met.R.PairRule.symmetric fixed) (rule.rect_of fixed) c.args.items.now c.args.stretches.now c.args.bands.now c.requires.stretches c.args.order.now c.requires.order
-    c.loop-new.bands (rule.tests_of c.loop-new.rule) c.args.sink.now c.loop-new.sink (rw end at c.loop-new.invariant.found)
+    c.loop-i.bands (rule.tests_of c.loop-i.rule) c.args.sink.now c.loop-i.sink (rw end at c.loop-i.invariant.found)

@@ -6,16 +6,16 @@ use Rattle.leg_sweep.specs.Steps.Bands.{waiting_at, waiting_count, entries_at, n
 use Rattle.leg_sweep.proofs.FoundSoFar.{FoundTo}
 use Rattle.leg_sweep.proofs.sweep.sweep.Given as goal
 
-abbrev pub invariant-loop-new : goal.invariant-loop-new
-invariant-loop-new g l =
+abbrev pub invariant-loop-i : goal.invariant-loop-i
+invariant-loop-i g l =
     let rule = g.R.PairRule in
     let sink = g.S.PairSink in
     let fixed = rule.fixed l.fn.rule in
     let rects = map (rule.rect_of fixed) l.items in
     let near = near_in_band rects l.stretches l.fn.bands in
     let both = near_both_in_band rects l.stretches l.fn.bands in
-    let done = take l.new-index l.order in record {
-      found : FoundTo sink.Takes near (IsPair (rule.Holds fixed) l.items) l.stretches l.order l.new-index l.bands (rule.tests_of l.rule) l.fn.sink l.sink;
+    let done = take l.i l.order in record {
+      found : FoundTo sink.Takes near (IsPair (rule.Holds fixed) l.items) l.stretches l.order l.i l.bands (rule.tests_of l.rule) l.fn.sink l.sink;
       reaches : (k : ℕ) → (waiting_at l.bands k).reach ≡ (waiting_at l.fn.bands k).reach;
       count : length l.bands ≡ length l.fn.bands;
       looks : rule.looks_of l.rule + waiting_count l.bands ≤ sum_by (entries_at l.stretches) done + count_pairs near done;
