@@ -8,6 +8,7 @@ mod SetsUnited
 -- Pieces that touch
 mod SinglePoints
 mod SeenPoints
+mod NetNumbers
 mod PieceMetal
 mod PiecesTouch
 -- Pieces that are joined

@@ -1,59 +1,94 @@
--- The metal of pieces, shape by shape.
-use Rattle.std.proofs.Common.{◌≡◌, ◌↔◌, ℕ, ◌<◌, ◌≤◌, List, [], ◌∷◌, ◌++◌, length, Option, Some, None, Contains, inl, inr, sym, ◌∙◌, arith}
+-- The metal of a net's pieces, shape by shape.
+use Rattle.std.proofs.Common.{◌≡◌, ◌↔◌, ℕ, ◌≤◌, List, [], ◌∷◌, ◌++◌, length, Option, Some, None, Contains, slice_get, inl, inr, refl, sym, ap, ◌∙◌, arith}
 use Rattle.std.proofs.lemmas.List.{length_push}
 use Rattle.std.proofs.lemmas.List.Elements.{Contains-append_left, Contains-push, Contains-push_cases}
-use Rattle.std.proofs.lemmas.Option.{same_Some, none-some}
+use Rattle.std.proofs.lemmas.Option.{same_Some, none-some, slice_get_within, slice_get_read, get_or_from_slice_get}
+use Rattle.leg_sweep.proofs.Lists.{Contains-nil}
+use Rattle.leg_flat.specs.declared.owner.Owner.TheVariants.{Net}
 use Rattle.leg_flat.specs.declared.shape.Shape.{Shape}
 use Rattle.leg_flat.specs.Flat.{FlatSaid}
 use Rattle.leg_wire.specs.declared.piece_shape.PieceShape.{PieceShape}
-use Rattle.leg_wire.specs.Steps.PieceMetal.{IsPieceShape, ArePieceShapes}
+use Rattle.leg_wire.specs.Touch.{piece_count}
+use Rattle.leg_wire.specs.Steps.NetShapes.{IsOfNet, AreNumbersOf}
+use Rattle.leg_wire.specs.Steps.PieceMetal.{SaysShape, IsPieceShape, ArePieceShapes}
 
-module _ (flat : FlatSaid) (first end : ℕ) where
-  -- the piece's metal is what a shape says, of one of these nets
-  abbrev pub IsOne : Shape → PieceShape → Type 0
-  IsOne shape piece = IsPieceShape flat shape piece × (first ≤ piece.net) × (piece.net < end)
+module _ (flat : FlatSaid) (net : ℕ) where
+  -- the metal of pieces that the shapes of these numbers are
+  pub record AreAmong (numbers : List ℕ) (pieces : List PieceShape) : Type 0 where
+    pub each : (piece : PieceShape) → Contains pieces piece → (shape : Shape) × Contains flat.shapes shape × IsPieceShape flat net shape piece
+    pub all : (k : ℕ) (shape : Shape) (piece : PieceShape) → Contains numbers k → slice_get flat.shapes k ≡ Some shape → IsPieceShape flat net shape piece → Contains pieces piece
+    pub few : length pieces ≤ length numbers
 
-  -- the metal of pieces that these shapes are
-  pub record AreAmong (shapes : List Shape) (pieces : List PieceShape) : Type 0 where
-    pub each : (piece : PieceShape) → Contains pieces piece → (shape : Shape) × Contains shapes shape × IsOne shape piece
-    pub all : (shape : Shape) (piece : PieceShape) → Contains shapes shape → IsOne shape piece → Contains pieces piece
-    pub few : length pieces ≤ length shapes
+  -- no shape was looked at
+  pub among_none : AreAmong [] []
+  among_none = record {
+    each = λ piece has. absurd (Contains-nil piece has);
+    all = λ k shape piece has at is. absurd (Contains-nil k has);
+    few = omega arith;
+  }
 
-  module _ (shapes : List Shape) (pieces : List PieceShape) (shape : Shape) (done : AreAmong shapes pieces) where
-    -- one more shape, which is metal of a piece
-    pub among_more : (found : Option PieceShape) (piece : PieceShape) → found ≡ Some piece → ((p : PieceShape) → found ≡ Some p ↔ IsOne shape p) → AreAmong (shapes ++ shape ∷ []) (pieces ++ piece ∷ [])
-    among_more found piece is told = record {
+  -- what a shape of the net says is what metal of a piece of it does
+  module _ (count : ℕ) (counted : piece_count flat net ≡ count) (shape : Shape) (owner : shape.owner ≡ Net net) (piece : PieceShape) where
+    from_said : SaysShape count shape piece → IsPieceShape flat net shape piece
+    from_said says = record {
+      of_piece = record { there = rw counted says.there; owner = owner; piece = says.piece_is };
+      layer = says.layer;
+      rect = says.rect;
+    }
+
+    to_said : IsPieceShape flat net shape piece → SaysShape count shape piece
+    to_said is = record {
+      there = rw counted at is.of_piece.there;
+      piece_is = is.of_piece.piece;
+      layer = is.layer;
+      rect = is.rect;
+    }
+
+  -- one more number, of this shape of the net, and what is found of it
+  module _ (numbers : List ℕ) (pieces : List PieceShape) (done : AreAmong numbers pieces) (k : ℕ) (shape : Shape) (at : slice_get flat.shapes k ≡ Some shape) (of_net : IsOfNet flat.shapes net k)
+      (count : ℕ) (counted : piece_count flat net ≡ count) (found : Option PieceShape) (told : (p : PieceShape) → found ≡ Some p ↔ SaysShape count shape p) where
+    owned : shape.owner ≡ Net net
+    owned = ap (λ (s : Shape). s.owner) (same_Some shape of_net.shape (sym at ∙ of_net.at)) ∙ of_net.owner
+
+    contained : Contains flat.shapes shape
+    contained = (k, slice_get_within flat.shapes k shape at, get_or_from_slice_get flat.shapes k shape shape at)
+
+    -- what is found of it, where metal is a piece's that this number's shape is
+    found_of : (s : Shape) (p : PieceShape) → slice_get flat.shapes k ≡ Some s → IsPieceShape flat net s p → found ≡ Some p
+    found_of s p s_at is = (told p).1 (to_said count counted shape owned p (rw (same_Some s shape (sym s_at ∙ at)) at is))
+
+    -- it is metal of a piece
+    pub among_more : (piece : PieceShape) → found ≡ Some piece → AreAmong (numbers ++ k ∷ []) (pieces ++ piece ∷ [])
+    among_more piece is = record {
       each = λ p has. elim (Contains-push_cases pieces piece p has) [
-        | inl before ↦
-            let old = done.each p before in
-            (old.0, Contains-append_left shapes (shape ∷ []) old.0 old.1, old.2)
-        | inr here ↦ rw (← here) (shape, Contains-push shapes shape, (told piece).0 is)
+        | inl before ↦ done.each p before
+        | inr here ↦ rw (← here) (shape, contained, from_said count counted shape owned piece ((told piece).0 is))
       ];
-      all = λ s p has one. elim (Contains-push_cases shapes shape s has) [
-        | inl before ↦ Contains-append_left pieces (piece ∷ []) p (done.all s p before one)
+      all = λ j s p has s_at says. elim (Contains-push_cases numbers k j has) [
+        | inl before ↦ Contains-append_left pieces (piece ∷ []) p (done.all j s p before s_at says)
         | inr here ↦
-            let same : p ≡ piece = same_Some p piece (sym ((told p).1 (rw (← here) at one)) ∙ is) in
+            let same : p ≡ piece = same_Some p piece (sym (found_of s p (rw (← here) at s_at) says) ∙ is) in
             rw same (Contains-push pieces piece)
       ];
-      few = omega (arith, done.few, length_push pieces piece, length_push shapes shape);
+      few = omega (arith, done.few, length_push pieces piece, length_push numbers k);
     }
 
-    -- one more shape, which is not
-    pub among_skip : (found : Option PieceShape) → found ≡ None → ((p : PieceShape) → found ≡ Some p ↔ IsOne shape p) → AreAmong (shapes ++ shape ∷ []) pieces
-    among_skip found is told = record {
-      each = λ p has.
-          let old = done.each p has in
-          (old.0, Contains-append_left shapes (shape ∷ []) old.0 old.1, old.2);
-      all = λ s p has one. elim (Contains-push_cases shapes shape s has) [
-        | inl before ↦ done.all s p before one
-        | inr here ↦ absurd (none-some p (sym is ∙ (told p).1 (rw (← here) at one)))
+    -- it is not
+    pub among_skip : found ≡ None → AreAmong (numbers ++ k ∷ []) pieces
+    among_skip is = record {
+      each = done.each;
+      all = λ j s p has s_at says. elim (Contains-push_cases numbers k j has) [
+        | inl before ↦ done.all j s p before s_at says
+        | inr here ↦ absurd (none-some p (sym is ∙ found_of s p (rw (← here) at s_at) says))
       ];
-      few = omega (arith, done.few, length_push shapes shape);
+      few = omega (arith, done.few, length_push numbers k);
     }
 
-  -- the metal that all shapes of the flat are
-  pub ArePieceShapes-among : (pieces : List PieceShape) → AreAmong flat.shapes pieces → ArePieceShapes flat first end pieces
-  ArePieceShapes-among pieces done = record {
-    each = λ piece has. let old = done.each piece has in (old.0, old.1, old.2.0, old.2.1, old.2.2);
-    all = λ shape piece has is low high. done.all shape piece has (is, low, high);
+  -- the metal that all shapes of the net are
+  pub ArePieceShapes-among : (numbers : List ℕ) (pieces : List PieceShape) → AreNumbersOf flat.shapes net numbers → AreAmong numbers pieces → ArePieceShapes flat net pieces
+  ArePieceShapes-among numbers pieces are done = record {
+    each = done.each;
+    all = λ shape piece has is.
+        let at : slice_get flat.shapes has.0 ≡ Some shape = slice_get_read flat.shapes _ has.0 shape refl has.1 (sym has.2) in
+        done.all has.0 shape piece (are.all has.0 (record { shape = shape; at = at; owner = is.of_piece.owner })) at is;
   }

@@ -1,8 +1,7 @@
 -- Pieces of a net touch where two of their rectangles share two points, or where two pairs of their rectangles share single
 -- points that differ. By the pairs of rectangles that meet, the sets of pieces come to be those of the pieces that are joined.
-use Rattle.std.proofs.Common.{◌≡◌, ◌≢◌, ℕ, ◌-◌, min, max, Bool, true, false, ℤ, List, [], ◌∷◌, ◌++◌, length, get_or, set, ◌<◌, ◌≤◌, Some, slice_get, Contains, ◌⊎◌, inl, inr, refl, sym, ap, ◌∙◌, arith}
+use Rattle.std.proofs.Common.{◌≡◌, ◌≢◌, ℕ, min, max, Bool, true, false, ℤ, List, [], ◌∷◌, ◌++◌, length, ◌<◌, Some, slice_get, Contains, ◌⊎◌, inl, inr, refl, sym, ap, ◌∙◌, arith}
 use Rattle.std.proofs.lemmas.Bool.{false≢true, cases_lt, cases_eq}
-use Rattle.std.proofs.lemmas.List.{length-set, set-get_or, get_or-set_same, get_or-set_other}
 use Rattle.std.proofs.lemmas.List.Elements.{Contains-push_cases}
 use Rattle.std.proofs.lemmas.Option.{same_Some, slice_get_within, slice_get_read, get_or_from_slice_get}
 use Rattle.leg_sweep.specs.Pairs.{IsPair, HasPairs}
@@ -15,50 +14,46 @@ use Rattle.leg_wire.specs.Steps.MeetingRule.{DoMeet, DoMeet-symmetric}
 use Rattle.leg_wire.specs.Steps.PieceMetal.{LiesAmong, TouchAmong}
 use Rattle.leg_wire.specs.Steps.NumberSets.{AreTogether, AreUnited}
 use Rattle.leg_wire.specs.Steps.SharedPoints.{first_seen, pieces_beside, spot_of, IsShared}
-use Rattle.leg_wire.specs.Steps.JoinSteps.{TellsTouch, IsJoinStep, IsStepAt}
+use Rattle.leg_wire.specs.Steps.JoinSteps.{TellsTouch, IsJoinStep}
 use Rattle.leg_wire.specs.Steps.JoinSteps.TellsTouch.{share_two, share_none, share_one}
 use Rattle.leg_wire.specs.Steps.JoinSteps.IsJoinStep.{were_together, are_united, stay_apart}
 use Rattle.leg_wire.proofs.JoinedLaws.{Joined-onward}
 use Rattle.leg_wire.proofs.SetsUnited.{AreTogether-itself, AreTogether-back, AreTogether-onward}
 
--- the sets of a net's pieces, where those of the first net stand first
-abbrev pub sets_at : ℕ → List (List ℕ) → ℕ → List ℕ
-sets_at first nets net = get_or nets (net - first) []
-
 -- each point of both rectangles is the first that was seen for their pieces, or these are together
-abbrev pub IsDone : ℕ → List (List ℕ) → List (Beside × (ℤ × ℤ)) → PieceShape → PieceShape → Type 0
-IsDone first nets seen s t =
-    (p : Spot) → IsShared s.rect t.rect p → AreTogether (sets_at first nets s.net) s.piece t.piece ⊎ (first_seen seen (pieces_beside s t) ≡ Some (p.x, p.y))
+abbrev pub IsDone : List ℕ → List (Beside × (ℤ × ℤ)) → PieceShape → PieceShape → Type 0
+IsDone sets seen s t =
+    (p : Spot) → IsShared s.rect t.rect p → AreTogether sets s.piece t.piece ⊎ (first_seen seen (pieces_beside s t) ≡ Some (p.x, p.y))
 
 -- two pieces, in either order, and a layer
-abbrev pub beside : ℕ → ℕ → ℕ → ℕ → Beside
-beside net a b layer = record { net = net; low = min a b; high = max a b; layer = layer }
+abbrev pub beside : ℕ → ℕ → ℕ → Beside
+beside a b layer = record { low = min a b; high = max a b; layer = layer }
 
 -- the order doesn't matter
-beside-back : (net a b layer : ℕ) → beside net a b layer ≡ beside net b a layer
-beside-back net a b layer =
+beside-back : (a b layer : ℕ) → beside a b layer ≡ beside b a layer
+beside-back a b layer =
     let low : min a b ≡ min b a = omega arith in
     let high : max a b ≡ max b a = omega arith in
     rw (low, high) refl
 
 -- what is done is done in either order
-IsDone-back : (first : ℕ) (nets : List (List ℕ)) (seen : List (Beside × (ℤ × ℤ))) (s t : PieceShape) → s.net ≡ t.net → s.layer ≡ t.layer → IsDone first nets seen s t → IsDone first nets seen t s
-IsDone-back first nets seen s t net layer done p shared = elim (done p (record { in_a = shared.in_b; in_b = shared.in_a })) [
-  | inl together ↦ inl (rw net at (AreTogether-back (sets_at first nets s.net) s.piece t.piece together))
+IsDone-back : (sets : List ℕ) (seen : List (Beside × (ℤ × ℤ))) (s t : PieceShape) → s.layer ≡ t.layer → IsDone sets seen s t → IsDone sets seen t s
+IsDone-back sets seen s t layer done p shared = elim (done p (record { in_a = shared.in_b; in_b = shared.in_a })) [
+  | inl together ↦ inl (AreTogether-back sets s.piece t.piece together)
   | inr there ↦
-      let back : first_seen seen (beside s.net t.piece s.piece s.layer) ≡ Some (p.x, p.y) = rw (beside-back s.net s.piece t.piece s.layer) at there in
-      inr (rw (net, layer) at back)
+      let back : first_seen seen (beside t.piece s.piece s.layer) ≡ Some (p.x, p.y) = rw (beside-back s.piece t.piece s.layer) at there in
+      inr (rw layer at back)
 ]
 
 module _ (shapes : List PieceShape) where
   -- a point that was seen first lies in both pieces
   pub record LiesInBoth (pieces : Beside) (point : ℤ × ℤ) : Type 0 where
-    pub low : LiesAmong shapes pieces.net pieces.low pieces.layer (spot_of point)
-    pub high : LiesAmong shapes pieces.net pieces.high pieces.layer (spot_of point)
+    pub low : LiesAmong shapes pieces.low pieces.layer (spot_of point)
+    pub high : LiesAmong shapes pieces.high pieces.layer (spot_of point)
 
   -- pieces touch one another
-  TouchAmong-back : (net a b : ℕ) → TouchAmong shapes net a b → TouchAmong shapes net b a
-  TouchAmong-back net a b h = record {
+  TouchAmong-back : (a b : ℕ) → TouchAmong shapes a b → TouchAmong shapes b a
+  TouchAmong-back a b h = record {
     others = λ same. h.others (sym same);
     layer = h.layer;
     p = h.p;
@@ -72,11 +67,11 @@ module _ (shapes : List PieceShape) where
 
   module _ (s t : PieceShape) (s_in : Contains shapes s) (t_in : Contains shapes t) (meet : DoMeet s t) where
     -- a point of both rectangles lies in both pieces
-    lies_in_first : (p : Spot) → IsShared s.rect t.rect p → LiesAmong shapes s.net s.piece s.layer p
-    lies_in_first p shared = record { shape = s; has = s_in; of_net = refl; of_piece = refl; on_layer = refl; inside = shared.in_a }
+    lies_in_first : (p : Spot) → IsShared s.rect t.rect p → LiesAmong shapes s.piece s.layer p
+    lies_in_first p shared = record { shape = s; has = s_in; of_piece = refl; on_layer = refl; inside = shared.in_a }
 
-    lies_in_second : (p : Spot) → IsShared s.rect t.rect p → LiesAmong shapes s.net t.piece s.layer p
-    lies_in_second p shared = record { shape = t; has = t_in; of_net = sym meet.net; of_piece = refl; on_layer = sym meet.layer; inside = shared.in_b }
+    lies_in_second : (p : Spot) → IsShared s.rect t.rect p → LiesAmong shapes t.piece s.layer p
+    lies_in_second p shared = record { shape = t; has = t_in; of_piece = refl; on_layer = sym meet.layer; inside = shared.in_b }
 
     -- by the lower and the higher one
     lies_in_both : (point : ℤ × ℤ) → IsShared s.rect t.rect (spot_of point) → LiesInBoth (pieces_beside s t) point
@@ -93,7 +88,7 @@ module _ (shapes : List PieceShape) where
         ]
 
     -- and back
-    both_lie_in : (point : ℤ × ℤ) → LiesInBoth (pieces_beside s t) point → LiesAmong shapes s.net s.piece s.layer (spot_of point) × LiesAmong shapes s.net t.piece s.layer (spot_of point)
+    both_lie_in : (point : ℤ × ℤ) → LiesInBoth (pieces_beside s t) point → LiesAmong shapes s.piece s.layer (spot_of point) × LiesAmong shapes t.piece s.layer (spot_of point)
     both_lie_in point both =
         elim (cases_lt s.piece t.piece) [
           | inl lower ↦
@@ -107,7 +102,7 @@ module _ (shapes : List PieceShape) where
         ]
 
     -- rectangles that share two points
-    pub touch_by_two : ShareTwoPoints s.rect t.rect → TouchAmong shapes s.net s.piece t.piece
+    pub touch_by_two : ShareTwoPoints s.rect t.rect → TouchAmong shapes s.piece t.piece
     touch_by_two two = record {
       others = meet.others;
       layer = s.layer;
@@ -121,7 +116,7 @@ module _ (shapes : List PieceShape) where
     }
 
     -- a point of both rectangles that isn't the first one that was seen
-    pub touch_by_other : (point : ℤ × ℤ) → LiesInBoth (pieces_beside s t) point → (IsShared s.rect t.rect (spot_of point) → ⊥) → TouchAmong shapes s.net s.piece t.piece
+    pub touch_by_other : (point : ℤ × ℤ) → LiesInBoth (pieces_beside s t) point → (IsShared s.rect t.rect (spot_of point) → ⊥) → TouchAmong shapes s.piece t.piece
     touch_by_other point both other =
         let first = both_lie_in point both in
         let here : IsShared s.rect t.rect meet.shared.point = record { in_a = meet.shared.in_a; in_b = meet.shared.in_b } in
@@ -158,7 +153,7 @@ module _ (shapes : List PieceShape) where
     -- they make their pieces touch
     pub touch_told : (before after : List (Beside × (ℤ × ℤ))) (touch : Bool) → touch ≡ true → TellsTouch s t before after touch
         → ((pieces : Beside) (point : ℤ × ℤ) → first_seen before pieces ≡ Some point → LiesInBoth pieces point)
-        → TouchAmong shapes s.net s.piece t.piece
+        → TouchAmong shapes s.piece t.piece
     touch_told before after touch is (share_two told two same) points = touch_by_two two
     touch_told before after touch is (share_none told none same) points = absurd (false≢true (sym told ∙ is))
     touch_told before after touch is (share_one seen) points =
@@ -174,27 +169,26 @@ module _ (shapes : List PieceShape) where
         let here : (p.x, p.y) ≡ seen.first = ap (λ (q : Spot). (q.x, q.y)) ((seen.same is).only p shared) in
         seen.there ∙ ap Some (sym here)
 
--- the sets and the points by the meetings so far, where the sets had these sizes at first
-pub record AreSoFar (shapes : List PieceShape) (first : ℕ) (start : List (List ℕ)) (meetings : List (ℕ × ℕ)) (nets : List (List ℕ)) (seen : List (Beside × (ℤ × ℤ))) : Type 0 where
-  pub count : length nets ≡ length start
-  pub sizes : (place : ℕ) → length (get_or nets place []) ≡ length (get_or start place [])
-  pub joined : (net a b : ℕ) → first ≤ net → AreTogether (sets_at first nets net) a b → Joined (TouchAmong shapes net) a b
+-- the sets and the points by the meetings so far
+pub record AreSoFar (shapes : List PieceShape) (count : ℕ) (meetings : List (ℕ × ℕ)) (sets : List ℕ) (seen : List (Beside × (ℤ × ℤ))) : Type 0 where
+  pub size : length sets ≡ count
+  pub joined : (a b : ℕ) → AreTogether sets a b → Joined (TouchAmong shapes) a b
   pub points : (pieces : Beside) (point : ℤ × ℤ) → first_seen seen pieces ≡ Some point → LiesInBoth shapes pieces point
-  pub done : (p : ℕ × ℕ) (s t : PieceShape) → Contains meetings p → slice_get shapes p.0 ≡ Some s → slice_get shapes p.1 ≡ Some t → IsDone first nets seen s t
+  pub done : (p : ℕ × ℕ) (s t : PieceShape) → Contains meetings p → slice_get shapes p.0 ≡ Some s → slice_get shapes p.1 ≡ Some t → IsDone sets seen s t
 
-module _ (shapes : List PieceShape) (first : ℕ) (start : List (List ℕ)) where
+module _ (shapes : List PieceShape) (count : ℕ) where
   -- one more meeting
-  module _ (meetings : List (ℕ × ℕ)) (nets : List (List ℕ)) (before : List (Beside × (ℤ × ℤ))) (done : AreSoFar shapes first start meetings nets before)
+  module _ (meetings : List (ℕ × ℕ)) (sets : List ℕ) (before : List (Beside × (ℤ × ℤ))) (done : AreSoFar shapes count meetings sets before)
       (m : ℕ × ℕ) (s t : PieceShape) (s_at : slice_get shapes m.0 ≡ Some s) (t_at : slice_get shapes m.1 ≡ Some t) where
     -- each meeting so far is done, and this one
-    done_or_this : (nets_after : List (List ℕ)) (after : List (Beside × (ℤ × ℤ)))
-        → ((net a b : ℕ) → AreTogether (sets_at first nets net) a b → AreTogether (sets_at first nets_after net) a b)
+    done_or_this : (sets_after : List ℕ) (after : List (Beside × (ℤ × ℤ)))
+        → ((a b : ℕ) → AreTogether sets a b → AreTogether sets_after a b)
         → ((pieces : Beside) (point : ℤ × ℤ) → first_seen before pieces ≡ Some point → first_seen after pieces ≡ Some point)
-        → IsDone first nets_after after s t
-        → (p : ℕ × ℕ) (u v : PieceShape) → Contains (meetings ++ m ∷ []) p → slice_get shapes p.0 ≡ Some u → slice_get shapes p.1 ≡ Some v → IsDone first nets_after after u v
-    done_or_this nets_after after stay kept this p u v has u_at v_at = elim (Contains-push_cases meetings m p has) [
+        → IsDone sets_after after s t
+        → (p : ℕ × ℕ) (u v : PieceShape) → Contains (meetings ++ m ∷ []) p → slice_get shapes p.0 ≡ Some u → slice_get shapes p.1 ≡ Some v → IsDone sets_after after u v
+    done_or_this sets_after after stay kept this p u v has u_at v_at = elim (Contains-push_cases meetings m p has) [
       | inl earlier ↦ λ q shared. elim (done.done p u v earlier u_at v_at q shared) [
-        | inl together ↦ inl (stay u.net u.piece v.piece together)
+        | inl together ↦ inl (stay u.piece v.piece together)
         | inr there ↦ inr (kept (pieces_beside u v) (q.x, q.y) there)
       ]
       | inr here ↦
@@ -207,129 +201,77 @@ module _ (shapes : List PieceShape) (first : ℕ) (start : List (List ℕ)) wher
     so_far_same : (after : List (Beside × (ℤ × ℤ)))
         → ((pieces : Beside) (point : ℤ × ℤ) → first_seen before pieces ≡ Some point → first_seen after pieces ≡ Some point)
         → ((pieces : Beside) (point : ℤ × ℤ) → first_seen after pieces ≡ Some point → LiesInBoth shapes pieces point)
-        → IsDone first nets after s t → AreSoFar shapes first start (meetings ++ m ∷ []) nets after
+        → IsDone sets after s t → AreSoFar shapes count (meetings ++ m ∷ []) sets after
     so_far_same after kept points this = record {
-      count = done.count;
-      sizes = done.sizes;
+      size = done.size;
       joined = done.joined;
       points = points;
-      done = done_or_this nets after (λ net a b together. together) kept this;
+      done = done_or_this sets after (λ a b together. together) kept this;
     }
 
-    module _ (s_in : Contains shapes s) (t_in : Contains shapes t) (meet : DoMeet s t) (above : first ≤ s.net) where
-      -- the sets of the net's pieces change
-      module _ (sets sets_after : List ℕ) (at : slice_get nets (s.net - first) ≡ Some sets) where
-        place_in : s.net - first < length nets
-        place_in = slice_get_within nets (s.net - first) sets at
+    -- two of them are made one
+    module _ (sets_after : List ℕ) (united : AreUnited s.piece t.piece sets sets_after) (touch : TouchAmong shapes s.piece t.piece) where
+      joined_by_step : (a b : ℕ) → AreTogether sets_after a b → Joined (TouchAmong shapes) a b
+      joined_by_step a b together =
+          let old = done.joined in
+          let meets = TouchAmong shapes in
+          elim (united.no_more a b together) [
+            | inl was ↦ old a b was
+            | inr new ↦ elim new [
+              | inl over ↦
+                  Joined-onward meets a t.piece b (through (old a s.piece over.0) touch) (old t.piece b over.1)
+              | inr back ↦
+                  Joined-onward meets a s.piece b (through (old a t.piece back.0) (TouchAmong-back shapes s.piece t.piece touch)) (old s.piece b back.1)
+            ]
+          ]
 
-        sets_are : get_or nets (s.net - first) [] ≡ sets
-        sets_are = get_or_from_slice_get nets (s.net - first) sets [] at
+      so_far_united : (after : List (Beside × (ℤ × ℤ)))
+          → ((pieces : Beside) (point : ℤ × ℤ) → first_seen before pieces ≡ Some point → first_seen after pieces ≡ Some point)
+          → ((pieces : Beside) (point : ℤ × ℤ) → first_seen after pieces ≡ Some point → LiesInBoth shapes pieces point)
+          → AreSoFar shapes count (meetings ++ m ∷ []) sets_after after
+      so_far_united after kept points = record {
+        size = united.count ∙ done.size;
+        joined = joined_by_step;
+        points = points;
+        done = done_or_this sets_after after united.kept kept (λ p shared. inl united.both);
+      }
 
-        changed_here : get_or (set nets (s.net - first) sets_after) (s.net - first) [] ≡ sets_after
-        changed_here = get_or-set_same nets (s.net - first) sets_after [] place_in
-
-        changed_other : (place : ℕ) → place ≢ s.net - first → get_or (set nets (s.net - first) sets_after) place [] ≡ get_or nets place []
-        changed_other place other = get_or-set_other nets (s.net - first) place sets_after [] other
-
-        module _ (united : AreUnited s.piece t.piece sets sets_after) (touch : TouchAmong shapes s.net s.piece t.piece) where
-          sizes_stay : (place : ℕ) → length (get_or (set nets (s.net - first) sets_after) place []) ≡ length (get_or start place [])
-          sizes_stay place =
-              elim (cases_eq place (s.net - first)) [
-                | inl same ↦ rw same (ap length changed_here ∙ united.count ∙ ap length (sym sets_are) ∙ done.sizes (s.net - first))
-                | inr other ↦ ap length (changed_other place other) ∙ done.sizes place
-              ]
-
-          together_stay : (net a b : ℕ) → AreTogether (sets_at first nets net) a b → AreTogether (sets_at first (set nets (s.net - first) sets_after) net) a b
-          together_stay net a b together =
-              elim (cases_eq (net - first) (s.net - first)) [
-                | inl same ↦
-                    let old : AreTogether sets a b = rw (same, sets_are) at together in
-                    rw (same, changed_here) (united.kept a b old)
-                | inr other ↦ rw (changed_other (net - first) other) together
-              ]
-
-          joined_by_step : (a b : ℕ) → AreTogether sets_after a b → Joined (TouchAmong shapes s.net) a b
-          joined_by_step a b together =
-              let old = λ (x y : ℕ) (h : AreTogether sets x y). done.joined s.net x y above (rw sets_are h) in
-              let meets = TouchAmong shapes s.net in
-              elim (united.no_more a b together) [
-                | inl was ↦ old a b was
-                | inr new ↦ elim new [
-                  | inl over ↦
-                      Joined-onward meets a t.piece b (through (old a s.piece over.0) touch) (old t.piece b over.1)
-                  | inr back ↦
-                      Joined-onward meets a s.piece b (through (old a t.piece back.0) (TouchAmong-back shapes s.net s.piece t.piece touch)) (old s.piece b back.1)
-                ]
-              ]
-
-          joined_after : (net a b : ℕ) → first ≤ net → AreTogether (sets_at first (set nets (s.net - first) sets_after) net) a b → Joined (TouchAmong shapes net) a b
-          joined_after net a b low together =
-              elim (cases_eq net s.net) [
-                | inl same ↦
-                    let now : AreTogether sets_after a b = rw (same, changed_here) at together in
-                    rw same (joined_by_step a b now)
-                | inr other ↦
-                    let apart_place : net - first ≢ s.net - first = λ same. other (omega (arith, low, above, same)) in
-                    done.joined net a b low (rw (changed_other (net - first) apart_place) at together)
-              ]
-
-          so_far_united : (after : List (Beside × (ℤ × ℤ)))
-              → ((pieces : Beside) (point : ℤ × ℤ) → first_seen before pieces ≡ Some point → first_seen after pieces ≡ Some point)
-              → ((pieces : Beside) (point : ℤ × ℤ) → first_seen after pieces ≡ Some point → LiesInBoth shapes pieces point)
-              → AreSoFar shapes first start (meetings ++ m ∷ []) (set nets (s.net - first) sets_after) after
-          so_far_united after kept points = record {
-            count = length-set nets (s.net - first) sets_after ∙ done.count;
-            sizes = sizes_stay;
-            joined = joined_after;
-            points = points;
-            done = done_or_this (set nets (s.net - first) sets_after) after together_stay kept (λ p shared. inl (rw changed_here united.both));
-          }
-
-        -- they are the same
-        nets_same : sets_after ≡ sets → set nets (s.net - first) sets_after ≡ nets
-        nets_same same = rw (same, ← sets_are) (set-get_or nets (s.net - first) [])
-
-        -- two rectangles that meet are taken
-        pub so_far_step : (after : List (Beside × (ℤ × ℤ))) → IsJoinStep s t sets sets_after before after
-            → AreSoFar shapes first start (meetings ++ m ∷ []) (set nets (s.net - first) sets_after) after
-        so_far_step after (were_together together same seen_same) =
-            rw (nets_same same, seen_same)
-            (so_far_same before (λ pieces point is. is) done.points (λ p shared. inl (rw sets_are together)))
-        so_far_step after (are_united told united) =
-            so_far_united united (touch_told shapes s t s_in t_in meet before after true refl told done.points) after
-            (points_kept shapes s t s_in t_in meet before after true told)
-            (points_told shapes s t s_in t_in meet before after true told done.points)
-        so_far_step after (stay_apart told same) =
-            rw (nets_same same)
-            (so_far_same after (points_kept shapes s t s_in t_in meet before after false told)
-            (points_told shapes s t s_in t_in meet before after false told done.points)
-            (λ p shared. inr (apart_told shapes s t s_in t_in meet before after false refl told p shared)))
+    -- two rectangles that meet are taken
+    module _ (s_in : Contains shapes s) (t_in : Contains shapes t) (meet : DoMeet s t) where
+      so_far_step : (sets_after : List ℕ) (after : List (Beside × (ℤ × ℤ))) → IsJoinStep s t sets sets_after before after → AreSoFar shapes count (meetings ++ m ∷ []) sets_after after
+      so_far_step sets_after after (were_together together same seen_same) =
+          rw (same, seen_same) (so_far_same before (λ pieces point is. is) done.points (λ p shared. inl together))
+      so_far_step sets_after after (are_united told united) =
+          so_far_united sets_after united (touch_told shapes s t s_in t_in meet before after true refl told done.points) after
+          (points_kept shapes s t s_in t_in meet before after true told)
+          (points_told shapes s t s_in t_in meet before after true told done.points)
+      so_far_step sets_after after (stay_apart told same) =
+          rw same
+          (so_far_same after (points_kept shapes s t s_in t_in meet before after false told)
+          (points_told shapes s t s_in t_in meet before after false told done.points)
+          (λ p shared. inr (apart_told shapes s t s_in t_in meet before after false refl told p shared)))
 
   -- a pair of rectangles that meet is taken
-  pub so_far_more : ((shape : PieceShape) → Contains shapes shape → first ≤ shape.net)
-      → (meetings : List (ℕ × ℕ)) (nets nets_after : List (List ℕ)) (before after : List (Beside × (ℤ × ℤ))) (m : ℕ × ℕ) → IsPair DoMeet shapes m
-      → ((s t : PieceShape) → slice_get shapes m.0 ≡ Some s → slice_get shapes m.1 ≡ Some t → s.net ≡ t.net → IsStepAt (s.net - first) s t nets nets_after before after)
-      → AreSoFar shapes first start meetings nets before → AreSoFar shapes first start (meetings ++ m ∷ []) nets_after after
-  so_far_more low meetings nets nets_after before after m pair takes done =
+  pub so_far_more : (meetings : List (ℕ × ℕ)) (sets sets_after : List ℕ) (before after : List (Beside × (ℤ × ℤ))) (m : ℕ × ℕ) → IsPair DoMeet shapes m
+      → ((s t : PieceShape) → slice_get shapes m.0 ≡ Some s → slice_get shapes m.1 ≡ Some t → IsJoinStep s t sets sets_after before after)
+      → AreSoFar shapes count meetings sets before → AreSoFar shapes count (meetings ++ m ∷ []) sets_after after
+  so_far_more meetings sets sets_after before after m pair takes done =
       let s = pair.a in
       let t = pair.b in
-      let s_in : Contains shapes s = contained m.0 s pair.a_at in
-      let t_in : Contains shapes t = contained m.1 t pair.b_at in
-      let taken = takes s t pair.a_at pair.b_at pair.holds.net in
-      rw taken.is
-      (so_far_step meetings nets before done m s t pair.a_at pair.b_at s_in t_in pair.holds (low s s_in) taken.sets taken.sets_after taken.at after taken.step)
+      so_far_step meetings sets before done m s t pair.a_at pair.b_at (contained m.0 s pair.a_at) (contained m.1 t pair.b_at) pair.holds
+      sets_after after (takes s t pair.a_at pair.b_at)
     where
       contained : (place : ℕ) (shape : PieceShape) → slice_get shapes place ≡ Some shape → Contains shapes shape
       contained place shape at = (place, slice_get_within shapes place shape at, get_or_from_slice_get shapes place shape shape at)
 
   -- all meetings were taken
-  module _ (meetings : List (ℕ × ℕ)) (are : HasPairs DoMeet shapes meetings) (nets : List (List ℕ)) (seen : List (Beside × (ℤ × ℤ))) (done : AreSoFar shapes first start meetings nets seen) where
+  module _ (meetings : List (ℕ × ℕ)) (are : HasPairs DoMeet shapes meetings) (sets : List ℕ) (seen : List (Beside × (ℤ × ℤ))) (done : AreSoFar shapes count meetings sets seen) where
     -- rectangles that meet are done, here the one of the lower number first
-    done_at : (i j : ℕ) (s t : PieceShape) → slice_get shapes i ≡ Some s → slice_get shapes j ≡ Some t → i < j → DoMeet s t → IsDone first nets seen s t
+    done_at : (i j : ℕ) (s t : PieceShape) → slice_get shapes i ≡ Some s → slice_get shapes j ≡ Some t → i < j → DoMeet s t → IsDone sets seen s t
     done_at i j s t s_at t_at order meet = done.done (i, j) s t (are.all (i, j) (record { a = s; b = t; a_at = s_at; b_at = t_at; in_order = order; holds = meet })) s_at t_at
 
     -- or in any order
-    all_done : (s t : PieceShape) → Contains shapes s → Contains shapes t → DoMeet s t → IsDone first nets seen s t
+    all_done : (s t : PieceShape) → Contains shapes s → Contains shapes t → DoMeet s t → IsDone sets seen s t
     all_done s t s_in t_in meet =
         let s_at : slice_get shapes s_in.0 ≡ Some s = slice_get_read shapes _ s_in.0 s refl s_in.1 (sym s_in.2) in
         let t_at : slice_get shapes t_in.0 ≡ Some t = slice_get_read shapes _ t_in.0 t refl t_in.1 (sym t_in.2) in
@@ -339,33 +281,32 @@ module _ (shapes : List PieceShape) (first : ℕ) (start : List (List ℕ)) wher
             | inl same ↦
                 let alike : s ≡ t = same_Some s t (sym s_at ∙ ap (slice_get shapes) same ∙ t_at) in
                 absurd (meet.others (ap (λ (u : PieceShape). u.piece) alike))
-            | inr differ ↦ IsDone-back first nets seen t s (sym meet.net) (sym meet.layer) (done_at t_in.0 s_in.0 t s t_at s_at (omega (arith, later, differ)) (DoMeet-symmetric s t meet))
+            | inr differ ↦ IsDone-back sets seen t s (sym meet.layer) (done_at t_in.0 s_in.0 t s t_at s_at (omega (arith, later, differ)) (DoMeet-symmetric s t meet))
           ]
         ]
 
     -- a point of two pieces is the first one that was seen for them, or they are together
-    together_or_first : (net a b layer : ℕ) (p : Spot) → a ≢ b → LiesAmong shapes net a layer p → LiesAmong shapes net b layer p
-        → AreTogether (sets_at first nets net) a b ⊎ (first_seen seen (beside net a b layer) ≡ Some (p.x, p.y))
-    together_or_first net a b layer p others in_a in_b =
+    together_or_first : (a b layer : ℕ) (p : Spot) → a ≢ b → LiesAmong shapes a layer p → LiesAmong shapes b layer p
+        → AreTogether sets a b ⊎ (first_seen seen (beside a b layer) ≡ Some (p.x, p.y))
+    together_or_first a b layer p others in_a in_b =
         let s = in_a.shape in
         let t = in_b.shape in
         let meet : DoMeet s t = record {
-          net = in_a.of_net ∙ sym in_b.of_net;
           layer = in_a.on_layer ∙ sym in_b.on_layer;
           others = λ same. others (sym in_a.of_piece ∙ same ∙ in_b.of_piece);
           shared = record { point = p; in_a = in_a.inside; in_b = in_b.inside };
         } in
         elim (all_done s t in_a.has in_b.has meet p (record { in_a = in_a.inside; in_b = in_b.inside })) [
-          | inl together ↦ inl (rw (in_a.of_net, in_a.of_piece, in_b.of_piece) at together)
-          | inr there ↦ inr (rw (in_a.of_net, in_a.of_piece, in_b.of_piece, in_a.on_layer) at there)
+          | inl together ↦ inl (rw (in_a.of_piece, in_b.of_piece) at together)
+          | inr there ↦ inr (rw (in_a.of_piece, in_b.of_piece, in_a.on_layer) at there)
         ]
 
     -- pieces that touch are together
-    touch_together : (net a b : ℕ) → TouchAmong shapes net a b → AreTogether (sets_at first nets net) a b
-    touch_together net a b h =
-        elim (together_or_first net a b h.layer h.p h.others h.p_in_a h.p_in_b) [
+    touch_together : (a b : ℕ) → TouchAmong shapes a b → AreTogether sets a b
+    touch_together a b h =
+        elim (together_or_first a b h.layer h.p h.others h.p_in_a h.p_in_b) [
           | inl together ↦ together
-          | inr first_p ↦ elim (together_or_first net a b h.layer h.q h.others h.q_in_a h.q_in_b) [
+          | inr first_p ↦ elim (together_or_first a b h.layer h.q h.others h.q_in_a h.q_in_b) [
             | inl together ↦ together
             | inr first_q ↦
                 let same : (h.p.x, h.p.y) ≡ (h.q.x, h.q.y) = same_Some (h.p.x, h.p.y) (h.q.x, h.q.y) (sym first_p ∙ first_q) in
@@ -374,7 +315,7 @@ module _ (shapes : List PieceShape) (first : ℕ) (start : List (List ℕ)) wher
         ]
 
     -- and so are those that are joined
-    pub joined_together : (net a b : ℕ) → a < length (sets_at first nets net) → Joined (TouchAmong shapes net) a b → AreTogether (sets_at first nets net) a b
-    joined_together net a b within itself = AreTogether-itself (sets_at first nets net) a within
-    joined_together net a b within (through {b = c} joined touch) =
-        AreTogether-onward (sets_at first nets net) a c b (joined_together net a c within joined) (touch_together net c b touch)
+    pub joined_together : (a b : ℕ) → a < length sets → Joined (TouchAmong shapes) a b → AreTogether sets a b
+    joined_together a b within itself = AreTogether-itself sets a within
+    joined_together a b within (through {b = c} joined touch) =
+        AreTogether-onward sets a c b (joined_together a c within joined) (touch_together c b touch)

@@ -19,17 +19,15 @@ beside_eq_is a b = search rules
 -- keys that are compared as equal are equal
 same_pieces : (a b : Beside) → are_same_pieces a b ≡ true → a ≡ b
 same_pieces a b test =
-    let net : a.net ≡ b.net = grind (arith, nat_tests) in
     let low : a.low ≡ b.low = grind (arith, nat_tests) in
     let high : a.high ≡ b.high = grind (arith, nat_tests) in
     let layer : a.layer ≡ b.layer = grind (arith, nat_tests) in
-    ap (λ (n : ℕ). key n a.low a.high a.layer) net
-    ∙ ap (λ (n : ℕ). key b.net n a.high a.layer) low
-    ∙ ap (λ (n : ℕ). key b.net b.low n a.layer) high
-    ∙ ap (λ (n : ℕ). key b.net b.low b.high n) layer
+    ap (λ (n : ℕ). key n a.high a.layer) low
+    ∙ ap (λ (n : ℕ). key b.low n a.layer) high
+    ∙ ap (λ (n : ℕ). key b.low b.high n) layer
   where
-    key : ℕ → ℕ → ℕ → ℕ → Beside
-    key net low high layer = record { net = net; low = low; high = high; layer = layer }
+    key : ℕ → ℕ → ℕ → Beside
+    key low high layer = record { low = low; high = high; layer = layer }
 
 -- and a key as equal to itself
 are_same_pieces-refl : (a : Beside) → are_same_pieces a a ≡ true

@@ -1,6 +1,7 @@
 -- What the code knows on its way. No meaning of a public call speaks of it.
 pub mod TooCloseRule
 pub mod MeetingRule
+pub mod NetShapes
 pub mod PieceMetal
 pub mod AddedFaults
 pub mod PairViolations

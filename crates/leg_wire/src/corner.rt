@@ -14,7 +14,6 @@ use std::marker::Model;
 /// Two pieces of a net, the lower one first, and a layer.
 #[derive(Clone, Copy, PartialEq, Eq, Hash)]
 struct Beside {
-    net: u32,
     low: u32,
     high: u32,
     layer: usize,
@@ -67,7 +66,6 @@ fn pieces_of(a: &PieceShape, b: &PieceShape) -> Beside
     ensures { result ≡ pieces_beside a.now b.now }
 {
     Beside {
-        net: a.net,
         low: a.piece.min(b.piece),
         high: a.piece.max(b.piece),
         layer: a.layer,

@@ -2,8 +2,11 @@
 
 ghost use Rattle.std.specs.Prelude.{◌<◌, length, IfOk};
 ghost use Rattle.leg_wire.specs.Touch.{piece_count, AreJoined, AreMarks};
+ghost use Rattle.leg_wire.specs.Steps.NetShapes.{AreNumbersOf};
 
 use crate::joining::joined_sets;
+use crate::net_shapes::numbers_of_net;
+use crate::piece_shape::metal_of_net;
 use leg_flat::Flat;
 use std::alloc::{AllocError, Allocator};
 
@@ -20,6 +23,22 @@ pub fn joined<A: Allocator + Copy>(
     ensures { IfOk result (λ marks. AreMarks (AreJoined flat.now net 0) (piece_count flat.now net) marks.items) }
 {
     prove!(net < flat.net_count());
-    let nets = joined_sets(alloc, flat, net, net + 1)?;
-    nets[0].marks(alloc)
+    let numbers = numbers_of_net(alloc, flat.shapes(), net)?;
+    joined_by_shapes(alloc, flat, net, &numbers)
+}
+
+/// The same for the net whose shapes have these numbers.
+pub(crate) fn joined_by_shapes<A: Allocator + Copy>(
+    alloc: A,
+    flat: &Flat<A>,
+    net: u32,
+    numbers: &[u32],
+) -> Result<Vec<bool, A>, AllocError>
+    requires net { net < length flat.now.pieces }
+    requires numbers { AreNumbersOf flat.now.shapes net numbers.now }
+    ensures { IfOk result (λ marks. AreMarks (AreJoined flat.now net 0) (piece_count flat.now net) marks.items) }
+{
+    let metal = metal_of_net(alloc, flat, net, numbers)?;
+    let sets = joined_sets(alloc, flat, net, &metal)?;
+    sets.marks(alloc)
 }

@@ -11,6 +11,7 @@ mod join;
 mod joining;
 pub mod laws;
 mod meeting;
+mod net_shapes;
 mod open_fault;
 mod piece_shape;
 mod sets;

@@ -1,4 +1,4 @@
-//! Metal of pieces of one net that shares a point.
+//! Metal of a net's pieces that shares a point.
 
 ghost use Rattle.std.specs.Prelude.{◌≡◌, ◌+◌, min};
 ghost use Rattle.std.proofs.Common.{ap};
@@ -7,7 +7,7 @@ ghost use Rattle.leg_wire.specs.Steps.MeetingRule.{DoMeet, DoMeet-symmetric, DoM
 use crate::piece_shape::PieceShape;
 use leg_sweep::{LayeredRule, PairRule};
 
-/// Holds of metal of two pieces of one net that shares a point on one layer.
+/// Holds of metal of two pieces of a net that shares a point on one layer.
 #[derive(Drop)]
 pub(crate) struct Meeting {
     /// The highest layer that is told apart from those above it.
@@ -17,14 +17,16 @@ pub(crate) struct Meeting {
 }
 
 impl Meeting {
-    /// The rule for these shapes, of which nothing was asked yet.
+    /// The rule for these shapes, of which nothing was asked yet. No more layers are told apart than sixteen for each shape,
+    /// so that a net of few shapes costs little, however many layers the library has.
     pub(crate) fn new(shapes: &[PieceShape]) -> Meeting
         ensures untested { result.tests ≡ 0 }
         ensures unseen { result.looks ≡ 0 }
     {
+        let most = shapes.len().saturating_mul(16).min(u32::MAX as usize);
         let mut highest = 0;
         for shape in shapes {
-            highest = highest.max(shape.layer.min(u32::MAX as usize) as u32);
+            highest = highest.max(shape.layer.min(most) as u32);
         }
         Meeting {
             highest,
@@ -64,7 +66,7 @@ impl PairRule for Meeting {
 
     fn meets(&mut self, a: &PieceShape, b: &PieceShape) -> bool {
         self.tests += 1;
-        a.net == b.net && a.layer == b.layer && a.piece != b.piece && a.rect.shares_point(&b.rect)
+        a.layer == b.layer && a.piece != b.piece && a.rect.shares_point(&b.rect)
     }
 
     fn tests(&self) -> u64 {

@@ -7,7 +7,8 @@ ghost use Rattle.leg_wire.specs.Open.{Holds};
 ghost use Rattle.leg_wire.specs.Steps.OpenViolations.{TellsUnmarked};
 ghost use Rattle.leg_wire.specs.Steps.AddedFaults.{AreAdded};
 
-use crate::joining::joined_sets;
+use crate::join::joined_by_shapes;
+use crate::net_shapes::numbers_by_net;
 use leg_block::{Design, Fault};
 use leg_flat::Flat;
 use std::alloc::{AllocError, Allocator};
@@ -26,10 +27,10 @@ pub fn open_faults<A: Allocator + Copy>(
 {
     let nets = design.nets().len() as u32;
     prove!(nets <= flat.net_count());
-    let sets = joined_sets(alloc, flat, 0, nets)?;
+    let numbers = numbers_by_net(alloc, flat.shapes(), nets)?;
     let mut found = Vec::new(alloc);
     for net in 0..nets {
-        let marks = sets[net as usize].marks(alloc)?;
+        let marks = joined_by_shapes(alloc, flat, net, numbers[net as usize].as_slice())?;
         push_open(net, &marks, &mut found)?;
     }
     Ok(found)

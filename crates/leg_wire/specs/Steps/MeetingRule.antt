@@ -5,16 +5,14 @@ use Rattle.leg_geom.specs.Gap.{x_gap, y_gap}
 use Rattle.leg_geom.proofs.Gaps.{SharePoint-symmetric, SharePoint-gaps}
 use Rattle.leg_wire.specs.declared.piece_shape.PieceShape.{PieceShape}
 
--- metal of two pieces of one net that shares a point
+-- metal of two pieces that shares a point
 pub record DoMeet (a b : PieceShape) : Type 0 where
-  pub net : a.net ≡ b.net
   pub layer : a.layer ≡ b.layer
   pub others : a.piece ≢ b.piece
   pub shared : SharePoint a.rect b.rect
 
 pub DoMeet-symmetric : (a b : PieceShape) → DoMeet a b → DoMeet b a
 DoMeet-symmetric a b h = record {
-  net = sym h.net;
   layer = sym h.layer;
   others = λ same. h.others (sym same);
   shared = SharePoint-symmetric a.rect b.rect h.shared;

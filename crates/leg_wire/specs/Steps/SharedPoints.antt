@@ -7,15 +7,15 @@ use Rattle.leg_wire.specs.declared.piece_shape.PieceShape.{PieceShape}
 
 -- the same pieces, and the same layer
 abbrev pub are_same_pieces : Beside → Beside → Bool
-are_same_pieces a b = (a.net == b.net) && (a.low == b.low) && (a.high == b.high) && (a.layer == b.layer)
+are_same_pieces a b = (a.low == b.low) && (a.high == b.high) && (a.layer == b.layer)
 
 -- the first point that was seen for these
 abbrev pub first_seen : List (Beside × (ℤ × ℤ)) → Beside → Option (ℤ × ℤ)
 first_seen seen pieces = lookup (are_same_pieces pieces) seen
 
--- the pieces of two rectangles of a net, and the layer of the first
+-- the pieces of two rectangles, and the layer of the first
 abbrev pub pieces_beside : PieceShape → PieceShape → Beside
-pieces_beside a b = record { net = a.net; low = min a.piece b.piece; high = max a.piece b.piece; layer = a.layer }
+pieces_beside a b = record { low = min a.piece b.piece; high = max a.piece b.piece; layer = a.layer }
 
 -- the point with these coordinates
 abbrev pub spot_of : ℤ × ℤ → Spot
