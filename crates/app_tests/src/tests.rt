@@ -1,10 +1,11 @@
 //! What no clause says: the words of lines, cuts of streams, and that writing goes on and stops.
 
 mod metal;
+mod tool;
 
 ghost use Rattle.std.specs.Prelude.{Some};
 
-use leg_app::{Command, RunFault, Status, line_of, run, split_stream};
+use leg_app::{Asked, Command, RunFault, Status, asked_by, line_of, run, run_stream, split_stream};
 use std::alloc::{AllocError, Global};
 use std::io;
 use std::io::{ErrorKind, Write};
@@ -99,6 +100,8 @@ fn a_line_has_a_command_a_def_and_lefs(rt: HostRuntime) -> Result<(), Fail> {
         let words = words(rt.alloc(), texts)?;
         assert!(rt; line_of(&words).is_none(), "at {texts:?}");
     }
+    assert!(rt; matches!(asked_by(&words(rt.alloc(), &[])?), Some(Asked::Stream)));
+    assert!(rt; asked_by(&words(rt.alloc(), &["check"])?).is_none());
     let words = words(
         rt.alloc(),
         &["place-check", "top.def", "sites.lef", "cells.lef"],
@@ -118,6 +121,10 @@ fn a_stream_is_cut_after_its_first_library(rt: HostRuntime) -> Result<(), Fail> 
     let (lef, def) = split_stream(stream).ok_or("not cut")?;
     assert_eq!(rt; lef, b"SITE a\nEND LIBRARY".as_slice());
     assert_eq!(rt; def, b"\nDESIGN t ;\nEND LIBRARY\n".as_slice());
+    let mut out = Vec::new(rt.alloc());
+    let status = run_stream(rt.alloc(), b"SITE a\nEND\n", &mut out)?;
+    assert_eq!(rt; status, Status::Refused);
+    assert_eq!(rt; out.as_slice(), b"REFUSED 0 1 UnexpectedEnd\n".as_slice());
     assert!(rt; split_stream(b"END  LIBRARY\nEND\nLIBRARY end library END LIBRAR").is_none());
     Ok(())
 }

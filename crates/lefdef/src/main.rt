@@ -7,143 +7,133 @@
 mod input;
 
 use input::{InputFault, read_all};
-use leg_app::{Command, Line, RunFault, Status, line_of, run, split_stream};
-use leg_lex::TEXT_LIMIT;
-use std::alloc::AllocError;
+use leg_app::{
+    Asked, FILE_LIMIT, Halt, Line, RunFault, STREAM_LIMIT, Status, asked_by, run, run_out,
+    run_stream,
+};
+use std::alloc::{AllocError, Allocator};
 use std::fs::File;
-use std::io::Write;
 use std::process::ExitCode;
 use std::rt::Runtime;
 use std::{env, io};
-
-// The statuses that a run's own `Status` has no word for.
-const NOT_READ_OR_WRITTEN: u8 = 5;
-
-const USAGE: u8 = 64;
-
-// One byte more than a text may have, and one more than two texts.
-const FILE_LIMIT: usize = TEXT_LIMIT as usize + 1;
-
-const STREAM_LIMIT: usize = 2 * TEXT_LIMIT as usize + 1;
-
-// What standard input has where no LEF ends in it.
-const NO_LIBRARY: &[u8] = b"REFUSED 0 1 UnexpectedEnd\n";
-
-const MEMORY: &[u8] = b"MEMORY\n";
 
 fn main(rt: HostRuntime) -> ExitCode {
     ExitCode::from(ended(&rt))
 }
 
-// Why the program ends without an answer of a run.
+// Why there is no answer of a run.
 #[derive(Drop)]
-enum Halt<'a> {
-    // The input of this path can't be read.
-    NotRead(&'a str),
-    // Standard output takes nothing more.
-    NotWritten,
-    // The words aren't a command's.
-    Usage,
-    // A growth was refused.
+enum Stop<'a> {
+    // The program ends without one.
+    Halt(Halt<'a>),
+    // An allocation failed.
     Memory,
 }
 
-impl From<AllocError> for Halt<'_> {
+impl From<AllocError> for Stop<'_> {
     fn from(_e: AllocError) -> Self {
-        Halt::Memory
+        Stop::Memory
     }
 }
 
-impl From<RunFault> for Halt<'_> {
-    fn from(_e: RunFault) -> Self {
-        Halt::NotWritten
+impl From<RunFault> for Stop<'_> {
+    fn from(fault: RunFault) -> Self {
+        Stop::Halt(Halt::from(fault))
     }
 }
 
-// The exit status, after all that is said on standard error.
+// The exit status, after all that is written.
 fn ended<R: Runtime + AllocGlobal>(rt: &R) -> u8 {
     let words = match words(rt) {
         Ok(words) => words,
-        Err(halt) => return halted(rt, &halt),
+        Err(stop) => return stopped(rt, stop),
     };
-    let answered = if words.is_empty() {
-        on_stream(rt)
-    } else {
-        on_files(rt, &words)
-    };
-    match answered {
+    match answered(rt, &words) {
         Ok(status) => status.code(),
-        Err(halt) => halted(rt, &halt),
+        Err(stop) => stopped(rt, stop),
     }
 }
 
 // The words after the program's name.
-fn words<R: Runtime + AllocGlobal>(rt: &R) -> Result<Vec<String>, Halt<'static>> {
+fn words<R: Runtime + AllocGlobal>(rt: &R) -> Result<Vec<String>, Stop<'static>> {
     match env::args(rt) {
         Ok(args) => Ok(args.skip(1).collect(rt.alloc())?),
-        Err(e) if e.kind() == io::ErrorKind::OutOfMemory => Err(Halt::Memory),
-        Err(_) => Err(Halt::Usage),
+        Err(e) if e.kind() == io::ErrorKind::OutOfMemory => Err(Stop::Memory),
+        Err(_) => Err(Stop::Halt(Halt::Usage)),
     }
 }
 
-// The answer to the files that the words name: the LEFs are read in turn and then the DEF, before any
-// of them is judged.
-fn on_files<'a, R: Runtime + AllocGlobal>(rt: &R, words: &'a [String]) -> Result<Status, Halt<'a>> {
-    let Some(Line { command, def, lefs }) = line_of(words) else {
-        return Err(Halt::Usage);
-    };
+// Writes the answer to what the words ask.
+fn answered<'a, R: Runtime + AllocGlobal>(rt: &R, words: &'a [String]) -> Result<Status, Stop<'a>> {
+    match asked_by(words) {
+        Some(Asked::Stream) => on_stream(rt),
+        Some(Asked::Files(line)) => on_files(rt, &line),
+        None => Err(Stop::Halt(Halt::Usage)),
+    }
+}
+
+// The answer to files: the LEFs are read in turn and then the DEF, before any of them is judged.
+fn on_files<'a, R: Runtime + AllocGlobal, A: Allocator>(
+    rt: &R,
+    line: &Line<'a, A>,
+) -> Result<Status, Stop<'a>> {
     let mut texts = Vec::new(rt.alloc());
-    for lef in lefs {
+    for lef in line.lefs {
         texts
             .push(file(rt, lef.as_str())?)
             .map_err(AllocError::from)?;
     }
-    let def = file(rt, def)?;
+    let def = file(rt, line.def)?;
     let lefs: Vec<&[u8]> = texts
         .iter()
         .map(|text| text.as_slice())
         .collect(rt.alloc())?;
-    Ok(run(rt.alloc(), command, &lefs, &def, &mut io::writer(rt))?)
+    Ok(run(rt.alloc(), line.command, &lefs, &def, &mut io::writer(rt))?)
 }
 
 // The bytes of a file.
-fn file<'a, R: Runtime + AllocGlobal>(rt: &R, path: &'a str) -> Result<Vec<u8>, Halt<'a>> {
+fn file<'a, R: Runtime + AllocGlobal>(rt: &R, path: &'a str) -> Result<Vec<u8>, Stop<'a>> {
     let Ok(mut file) = File::open(rt, path) else {
-        return Err(Halt::NotRead(path));
+        return Err(Stop::Halt(Halt::NotRead(path)));
     };
     read_all(rt.alloc(), &mut file, FILE_LIMIT).map_err(|fault| no_input(fault, path))
 }
 
-// The answer to standard input: one LEF, and after it one DEF.
-fn on_stream<R: Runtime + AllocGlobal>(rt: &R) -> Result<Status, Halt<'static>> {
+// The answer to standard input.
+fn on_stream<R: Runtime + AllocGlobal>(rt: &R) -> Result<Status, Stop<'static>> {
     let stream = read_all(rt.alloc(), &mut rt.reader(), STREAM_LIMIT).map_err(|fault| no_input(
         fault, "-",
     ))?;
-    let mut out = io::writer(rt);
-    let Some((lef, def)) = split_stream(&stream) else {
-        out.write_all(NO_LIBRARY).map_err(|_| Halt::NotWritten)?;
-        return Ok(Status::Refused);
-    };
-    Ok(run(rt.alloc(), Command::Check, &[lef], def, &mut out)?)
+    Ok(run_stream(rt.alloc(), &stream, &mut io::writer(rt))?)
 }
 
 // Why an input ends the program.
-fn no_input(fault: InputFault, path: &str) -> Halt<'_> {
+fn no_input(fault: InputFault, path: &str) -> Stop<'_> {
     match fault {
-        InputFault::Unreadable => Halt::NotRead(path),
-        InputFault::Memory => Halt::Memory,
+        InputFault::Unreadable => Stop::Halt(Halt::NotRead(path)),
+        InputFault::Memory => Stop::Memory,
     }
 }
 
-// Says why the program ends, and answers its status.
+// Says why there is no answer, and gives the exit status.
+fn stopped<R: Runtime + AllocGlobal>(rt: &R, stop: Stop<'_>) -> u8 {
+    match stop {
+        Stop::Halt(halt) => halted(rt, &halt),
+        Stop::Memory => match run_out(&mut io::writer(rt)) {
+            Ok(status) => status.code(),
+            Err(fault) => halted(rt, &Halt::from(fault)),
+        },
+    }
+}
+
+// Says on standard error why the program ends without an answer, and gives the exit status.
 fn halted<R: Runtime + AllocGlobal>(rt: &R, halt: &Halt<'_>) -> u8 {
-    let (said, status) = match halt {
-        Halt::NotRead(path) => (eprintln!(rt; "cannot read {path}"), NOT_READ_OR_WRITTEN),
-        Halt::NotWritten => (eprintln!(rt; "cannot write"), NOT_READ_OR_WRITTEN),
-        Halt::Usage => (eprintln!(rt; "usage: lefdef COMMAND DEF LEF..."), USAGE),
-        Halt::Memory => (io::writer(rt).write_all(MEMORY), Status::Memory.code()),
+    let said = match halt {
+        Halt::NotRead(path) => eprintln!(rt; "cannot read {path}"),
+        Halt::NotWritten => eprintln!(rt; "cannot write"),
+        Halt::Usage => eprintln!(rt; "usage: lefdef COMMAND DEF LEF..."),
     };
     // A message that can't be written changes no status.
     let _ = said;
-    status
+    halt.code()
 }

@@ -1,5 +1,6 @@
 -- Answers of every command.
-use Rattle.std.proofs.Common.{◌≡◌, ℕ, false, List, Option, None, Some, is_some, option_map, Result, Ok, Err, IfOk, IfErr, refl, sym}
+use Rattle.std.proofs.Common.{◌≡◌, ℕ, false, List, Option, None, Some, is_some, option_map, Result, Ok, Err, IfOk, IfErr, OnErr, codes, refl, sym, arith}
+use Rattle.std.proofs.lemmas.Fmt.{decimal_digit}
 use Rattle.std.proofs.lemmas.Bool.{false≢true}
 use Rattle.leg_app.specs.declared.command.Command.{Command}
 use Rattle.leg_app.specs.declared.status.Status.{Status}
@@ -13,6 +14,7 @@ use Rattle.leg_block.specs.declared.fault.Fault.{Fault}
 use Rattle.leg_block.specs.Violation.{IsListOf}
 use Rattle.leg_flat.specs.Flat.{FlatSaid}
 use Rattle.leg_app.specs.Say.{SayDesign}
+use Rattle.leg_app.specs.Lines.{no_library_text}
 use Rattle.leg_app.specs.Answer.{Lists, IsShown, IsAnswer}
 use Rattle.leg_app.specs.Answer.{IsListing}
 
@@ -32,6 +34,10 @@ pub err_weaker : {T E : Type 0} (P Q : E → Type 0) (r : Result T E) → ((e : 
 err_weaker P Q (Ok t) weaker holds = tt
 err_weaker P Q (Err e) weaker holds = weaker e holds
 
+pub on_err_weaker : {T E : Type 0} (P Q : Type 0) (r : Result T E) → (P → Q) → OnErr r P → OnErr r Q
+on_err_weaker P Q (Ok t) weaker holds = tt
+on_err_weaker P Q (Err e) weaker holds = weaker holds
+
 -- what isn't there isn't seen
 pub nothing_there : {X Y : Type 0} (f : X → Y) (o : Option X) → is_some o ≡ false → option_map f o ≡ None
 nothing_there f None e = refl
@@ -45,3 +51,7 @@ listed_answer command lefs def library design flat violations Violations text sa
     record { library = library; design = design; flat = flat; violations = violations; say = say; shown = shown; list = list; is = listed }
 listed_answer command lefs def library design flat violations Refused text say shown list listed = absurd listed
 listed_answer command lefs def library design flat violations Memory text say shown list listed = absurd listed
+
+-- the line of a stream in which no LEF ends
+pub no_library_is : no_library_text ≡ codes "REFUSED 0 1 UnexpectedEnd\n"
+no_library_is = rw (decimal_digit 0 (omega arith), decimal_digit 1 (omega arith)) refl

@@ -1,5 +1,5 @@
 -- Lists of violations of some kinds, one behind the other, are the list of all.
-use Rattle.std.proofs.Common.{◌<◌, ◌≤◌, List, ◌++◌, ◌⊎◌, inl, inr, arith}
+use Rattle.std.proofs.Common.{◌<◌, ◌≤◌, List, ◌++◌, ◌⊎◌, inl, inr, subst, arith}
 use Rattle.std.proofs.lemmas.List.Elements.{All-append, All-weaker, Contains-append_left, Contains-append_right}
 use Rattle.leg_sweep.proofs.Lists.{AllPairs-append_by}
 use Rattle.leg_cells.specs.Records.{Contents}
@@ -7,13 +7,13 @@ use Rattle.leg_block.specs.Records.{DesignContents}
 use Rattle.leg_block.specs.declared.fault.Fault.{Fault}
 use Rattle.leg_block.specs.Violation.{kind_number, ComesBefore, IsListOf}
 use Rattle.leg_flat.specs.Flat.{FlatSaid, IsFlatOf}
+use Rattle.leg_flat.proofs.OneFlat.{one_flat}
 use Rattle.leg_place.specs.Faults as place
 use Rattle.leg_place.proofs.PlaceFaults.{kind_below}
 use Rattle.leg_wire.specs.Spacing as spacing
 use Rattle.leg_wire.specs.Spacing.Holds.{short, too_near}
 use Rattle.leg_wire.specs.Open as joins
 use Rattle.leg_wire.specs.Open.Holds.{open_net}
-use Rattle.leg_wire.proofs.SameMetal.{spacing_same, opens_same}
 use Rattle.leg_app.specs.Violations.{IsOfMetal, IsViolation}
 
 -- a violation of a lower kind stands first
@@ -51,13 +51,10 @@ module _ (library : Contents) (design : DesignContents) (flat : FlatSaid) (is_fl
   abbrev Metal : Fault → Type 0
   Metal v = spacing.Holds library flat v ⊎ joins.Holds design flat v
 
-  -- what holds in another flat of the design holds in this one
+  -- what holds in a flat of the design holds in this one, since the design has one flat
   in_this_flat : (v : Fault) → IsOfMetal library design v → Metal v
   in_this_flat v h =
-      elim h.holds [
-        | inl s ↦ inl (spacing_same library design h.flat flat h.is_flat is_flat v s)
-        | inr o ↦ inr (opens_same design h.flat flat h.is_flat is_flat v o)
-      ]
+      subst (λ f. spacing.Holds library f v ⊎ joins.Holds design f v) (one_flat design h.flat flat h.is_flat is_flat) h.holds
 
   placement_first : (v w : Fault) → place.Holds library design v → Metal w → kind_number v < kind_number w
   placement_first v w p m =

@@ -4,3 +4,6 @@ mod SplitLemmas
 -- What is answered
 mod KindsJoined
 mod AnswerLemmas
+mod OneAnswer
+mod CutTexts
+mod CutStreams

@@ -1,5 +1,5 @@
 -- What a command may answer: its text, and the status that goes with it.
-use Rattle.std.specs.Prelude.{◌≡◌, ◌≢◌, ℕ, List, [], ◌++◌, ◌⊎◌, Option, None, Some}
+use Rattle.std.specs.Prelude.{◌≡◌, ◌≢◌, ℕ, List, [], ◌∷◌, ◌++◌, ◌⊎◌, Option, None, Some}
 use Rattle.std.specs.Io.KnownBytes.{Appends}
 use Rattle.leg_lex.specs.declared.read_fault.ReadFault.{ReadFault}
 use Rattle.leg_lex.specs.declared.read_fault.FaultKind.TheVariants as kinds
@@ -13,23 +13,24 @@ use Rattle.leg_cells.specs.Records.{Contents}
 use Rattle.leg_block.specs.Records.{DesignContents}
 use Rattle.leg_block.specs.declared.fault.Fault.{Fault}
 use Rattle.leg_block.specs.Violation.{IsListOf}
-use Rattle.leg_flat.specs.Flat.{FlatSaid, IsFlatOf}
+use Rattle.leg_flat.specs.Flat.{FlatSaid}
 use Rattle.leg_place.specs.Faults.{Holds}
 use Rattle.leg_app.specs.Say.{SayDesign, SayNothing, SayTooMany}
-use Rattle.leg_app.specs.Violations.{IsViolation}
-use Rattle.leg_app.specs.Lines.{listing_text, legal_text, memory_text, refused_text, scale_text, too_many_text}
+use Rattle.leg_app.specs.Violations.{IsViolation, IsJudgedBy}
+use Rattle.leg_app.specs.Stream.{HasEndLibrary, IsSplit}
+use Rattle.leg_app.specs.Lines.{listing_text, legal_text, memory_text, no_library_text, refused_text, scale_text, too_many_text}
 
 -- the violations that the command lists: those of where components stand, or all
 abbrev pub Lists : Command → Contents → DesignContents → Fault → Type 0
 Lists PlaceCheck library design fault = Holds library design fault
 Lists Check library design fault = IsViolation library design fault
 
--- the flat that is judged, and whose shapes and pieces the lines tell: none, or the design's own
+-- the flat that is judged, and whose shapes and pieces the lines name: none, or the design's own
 abbrev pub IsShown : Command → DesignContents → Option FlatSaid → Type 0
 IsShown PlaceCheck design None = Unit {0}
 IsShown PlaceCheck design (Some flat) = ⊥
 IsShown Check design None = ⊥
-IsShown Check design (Some flat) = IsFlatOf design flat
+IsShown Check design (Some flat) = IsJudgedBy design flat
 
 -- the status and the text for these violations: `legal` where there are none, and else a line for each and their number
 abbrev pub IsListing : DesignContents → Option FlatSaid → List Fault → Status → List ℕ → Type 0
@@ -79,10 +80,10 @@ IsAnswer command lefs def Violations text = ListsViolations command lefs def Vio
 IsAnswer command lefs def Refused text = TellsRefusal lefs def text ⊎ TellsTooMany command lefs def text
 IsAnswer command lefs def Memory text = text ≡ memory_text
 
--- A writer took a whole answer of this status: what it holds, where it tells its bytes, grew by the text.
-pub record TakesAnswer (command : Command) (lefs : List (List ℕ)) (def : List ℕ) (status : Status) (before after : Option (List ℕ)) : Type 0 where
+-- A writer took a whole answer of this status: what it holds, where it shows its bytes, grew by the text.
+pub record TakesAnswer (Answers : Status → List ℕ → Type 0) (status : Status) (before after : Option (List ℕ)) : Type 0 where
   pub text : List ℕ
-  pub answer : IsAnswer command lefs def status text
+  pub answer : Answers status text
   pub appends : Appends before after text
 
 -- it took a front of the text, and a byte at least is left over
@@ -94,13 +95,28 @@ pub record TakesFront (text : List ℕ) (before after : Option (List ℕ)) : Typ
   pub appends : Appends before after front
 
 -- A writer took a front of an answer.
-pub record TakesPart (command : Command) (lefs : List (List ℕ)) (def : List ℕ) (before after : Option (List ℕ)) : Type 0 where
+pub record TakesPart (Answers : Status → List ℕ → Type 0) (before after : Option (List ℕ)) : Type 0 where
   pub status : Status
   pub text : List ℕ
-  pub answer : IsAnswer command lefs def status text
+  pub answer : Answers status text
   pub front : TakesFront text before after
 
--- the program's exit status
+-- The text and the status are an answer to a stream: what `check` answers to its LEF and its DEF, or that no LEF ends in it.
+pub record AnswersParts (stream : List ℕ) (status : Status) (text : List ℕ) : Type 0 where
+  pub lef : List ℕ
+  pub def : List ℕ
+  pub split : IsSplit stream lef def
+  pub answer : IsAnswer Check (lef ∷ []) def status text
+
+pub record TellsNoLibrary (stream : List ℕ) (status : Status) (text : List ℕ) : Type 0 where
+  pub none : ¬ HasEndLibrary stream
+  pub refused : status ≡ Refused
+  pub is : text ≡ no_library_text
+
+abbrev pub IsStreamAnswer : List ℕ → Status → List ℕ → Type 0
+IsStreamAnswer stream status text = AnswersParts stream status text ⊎ TellsNoLibrary stream status text
+
+-- the exit status of a run
 abbrev pub exit_code : Status → ℕ
 exit_code Success = 0
 exit_code Violations = 1

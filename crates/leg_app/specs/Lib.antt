@@ -2,7 +2,8 @@ pub mod Say
 pub mod Violations
 pub mod Refusal
 pub mod Lines
+pub mod Stream
 pub mod Answer
 pub mod Line
-pub mod Stream
+pub mod End
 pub mod Steps

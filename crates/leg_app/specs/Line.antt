@@ -1,7 +1,9 @@
 -- The command line: what the words after the program's name ask.
-use Rattle.std.specs.Prelude.{ℕ, List, ◌∷◌, Option, None, Some, option_map, codes, if◌then◌else◌}
+use Rattle.std.specs.Prelude.{◌≡◌, ℕ, List, [], ◌∷◌, map, string_bytes, Option, None, Some, option_map, codes, if◌then◌else◌}
 use Rattle.std.specs.Str.{bytes_eq}
 use Rattle.leg_app.specs.declared.command.Command.{Command}
+use Rattle.leg_app.specs.declared.line.Asked.{Asked}
+use Rattle.leg_app.specs.declared.line.Asked.TheVariants.{Stream, Files}
 use Rattle.leg_app.specs.declared.command.Command.TheVariants.{PlaceCheck, Check}
 
 -- the command of exactly this name
@@ -14,3 +16,8 @@ command_named name =
 abbrev pub line_of : List (List ℕ) → Option (Command × List ℕ × List (List ℕ))
 line_of (name ∷ def ∷ lef ∷ lefs) = option_map (λ command. (command, def, lef ∷ lefs)) (command_named name)
 line_of words = None
+
+-- no words ask for standard input, and others for what their line says
+abbrev pub Asks : {A : Type 0} → List (List ℕ) → Asked A → Type 0
+Asks words Stream = words ≡ []
+Asks words (Files line) = line_of words ≡ Some (line.command, line.def.now, map string_bytes line.lefs.now)

@@ -49,6 +49,10 @@ abbrev pub refused_text : ReadFault → List ℕ
 refused_text fault =
     codes "REFUSED " ++ decimal fault.file ++ codes " " ++ decimal fault.line ++ codes " " ++ kind_name fault.kind ++ codes "\n"
 
+-- a stream in which no LEF ends
+abbrev pub no_library_text : List ℕ
+no_library_text = refused_text (record { file = 0; line = 1; kind = kinds.UnexpectedEnd })
+
 abbrev pub scale_kind_name : ScaleKind → List ℕ
 scale_kind_name scale.NotOnUnit = codes "NotOnUnit"
 scale_kind_name scale.TooLarge = codes "TooLarge"

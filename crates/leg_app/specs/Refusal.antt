@@ -2,8 +2,15 @@
 use Rattle.std.specs.Prelude.{◌≢◌}
 use Rattle.leg_lex.specs.declared.read_fault.FaultKind.TheVariants as kinds
 use Rattle.leg_cells.specs.declared.scale_fault.ScaleKind.TheVariants as scale
+use Rattle.leg_flat.specs.declared.fault.FlatFault.{FlatFault}
+use Rattle.leg_flat.specs.declared.fault.FlatFault.TheVariants as flat
 use Rattle.leg_app.specs.declared.text_fault.TextFault.{TextFault}
 use Rattle.leg_app.specs.declared.text_fault.TextFault.TheVariants.{Read, Scale, TooMany, Memory}
+
+-- a design without a flat
+abbrev pub of_flat : FlatFault → TextFault
+of_flat flat.TooMany = TooMany
+of_flat flat.Memory = Memory
 
 -- What is true where texts are refused so: they say nothing, or too much. Want of memory tells nothing of them.
 abbrev pub Refuses : Type 0 → Type 0 → TextFault → Type 0

@@ -1,10 +1,12 @@
 -- Everything that is not legal about a design (own rules).
-use Rattle.std.specs.Prelude.{ℕ, List, ◌⊎◌}
+use Rattle.std.specs.Prelude.{ℕ, ◌≤◌, List, ◌⊎◌, length}
 use Rattle.leg_cells.specs.Records.{Contents}
+use Rattle.leg_block.specs.declared.limits.TheConstants.{PART_LIMIT}
 use Rattle.leg_block.specs.Records.{DesignContents}
 use Rattle.leg_block.specs.declared.fault.Fault.{Fault}
 use Rattle.leg_block.specs.Violation.{IsListOf}
 use Rattle.leg_flat.specs.Flat.{FlatSaid, IsFlatOf}
+use Rattle.leg_flat.specs.Metal.{metal_of}
 use Rattle.leg_place.specs.Faults as place
 use Rattle.leg_wire.specs.Spacing as spacing
 use Rattle.leg_wire.specs.Open as joins
@@ -21,10 +23,15 @@ pub record IsOfMetal (library : Contents) (design : DesignContents) (fault : Fau
 abbrev pub IsViolation : Contents → DesignContents → Fault → Type 0
 IsViolation library design fault = place.Holds library design fault ⊎ IsOfMetal library design fault
 
--- These are the violations of a design: all that hold, each once, in order. Its metal is judged, since it has a flat.
+-- A design is judged by its flat, where its metal keeps the limit of shapes.
+pub record IsJudgedBy (design : DesignContents) (flat : FlatSaid) : Type 0 where
+  pub few : length (metal_of design) ≤ PART_LIMIT
+  pub is_flat : IsFlatOf design flat
+
+-- These are the violations of a design: all that hold, each once, in order. Its metal is judged too.
 pub record AreAllViolations (library : Contents) (design : DesignContents) (violations : List Fault) : Type 0 where
   pub flat : FlatSaid
-  pub is_flat : IsFlatOf design flat
+  pub judged : IsJudgedBy design flat
   pub list : IsListOf (IsViolation library design) violations
 
 -- The texts say a design, and these are its violations.

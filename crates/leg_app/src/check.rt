@@ -1,14 +1,13 @@
 //! All violations of a design.
 
-ghost use Rattle.std.specs.Prelude.{◌≡◌, ◌<◌, ℕ, List, length, map, IfOk, IfErr};
+ghost use Rattle.std.specs.Prelude.{◌≡◌, ◌↔◌, ◌<◌, ℕ, List, length, map, IfOk, IfErr};
 ghost use Rattle.leg_block.specs.declared.limits.TheConstants.{PART_LIMIT};
 ghost use Rattle.leg_block.specs.Violation.{IsListOf};
 ghost use Rattle.leg_flat.specs.declared.fault.FlatFault.TheVariants.{TooMany};
-ghost use Rattle.leg_flat.specs.Flat.{IsFlatOf};
 ghost use Rattle.leg_flat.specs.Metal.{metal_of};
 ghost use Rattle.leg_app.specs.Say.{SayDesign, SayNothing, SayTooMany};
 ghost use Rattle.leg_app.specs.Steps.SaidLibrary.{SaysJust};
-ghost use Rattle.leg_app.specs.Violations.{IsViolation, AreAllViolations, AreViolationsOf};
+ghost use Rattle.leg_app.specs.Violations.{IsViolation, IsJudgedBy, AreAllViolations, AreViolationsOf};
 ghost use Rattle.leg_app.specs.Refusal.{Refuses};
 
 use crate::text_fault::TextFault;
@@ -23,9 +22,11 @@ use std::alloc::Allocator;
 
 /// The flat of a design, and the design's violations in order.
 #[derive(Drop)]
-pub(crate) struct Checked<A: Allocator> {
-    pub(crate) flat: Flat<A>,
-    pub(crate) violations: Vec<Fault, A>,
+pub struct Checked<A: Allocator> {
+    /// The metal that was judged. Violations name its shapes, nets and pieces by their numbers.
+    pub flat: Flat<A>,
+    /// Everything that is not legal, each once, in order; empty where the design is legal.
+    pub violations: Vec<Fault, A>,
 }
 
 /// Everything that is not legal about the design that the texts of the LEFs, in order, and of the DEF say: all violations
@@ -72,21 +73,21 @@ fn violations_of<'e, A: Allocator + Copy>(
     ensures refused { IfErr result (λ fault. (lefs : List (List ℕ)) (def : List ℕ) → SayDesign lefs def design.now.library design.now
         → Refuses (SayNothing lefs def) (SayTooMany lefs def) fault) }
 {
-    match check_design(alloc, design) {
-        Ok(checked) => Ok(checked.violations),
-        Err(FlatFault::TooMany) => Err(TextFault::TooMany),
-        Err(FlatFault::Memory) => Err(TextFault::Memory),
-    }
+    let checked = check_design(alloc, design)?;
+    Ok(checked.violations)
 }
 
-/// The flat of the design, and all violations, kind by kind.
-pub(crate) fn check_design<A: Allocator + Copy>(
+/// The flat of the design, and everything that is not legal about it: all violations that hold, each once, in order
+/// (own rules). `leg_print::print_faults` has a line for each.
+///
+/// `TooMany` tells that the design has more than `leg_design::PART_LIMIT` shapes.
+pub fn check_design<A: Allocator + Copy>(
     alloc: A,
     design: &Design<'_, A>,
 ) -> Result<Checked<A>, FlatFault>
-    ensures flat { IfOk result (λ checked. IsFlatOf design.now checked.flat) }
+    ensures flat { IfOk result (λ checked. IsJudgedBy design.now checked.flat) }
     ensures list { IfOk result (λ checked. IsListOf (IsViolation design.now.library design.now) checked.violations.items) }
-    ensures many { IfErr result (λ fault. fault ≡ TooMany → PART_LIMIT < length (metal_of design.now)) }
+    ensures many { IfErr result (λ fault. fault ≡ TooMany ↔ PART_LIMIT < length (metal_of design.now)) }
 {
     let library = design.library();
     let flat = flatten(alloc, library, design)?;

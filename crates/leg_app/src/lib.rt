@@ -4,6 +4,9 @@
 mod answer;
 mod check;
 mod command;
+mod end;
+pub mod laws;
+mod limits;
 mod line;
 mod lines;
 mod run_command;
@@ -12,10 +15,20 @@ mod stream;
 mod text_fault;
 mod texts;
 
-pub use check::check_texts;
+// What a tool needs to read a block and to print what is not legal about it.
+pub use check::{Checked, check_design, check_texts};
 pub use command::Command;
-pub use line::{Line, line_of};
-pub use run_command::{RunFault, run};
+pub use end::Halt;
+pub use leg_block::{Design, Fault};
+pub use leg_cells::{Library, ScaleFault};
+pub use leg_design::DefText;
+pub use leg_flat::{Flat, FlatFault};
+pub use leg_lex::ReadFault;
+pub use leg_lib::read_lefs;
+pub use leg_print::print_faults;
+pub use limits::{FILE_LIMIT, STREAM_LIMIT};
+pub use line::{Asked, Line, asked_by, line_of};
+pub use run_command::{RunFault, run, run_out, run_stream};
 pub use status::Status;
 pub use stream::split_stream;
 pub use text_fault::TextFault;

@@ -1,12 +1,21 @@
 //! The words of a command line.
 
-ghost use Rattle.std.specs.Prelude.{◌≡◌, map, option_map, string_bytes};
-ghost use Rattle.leg_app.specs.Line.{command_named, line_of};
+ghost use Rattle.std.specs.Prelude.{◌≡◌, ◌≢◌, [], None, map, option_map, string_bytes, IfSome, IfNone};
+ghost use Rattle.leg_app.specs.Line.{command_named, line_of, Asks};
 
 use crate::command::Command;
 use std::alloc::Allocator;
 
-/// What a command line asks.
+/// What the words of a command line ask.
+#[derive(Drop)]
+pub enum Asked<'a, A: Allocator> {
+    /// To check the block of standard input.
+    Stream,
+    /// A command on files.
+    Files(Line<'a, A>),
+}
+
+/// A command on files.
 #[derive(Drop)]
 pub struct Line<'a, A: Allocator> {
     /// The command.
@@ -15,6 +24,18 @@ pub struct Line<'a, A: Allocator> {
     pub def: &'a str,
     /// The words that tell the LEFs, in order: one at least.
     pub lefs: &'a [String<A>],
+}
+
+/// What the words after the program's name ask: standard input where there are none, and else what `line_of` says. None
+/// where they ask for nothing. It takes no memory.
+pub fn asked_by<A: Allocator>(words: &[String<A>]) -> Option<Asked<'_, A>>
+    ensures found { IfSome result (λ asked. Asks (map string_bytes words.now) asked) }
+    ensures none { IfNone result (words.now ≢ [] × (line_of (map string_bytes words.now) ≡ None)) }
+{
+    if words.is_empty() {
+        return Some(Asked::Stream);
+    }
+    Some(Asked::Files(line_of(words)?))
 }
 
 /// What the words after the program's name ask: a command's exact name, a DEF, and one LEF or more.

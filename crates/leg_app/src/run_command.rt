@@ -1,15 +1,21 @@
 //! A command from its texts to the bytes that are written.
 
-ghost use Rattle.std.specs.Prelude.{map, IfOk, OnOk, OnErr};
+ghost use Rattle.std.specs.Prelude.{◌≡◌, map, IfOk, OnOk, OnErr};
 ghost use Rattle.std.specs.Io.KnownBytes.{Appends};
-ghost use Rattle.leg_app.specs.Answer.{TakesAnswer, TakesFront, TakesPart};
+ghost use Rattle.leg_app.specs.declared.status.Status.TheVariants.{Memory};
+ghost use Rattle.leg_app.specs.Answer.{IsAnswer, IsStreamAnswer, TakesAnswer, TakesFront, TakesPart};
+ghost use Rattle.leg_app.specs.Lines.{memory_text};
 
 use crate::answer::answer_to;
 use crate::command::Command;
 use crate::status::Status;
+use crate::stream::split_stream;
 use std::alloc::Allocator;
 use std::io::Write;
 use thiserror::Error;
+
+// What is written where no LEF ends in a stream.
+const NO_LIBRARY: &[u8] = b"REFUSED 0 1 UnexpectedEnd\n";
 
 /// Why an answer isn't written whole.
 #[derive(Clone, Copy, PartialEq, Eq, Debug, Error)]
@@ -29,9 +35,9 @@ pub fn run<W: Write, A: Allocator + Copy>(
     def: &[u8],
     out: &mut W,
 ) -> Result<Status, RunFault>
-    ensures whole { IfOk result (λ status. TakesAnswer command (map (λ t. t.now) lefs.now) def.now status
+    ensures whole { IfOk result (λ status. TakesAnswer (IsAnswer command (map (λ t. t.now) lefs.now) def.now) status
         (W.contents out.old) (W.contents out.new)) }
-    ensures cut { OnErr result (TakesPart command (map (λ t. t.now) lefs.now) def.now
+    ensures cut { OnErr result (TakesPart (IsAnswer command (map (λ t. t.now) lefs.now) def.now)
         (W.contents out.old) (W.contents out.new)) }
 {
     match answer_to(alloc, command, lefs, def) {
@@ -39,11 +45,34 @@ pub fn run<W: Write, A: Allocator + Copy>(
             write_text(out, &answer.text)?;
             Ok(answer.status)
         }
-        Err(_) => {
-            write_text(out, b"MEMORY\n")?;
-            Ok(Status::Memory)
-        }
+        Err(_) => run_out(out),
     }
+}
+
+/// Checks the block of a stream, which has one LEF up to its `END LIBRARY` and after it one DEF, and writes the answer as
+/// `run` does. A stream in which no LEF ends is refused at its first line.
+pub fn run_stream<W: Write, A: Allocator + Copy>(
+    alloc: A,
+    stream: &[u8],
+    out: &mut W,
+) -> Result<Status, RunFault>
+    ensures whole { IfOk result (λ status. TakesAnswer (IsStreamAnswer stream.now) status (W.contents out.old) (W.contents out.new)) }
+    ensures cut { OnErr result (TakesPart (IsStreamAnswer stream.now) (W.contents out.old) (W.contents out.new)) }
+{
+    let Some((lef, def)) = split_stream(stream) else {
+        write_text(out, NO_LIBRARY)?;
+        return Ok(Status::Refused);
+    };
+    run(alloc, Command::Check, &[lef], def, out)
+}
+
+/// Writes that memory ran out, where it did so before a run could begin.
+pub fn run_out<W: Write>(out: &mut W) -> Result<Status, RunFault>
+    ensures whole { IfOk result (λ status. (status ≡ Memory) × Appends (W.contents out.old) (W.contents out.new) memory_text) }
+    ensures cut { OnErr result (TakesFront memory_text (W.contents out.old) (W.contents out.new)) }
+{
+    write_text(out, b"MEMORY\n")?;
+    Ok(Status::Memory)
 }
 
 // Stops at the writer's first error, and where it takes no byte.

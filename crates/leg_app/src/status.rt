@@ -10,9 +10,9 @@ pub enum Status {
     Success = 0,
     /// Violations were listed.
     Violations = 1,
-    /// A text was refused, or a length isn't on the DEF's units.
+    /// A text was refused, a length isn't a whole number of the DEF's units, or the design has too many shapes.
     Refused = 2,
-    /// There wasn't enough memory.
+    /// Out of memory.
     Memory = 4,
 }
 

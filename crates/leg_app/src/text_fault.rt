@@ -2,9 +2,12 @@
 
 ghost use Rattle.std.specs.Prelude.{◌≡◌};
 ghost use Rattle.leg_app.specs.declared.text_fault.TextFault.TheVariants as faults;
+ghost use Rattle.leg_app.specs.Refusal.{of_flat};
 
 use leg_cells::ScaleFault;
+use leg_flat::FlatFault;
 use leg_lex::ReadFault;
+use std::alloc::AllocError;
 
 /// Why a block's texts are refused.
 #[derive(Debug, Drop)]
@@ -32,5 +35,24 @@ impl<'a> From<ScaleFault<'a>> for TextFault<'a> {
 
     fn from(fault: ScaleFault<'a>) -> Self {
         TextFault::Scale(fault)
+    }
+}
+
+impl From<FlatFault> for TextFault<'_> {
+    ghost from_gives = { λ fault e. e ≡ of_flat fault };
+
+    fn from(fault: FlatFault) -> Self {
+        match fault {
+            FlatFault::TooMany => TextFault::TooMany,
+            FlatFault::Memory => TextFault::Memory,
+        }
+    }
+}
+
+impl From<AllocError> for TextFault<'_> {
+    ghost from_gives = { λ _ e. e ≡ faults.Memory };
+
+    fn from(_e: AllocError) -> Self {
+        TextFault::Memory
     }
 }

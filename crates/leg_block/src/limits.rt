@@ -4,5 +4,6 @@
 /// together.
 pub const ENTRY_LIMIT: u64 = 200_000;
 
-/// The nets of a design, those of both sections taken together, have at most this many terminals and as many wires.
+/// The nets of a design, those of both sections taken together, have at most this many terminals and as many wires, and a
+/// flat at most as many shapes.
 pub const PART_LIMIT: u64 = 4_000_000;

@@ -1,21 +1,25 @@
 -- What holds of every library in database units.
-use Rattle.std.proofs.Common.{ℕ, ◌*◌, ◌≤◌, List, [], ◌∷◌, All, ℤ, pos, unsigned_abs, ◌*ℤ◌, ◌-ℤ◌, ◌≤ℤ◌, ◌<ℤ◌, arith}
+use Rattle.std.proofs.Common.{ℕ, ◌*◌, ◌≤◌, List, [], ◌∷◌, map, All, subst, sym, ℤ, pos, unsigned_abs, ◌*ℤ◌, ◌-ℤ◌, ◌≤ℤ◌, ◌<ℤ◌, arith}
 use Rattle.std.proofs.lemmas.Int.{ints}
 use Rattle.std.proofs.lemmas.List.Elements.{All-nil, All-cons, All-head, All-tail}
-use Rattle.leg_lex.specs.declared.limits.TheConstants.{NUMBER_LIMIT}
+use Rattle.leg_lex.specs.declared.limits.TheConstants.{NUMBER_LIMIT, UNITS_LIMIT}
 use Rattle.leg_lex.specs.Number.{IsNumber}
 use Rattle.leg_geom.specs.Plane.{Spot}
 use Rattle.leg_cells.specs.declared.raw.RawKind.{RawKind}
 use Rattle.leg_cells.specs.declared.raw.RawKind.TheVariants as raw
 use Rattle.leg_cells.specs.declared.raw.RawLayer.{RawLayer}
+use Rattle.leg_cells.specs.declared.raw.RawSite.{RawSite}
 use Rattle.leg_cells.specs.declared.raw.RawShape.{RawShape}
 use Rattle.leg_cells.specs.declared.records.LayerKind.{LayerKind}
 use Rattle.leg_cells.specs.declared.records.LayerKind.TheVariants.{Routing, Cut, Other}
 use Rattle.leg_cells.specs.declared.records.Layer.{Layer}
+use Rattle.leg_cells.specs.declared.records.Site.{Site}
 use Rattle.leg_cells.specs.declared.records.Shape.{Shape}
+use Rattle.leg_cells.specs.Measure.{HasArea, IsExtent}
 use Rattle.leg_cells.specs.Records.{RawContents, RawViaSaid, RawMasterSaid, ViaSaid, MasterSaid, Contents}
-use Rattle.leg_cells.specs.Scale.{IsLengthAt, IsSpotAt, IsShapeAt, IsKindAt, IsLayerAt, IsViaAt, IsPinAt, IsMasterAt, OneForOne, IsLibraryAt, no_shift}
-use Rattle.leg_cells.specs.Sound.{HasRawWidth, IsSoundRawLayer, IsSoundRaw, HasWidth, IsSoundLayer, AreWithin, AreShapesWithin, IsSoundVia, IsSoundMaster, IsSound}
+use Rattle.leg_cells.specs.Scale.{IsLengthAt, IsSpotAt, IsShapeAt, IsKindAt, IsLayerAt, IsSiteAt, IsViaAt, IsPinAt, IsMasterAt, OneForOne, IsLibraryAt, no_shift}
+use Rattle.leg_cells.specs.Sound.{AreNames, HasRawWidth, IsSoundRawLayer, IsSoundRaw, HasWidth, IsSoundLayer, AreWithin, AreShapesWithin, IsSoundVia, IsSoundMaster, IsSound}
+use Rattle.leg_cells.proofs.Scaled.{layers_named, sites_named, vias_named, masters_named}
 
 wide_at : (n : ℕ) (m u : ℤ) → 1 ≤ n → pos 0 <ℤ m → IsLengthAt n m u → pos 0 <ℤ u
 wide_at n m u some wide at =
@@ -93,10 +97,37 @@ master_at n r master at = record {
   obstructions = shapes_at n r.origin at.shift r.obstructions master.obstructions at.origin at.obstructions;
 }
 
+site_at : (n : ℕ) (r : RawSite) (site : Site) → 1 ≤ n → HasArea r.size → IsSiteAt n r site → IsExtent site.size
+site_at n r site some area at = record {
+  width = at.size.width.within;
+  height = at.size.height.within;
+  area = record {
+    wide = wide_at n r.size.width site.size.width some area.wide at.size.width;
+    high = wide_at n r.size.height site.size.height some area.high at.size.height;
+  };
+}
+
+sites_at : (n : ℕ) (raw : List RawSite) (sites : List Site) → 1 ≤ n → All (λ site. HasArea site.size) raw → OneForOne (IsSiteAt n) raw sites → All (λ site. IsExtent site.size) sites
+sites_at n [] [] some sound at = All-nil (λ site. IsExtent site.size)
+sites_at n [] (site ∷ sites) some sound at = absurd at
+sites_at n (r ∷ raw) [] some sound at = absurd at
+sites_at n (r ∷ raw) (site ∷ sites) some sound at =
+    let first : HasArea r.size = All-head (λ s. HasArea s.size) r raw sound in
+    All-cons (λ s. IsExtent s.size) site sites (site_at n r site some first at.0) (sites_at n raw sites some (All-tail (λ s. HasArea s.size) r raw sound) at.1)
+
 -- A sound library is sound in database units.
-pub sound_at : (n : ℕ) (raw : RawContents) (library : Contents) → 1 ≤ n → IsSoundRaw raw → IsLibraryAt n raw library → IsSound library
-sound_at n raw library some sound at = record {
-  layers = layers_at n raw.layers library.layers some sound at.layers;
+pub sound_at : (n : ℕ) (raw : RawContents) (library : Contents) → 1 ≤ n → n ≤ UNITS_LIMIT → IsSoundRaw raw → IsLibraryAt n raw library → IsSound library
+sound_at n raw library some most sound at = record {
+  least_units = subst (λ u. 1 ≤ u) (sym at.units) some;
+  most_units = subst (λ u. u ≤ UNITS_LIMIT) (sym at.units) most;
+  layers = layers_at n raw.layers library.layers some sound.layers at.layers;
+  sites = sites_at n raw.sites library.sites some sound.sites at.sites;
   vias = all_at (IsViaAt n) IsSoundVia (via_at n) raw.vias library.vias at.vias;
   masters = all_at (IsMasterAt n) IsSoundMaster (master_at n) raw.masters library.masters at.masters;
+  names = record {
+    layers = subst AreNames (sym (layers_named n raw.layers library.layers at.layers)) sound.names.layers;
+    sites = subst AreNames (sym (sites_named n raw.sites library.sites at.sites)) sound.names.sites;
+    vias = subst AreNames (sym (vias_named n raw.vias library.vias at.vias)) sound.names.vias;
+    masters = subst AreNames (sym (masters_named n raw.masters library.masters at.masters)) sound.names.masters;
+  };
 }

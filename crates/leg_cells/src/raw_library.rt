@@ -1,7 +1,9 @@
 //! A library as LEF texts say it, in millionths of a micron.
 
-ghost use Rattle.std.specs.Prelude.{◌≡◌, ◌++◌, ◌∷◌, [], None, OnOk, OnErr};
+ghost use Rattle.std.specs.Prelude.{◌≡◌, ◌++◌, ◌∷◌, [], None, IsTrue, OnOk, OnErr};
 ghost use Rattle.leg_lex.specs.NameLookup.{place_of};
+ghost use Rattle.leg_lex.specs.Words.{is_name};
+ghost use Rattle.leg_cells.specs.Measure.{HasArea};
 ghost use Rattle.leg_cells.specs.Records.{empty_library, raw_layer_names, raw_site_names, raw_via_names, raw_master_names};
 ghost use Rattle.leg_cells.specs.Sound.{IsSoundRawLayer, IsSoundRaw};
 
@@ -33,6 +35,7 @@ impl<'a, A: Allocator + Copy> Model for RawLibrary<'a, A> {
 
 impl<'a, A: Allocator + Copy> RawLibrary<'a, A> {
     /// A library with no records.
+    #[tactic(auto, using(crate::proofs::SoundRaw::empty_sound))]
     pub fn new(alloc: A) -> RawLibrary<'a, A>
         ensures { result ≡ empty_library }
     {
@@ -102,8 +105,10 @@ impl<'a, A: Allocator + Copy> RawLibrary<'a, A> {
     }
 
     /// Adds a layer whose name is new. Where memory is refused, nothing changes.
+    #[tactic(auto, using(crate::proofs::SoundRaw::sound_with_layer))]
     pub fn push_layer(&mut self, layer: RawLayer<'a>) -> Result<(), AllocError>
         requires is_new { place_of layer.name (raw_layer_names self.old) ≡ None }
+        requires named { IsTrue (is_name layer.name) }
         requires sound { IsSoundRawLayer layer }
         ensures pushed { OnOk result (self.new ≡ record self.old { layers = self.old.layers ++ layer.entry ∷ [] }) }
         ensures unchanged { OnErr result (self.new ≡ self.old) }
@@ -112,8 +117,11 @@ impl<'a, A: Allocator + Copy> RawLibrary<'a, A> {
     }
 
     /// Adds a site whose name is new. Where memory is refused, nothing changes.
+    #[tactic(auto, using(crate::proofs::SoundRaw::sound_with_site))]
     pub fn push_site(&mut self, site: RawSite<'a>) -> Result<(), AllocError>
-        requires { place_of site.name (raw_site_names self.old) ≡ None }
+        requires is_new { place_of site.name (raw_site_names self.old) ≡ None }
+        requires named { IsTrue (is_name site.name) }
+        requires sound { HasArea site.size }
         ensures pushed { OnOk result (self.new ≡ record self.old { sites = self.old.sites ++ site.entry ∷ [] }) }
         ensures unchanged { OnErr result (self.new ≡ self.old) }
     {
@@ -121,8 +129,10 @@ impl<'a, A: Allocator + Copy> RawLibrary<'a, A> {
     }
 
     /// Adds a via whose name is new. Where memory is refused, nothing changes.
+    #[tactic(auto, using(crate::proofs::SoundRaw::sound_with_via))]
     pub fn push_via(&mut self, via: RawVia<'a, A>) -> Result<(), AllocError>
-        requires { place_of via.name (raw_via_names self.old) ≡ None }
+        requires is_new { place_of via.name (raw_via_names self.old) ≡ None }
+        requires named { IsTrue (is_name via.name) }
         ensures pushed { OnOk result (self.new ≡ record self.old { vias = self.old.vias ++ via.entry ∷ [] }) }
         ensures unchanged { OnErr result (self.new ≡ self.old) }
     {
@@ -130,8 +140,10 @@ impl<'a, A: Allocator + Copy> RawLibrary<'a, A> {
     }
 
     /// Adds a macro whose name is new. Where memory is refused, nothing changes.
+    #[tactic(auto, using(crate::proofs::SoundRaw::sound_with_master))]
     pub fn push_master(&mut self, master: RawMaster<'a, A>) -> Result<(), AllocError>
-        requires { place_of master.name (raw_master_names self.old) ≡ None }
+        requires is_new { place_of master.name (raw_master_names self.old) ≡ None }
+        requires named { IsTrue (is_name master.name) }
         ensures pushed { OnOk result (self.new ≡ record self.old { masters = self.old.masters ++ master.entry ∷ [] }) }
         ensures unchanged { OnErr result (self.new ≡ self.old) }
     {

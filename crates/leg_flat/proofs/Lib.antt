@@ -24,6 +24,15 @@ mod MetalLines
 mod MetalSizes
 mod MetalKept
 mod MetalWhole
+-- Laws: numbers of nets and of pieces
+mod EntryNames
+mod Given
+mod PiecePlaces
+mod MetalPieces
+mod TerminalsOnce
+mod PieceMetal
 -- Limits
 mod Counted
 mod FlatWithin
+-- What the proofs of other crates cite
+pub mod OneFlat

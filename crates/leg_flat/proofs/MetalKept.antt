@@ -2,7 +2,7 @@
 use Rattle.std.proofs.Common.{◌≡◌, ◌↔◌, ℕ, ℤ, List, [], ◌∷◌, ◌++◌, Result, Ok, Err, OnOk, w64, to_z, of_z, refl, ◌∙◌, arith}
 use Rattle.std.proofs.lemmas.Int.{ints, to_z-of_z}
 use Rattle.leg_lex.specs.Number.{IsNumber}
-use Rattle.leg_geom.specs.Plane.{Spot, Sides, HasPoint}
+use Rattle.leg_geom.specs.Plane.{Spot, Sides, IsRect, HasPoint}
 use Rattle.leg_cells.specs.Measure.{Lengths, IsExtent}
 use Rattle.leg_block.specs.declared.records.Wire.TheVariants.{Segment}
 use Rattle.leg_block.specs.Records.{DesignContents}
@@ -32,13 +32,14 @@ kept_size w h size e f is =
     same_size _ _ size (kept_number w width ∙ e) (kept_number h height ∙ f)
 
 -- a segment is one shape
-pub segment_adds : (design : DesignContents) (layer : ℕ) (from to : Spot) (width ext_from ext_to : ℤ) (belongs : Belonging) (s after : List Shape) (rect : Sides) → IsLineWithin from to width ext_from ext_to → ((p : Spot) → HasPoint rect p ↔ HasPointOf (Line from to (to_z w64 (of_z w64 width)) (to_z w64 (of_z w64 ext_from)) (to_z w64 (of_z w64 ext_to))) p) → after ≡ s ++ record { layer = layer; rect = rect; owner = belongs.owner; component = belongs.component; piece = belongs.piece } ∷ [] → AddsMetal (belonging belongs (wire_outlines design (Segment layer from to width ext_from ext_to))) s after
-segment_adds design layer from to width ext_from ext_to belongs s after rect is points grown =
+pub segment_adds : (design : DesignContents) (layer : ℕ) (from to : Spot) (width ext_from ext_to : ℤ) (belongs : Belonging) (s after : List Shape) (rect : Sides) → IsRect rect → IsLineWithin from to width ext_from ext_to → ((p : Spot) → HasPoint rect p ↔ HasPointOf (Line from to (to_z w64 (of_z w64 width)) (to_z w64 (of_z w64 ext_from)) (to_z w64 (of_z w64 ext_to))) p) → after ≡ s ++ record { layer = layer; rect = rect; owner = belongs.owner; component = belongs.component; piece = belongs.piece } ∷ [] → AddsMetal (belonging belongs (wire_outlines design (Segment layer from to width ext_from ext_to))) s after
+segment_adds design layer from to width ext_from ext_to belongs s after rect proper is points grown =
     let e = kept_number width is.wide.within in
     let f = kept_number ext_from is.before.within in
     let h = kept_number ext_to is.behind.within in
     adds_one _ s after _ grown (record {
       layer = refl;
+      proper = proper;
       points = rw (e, f, h) at points;
       owner = refl;
       component = refl;

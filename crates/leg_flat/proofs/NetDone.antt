@@ -37,7 +37,7 @@ or_first true b e = refl
 or_first false b e = absurd (false≢true e)
 
 -- the entry of SPECIALNETS of the net that an entry is of is that one
-special_of : (design : DesignContents) → HasNets design → (k : ℕ) (net : NetSaid) → slice_get design.special k ≡ Some net → special_entry design (number_of_special design k net) ≡ Some net
+pub special_of : (design : DesignContents) → HasNets design → (k : ℕ) (net : NetSaid) → slice_get design.special k ≡ Some net → special_entry design (number_of_special design k net) ≡ Some net
 special_of design has k net there = by (place_of net.name (net_names design.nets)) refl where
   by : (o : Option ℕ) → place_of net.name (net_names design.nets) ≡ o → special_entry design (number_of_special design k net) ≡ Some net
   by (Some m) found =

@@ -1,7 +1,7 @@
 -- A flat design: the metal of a design as rectangles, and the pieces of its nets.
 use Rattle.std.specs.Prelude.{◌≡◌, ◌↔◌, ◌+◌, ◌^◌, ◌<◌, ◌≤◌, List, All, length, map}
 use Rattle.std.specs.List.{range_with_len}
-use Rattle.leg_geom.specs.Plane.{Spot, HasPoint}
+use Rattle.leg_geom.specs.Plane.{Spot, IsRect, HasPoint}
 use Rattle.leg_cells.specs.Scale.{OneForOne}
 use Rattle.leg_block.specs.declared.limits.TheConstants.{PART_LIMIT}
 use Rattle.leg_block.specs.Records.{DesignContents}
@@ -22,9 +22,10 @@ pub record IsWithin (flat : FlatSaid) : Type 0 where
   pub nets : length flat.pieces < 2 ^ 32
   pub pieces : All (λ pieces. length pieces < 2 ^ 32) flat.pieces
 
--- the shape has exactly the points of the metal, and its layer, owner, component and piece
+-- the shape is a rectangle with area that has exactly the points of the metal, and its layer, owner, component and piece
 pub record IsShapeOf (metal : Metal) (shape : Shape) : Type 0 where
   pub layer : shape.layer ≡ metal.metal.layer
+  pub proper : IsRect shape.rect
   pub points : (p : Spot) → HasPoint shape.rect p ↔ HasPointOf metal.metal.outline p
   pub owner : shape.owner ≡ metal.belongs.owner
   pub component : shape.component ≡ metal.belongs.component

@@ -49,7 +49,8 @@ impl<A: Allocator + Copy> Flat<A> {
         self.shapes.as_slice()
     }
 
-    /// How many nets there are: their numbers lie below.
+    /// How many entries `NETS` and `SPECIALNETS` have together: numbers of nets lie below. A net that stands in both
+    /// sections has two entries and one number, so there may be fewer nets; the number left over has no pieces.
     pub fn net_count(&self) -> u32
         ensures is { result ≡ length self.now.pieces }
         ensures proper { IsWithin self.now }

@@ -3,6 +3,7 @@
 
 mod fault;
 mod flat;
+pub mod laws;
 mod metal;
 mod metal_count;
 mod metal_parts;

@@ -5,7 +5,8 @@ use leg_block::Terminal;
 /// Whose metal a shape is. Shapes of one owner may touch.
 #[derive(Clone, Copy, PartialEq, Eq, Debug)]
 pub enum Owner {
-    /// A net, by its number: entries of `NETS` count first, then those of `SPECIALNETS` whose name no entry of `NETS` has.
+    /// A net, by its number: the place of its entry of `NETS`. That of a net that stands in `SPECIALNETS` alone is the
+    /// number of entries of `NETS` and the place of its entry of `SPECIALNETS` together.
     Net(u32),
     /// A terminal in no net.
     Lone(Terminal),

@@ -1,6 +1,7 @@
 -- The forms of a text
 mod Layers
 mod SoundLayers
+mod SoundNames
 mod Vias
 mod Sites
 mod Forms

@@ -16,7 +16,7 @@ use std::alloc::{AllocError, Allocator};
 /// The components without a place, those outside the die, those off the sites of the rows, and the pairs of components
 /// that overlap: all that hold, each once, in order (own rules).
 ///
-/// The design was read with this library. Only want of memory is refused.
+/// The design was read with this library. It fails only when out of memory.
 pub fn place_faults<A: Allocator + Copy>(
     alloc: A,
     library: &Library<'_, A>,

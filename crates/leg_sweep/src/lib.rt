@@ -15,6 +15,6 @@ mod visit;
 mod waiting;
 
 pub use banded::{each_pair, pairs_in_bands};
-pub use pair_list::{Found, pairs, pairs_counted};
+pub use pair_list::{Found, PairList, pairs, pairs_counted};
 pub use rule::{LayeredRule, PairRule};
 pub use sink::PairSink;

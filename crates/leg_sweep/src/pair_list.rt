@@ -11,12 +11,43 @@ use crate::left_to_right::left_to_right;
 use crate::rule::PairRule;
 use crate::sweep::sweep;
 use std::alloc::{AllocError, Allocator};
+use std::marker::Model;
+
+/// Pairs of numbers of items, the lower number first.
+#[derive(Drop)]
+pub struct PairList<A: Allocator> {
+    pairs: Vec<(u32, u32), A>,
+}
+
+impl<A: Allocator> Model for PairList<A> {
+    ghost use Rattle.std.specs.Prelude.{ℕ, List};
+
+    ghost Value = { List (ℕ × ℕ) };
+
+    ghost view = { λ l. l.pairs.items };
+}
+
+impl<A: Allocator> PairList<A> {
+    /// The pairs in their order.
+    pub fn as_slice(&self) -> &[(u32, u32)]
+        ensures { result.now ≡ self.now }
+    {
+        &self.pairs
+    }
+
+    /// The pairs alone.
+    pub fn into_vec(self) -> Vec<(u32, u32), A>
+        ensures { result.items ≡ self }
+    {
+        self.pairs
+    }
+}
 
 /// The pairs of a rule, and how often it was asked for them.
 #[derive(Drop)]
 pub struct Found<A: Allocator> {
-    /// Pairs of numbers of items, lower number first, in increasing order.
-    pub pairs: Vec<(u32, u32), A>,
+    /// The pairs, in increasing order.
+    pub pairs: PairList<A>,
     /// How many tests were made.
     pub tests: u64,
     /// How many looks were taken.
@@ -43,7 +74,7 @@ pub fn pairs<R: PairRule, A: Allocator + Copy>(
     ensures same { R.fixed rule.new ≡ R.fixed rule.old }
 {
     let found = pairs_counted(alloc, items, rule)?;
-    Ok(found.pairs)
+    Ok(found.pairs.into_vec())
 }
 
 /// The pairs as `pairs` answers them, with the rule's counts.
@@ -55,10 +86,10 @@ pub fn pairs_counted<R: PairRule, A: Allocator + Copy>(
     requires few { length items.now < 2 ^ 32 }
     requires untested { R.tests_of rule.old ≡ 0 }
     requires unseen { R.looks_of rule.old ≡ 0 }
-    ensures pairs { IfOk result (λ found. ArePairs (R.Holds (R.fixed rule.old)) items.now found.pairs.items) }
+    ensures pairs { IfOk result (λ found. ArePairs (R.Holds (R.fixed rule.old)) items.now found.pairs) }
     ensures tests_told { IfOk result (λ found. found.tests ≡ R.tests_of rule.new) }
     ensures looks_told { IfOk result (λ found. found.looks ≡ R.looks_of rule.new) }
-    ensures tests { IfOk result (λ found. length found.pairs.items ≤ R.tests_of rule.new) }
+    ensures tests { IfOk result (λ found. length found.pairs ≤ R.tests_of rule.new) }
     ensures looks { OnOk result (R.tests_of rule.new ≤ R.looks_of rule.new) }
     ensures few_tests { OnOk result (R.tests_of rule.new
         ≤ count_pairs (near_along_both (R.reach_of (R.fixed rule.old))) (map (R.rect_of (R.fixed rule.old)) items.now)) }
@@ -75,7 +106,7 @@ pub fn pairs_counted<R: PairRule, A: Allocator + Copy>(
     )?;
     sort_pairs(&mut pairs);
     Ok(Found {
-        pairs,
+        pairs: PairList { pairs },
         tests: rule.tests(),
         looks: rule.looks(),
     })

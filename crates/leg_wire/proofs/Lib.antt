@@ -16,5 +16,3 @@ mod JoinedLaws
 mod Touches
 mod SetsTaken
 mod OpenPieces
--- What the proofs of other crates cite
-pub mod SameMetal

@@ -13,7 +13,7 @@ use std::alloc::{AllocError, Allocator};
 /// For each piece of the net of this number whether it is joined to the net's first piece: whether it is that piece, or
 /// touches one that is joined to it. Pieces touch if two different points on one layer lie in both (own rule).
 ///
-/// Only want of memory is refused.
+/// It fails only when out of memory.
 pub fn joined<A: Allocator + Copy>(
     alloc: A,
     flat: &Flat<A>,

@@ -16,7 +16,7 @@ use std::alloc::{AllocError, Allocator};
 /// The pieces of the nets of `NETS` that aren't joined to the net's first piece: all of them, each once, in order
 /// (own rule).
 ///
-/// The flat is that of the design. Only want of memory is refused.
+/// The flat is that of the design. It fails only when out of memory.
 pub fn open_faults<A: Allocator + Copy>(
     alloc: A,
     design: &Design<'_, A>,

@@ -17,7 +17,7 @@ use std::alloc::{AllocError, Allocator};
 /// The pairs of comparable shapes that share a point, and those that share none and lie nearer than their layer's spacing:
 /// all that hold, each once, in order (own rules). Shapes are told by their numbers in the flat, the lower one first.
 ///
-/// The flat is of a design that was read with this library. Only want of memory is refused.
+/// The flat is of a design that was read with this library. It fails only when out of memory.
 pub fn spacing_faults<A: Allocator + Copy>(
     alloc: A,
     library: &Library<'_, A>,

@@ -1,4 +1,4 @@
 use Rattle.leg_app.proofs.check.violations_of.Goals as goal
 
-pub returns-in-Ok-clause-found : goal.returns-in-Ok-clause-found
-returns-in-Ok-clause-found g c = record { flat = c.in-Ok.checked.flat; is_flat = c.in-Ok.ensures.flat; list = c.in-Ok.ensures.list }
+pub returns-clause-found : goal.returns-clause-found
+returns-clause-found g c = record { flat = c.in_ok-checked.checked.flat; judged = c.in_ok-checked.ensures.flat; list = c.in_ok-checked.ensures.list }

@@ -1,16 +1,9 @@
 use Rattle.std.proofs.Common.{refl}
-use Rattle.std.proofs.lemmas.Result.{err_from_is_err_and}
 use Rattle.leg_app.specs.declared.status.Status.TheVariants.{Memory}
 use Rattle.leg_app.specs.Lines.{memory_text}
+use Rattle.leg_app.proofs.AnswerLemmas.{on_err_weaker}
 use Rattle.leg_app.proofs.run_command.run.Goals as goal
 
-pub returns-in_err-write_text-in-Err-clause-cut : goal.returns-in_err-write_text-in-Err-clause-cut
-returns-in_err-write_text-in-Err-clause-cut g c =
-    let exit = c.from_residual-in_err-write_text-in-Err in
-    let err = err_from_is_err_and exit.result exit.ensures.1 in
-    rw err.1 (record {
-      status = Memory;
-      text = memory_text;
-      answer = refl;
-      front = c.in_err-write_text-in-Err.ensures.cut;
-    })
+pub returns-in-Err-clause-cut : goal.returns-in-Err-clause-cut
+returns-in-Err-clause-cut g c =
+    on_err_weaker _ _ c.run_out.result (λ front. record { status = Memory; text = memory_text; answer = refl; front = front }) c.run_out.ensures.cut

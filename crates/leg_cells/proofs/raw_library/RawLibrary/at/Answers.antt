@@ -28,4 +28,4 @@ with_names-requires-clause-sound g c =
       vias = rw c.vias.ensures at c.in_ok-vias.ensures.ok;
       masters = rw c.masters.ensures at c.in_ok-masters.ensures.ok;
     } in
-    sound_at c.args.n c.args.self.now library c.requires.above c.layers.ensures.proper at
+    sound_at c.args.n c.args.self.now library c.requires.above c.requires.within c.layers.ensures.proper at

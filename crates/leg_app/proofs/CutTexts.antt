@@ -1,0 +1,103 @@
+-- A text that is cut beyond the limit says what the whole of it says, and nothing else.
+use Rattle.std.proofs.Common.{◌≡◌, ◌≤◌, ◌<◌, ℕ, List, [], ◌∷◌, length, map, take, inl, inr, sym, subst, arith}
+use Rattle.std.proofs.lemmas.Bool.{cases_lt}
+use Rattle.std.proofs.lemmas.List.{take_all, length-take-le}
+use Rattle.leg_lex.specs.declared.limits.TheConstants.{TEXT_LIMIT}
+use Rattle.leg_lex.specs.Words.{Words}
+use Rattle.std.proofs.Common.{Option}
+use Rattle.leg_lex.specs.Say.{Says}
+use Rattle.leg_cells.specs.Records.{RawContents, Contents, empty_library}
+use Rattle.leg_lib.specs.Form.{lef_in}
+use Rattle.leg_lib.specs.Say.{Extend, SayLibrary}
+use Rattle.leg_block.specs.Records.{DesignContents}
+use Rattle.leg_design.specs.Header.{units_in}
+use Rattle.leg_design.specs.Form.{design_in}
+use Rattle.leg_app.specs.declared.command.Command.{Command}
+use Rattle.leg_app.specs.declared.status.Status.{Status}
+use Rattle.leg_app.specs.declared.status.Status.TheVariants.{Success, Violations, Refused, Memory}
+use Rattle.leg_app.specs.Say.{SayLibraryFor, SayDesign, SayNothing, SayTooMany}
+use Rattle.leg_app.specs.Answer.{ListsViolations, IsAnswer}
+
+-- a limit beyond that of texts
+module _ (limit : ℕ) (beyond : TEXT_LIMIT < limit) where
+  -- a cut text that isn't too long is whole
+  whole : (text : List ℕ) → length (take limit text) ≤ TEXT_LIMIT → take limit text ≡ text
+  whole text short =
+      elim (cases_lt (length text) limit) [
+        | inl fits ↦ take_all limit text (omega (arith, fits))
+        | inr long ↦ absurd (let size = length-take-le limit text long in omega (arith, beyond, size, short))
+      ]
+
+  whole_text : (text : List ℕ) → length text ≤ TEXT_LIMIT → take limit text ≡ text
+  whole_text text short = take_all limit text (omega (arith, beyond, short))
+
+  module _ {Said : Type 0} (reading : Words → Option Said) (text : List ℕ) (said : Said) where
+    cut_says : Says reading (take limit text) said → Says reading text said
+    cut_says says = subst (λ t. Says reading t said) (whole text says.fits) says
+
+    says_cut : Says reading text said → Says reading (take limit text) said
+    says_cut says = subst (λ t. Says reading t said) (sym (whole_text text says.fits)) says
+
+  cut_extends : (before library : RawContents) (lefs : List (List ℕ)) → Extend before (map (take limit) lefs) library → Extend before lefs library
+  cut_extends before library [] extends = extends
+  cut_extends before library (lef ∷ lefs) extends = (extends.0, cut_says (lef_in before) lef extends.0 extends.1, cut_extends extends.0 library lefs extends.2)
+
+  extends_cut : (before library : RawContents) (lefs : List (List ℕ)) → Extend before lefs library → Extend before (map (take limit) lefs) library
+  extends_cut before library [] extends = extends
+  extends_cut before library (lef ∷ lefs) extends = (extends.0, says_cut (lef_in before) lef extends.0 extends.1, extends_cut extends.0 library lefs extends.2)
+
+  module _ (lefs : List (List ℕ)) (def : List ℕ) where
+    cut_designs : (library : Contents) (design : DesignContents) → SayDesign (map (take limit) lefs) (take limit def) library design → SayDesign lefs def library design
+    cut_designs library design say = record {
+      under = record {
+        raw = say.under.raw;
+        units = say.under.units;
+        lef = cut_extends empty_library say.under.raw lefs say.under.lef;
+        unit = cut_says units_in def say.under.units say.under.unit;
+        scaled = say.under.scaled;
+      };
+      said = cut_says (design_in library) def design say.said;
+    }
+
+    designs_cut : (library : Contents) (design : DesignContents) → SayDesign lefs def library design → SayDesign (map (take limit) lefs) (take limit def) library design
+    designs_cut library design say = record {
+      under = record {
+        raw = say.under.raw;
+        units = say.under.units;
+        lef = extends_cut empty_library say.under.raw lefs say.under.lef;
+        unit = says_cut units_in def say.under.units say.under.unit;
+        scaled = say.under.scaled;
+      };
+      said = says_cut (design_in library) def design say.said;
+    }
+
+    cut_lists : (command : Command) (status : Status) (text : List ℕ) → ListsViolations command (map (take limit) lefs) (take limit def) status text → ListsViolations command lefs def status text
+    cut_lists command status text lists = record {
+      library = lists.library;
+      design = lists.design;
+      flat = lists.flat;
+      violations = lists.violations;
+      say = cut_designs lists.library lists.design lists.say;
+      shown = lists.shown;
+      list = lists.list;
+      is = lists.is;
+    }
+
+    pub cut_answers : (command : Command) (status : Status) (text : List ℕ) → IsAnswer command (map (take limit) lefs) (take limit def) status text → IsAnswer command lefs def status text
+    cut_answers command Success text answer = cut_lists command Success text answer
+    cut_answers command Violations text answer = cut_lists command Violations text answer
+    cut_answers command Memory text answer = answer
+    cut_answers command Refused text (inl refusal) = inl (record {
+      nothing = λ library design say. refusal.nothing library design (designs_cut library design say);
+      reason = refusal.reason;
+    })
+    cut_answers command Refused text (inr much) = inr (record {
+      flattens = much.flattens;
+      many = record {
+        library = much.many.library;
+        design = much.many.design;
+        say = cut_designs much.many.library much.many.design much.many.say;
+        many = much.many.many;
+      };
+      is = much.is;
+    })

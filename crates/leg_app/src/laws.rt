@@ -1,0 +1,66 @@
+//! Laws of the definitions that contracts cite. No function does anything: its contract is the law, and its body
+//! names the laws that it follows from.
+
+ghost use Rattle.std.specs.Prelude.{◌≡◌, ◌≢◌, ℕ, List, map, take};
+ghost use Rattle.leg_cells.specs.Records.{Contents};
+ghost use Rattle.leg_block.specs.Records.{DesignContents};
+ghost use Rattle.leg_block.specs.declared.fault.Fault.{Fault};
+ghost use Rattle.leg_app.specs.declared.command.Command.{Command};
+ghost use Rattle.leg_app.specs.declared.status.Status.{Status};
+ghost use Rattle.leg_app.specs.declared.status.Status.TheVariants.{Refused, Memory};
+ghost use Rattle.leg_app.specs.declared.limits.TheConstants.{FILE_LIMIT, STREAM_LIMIT};
+ghost use Rattle.leg_app.specs.Say.{SayLibraryFor, SayDesign};
+ghost use Rattle.leg_app.specs.Violations.{AreAllViolations, AreViolationsOf};
+ghost use Rattle.leg_app.specs.Answer.{IsAnswer, IsStreamAnswer};
+
+/// LEF texts say one library at most, at the units of a DEF.
+pub fn texts_say_one_library()
+    ensures { (lefs : List (List ℕ)) (def : List ℕ) (a b : Contents) → SayLibraryFor lefs def a → SayLibraryFor lefs def b → a ≡ b }
+{
+    leg_lib::laws::texts_say_one_library();
+    leg_lib::laws::one_library_at_units();
+}
+
+/// Texts say one design at most.
+pub fn texts_say_one_design()
+    ensures { (lefs : List (List ℕ)) (def : List ℕ) (library other : Contents) (a b : DesignContents)
+        → SayDesign lefs def library a → SayDesign lefs def other b → (library ≡ other) × (a ≡ b) }
+{
+    texts_say_one_library();
+}
+
+/// A design has one list of violations.
+pub fn design_has_one_list()
+    ensures { (library : Contents) (design : DesignContents) (a b : List Fault)
+        → AreAllViolations library design a → AreAllViolations library design b → a ≡ b }
+{}
+
+/// Texts have one list of violations at most: two checks of the same texts find the same.
+pub fn texts_have_one_list()
+    ensures { (lefs : List (List ℕ)) (def : List ℕ) (a b : List Fault)
+        → AreViolationsOf lefs def a → AreViolationsOf lefs def b → a ≡ b }
+{
+    texts_say_one_design();
+}
+
+/// Where texts are judged, each other answer of the command to them has the same status and the same text, unless memory
+/// ran out: no run refuses what another one judges.
+pub fn command_has_one_answer()
+    ensures { (command : Command) (lefs : List (List ℕ)) (def : List ℕ) (status other : Status) (text words : List ℕ)
+        → IsAnswer command lefs def status text → IsAnswer command lefs def other words
+        → status ≢ Refused → status ≢ Memory → other ≢ Memory → (status ≡ other) × (text ≡ words) }
+{
+    texts_say_one_design();
+}
+
+/// A file that is cut at `FILE_LIMIT` is answered as the whole of it: what is cut off is beyond what a text may have.
+pub fn cut_files_are_answered_alike()
+    ensures { (command : Command) (lefs : List (List ℕ)) (def : List ℕ) (status : Status) (text : List ℕ)
+        → IsAnswer command (map (take FILE_LIMIT) lefs) (take FILE_LIMIT def) status text → IsAnswer command lefs def status text }
+{}
+
+/// A stream that is cut at `STREAM_LIMIT` is answered as the whole of it.
+pub fn cut_stream_is_answered_alike()
+    ensures { (stream : List ℕ) (status : Status) (text : List ℕ)
+        → IsStreamAnswer (take STREAM_LIMIT stream) status text → IsStreamAnswer stream status text }
+{}

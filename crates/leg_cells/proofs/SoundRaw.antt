@@ -1,0 +1,79 @@
+-- What holds of every library as texts write it, when one more record is added.
+use Rattle.std.proofs.Common.{◌≡◌, ℕ, List, [], ◌∷◌, ◌++◌, map, All, IsTrue, Option, None, subst, sym, arith}
+use Rattle.std.proofs.lemmas.List.{map-append}
+use Rattle.std.proofs.lemmas.List.Elements.{All-nil, All-push}
+use Rattle.leg_lex.specs.Words.{is_name}
+use Rattle.leg_lex.specs.NameLookup.{place_of}
+use Rattle.leg_lex.proofs.NameLookup.{apart_push}
+use Rattle.leg_cells.specs.declared.raw.RawLayer.{RawLayer}
+use Rattle.leg_cells.specs.declared.raw.RawSite.{RawSite}
+use Rattle.leg_cells.specs.Measure.{HasArea}
+use Rattle.leg_cells.specs.Records.{RawContents, RawViaSaid, RawMasterSaid, empty_library, raw_layer_names, raw_site_names, raw_via_names, raw_master_names}
+use Rattle.leg_cells.specs.Sound.{AreNames, IsSoundRawLayer, IsSoundRaw}
+
+no_names : AreNames []
+no_names = record { each = All-nil (λ name. IsTrue (is_name name)); apart = λ i less. absurd (let e : ⊥ = omega (arith, less) in e) }
+
+-- Names stay apart when a new one is added.
+names_push : {X : Type 0} (name_of : X → List ℕ) (xs : List X) (x : X) → AreNames (map name_of xs) → IsTrue (is_name (name_of x)) → place_of (name_of x) (map name_of xs) ≡ None → AreNames (map name_of (xs ++ x ∷ []))
+names_push name_of xs x names named new =
+    let all : AreNames (map name_of xs ++ name_of x ∷ []) = record {
+      each = All-push (λ name. IsTrue (is_name name)) (map name_of xs) (name_of x) names.each named;
+      apart = apart_push (name_of x) (map name_of xs) new names.apart;
+    } in
+    subst AreNames (sym (map-append name_of xs (x ∷ []))) all
+
+pub empty_sound : IsSoundRaw empty_library
+empty_sound = record {
+  layers = All-nil IsSoundRawLayer;
+  sites = All-nil (λ site. HasArea site.size);
+  names = record { layers = no_names; sites = no_names; vias = no_names; masters = no_names };
+}
+
+pub sound_with_layer : (library : RawContents) (layer : RawLayer) → IsSoundRaw library → IsSoundRawLayer layer → IsTrue (is_name layer.name) → place_of layer.name (raw_layer_names library) ≡ None → IsSoundRaw (record library { layers = library.layers ++ layer ∷ [] })
+sound_with_layer library layer sound proper named new = record {
+  layers = All-push IsSoundRawLayer library.layers layer sound.layers proper;
+  sites = sound.sites;
+  names = record {
+    layers = names_push (λ l. l.name) library.layers layer sound.names.layers named new;
+    sites = sound.names.sites;
+    vias = sound.names.vias;
+    masters = sound.names.masters;
+  };
+}
+
+pub sound_with_site : (library : RawContents) (site : RawSite) → IsSoundRaw library → HasArea site.size → IsTrue (is_name site.name) → place_of site.name (raw_site_names library) ≡ None → IsSoundRaw (record library { sites = library.sites ++ site ∷ [] })
+sound_with_site library site sound proper named new = record {
+  layers = sound.layers;
+  sites = All-push (λ s. HasArea s.size) library.sites site sound.sites proper;
+  names = record {
+    layers = sound.names.layers;
+    sites = names_push (λ s. s.name) library.sites site sound.names.sites named new;
+    vias = sound.names.vias;
+    masters = sound.names.masters;
+  };
+}
+
+pub sound_with_via : (library : RawContents) (via : RawViaSaid) → IsSoundRaw library → IsTrue (is_name via.name) → place_of via.name (raw_via_names library) ≡ None → IsSoundRaw (record library { vias = library.vias ++ via ∷ [] })
+sound_with_via library via sound named new = record {
+  layers = sound.layers;
+  sites = sound.sites;
+  names = record {
+    layers = sound.names.layers;
+    sites = sound.names.sites;
+    vias = names_push (λ v. v.name) library.vias via sound.names.vias named new;
+    masters = sound.names.masters;
+  };
+}
+
+pub sound_with_master : (library : RawContents) (master : RawMasterSaid) → IsSoundRaw library → IsTrue (is_name master.name) → place_of master.name (raw_master_names library) ≡ None → IsSoundRaw (record library { masters = library.masters ++ master ∷ [] })
+sound_with_master library master sound named new = record {
+  layers = sound.layers;
+  sites = sound.sites;
+  names = record {
+    layers = sound.names.layers;
+    sites = sound.names.sites;
+    vias = sound.names.vias;
+    masters = names_push (λ m. m.name) library.masters master sound.names.masters named new;
+  };
+}

@@ -1,0 +1,34 @@
+//! Laws of the definitions that contracts cite. Each function does nothing: its contract is the law.
+
+ghost use Rattle.std.specs.Prelude.{◌≡◌, ◌↔◌, ℕ, Contains, Some, slice_get};
+ghost use Rattle.leg_block.specs.Records.{DesignContents, NetSaid};
+ghost use Rattle.leg_block.specs.WellFormed.{IsWellFormed};
+ghost use Rattle.leg_flat.specs.declared.piece.Piece.{Piece};
+ghost use Rattle.leg_flat.specs.Flat.{FlatSaid, IsFlatOf};
+ghost use Rattle.leg_flat.specs.Nets.{pieces_of};
+ghost use Rattle.leg_flat.specs.Metal.{OnLayer, Metal, metal_of};
+ghost use Rattle.leg_flat.specs.Pieces.{IsOfPiece, HasItsPiece, of_piece, IsEntryOf};
+
+/// Metal of a net is a shape of the piece whose number it has, and of that piece's component; other metal has no piece.
+pub fn metal_has_its_piece()
+    ensures { (design : DesignContents) → IsWellFormed design
+        → (metal : Metal) → Contains (metal_of design) metal → HasItsPiece design metal }
+{}
+
+/// Each shape of a piece of a net is metal with the numbers of the net and of the piece.
+pub fn piece_has_its_metal()
+    ensures { (design : DesignContents) → IsWellFormed design
+        → (n k : ℕ) (piece : Piece) (metal : OnLayer) → slice_get (pieces_of design n) k ≡ Some piece
+        → IsOfPiece design n piece metal → Contains (metal_of design) (of_piece n k piece metal) }
+{}
+
+/// Entries of both sections are of one net just where they have one name.
+pub fn one_number_for_one_name()
+    ensures { (design : DesignContents) → IsWellFormed design
+        → (n m : ℕ) (a b : NetSaid) → IsEntryOf design n a → IsEntryOf design m b → (n ≡ m) ↔ (a.name ≡ b.name) }
+{}
+
+/// A design has one flat at most.
+pub fn design_has_one_flat()
+    ensures { (design : DesignContents) (a b : FlatSaid) → IsFlatOf design a → IsFlatOf design b → a ≡ b }
+{}

@@ -1,0 +1,101 @@
+-- What is read as a name is one, and a size has area.
+use Rattle.std.proofs.Common.{◌≡◌, Bool, true, false, ◌&&◌, refl, Some, IsTrue, ℤ, pos, int_lt, ◌<ℤ◌, codes, arith}
+use Rattle.std.proofs.lemmas.Int.{ints}
+use Rattle.leg_lex.specs.Words.{Words, is_name, next_at, keyword_at, name_at, length_at, end_of, nothing_at}
+use Rattle.leg_lex.specs.Until.{until, over}
+use Rattle.leg_lex.specs.Statements.{statements_at, the, at_end}
+use Rattle.leg_lex.proofs.Gives.{Gives, gives_none, gives_some, gives_bind, gives_skip, gives_choice}
+use Rattle.leg_cells.specs.declared.raw.RawLayer.{RawLayer}
+use Rattle.leg_cells.specs.declared.raw.RawSite.{RawSite}
+use Rattle.leg_cells.specs.Measure.{HasArea}
+use Rattle.leg_cells.specs.Records.{RawContents, RawViaSaid, RawMasterSaid}
+use Rattle.leg_lib.specs.Layer.{kind_in, spacing_of, layer_at}
+use Rattle.leg_lib.specs.Point.{size_in}
+use Rattle.leg_lib.specs.Site.{site_at}
+use Rattle.leg_lib.specs.Via.{flags_at, via_part, no_via_parts, via_at}
+use Rattle.leg_lib.specs.Macro.{macro_part, no_macro_parts, macro_said, macro_at}
+
+name_gives : (words : Words) → Gives (λ said. IsTrue (is_name said.0)) (name_at words)
+unfolding name_at
+name_gives words =
+    gives_skip (next_at words) (λ next.
+    gives_choice (is_name next.0) (λ named. gives_some _ named) (λ none. gives_none))
+
+above_0 : (z : ℤ) → int_lt (pos 0) z ≡ true → pos 0 <ℤ z
+above_0 z above = grind (arith, ints)
+
+both : (a b : Bool) → (a && b) ≡ true → (a ≡ true) × (b ≡ true)
+both true b is = (refl, is)
+both false b is = absurd (let e : ⊥ = cc in e)
+
+both_above : (width height : ℤ) → (int_lt (pos 0) width && int_lt (pos 0) height) ≡ true → HasArea (record { width = width; height = height })
+both_above width height above =
+    let each = both (int_lt (pos 0) width) (int_lt (pos 0) height) above in
+    record { wide = above_0 width each.0; high = above_0 height each.1 }
+
+size_gives : (statement : Words) → Gives HasArea (size_in statement)
+unfolding size_in
+size_gives statement =
+    gives_skip (keyword_at (codes "SIZE") statement) (λ start.
+    gives_skip (length_at start.1) (λ width.
+    gives_skip (keyword_at (codes "BY") width.1) (λ by.
+    gives_skip (length_at by.1) (λ height.
+    gives_skip (nothing_at height.1) (λ end.
+    gives_choice (int_lt (pos 0) width.0 && int_lt (pos 0) height.0) (λ above. gives_some _ (both_above width.0 height.0 above)) (λ none. gives_none))))))
+
+layer_gives : (words : Words) → Gives (λ said. IsTrue (is_name said.0.name)) (layer_at words)
+unfolding layer_at
+layer_gives words =
+    gives_skip (keyword_at (codes "LAYER") words) (λ start.
+    gives_bind (name_gives start.1) (λ name named.
+    gives_skip (statements_at name.1) (λ body.
+    gives_skip (kind_in body.0) (λ kind.
+    gives_skip (spacing_of body.0) (λ spacing.
+    gives_skip (end_of name.0 body.1) (λ end.
+    gives_some _ named))))))
+
+pub layer_is_named : (words rest : Words) (layer : RawLayer) → layer_at words ≡ Some (layer, rest) → IsTrue (is_name layer.name)
+layer_is_named words rest layer said = (layer_gives words).given (layer, rest) said
+
+site_gives : (words : Words) → Gives (λ said. HasArea said.0.size × IsTrue (is_name said.0.name)) (site_at words)
+unfolding site_at
+site_gives words =
+    gives_skip (keyword_at (codes "SITE") words) (λ start.
+    gives_bind (name_gives start.1) (λ name named.
+    gives_skip (statements_at name.1) (λ body.
+    gives_skip (the (codes "SIZE") body.0) (λ statement.
+    gives_bind (size_gives statement) (λ size area.
+    gives_skip (end_of name.0 body.1) (λ end.
+    gives_some _ (area, named)))))))
+
+pub site_is_named : (words rest : Words) (site : RawSite) → site_at words ≡ Some (site, rest) → IsTrue (is_name site.name)
+site_is_named words rest site said = ((site_gives words).given (site, rest) said).1
+
+pub site_has_area : (words rest : Words) (site : RawSite) → site_at words ≡ Some (site, rest) → HasArea site.size
+site_has_area words rest site said = ((site_gives words).given (site, rest) said).0
+
+via_gives : (library : RawContents) (words : Words) → Gives (λ said. IsTrue (is_name said.0.name)) (via_at library words)
+unfolding via_at
+via_gives library words =
+    gives_skip (keyword_at (codes "VIA") words) (λ start.
+    gives_bind (name_gives start.1) (λ name named.
+    gives_skip (statements_at (flags_at name.1).1) (λ body.
+    gives_skip (over (via_part library) no_via_parts body.0) (λ parts.
+    gives_skip (end_of name.0 body.1) (λ end.
+    gives_some _ named)))))
+
+pub via_is_named : (library : RawContents) (words rest : Words) (via : RawViaSaid) → via_at library words ≡ Some (via, rest) → IsTrue (is_name via.name)
+via_is_named library words rest via said = (via_gives library words).given (via, rest) said
+
+macro_gives : (library : RawContents) (words : Words) → Gives (λ said. IsTrue (is_name said.0.name)) (macro_at library words)
+unfolding macro_at
+macro_gives library words =
+    gives_skip (keyword_at (codes "MACRO") words) (λ start.
+    gives_bind (name_gives start.1) (λ name named.
+    gives_skip (until at_end (macro_part library) no_macro_parts name.1) (λ parts.
+    gives_skip (macro_said library parts.0.statements) (λ said.
+    gives_skip (end_of name.0 parts.1) (λ end.
+    gives_some _ named)))))
+
+pub macro_is_named : (library : RawContents) (words rest : Words) (master : RawMasterSaid) → macro_at library words ≡ Some (master, rest) → IsTrue (is_name master.name)
+macro_is_named library words rest master said = (macro_gives library words).given (master, rest) said
