@@ -18,7 +18,9 @@ use Rattle.leg_cells.specs.declared.records.Shape.{Shape}
 use Rattle.leg_cells.specs.Measure.{HasArea, IsExtent}
 use Rattle.leg_cells.specs.Records.{RawContents, RawViaSaid, RawMasterSaid, ViaSaid, MasterSaid, Contents}
 use Rattle.leg_cells.specs.Scale.{IsLengthAt, IsSpotAt, IsShapeAt, IsKindAt, IsLayerAt, IsSiteAt, IsViaAt, IsPinAt, IsMasterAt, OneForOne, IsLibraryAt, no_shift}
-use Rattle.leg_cells.specs.Sound.{AreNames, HasRawWidth, IsSoundRawLayer, IsSoundRaw, HasWidth, IsSoundLayer, AreWithin, AreShapesWithin, IsSoundVia, IsSoundMaster, IsSound}
+use Rattle.leg_cells.specs.LibraryNames.{AreNames}
+use Rattle.leg_cells.specs.Sound.{HasRawWidth, IsSoundRawLayer, IsSoundRaw, HasWidth, IsSoundLayer, AreWithin, AreShapesWithin, IsSoundVia, IsSoundMaster, IsSound}
+use Rattle.leg_cells.proofs.References.{refers_at}
 use Rattle.leg_cells.proofs.Scaled.{layers_named, sites_named, vias_named, masters_named}
 
 wide_at : (n : ℕ) (m u : ℤ) → 1 ≤ n → pos 0 <ℤ m → IsLengthAt n m u → pos 0 <ℤ u
@@ -129,5 +131,5 @@ sound_at n raw library some most sound at = record {
     sites = subst AreNames (sym (sites_named n raw.sites library.sites at.sites)) sound.names.sites;
     vias = subst AreNames (sym (vias_named n raw.vias library.vias at.vias)) sound.names.vias;
     masters = subst AreNames (sym (masters_named n raw.masters library.masters at.masters)) sound.names.masters;
-  };
+  };  references = refers_at n raw library some sound.references at;
 }

@@ -9,7 +9,10 @@ use Rattle.leg_cells.specs.declared.raw.RawLayer.{RawLayer}
 use Rattle.leg_cells.specs.declared.raw.RawSite.{RawSite}
 use Rattle.leg_cells.specs.Measure.{HasArea}
 use Rattle.leg_cells.specs.Records.{RawContents, RawViaSaid, RawMasterSaid, empty_library, raw_layer_names, raw_site_names, raw_via_names, raw_master_names}
-use Rattle.leg_cells.specs.Sound.{AreNames, IsSoundRawLayer, IsSoundRaw}
+use Rattle.leg_cells.specs.LibraryNames.{AreNames}
+use Rattle.leg_cells.specs.References.{IsRawViaOf, IsRawMasterOf}
+use Rattle.leg_cells.specs.Sound.{IsSoundRawLayer, IsSoundRaw}
+use Rattle.leg_cells.proofs.References.{refers_with_layer, refers_with_site}
 
 no_names : AreNames []
 no_names = record { each = All-nil (λ name. IsTrue (is_name name)); apart = λ i less. absurd (let e : ⊥ = omega (arith, less) in e) }
@@ -28,6 +31,7 @@ empty_sound = record {
   layers = All-nil IsSoundRawLayer;
   sites = All-nil (λ site. HasArea site.size);
   names = record { layers = no_names; sites = no_names; vias = no_names; masters = no_names };
+  references = record { vias = All-nil (IsRawViaOf []); masters = All-nil (IsRawMasterOf [] []) };
 }
 
 pub sound_with_layer : (library : RawContents) (layer : RawLayer) → IsSoundRaw library → IsSoundRawLayer layer → IsTrue (is_name layer.name) → place_of layer.name (raw_layer_names library) ≡ None → IsSoundRaw (record library { layers = library.layers ++ layer ∷ [] })
@@ -39,7 +43,7 @@ sound_with_layer library layer sound proper named new = record {
     sites = sound.names.sites;
     vias = sound.names.vias;
     masters = sound.names.masters;
-  };
+  };  references = refers_with_layer library layer sound.references;
 }
 
 pub sound_with_site : (library : RawContents) (site : RawSite) → IsSoundRaw library → HasArea site.size → IsTrue (is_name site.name) → place_of site.name (raw_site_names library) ≡ None → IsSoundRaw (record library { sites = library.sites ++ site ∷ [] })
@@ -51,11 +55,11 @@ sound_with_site library site sound proper named new = record {
     sites = names_push (λ s. s.name) library.sites site sound.names.sites named new;
     vias = sound.names.vias;
     masters = sound.names.masters;
-  };
+  };  references = refers_with_site library site sound.references;
 }
 
-pub sound_with_via : (library : RawContents) (via : RawViaSaid) → IsSoundRaw library → IsTrue (is_name via.name) → place_of via.name (raw_via_names library) ≡ None → IsSoundRaw (record library { vias = library.vias ++ via ∷ [] })
-sound_with_via library via sound named new = record {
+pub sound_with_via : (library : RawContents) (via : RawViaSaid) → IsSoundRaw library → IsRawViaOf library.layers via → IsTrue (is_name via.name) → place_of via.name (raw_via_names library) ≡ None → IsSoundRaw (record library { vias = library.vias ++ via ∷ [] })
+sound_with_via library via sound refers named new = record {
   layers = sound.layers;
   sites = sound.sites;
   names = record {
@@ -63,11 +67,11 @@ sound_with_via library via sound named new = record {
     sites = sound.names.sites;
     vias = names_push (λ v. v.name) library.vias via sound.names.vias named new;
     masters = sound.names.masters;
-  };
+  };  references = record { vias = All-push (IsRawViaOf library.layers) library.vias via sound.references.vias refers; masters = sound.references.masters };
 }
 
-pub sound_with_master : (library : RawContents) (master : RawMasterSaid) → IsSoundRaw library → IsTrue (is_name master.name) → place_of master.name (raw_master_names library) ≡ None → IsSoundRaw (record library { masters = library.masters ++ master ∷ [] })
-sound_with_master library master sound named new = record {
+pub sound_with_master : (library : RawContents) (master : RawMasterSaid) → IsSoundRaw library → IsRawMasterOf library.layers library.sites master → IsTrue (is_name master.name) → place_of master.name (raw_master_names library) ≡ None → IsSoundRaw (record library { masters = library.masters ++ master ∷ [] })
+sound_with_master library master sound refers named new = record {
   layers = sound.layers;
   sites = sound.sites;
   names = record {
@@ -75,5 +79,5 @@ sound_with_master library master sound named new = record {
     sites = sound.names.sites;
     vias = sound.names.vias;
     masters = names_push (λ m. m.name) library.masters master sound.names.masters named new;
-  };
+  };  references = record { vias = sound.references.vias; masters = All-push (IsRawMasterOf library.layers library.sites) library.masters master sound.references.masters refers };
 }

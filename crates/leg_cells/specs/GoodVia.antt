@@ -46,3 +46,7 @@ parts_of shapes = map (λ shape. record { layer = shape.layer; holds_origin = ho
 unfoldable pub is_good_via : Contents → List ℕ → List Shape → Bool
 is_good_via library name shapes =
     not (is_wiring_word name) && join_layers (uses_of library.layers) (parts_of shapes)
+
+-- the same of names and shapes as texts write them, over these layers
+unfoldable pub is_raw_good_via : List RawLayer → List ℕ → List RawShape → Bool
+is_raw_good_via layers name shapes = not (is_wiring_word name) && join_layers (raw_uses layers) (raw_parts shapes)

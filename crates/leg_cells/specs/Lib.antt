@@ -4,5 +4,7 @@ pub mod Joins
 pub mod JoinLaw
 pub mod GoodVia
 pub mod Scale
+pub mod LibraryNames
+pub mod References
 pub mod Sound
 pub mod Steps

@@ -1,10 +1,8 @@
 -- What holds of every library, so that upper crates can compute with its lengths (own rules; LEF/DEF 5.8,
 -- "Layer (Routing)", on WIDTH and SPACING).
-use Rattle.std.specs.Prelude.{ℕ, ◌*◌, ◌≤◌, ℤ, pos, ◌≤ℤ◌, ◌<ℤ◌, List, All, IsTrue, unsigned_abs}
+use Rattle.std.specs.Prelude.{ℕ, ◌*◌, ◌≤◌, ℤ, pos, ◌≤ℤ◌, ◌<ℤ◌, List, All, unsigned_abs}
 use Rattle.leg_lex.specs.declared.limits.TheConstants.{NUMBER_LIMIT, UNITS_LIMIT}
 use Rattle.leg_lex.specs.Number.{IsNumber}
-use Rattle.leg_lex.specs.Words.{is_name}
-use Rattle.leg_lex.specs.NameLookup.{AreApart}
 use Rattle.leg_geom.specs.Plane.{Sides}
 use Rattle.leg_cells.specs.declared.raw.RawKind.{RawKind}
 use Rattle.leg_cells.specs.declared.raw.RawKind.TheVariants as raw
@@ -14,13 +12,10 @@ use Rattle.leg_cells.specs.declared.records.LayerKind.TheVariants.{Routing, Cut,
 use Rattle.leg_cells.specs.declared.records.Layer.{Layer}
 use Rattle.leg_cells.specs.declared.records.Shape.{Shape}
 use Rattle.leg_cells.specs.Measure.{HasArea, IsExtent}
-use Rattle.leg_cells.specs.Records.{RawContents, raw_layer_names, raw_site_names, raw_via_names, raw_master_names, ViaSaid, MasterSaid, Contents, layer_names, site_names, via_names, master_names}
+use Rattle.leg_cells.specs.Records.{RawContents, ViaSaid, MasterSaid, Contents}
+use Rattle.leg_cells.specs.LibraryNames.{HasRawNames, HasNames}
+use Rattle.leg_cells.specs.References.{HasRawReferences, HasReferences}
 use Rattle.leg_cells.specs.Scale.{IsEven}
-
--- names as texts write them, no two of them the same
-pub record AreNames (names : List (List ℕ)) : Type 0 where
-  pub each : All (λ name. IsTrue (is_name name)) names
-  pub apart : AreApart names
 
 -- only routing layers have a width; as texts write it, it is above 0
 abbrev pub HasRawWidth : RawKind → Type 0
@@ -33,18 +28,12 @@ pub record IsSoundRawLayer (layer : RawLayer) : Type 0 where
   pub width : HasRawWidth layer.kind
   pub spacing : pos 0 ≤ℤ layer.spacing
 
--- the names of layers, sites, vias and macros, as texts write them
-pub record HasRawNames (library : RawContents) : Type 0 where
-  pub layers : AreNames (raw_layer_names library)
-  pub sites : AreNames (raw_site_names library)
-  pub vias : AreNames (raw_via_names library)
-  pub masters : AreNames (raw_master_names library)
-
 -- a library as texts write it
 pub record IsSoundRaw (library : RawContents) : Type 0 where
   pub layers : All IsSoundRawLayer library.layers
   pub sites : All (λ site. HasArea site.size) library.sites
   pub names : HasRawNames library
+  pub references : HasRawReferences library
 
 -- a width in database units is above 0 and even, so that half of it is a length too
 pub record IsWidth (width : ℤ) : Type 0 where
@@ -84,13 +73,6 @@ pub record IsSoundMaster (master : MasterSaid) : Type 0 where
   pub pins : All (λ pin. AreShapesWithin (2 * NUMBER_LIMIT) pin.shapes) master.pins
   pub obstructions : AreShapesWithin (2 * NUMBER_LIMIT) master.obstructions
 
--- the names of layers, sites, vias and macros
-pub record HasNames (library : Contents) : Type 0 where
-  pub layers : AreNames (layer_names library)
-  pub sites : AreNames (site_names library)
-  pub vias : AreNames (via_names library)
-  pub masters : AreNames (master_names library)
-
 -- a library in database units, of which a micron has 1 at least and the limit at most
 pub record IsSound (library : Contents) : Type 0 where
   pub least_units : 1 ≤ library.units
@@ -100,3 +82,4 @@ pub record IsSound (library : Contents) : Type 0 where
   pub vias : All IsSoundVia library.vias
   pub masters : All IsSoundMaster library.masters
   pub names : HasNames library
+  pub references : HasReferences library

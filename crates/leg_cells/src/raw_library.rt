@@ -5,6 +5,7 @@ ghost use Rattle.leg_lex.specs.NameLookup.{place_of};
 ghost use Rattle.leg_lex.specs.Words.{is_name};
 ghost use Rattle.leg_cells.specs.Measure.{HasArea};
 ghost use Rattle.leg_cells.specs.Records.{empty_library, raw_layer_names, raw_site_names, raw_via_names, raw_master_names};
+ghost use Rattle.leg_cells.specs.References.{IsRawViaOf, IsRawMasterOf};
 ghost use Rattle.leg_cells.specs.Sound.{IsSoundRawLayer, IsSoundRaw};
 
 use crate::raw::{RawLayer, RawMaster, RawSite, RawVia};
@@ -133,6 +134,7 @@ impl<'a, A: Allocator + Copy> RawLibrary<'a, A> {
     pub fn push_via(&mut self, via: RawVia<'a, A>) -> Result<(), AllocError>
         requires is_new { place_of via.name (raw_via_names self.old) ≡ None }
         requires named { IsTrue (is_name via.name) }
+        requires refers { IsRawViaOf self.old.layers via }
         ensures pushed { OnOk result (self.new ≡ record self.old { vias = self.old.vias ++ via.entry ∷ [] }) }
         ensures unchanged { OnErr result (self.new ≡ self.old) }
     {
@@ -144,6 +146,7 @@ impl<'a, A: Allocator + Copy> RawLibrary<'a, A> {
     pub fn push_master(&mut self, master: RawMaster<'a, A>) -> Result<(), AllocError>
         requires is_new { place_of master.name (raw_master_names self.old) ≡ None }
         requires named { IsTrue (is_name master.name) }
+        requires refers { IsRawMasterOf self.old.layers self.old.sites master }
         ensures pushed { OnOk result (self.new ≡ record self.old { masters = self.old.masters ++ master.entry ∷ [] }) }
         ensures unchanged { OnErr result (self.new ≡ self.old) }
     {

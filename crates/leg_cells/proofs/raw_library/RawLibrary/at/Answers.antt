@@ -1,10 +1,16 @@
 use Rattle.std.proofs.Common.{◌≢◌, List, refl}
 use Rattle.std.proofs.lemmas.Result.{err_from_is_err_and}
 use Rattle.leg_cells.specs.declared.scale_fault.ScaleKind.TheVariants.{Memory}
-use Rattle.leg_cells.specs.Records.{ViaSaid, Contents}
-use Rattle.leg_cells.specs.Scale.{IsViaAt, OneForOne, IsLibraryAt}
+use Rattle.leg_cells.specs.Records.{ViaSaid, MasterSaid, Contents}
+use Rattle.leg_cells.specs.Scale.{IsViaAt, IsMasterAt, OneForOne, IsLibraryAt}
 use Rattle.leg_cells.proofs.Sound.{sound_at}
 use Rattle.leg_cells.proofs.raw_library.RawLibrary.at.Goals as goal
+
+pub returns-in_err-masters-clause-none : goal.returns-in_err-masters-clause-none
+returns-in_err-masters-clause-none g c =
+    let none : c.in_err-masters.field-0.0.kind ≢ Memory → (masters : List MasterSaid) → ¬ OneForOne (IsMasterAt c.args.n) c.args.self.now.masters masters = rw (← c.masters.ensures) c.in_err-masters.ensures.none in
+    let p = err_from_is_err_and c.from_residual-in_err-masters.result c.from_residual-in_err-masters.ensures.1 in
+    rw (p.1, p.2) (λ not_memory library is. none not_memory library.masters is.masters)
 
 pub returns-in_err-vias-clause-none : goal.returns-in_err-vias-clause-none
 returns-in_err-vias-clause-none g c =
