@@ -10,3 +10,5 @@ mod Sound
 mod SoundRaw
 -- Libraries that say the same
 mod Same
+-- What other crates cite: names that are apart
+pub mod LibraryNames

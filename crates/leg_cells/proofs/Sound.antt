@@ -131,5 +131,6 @@ sound_at n raw library some most sound at = record {
     sites = subst AreNames (sym (sites_named n raw.sites library.sites at.sites)) sound.names.sites;
     vias = subst AreNames (sym (vias_named n raw.vias library.vias at.vias)) sound.names.vias;
     masters = subst AreNames (sym (masters_named n raw.masters library.masters at.masters)) sound.names.masters;
-  };  references = refers_at n raw library some sound.references at;
+  };
+  references = refers_at n raw library some sound.references at;
 }

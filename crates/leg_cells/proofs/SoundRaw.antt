@@ -12,19 +12,8 @@ use Rattle.leg_cells.specs.Records.{RawContents, RawViaSaid, RawMasterSaid, empt
 use Rattle.leg_cells.specs.LibraryNames.{AreNames}
 use Rattle.leg_cells.specs.References.{IsRawViaOf, IsRawMasterOf}
 use Rattle.leg_cells.specs.Sound.{IsSoundRawLayer, IsSoundRaw}
+use Rattle.leg_cells.proofs.LibraryNames.{no_names, names_push}
 use Rattle.leg_cells.proofs.References.{refers_with_layer, refers_with_site}
-
-no_names : AreNames []
-no_names = record { each = All-nil (λ name. IsTrue (is_name name)); apart = λ i less. absurd (let e : ⊥ = omega (arith, less) in e) }
-
--- Names stay apart when a new one is added.
-names_push : {X : Type 0} (name_of : X → List ℕ) (xs : List X) (x : X) → AreNames (map name_of xs) → IsTrue (is_name (name_of x)) → place_of (name_of x) (map name_of xs) ≡ None → AreNames (map name_of (xs ++ x ∷ []))
-names_push name_of xs x names named new =
-    let all : AreNames (map name_of xs ++ name_of x ∷ []) = record {
-      each = All-push (λ name. IsTrue (is_name name)) (map name_of xs) (name_of x) names.each named;
-      apart = apart_push (name_of x) (map name_of xs) new names.apart;
-    } in
-    subst AreNames (sym (map-append name_of xs (x ∷ []))) all
 
 pub empty_sound : IsSoundRaw empty_library
 empty_sound = record {
@@ -43,7 +32,8 @@ sound_with_layer library layer sound proper named new = record {
     sites = sound.names.sites;
     vias = sound.names.vias;
     masters = sound.names.masters;
-  };  references = refers_with_layer library layer sound.references;
+  };
+  references = refers_with_layer library layer sound.references;
 }
 
 pub sound_with_site : (library : RawContents) (site : RawSite) → IsSoundRaw library → HasArea site.size → IsTrue (is_name site.name) → place_of site.name (raw_site_names library) ≡ None → IsSoundRaw (record library { sites = library.sites ++ site ∷ [] })
@@ -55,7 +45,8 @@ sound_with_site library site sound proper named new = record {
     sites = names_push (λ s. s.name) library.sites site sound.names.sites named new;
     vias = sound.names.vias;
     masters = sound.names.masters;
-  };  references = refers_with_site library site sound.references;
+  };
+  references = refers_with_site library site sound.references;
 }
 
 pub sound_with_via : (library : RawContents) (via : RawViaSaid) → IsSoundRaw library → IsRawViaOf library.layers via → IsTrue (is_name via.name) → place_of via.name (raw_via_names library) ≡ None → IsSoundRaw (record library { vias = library.vias ++ via ∷ [] })
@@ -67,7 +58,8 @@ sound_with_via library via sound refers named new = record {
     sites = sound.names.sites;
     vias = names_push (λ v. v.name) library.vias via sound.names.vias named new;
     masters = sound.names.masters;
-  };  references = record { vias = All-push (IsRawViaOf library.layers) library.vias via sound.references.vias refers; masters = sound.references.masters };
+  };
+  references = record { vias = All-push (IsRawViaOf library.layers) library.vias via sound.references.vias refers; masters = sound.references.masters };
 }
 
 pub sound_with_master : (library : RawContents) (master : RawMasterSaid) → IsSoundRaw library → IsRawMasterOf library.layers library.sites master → IsTrue (is_name master.name) → place_of master.name (raw_master_names library) ≡ None → IsSoundRaw (record library { masters = library.masters ++ master ∷ [] })
@@ -79,5 +71,6 @@ sound_with_master library master sound refers named new = record {
     sites = sound.names.sites;
     vias = sound.names.vias;
     masters = names_push (λ m. m.name) library.masters master sound.names.masters named new;
-  };  references = record { vias = sound.references.vias; masters = All-push (IsRawMasterOf library.layers library.sites) library.masters master sound.references.masters refers };
+  };
+  references = record { vias = sound.references.vias; masters = All-push (IsRawMasterOf library.layers library.sites) library.masters master sound.references.masters refers };
 }

@@ -1,6 +1,6 @@
 //! A library in database units: no length is rounded (own rule).
 
-ghost use Rattle.std.specs.Prelude.{◌≡◌, ◌≢◌, ◌≤◌, ℤ, List, map, IfOk, IfErr};
+ghost use Rattle.std.specs.Prelude.{◌≡◌, ◌≢◌, ◌≤◌, ℤ, List, [], map, IfOk, IfErr};
 ghost use Rattle.leg_cells.specs.declared.scale_fault.ScaleKind.TheVariants.{Memory};
 ghost use Rattle.leg_cells.specs.declared.records.Layer.{Layer};
 ghost use Rattle.leg_cells.specs.declared.records.LayerKind.{LayerKind};
@@ -98,6 +98,7 @@ fn layer_at<'a>(layer: &RawLayer<'a>, n: u32) -> Result<Layer<'a>, ScaleFault<'a
     requires within { n ≤ UNITS_LIMIT }
     ensures ok { IfOk result (λ scaled. IsLayerAt n layer.now scaled) }
     ensures none { IfErr result (λ fault. (scaled : Layer) → ¬ IsLayerAt n layer.now scaled) }
+    ensures nameless { IfErr result (λ fault. fault.kind ≡ Memory → fault.name ≡ []) }
 {
     let name = Name::new(layer.name.bytes());
     match layer_parts(layer, n) {
@@ -106,7 +107,7 @@ fn layer_at<'a>(layer: &RawLayer<'a>, n: u32) -> Result<Layer<'a>, ScaleFault<'a
             kind,
             spacing,
         }),
-        Err(kind) => Err(ScaleFault { name, kind }),
+        Err(kind) => Err(ScaleFault::of(name, kind)),
     }
 }
 
@@ -121,6 +122,7 @@ fn layers_at<'a, A: Allocator + Copy>(
     requires within { n ≤ UNITS_LIMIT }
     ensures ok { IfOk result (λ layers. OneForOne (IsLayerAt n) raw.now layers.items) }
     ensures none { IfErr result (λ fault. fault.kind ≢ Memory → (layers : List Layer) → ¬ OneForOne (IsLayerAt n) raw.now layers) }
+    ensures nameless { IfErr result (λ fault. fault.kind ≡ Memory → fault.name ≡ []) }
 {
     let mut layers = Vec::new(alloc);
     for layer in raw {
@@ -135,11 +137,12 @@ fn site_at<'a>(site: &RawSite<'a>, n: u32) -> Result<Site<'a>, ScaleFault<'a>>
     requires within { n ≤ UNITS_LIMIT }
     ensures ok { IfOk result (λ scaled. IsSiteAt n site.now scaled) }
     ensures none { IfErr result (λ fault. (scaled : Site) → ¬ IsSiteAt n site.now scaled) }
+    ensures nameless { IfErr result (λ fault. fault.kind ≡ Memory → fault.name ≡ []) }
 {
     let name = Name::new(site.name.bytes());
     match size_at(&site.size, n) {
         Ok(size) => Ok(Site { name, size }),
-        Err(kind) => Err(ScaleFault { name, kind }),
+        Err(kind) => Err(ScaleFault::of(name, kind)),
     }
 }
 
@@ -154,6 +157,7 @@ fn sites_at<'a, A: Allocator + Copy>(
     requires within { n ≤ UNITS_LIMIT }
     ensures ok { IfOk result (λ sites. OneForOne (IsSiteAt n) raw.now sites.items) }
     ensures none { IfErr result (λ fault. fault.kind ≢ Memory → (sites : List Site) → ¬ OneForOne (IsSiteAt n) raw.now sites) }
+    ensures nameless { IfErr result (λ fault. fault.kind ≡ Memory → fault.name ≡ []) }
 {
     let mut sites = Vec::new(alloc);
     for site in raw {
@@ -173,6 +177,7 @@ impl<'a, A: Allocator + Copy> RawLibrary<'a, A> {
         ensures ok { IfOk result (λ library. IsLibraryAt n self.now library) }
         ensures only { IfOk result (λ library. (said : Contents) → IsLibraryAt n self.now said → said ≡ library) }
         ensures none { IfErr result (λ fault. fault.kind ≢ Memory → (library : Contents) → ¬ IsLibraryAt n self.now library) }
+        ensures nameless { IfErr result (λ fault. fault.kind ≡ Memory → fault.name ≡ []) }
     {
         let layers = layers_at(alloc, self.layers(), n)?;
         let sites = sites_at(alloc, self.sites(), n)?;

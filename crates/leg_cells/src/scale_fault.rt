@@ -1,6 +1,6 @@
 //! Why a library has no lengths in database units.
 
-ghost use Rattle.std.specs.Prelude.{◌≡◌};
+ghost use Rattle.std.specs.Prelude.{◌≡◌, ◌≢◌, []};
 ghost use Rattle.leg_cells.specs.declared.scale_fault.ScaleKind.TheVariants.{Memory};
 
 use leg_lex::Name;
@@ -27,10 +27,27 @@ pub enum ScaleKind {
 /// A length that the DEF's units don't say.
 #[derive(Debug, Drop)]
 pub struct ScaleFault<'a> {
-    /// What has the length: a layer, a site, a macro or a via. It may be empty where memory ran out.
+    /// What has the length: a layer, a site, a macro or a via. It is empty where memory ran out.
     pub name: Name<'a>,
     /// Why.
     pub kind: ScaleKind,
+}
+
+impl<'a> ScaleFault<'a> {
+    /// The fault of a length of what has this name. Where memory ran out, nothing is named.
+    pub(crate) fn of(name: Name<'a>, kind: ScaleKind) -> ScaleFault<'a>
+        ensures kind { result.kind ≡ kind }
+        ensures named { kind ≢ Memory → result.name ≡ name.entry }
+        ensures nameless { kind ≡ Memory → result.name ≡ [] }
+    {
+        match kind {
+            ScaleKind::Memory => ScaleFault {
+                name: Name::new(b""),
+                kind,
+            },
+            _ => ScaleFault { name, kind },
+        }
+    }
 }
 
 impl From<AllocError> for ScaleKind {
@@ -50,7 +67,7 @@ impl<T: Drop> From<AllocFailed<T>> for ScaleKind {
 }
 
 impl From<AllocError> for ScaleFault<'_> {
-    ghost from_gives = { λ _ e. e.kind ≡ Memory };
+    ghost from_gives = { λ _ e. e ≡ record { name = []; kind = Memory } };
 
     fn from(_e: AllocError) -> Self {
         ScaleFault {
@@ -61,7 +78,7 @@ impl From<AllocError> for ScaleFault<'_> {
 }
 
 impl<T: Drop> From<AllocFailed<T>> for ScaleFault<'_> {
-    ghost from_gives = { λ _ e. e.kind ≡ Memory };
+    ghost from_gives = { λ _ e. e ≡ record { name = []; kind = Memory } };
 
     fn from(_e: AllocFailed<T>) -> Self {
         ScaleFault {

@@ -1,6 +1,6 @@
 //! Shapes, pins, macros and vias in database units.
 
-ghost use Rattle.std.specs.Prelude.{◌≢◌, ◌≤◌, ℤ, ◌-ℤ◌, List, IfOk, IfErr};
+ghost use Rattle.std.specs.Prelude.{◌≡◌, ◌≢◌, ◌≤◌, ℤ, ◌-ℤ◌, List, [], IfOk, IfErr};
 ghost use Rattle.leg_geom.specs.Plane.{Spot, Sides, IsCoordinate};
 ghost use Rattle.leg_cells.specs.declared.scale_fault.ScaleKind.TheVariants.{Memory};
 ghost use Rattle.leg_cells.specs.declared.records.Shape.{Shape};
@@ -135,6 +135,7 @@ fn via_at<'a, A: Allocator + Copy>(
     requires within { n ≤ UNITS_LIMIT }
     ensures ok { IfOk result (λ scaled. IsViaAt n via.now scaled) }
     ensures none { IfErr result (λ fault. fault.kind ≢ Memory → (scaled : ViaSaid) → ¬ IsViaAt n via.now scaled) }
+    ensures nameless { IfErr result (λ fault. fault.kind ≡ Memory → fault.name ≡ []) }
 {
     let name = Name::new(via.name.bytes());
     match shapes_at(alloc, via.shapes.as_slice(), n, &Shift::NONE) {
@@ -144,7 +145,7 @@ fn via_at<'a, A: Allocator + Copy>(
             good: via.good,
             shapes,
         }),
-        Err(kind) => Err(ScaleFault { name, kind }),
+        Err(kind) => Err(ScaleFault::of(name, kind)),
     }
 }
 
@@ -159,6 +160,7 @@ pub(crate) fn vias_at<'a, A: Allocator + Copy>(
     requires within { n ≤ UNITS_LIMIT }
     ensures ok { IfOk result (λ vias. OneForOne (IsViaAt n) raw.now vias.items) }
     ensures none { IfErr result (λ fault. fault.kind ≢ Memory → (vias : List ViaSaid) → ¬ OneForOne (IsViaAt n) raw.now vias) }
+    ensures nameless { IfErr result (λ fault. fault.kind ≡ Memory → fault.name ≡ []) }
 {
     let mut vias = Vec::new(alloc);
     for via in raw {
@@ -242,13 +244,12 @@ fn master_at<'a, A: Allocator + Copy>(
     requires within { n ≤ UNITS_LIMIT }
     ensures ok { IfOk result (λ scaled. IsMasterAt n master.now scaled) }
     ensures none { IfErr result (λ fault. fault.kind ≢ Memory → (scaled : MasterSaid) → ¬ IsMasterAt n master.now scaled) }
+    ensures nameless { IfErr result (λ fault. fault.kind ≡ Memory → fault.name ≡ []) }
 {
+    let name = Name::new(master.name.bytes());
     match scaled_master(alloc, master, n) {
         Ok(scaled) => Ok(scaled),
-        Err(kind) => Err(ScaleFault {
-            name: Name::new(master.name.bytes()),
-            kind,
-        }),
+        Err(kind) => Err(ScaleFault::of(name, kind)),
     }
 }
 
@@ -263,6 +264,7 @@ pub(crate) fn masters_at<'a, A: Allocator + Copy>(
     requires within { n ≤ UNITS_LIMIT }
     ensures ok { IfOk result (λ masters. OneForOne (IsMasterAt n) raw.now masters.items) }
     ensures none { IfErr result (λ fault. fault.kind ≢ Memory → (masters : List MasterSaid) → ¬ OneForOne (IsMasterAt n) raw.now masters) }
+    ensures nameless { IfErr result (λ fault. fault.kind ≡ Memory → fault.name ≡ []) }
 {
     let mut masters = Vec::new(alloc);
     for master in raw {

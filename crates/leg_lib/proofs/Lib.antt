@@ -2,6 +2,7 @@
 mod Layers
 mod SoundLayers
 mod SoundNames
+mod SoundReferences
 mod Vias
 mod Sites
 mod Forms

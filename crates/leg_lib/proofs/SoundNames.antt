@@ -15,7 +15,7 @@ use Rattle.leg_lib.specs.Site.{site_at}
 use Rattle.leg_lib.specs.Via.{flags_at, via_part, no_via_parts, via_at}
 use Rattle.leg_lib.specs.Macro.{macro_part, no_macro_parts, macro_said, macro_at}
 
-name_gives : (words : Words) → Gives (λ said. IsTrue (is_name said.0)) (name_at words)
+pub name_gives : (words : Words) → Gives (λ said. IsTrue (is_name said.0)) (name_at words)
 unfolding name_at
 name_gives words =
     gives_skip (next_at words) (λ next.

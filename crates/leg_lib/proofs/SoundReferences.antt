@@ -1,0 +1,269 @@
+-- What a via or a macro that is read refers to is there: its layers, its site, and names of pins that are apart.
+use Rattle.std.proofs.Common.{◌≡◌, ℕ, ◌<◌, Bool, true, false, not, ◌&&◌, ◌||◌, if◌then◌else◌, List, [], ◌∷◌, ◌++◌, length, get_or, map, All, IfSome, Option, None, Some, is_none, IsTrue, refl, sym, subst, ap, ◌∙◌, codes, drop, arith}
+use Rattle.std.specs.List.{list_any}
+use Rattle.std.proofs.lemmas.List.{map-append, length-map}
+use Rattle.std.proofs.lemmas.List.Elements.{All-nil, All-push, All-append}
+use Rattle.leg_lex.specs.Words.{Words, is_name, is_at, keyword_at, name_at, end_at, end_of, nothing_at, word_at}
+use Rattle.leg_lex.specs.Until.{until, over}
+use Rattle.leg_lex.specs.Past.{past}
+use Rattle.leg_lex.specs.Statements.{statement_at, statements_at, only, the, at_end}
+use Rattle.leg_lex.specs.NameLookup.{place_of, AreApart}
+use Rattle.leg_lex.proofs.Gives.{Gives, gives_none, gives_some, gives_bind, gives_skip, gives_choice, gives_if, gives_less}
+use Rattle.leg_lex.proofs.Until.{until_keeps}
+use Rattle.leg_lex.proofs.Over.{over_keeps}
+use Rattle.leg_lex.proofs.NameLookup.{apart_push, place_stands}
+use Rattle.leg_cells.specs.declared.raw.RawLayer.{RawLayer}
+use Rattle.leg_cells.specs.declared.raw.RawSite.{RawSite}
+use Rattle.leg_cells.specs.declared.raw.RawShape.{RawShape}
+use Rattle.leg_cells.specs.Records.{RawContents, RawViaSaid, RawPinSaid, RawMasterSaid, raw_layer_names, raw_site_names}
+use Rattle.leg_cells.specs.Joins.{is_wiring_word, join_layers}
+use Rattle.leg_cells.specs.GoodVia.{raw_uses, raw_parts, is_raw_good_via}
+use Rattle.leg_cells.specs.LibraryNames.{AreNames}
+use Rattle.leg_cells.specs.References.{AreRawShapesOn, IsRawViaOf, IsRawMasterOf}
+use Rattle.leg_cells.proofs.LibraryNames.{no_names, names_push}
+use Rattle.leg_lib.specs.Geometry.{Drawn, nothing_drawn, draws_metal, layer_of_geometry, drawn_rect, is_off_metal, is_other_shape, geometry_part, geometry_at, says_nothing}
+use Rattle.leg_lib.specs.Point.{rect_in, size_in}
+use Rattle.leg_lib.specs.Via.{flags_at, ViaParts, no_via_parts, layer_of_via, spoils, via_part, is_good, kept, via_at}
+use Rattle.leg_lib.specs.Pin.{PinParts, no_pin_parts, port_at, pin_part, supply_of_any, pin_at}
+use Rattle.leg_lib.specs.declared.macros.MacroSaid.{MacroSaid}
+use Rattle.leg_lib.specs.Macro.{MacroParts, no_macro_parts, macro_pin, macro_obstruction, macro_density, macro_timing, macro_statement, macro_part, origin_of_any, symmetry_of_any, site_in, site_of_any, macro_said, macro_at}
+use Rattle.leg_lib.proofs.SoundNames.{name_gives}
+
+-- A place that is found is one of the elements'.
+within_gives : {X : Type 0} (name_of : X → List ℕ) (name : List ℕ) (xs : List X) → Gives (λ k. k < length xs) (place_of name (map name_of xs))
+within_gives name_of name xs = record {
+  given = λ k is. let less = (place_stands name (map name_of xs) k is).within in rw length-map at less;
+}
+
+-- What each form keeps, all forms keep.
+until_gives : {S : Type 0} (P : S → Type 0) (stop : Words → Bool) (form : S → Words → Option (S × Words)) → ((made : S) (words : Words) → P made → Gives (λ said. P said.0) (form made words)) → (made : S) (words : Words) → P made → Gives (λ said. P said.0) (until stop form made words)
+until_gives P stop form keeps made words holds = record {
+  given = λ y is. until_keeps stop form P (λ before at next rest held said. (keeps before at held).given (next, rest) said) made words y.0 y.1 holds is;
+}
+
+-- What each element keeps, all elements keep.
+over_gives : {S X : Type 0} (P : S → Type 0) (step : S → X → Option S) → ((made : S) (x : X) → P made → Gives P (step made x)) → (made : S) (xs : List X) → P made → Gives P (over step made xs)
+over_gives P step keeps made xs holds = record {
+  given = λ y is. over_keeps step P (λ before x next held said. (keeps before x held).given next said) made xs y holds is;
+}
+
+-- the layer that statements are on, and those of the shapes, are layers of the library
+record IsDrawnOn (layers : ℕ) (drawn : Drawn) : Type 0 where
+  pub on : IfSome drawn.on (λ k. k < layers)
+  pub shapes : AreRawShapesOn layers drawn.shapes
+
+nothing_on : (layers : ℕ) → IsDrawnOn layers nothing_drawn
+nothing_on layers = record { on = tt; shapes = All-nil (λ (shape : RawShape). shape.layer < layers) }
+
+module _ (library : RawContents) where
+  abbrev count : ℕ
+  count = length library.layers
+
+  on_gives : (on : Option ℕ) → IfSome on (λ k. k < count) → Gives (λ k. k < count) on
+  on_gives None within = gives_none
+  on_gives (Some k) within = gives_some k within
+
+  rect_gives : (drawn : Drawn) (statement : Words) → IsDrawnOn count drawn → Gives (IsDrawnOn count) (drawn_rect library drawn statement)
+  unfolding drawn_rect
+  rect_gives drawn statement is =
+      gives_bind (on_gives drawn.on is.on) (λ number within.
+      gives_if (draws_metal library.layers number)
+      (gives_skip (rect_in statement) (λ rect.
+      gives_some _ (record { on = is.on; shapes = All-push (λ shape. shape.layer < count) drawn.shapes (record { layer = number; rect = rect }) is.shapes within })))
+      (gives_some drawn is))
+
+  geometry_layer_gives : (statement : Words) → Gives (λ k. k < count) (layer_of_geometry library statement)
+  unfolding layer_of_geometry
+  geometry_layer_gives statement =
+      gives_skip (keyword_at (codes "LAYER") statement) (λ start.
+      gives_skip (name_at start.1) (λ name.
+      gives_bind (within_gives (λ (l : RawLayer). l.name) name.0 library.layers) (λ number within.
+      gives_if _ (gives_some number within) gives_none)))
+
+  part_gives : (drawn : Drawn) (statement : Words) → IsDrawnOn count drawn → Gives (IsDrawnOn count) (geometry_part library drawn statement)
+  unfolding geometry_part
+  part_gives drawn statement is =
+      gives_if (is_at (codes "LAYER") statement)
+      (gives_bind (geometry_layer_gives statement) (λ number within. gives_some _ (record { on = within; shapes = is.shapes })))
+      (gives_if (is_at (codes "RECT") statement) (rect_gives drawn statement is)
+      (gives_if (is_at (codes "WIDTH") statement || is_at (codes "CLASS") statement) (gives_some drawn is)
+      (gives_if (is_other_shape statement && is_off_metal library drawn.on) (gives_some drawn is) gives_none)))
+
+  geometry_gives : (words : Words) → Gives (λ said. AreRawShapesOn count said.0) (geometry_at library words)
+  unfolding geometry_at
+  geometry_gives words =
+      gives_skip (statements_at words) (λ body.
+      gives_bind (over_gives (IsDrawnOn count) (geometry_part library) part_gives nothing_drawn body.0 (nothing_on count)) (λ drawn is.
+      gives_some _ is.shapes))
+
+  -- vias
+  via_layer_gives : (statement : Words) → Gives (λ k. k < count) (layer_of_via library statement)
+  unfolding layer_of_via
+  via_layer_gives statement =
+      gives_skip (keyword_at (codes "LAYER") statement) (λ start.
+      gives_skip (name_at start.1) (λ name.
+      gives_skip (nothing_at name.1) (λ end.
+      within_gives (λ (l : RawLayer). l.name) name.0 library.layers)))
+
+  via_part_gives : (parts : ViaParts) (statement : Words) → IsDrawnOn count parts.drawn → Gives (λ next. IsDrawnOn count next.drawn) (via_part library parts statement)
+  unfolding via_part
+  via_part_gives parts statement is =
+      gives_if (spoils statement) (gives_some _ is)
+      (gives_if (is_at (codes "LAYER") statement)
+      (gives_bind (via_layer_gives statement) (λ number within. gives_some _ (record { on = within; shapes = is.shapes })))
+      (gives_if (is_at (codes "RECT") statement)
+      (gives_bind (rect_gives parts.drawn statement is) (λ drawn held. gives_some _ held))
+      (gives_some parts is)))
+
+  all_via_parts : (statements : List Words) → Gives (λ parts. IsDrawnOn count parts.drawn) (over (via_part library) no_via_parts statements)
+  all_via_parts statements = over_gives (λ parts. IsDrawnOn count parts.drawn) (via_part library) via_part_gives no_via_parts statements (nothing_on count)
+
+  kept_on : (good : Bool) (shapes : List RawShape) → AreRawShapesOn count shapes → AreRawShapesOn count (kept good shapes)
+  kept_on true shapes on = on
+  kept_on false shapes on = All-nil (λ (shape : RawShape). shape.layer < count)
+
+  -- a via without shapes isn't good, and no via that isn't kept has shapes
+  nothing_good : (name : List ℕ) → is_raw_good_via library.layers name [] ≡ false
+  unfolding is_raw_good_via
+  nothing_good name = by (is_wiring_word name) where
+    by : (word : Bool) → (not word && false) ≡ false
+    by true = refl
+    by false = refl
+
+  good_is : (name : List ℕ) (parts : ViaParts) → is_good library name parts ≡ is_raw_good_via library.layers name (kept (is_good library name parts) parts.drawn.shapes)
+  unfolding is_raw_good_via
+  good_is name parts = by parts.is_spoilt (is_wiring_word name) (join_layers (raw_uses library.layers) (raw_parts parts.drawn.shapes)) refl where
+    by : (spoilt word joins : Bool) → join_layers (raw_uses library.layers) (raw_parts parts.drawn.shapes) ≡ joins → (not spoilt && not word && joins) ≡ (not word && join_layers (raw_uses library.layers) (raw_parts (kept (not spoilt && not word && joins) parts.drawn.shapes)))
+    by true true joins is = refl
+    by true false joins is = refl
+    by false true joins is = refl
+    by false false true is = sym is
+    by false false false is = refl
+
+  via_gives : (words : Words) → Gives (λ said. IsRawViaOf library.layers said.0) (via_at library words)
+  unfolding via_at
+  via_gives words =
+      gives_skip (keyword_at (codes "VIA") words) (λ start.
+      gives_skip (name_at start.1) (λ name.
+      gives_skip (statements_at (flags_at name.1).1) (λ body.
+      gives_bind (all_via_parts body.0) (λ parts is.
+      gives_skip (end_of name.0 body.1) (λ end.
+      gives_some _ (record {
+        on_layers = kept_on (is_good library name.0 parts) parts.drawn.shapes is.shapes;
+        good = good_is name.0 parts;
+      }))))))
+
+  -- A via that is read has layers of the library, and is good just where it is marked so.
+  pub via_refers : (words rest : Words) (via : RawViaSaid) → via_at library words ≡ Some (via, rest) → IsRawViaOf library.layers via
+  via_refers words rest via said = (via_gives words).given (via, rest) said
+
+  -- pins
+  pin_part_gives : (parts : PinParts) (words : Words) → AreRawShapesOn count parts.shapes → Gives (λ said. AreRawShapesOn count said.0.shapes) (pin_part library parts words)
+  unfolding pin_part port_at
+  pin_part_gives parts words on =
+      gives_if (is_at (codes "PORT") words)
+      (gives_bind {Q = λ port. AreRawShapesOn count port.0} (gives_skip (keyword_at (codes "PORT") words) (λ start.
+      gives_bind (geometry_gives start.1) (λ shapes is.
+      gives_skip (keyword_at (codes "END") shapes.1) (λ end.
+      gives_some (shapes.0, end.1) is)))) (λ port is.
+      gives_some _ (All-append (λ shape. shape.layer < count) parts.shapes port.0 on is)))
+      (gives_skip (statement_at words) (λ statement. gives_some _ on))
+
+  pin_gives : (words : Words) → Gives (λ said. IsTrue (is_name said.0.name) × AreRawShapesOn count said.0.shapes) (pin_at library words)
+  unfolding pin_at
+  pin_gives words =
+      gives_skip (keyword_at (codes "PIN") words) (λ start.
+      gives_bind (name_gives start.1) (λ name named.
+      gives_bind (until_gives (λ parts. AreRawShapesOn count parts.shapes) at_end (pin_part library) pin_part_gives no_pin_parts name.1 (All-nil (λ (shape : RawShape). shape.layer < count))) (λ parts is.
+      gives_skip (only (codes "USE") parts.0.statements) (λ found.
+      gives_skip (supply_of_any found) (λ supply.
+      gives_skip (end_of name.0 parts.1) (λ end.
+      gives_some _ (named, is)))))))
+
+  -- macros
+  record ArePartsOn (parts : MacroParts) : Type 0 where
+    pub names : AreNames (map (λ pin. pin.name) parts.pins)
+    pub pins : All (λ pin. AreRawShapesOn count pin.shapes) parts.pins
+    pub obstructions : AreRawShapesOn count parts.obstructions
+
+  no_parts_on : ArePartsOn no_macro_parts
+  no_parts_on = record {
+    names = no_names;
+    pins = All-nil (λ (pin : RawPinSaid). AreRawShapesOn count pin.shapes);
+    obstructions = All-nil (λ (shape : RawShape). shape.layer < count);
+  }
+
+  none_there : (o : Option ℕ) → is_none o ≡ true → o ≡ None
+  none_there None is = refl
+  none_there (Some k) is = absurd (let e : ⊥ = cc in e)
+
+  macro_pin_gives : (parts : MacroParts) (words : Words) → ArePartsOn parts → Gives (λ said. ArePartsOn said.0) (macro_pin library parts words)
+  unfolding macro_pin
+  macro_pin_gives parts words on =
+      gives_bind (pin_gives words) (λ pin is.
+      gives_choice (is_none (place_of pin.0.name (map (λ p. p.name) parts.pins))) (λ new.
+      gives_some _ (record {
+        names = names_push (λ p. p.name) parts.pins pin.0 on.names is.0 (none_there _ new);
+        pins = All-push (λ p. AreRawShapesOn count p.shapes) parts.pins pin.0 on.pins is.1;
+        obstructions = on.obstructions;
+      })) (λ other. gives_none))
+
+  macro_obstruction_gives : (parts : MacroParts) (words : Words) → ArePartsOn parts → Gives (λ said. ArePartsOn said.0) (macro_obstruction library parts words)
+  unfolding macro_obstruction
+  macro_obstruction_gives parts words on =
+      gives_skip (keyword_at (codes "OBS") words) (λ start.
+      gives_bind (geometry_gives start.1) (λ shapes is.
+      gives_skip (keyword_at (codes "END") shapes.1) (λ end.
+      gives_some _ (record {
+        names = on.names;
+        pins = on.pins;
+        obstructions = All-append (λ shape. shape.layer < count) parts.obstructions shapes.0 on.obstructions is;
+      }))))
+
+  macro_part_gives : (parts : MacroParts) (words : Words) → ArePartsOn parts → Gives (λ said. ArePartsOn said.0) (macro_part library parts words)
+  unfolding macro_part macro_density macro_timing macro_statement
+  macro_part_gives parts words on =
+      gives_if (is_at (codes "PIN") words) (macro_pin_gives parts words on)
+      (gives_if (is_at (codes "OBS") words) (macro_obstruction_gives parts words on)
+      (gives_if (is_at (codes "DENSITY") words)
+      (gives_skip (keyword_at (codes "DENSITY") words) (λ start. gives_skip (past (keyword_at (codes "END")) start.1) (λ end. gives_some _ on)))
+      (gives_if (is_at (codes "TIMING") words)
+      (gives_skip (keyword_at (codes "TIMING") words) (λ start. gives_skip (past (end_at (codes "TIMING")) start.1) (λ end. gives_some _ on)))
+      (gives_skip (statement_at words) (λ statement. gives_some _ (record { names = on.names; pins = on.pins; obstructions = on.obstructions }))))))
+
+  site_gives : (found : Option Words) → Gives (λ site. IfSome site (λ k. k < length library.sites)) (site_of_any library found)
+  unfolding site_in
+  site_gives None = gives_some None tt
+  site_gives (Some statement) =
+      gives_bind {Q = λ k. k < length library.sites} (gives_skip (keyword_at (codes "SITE") statement) (λ start.
+      gives_skip (name_at start.1) (λ name.
+      gives_bind (within_gives (λ (s : RawSite). s.name) name.0 library.sites) (λ number within.
+      gives_skip (nothing_at name.1) (λ end.
+      gives_some number within))))) (λ k within. gives_some (Some k) within)
+
+  said_gives : (statements : List Words) → Gives (λ (said : MacroSaid). IfSome said.site (λ k. k < length library.sites)) (macro_said library statements)
+  unfolding macro_said
+  said_gives statements =
+      gives_skip (the (codes "SIZE") statements) (λ of_size.
+      gives_skip (size_in of_size) (λ size.
+      gives_skip (only (codes "ORIGIN") statements) (λ of_origin.
+      gives_skip (origin_of_any of_origin) (λ origin.
+      gives_skip (only (codes "SYMMETRY") statements) (λ of_symmetry.
+      gives_skip (symmetry_of_any of_symmetry) (λ symmetric.
+      gives_skip (only (codes "SITE") statements) (λ of_site.
+      gives_bind (site_gives of_site) (λ site within.
+      gives_some _ within))))))))
+
+  macro_gives : (words : Words) → Gives (λ said. IsRawMasterOf library.layers library.sites said.0) (macro_at library words)
+  unfolding macro_at
+  macro_gives words =
+      gives_skip (keyword_at (codes "MACRO") words) (λ start.
+      gives_skip (name_at start.1) (λ name.
+      gives_bind (until_gives ArePartsOn at_end (macro_part library) macro_part_gives no_macro_parts name.1 no_parts_on) (λ parts on.
+      gives_bind (said_gives parts.0.statements) (λ said within.
+      gives_skip (end_of name.0 parts.1) (λ end.
+      gives_some _ (record { site = within; pin_names = on.names; pins = on.pins; obstructions = on.obstructions }))))))
+
+  -- A macro that is read has a site and layers of the library, and no two of its pins have one name.
+  pub macro_refers : (words rest : Words) (master : RawMasterSaid) → macro_at library words ≡ Some (master, rest) → IsRawMasterOf library.layers library.sites master
+  macro_refers words rest master said = (macro_gives words).given (master, rest) said
