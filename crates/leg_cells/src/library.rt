@@ -11,8 +11,9 @@ use std::alloc::Allocator;
 use std::marker::Model;
 
 /// A library in database units, in file order. Of the layers, the sites, the vias and the masters no two
-/// have one name. Widths, spacings and the sides of shapes are within the limit of numbers, twice that in
-/// masters; widths are even and above 0, and no spacing is below 0.
+/// have one name, and neither have the pins of a master. Widths, spacings and the sides of shapes are within the limit of
+/// numbers, twice that in masters; widths are even and above 0, and no spacing is below 0. Shapes are on layers of
+/// the library, a master's site is one of its sites, and a via is marked good exactly where it is.
 #[derive(Drop)]
 pub struct Library<'a, A: Allocator + Copy> {
     pub(crate) units: u32,

@@ -14,7 +14,9 @@ use std::alloc::{AllocError, Allocator};
 use std::marker::Model;
 
 /// A library in millionths of a micron, in file order. Of the layers, the sites, the vias and the macros no
-/// two have one name. The width of a routing layer is above 0, and no spacing is below 0.
+/// two have one name, and neither have the pins of a macro. The width of a routing layer is above 0, and no spacing
+/// is below 0. Shapes are on layers of the library, a macro's site is one of its sites, and a via is marked good
+/// exactly where its name and its shapes are those of a good via.
 #[derive(Drop)]
 pub struct RawLibrary<'a, A: Allocator + Copy> {
     pub(crate) layers: NamedList<'a, RawLayer<'a>, A>,
@@ -129,7 +131,8 @@ impl<'a, A: Allocator + Copy> RawLibrary<'a, A> {
         self.sites.push(site.name.bytes(), site)
     }
 
-    /// Adds a via whose name is new. Where memory is refused, nothing changes.
+    /// Adds a via whose name is new, whose shapes are on layers of the library, and which is marked good exactly where it
+    /// is. Where memory is refused, nothing changes.
     #[tactic(auto, using(crate::proofs::SoundRaw::sound_with_via))]
     pub fn push_via(&mut self, via: RawVia<'a, A>) -> Result<(), AllocError>
         requires is_new { place_of via.name (raw_via_names self.old) ≡ None }
@@ -141,7 +144,8 @@ impl<'a, A: Allocator + Copy> RawLibrary<'a, A> {
         self.vias.push(via.name.bytes(), via)
     }
 
-    /// Adds a macro whose name is new. Where memory is refused, nothing changes.
+    /// Adds a macro whose name is new, whose shapes are on layers of the library, whose site is one of its sites, and whose
+    /// pins have names apart. Where memory is refused, nothing changes.
     #[tactic(auto, using(crate::proofs::SoundRaw::sound_with_master))]
     pub fn push_master(&mut self, master: RawMaster<'a, A>) -> Result<(), AllocError>
         requires is_new { place_of master.name (raw_master_names self.old) ≡ None }
