@@ -1,9 +1,11 @@
 -- The design that the forms of a text make, once the lone pins are added.
-use Rattle.std.proofs.Common.{◌≡◌, ℕ, ◌+◌, nat_lt, Bool, true, false, List, Option, None, Some, is_some, IfSome, refl, sym, ap, subst, ◌∙◌}
+use Rattle.std.proofs.Common.{◌≡◌, ℕ, ◌+◌, ◌≤◌, arith, nat_lt, Bool, true, false, List, Option, None, Some, is_some, IfSome, refl, sym, ap, subst, ◌∙◌}
+use Rattle.std.proofs.lemmas.Bool.Decides.{nat_tests}
 use Rattle.leg_geom.specs.Plane.{Sides}
 use Rattle.leg_cells.specs.Records.{Contents}
 use Rattle.leg_block.specs.declared.limits.TheConstants.{PART_LIMIT}
 use Rattle.leg_block.specs.Records.{DesignContents, terminal_count}
+use Rattle.leg_nets.proofs.LonePins.{no_fewer}
 use Rattle.leg_design.specs.Parts.{DesignParts}
 use Rattle.leg_design.specs.Form.{all_nets, design_with, design_of}
 
@@ -19,6 +21,12 @@ too_many_of library parts die (Some name) named has_die has_units many = rw (nam
 -- with the lone pins there are too many terminals
 pub too_many : (library : Contents) (parts : DesignParts) (die : Sides) → parts.die ≡ Some die → parts.stood.units ≡ true → nat_lt PART_LIMIT (all_terminals parts) ≡ true → design_of library parts ≡ None
 too_many library parts die has_die has_units many = too_many_of library parts die parts.name refl has_die has_units many
+
+-- without the lone pins there are too many terminals
+pub too_many_before : (library : Contents) (parts : DesignParts) (die : Sides) → parts.die ≡ Some die → parts.stood.units ≡ true → nat_lt PART_LIMIT (terminal_count parts.nets + terminal_count parts.special) ≡ true → design_of library parts ≡ None
+too_many_before library parts die has_die has_units many =
+    let more : terminal_count parts.nets + terminal_count parts.special ≤ all_terminals parts = no_fewer (record { nets = parts.nets; special = parts.special }) 0 parts.pins in
+    too_many library parts die has_die has_units (grind (arith, nat_tests, more, many))
 
 -- a design of a name, units and a die area
 pub design_made : (library : Contents) (parts : DesignParts) (die : Sides) (name : List ℕ) → parts.die ≡ Some die → parts.stood.units ≡ true → nat_lt PART_LIMIT (all_terminals parts) ≡ false → parts.name ≡ Some name → design_of library parts ≡ Some (design_with library parts name die (all_nets parts))

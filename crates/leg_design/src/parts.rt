@@ -1,6 +1,6 @@
 //! What the forms of a DEF said so far (LEF/DEF 5.8, "DEF Syntax").
 
-ghost use Rattle.std.specs.Prelude.{◌≡◌, ℕ, List, ◌≢◌, ◌+◌, nat_lt, true, Some, None, is_some, IfOk, IfErr, IfSome, OnOk};
+ghost use Rattle.std.specs.Prelude.{◌≡◌, ℕ, List, ◌≢◌, ◌≤◌, ◌+◌, nat_lt, true, Some, None, is_some, IfOk, IfErr, IfSome, OnOk};
 ghost use Rattle.leg_lex.specs.declared.read_fault.FaultKind.TheVariants.{Memory};
 ghost use Rattle.leg_lex.specs.Words.{Reads, Means};
 ghost use Rattle.leg_block.specs.declared.limits.TheConstants.{PART_LIMIT};
@@ -221,6 +221,7 @@ impl<'a, A: Allocator + Copy> Parts<'a, A> {
 
     /// Adds the lone pins to the nets. Where memory is refused, nothing is known of the nets.
     fn add_lone_pins(&mut self) -> Result<(), AllocError>
+        requires { terminal_count self.old.nets + terminal_count self.old.special ≤ PART_LIMIT }
         ensures { OnOk result (self.new ≡ record self.old { nets = (all_nets self.old).nets; special = (all_nets self.old).special }) }
     {
         add_lone_pins(self.pins.as_slice(), &mut self.nets, &mut self.special)
@@ -228,7 +229,7 @@ impl<'a, A: Allocator + Copy> Parts<'a, A> {
 
     /// Adds the lone pins and gives the die area, where `DESIGN`, `UNITS` and `DIEAREA` stood and there aren't too many
     /// terminals. Faults are told at `end`.
-    #[tactic(auto, using(crate::proofs::Designs::too_many, crate::proofs::Designs::design_made))]
+    #[tactic(auto, using(crate::proofs::Designs::too_many, crate::proofs::Designs::too_many_before, crate::proofs::Designs::design_made))]
     fn complete(&mut self, end: &Cursor<'_, '_>) -> Result<Rect, ReadFault>
         ensures named { OnOk result (is_some self.new.name ≡ true) }
         ensures lone { OnOk result (self.new ≡ record self.old { nets = (all_nets self.old).nets; special = (all_nets self.old).special }) }
@@ -237,6 +238,10 @@ impl<'a, A: Allocator + Copy> Parts<'a, A> {
         ensures lacks { IfErr result (λ fault. fault.kind ≢ Memory → (library : Contents) → design_of library self.old ≡ None) }
     {
         let die = self.die_area(end)?;
+        // Sections are refused where they list too many, so this is not found here; lone pins are counted from it on.
+        if are_too_many(&self.nets, &self.special) {
+            return Err(end.fault(FaultKind::TooMany));
+        }
         self.add_lone_pins()?;
         if are_too_many(&self.nets, &self.special) {
             return Err(end.fault(FaultKind::TooMany));

@@ -5,6 +5,7 @@ pub mod ReadNets
 pub mod MoreKnown
 pub mod ReadLonePins
 pub mod LonePinsListed
+pub mod LonePins
 -- Pins of macros by their names.
 mod NamedNumbers
 mod PinTables
@@ -13,7 +14,6 @@ mod PinsOfAll
 -- Terminals, and which entry lists them.
 mod Listed
 mod ListedNets
-mod LonePins
 mod ReadListed
 mod MoreTerminals
 -- Paths, item by item.

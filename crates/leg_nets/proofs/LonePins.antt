@@ -1,12 +1,14 @@
 -- Pins of the design that no net lists, one after the other, and an entry with one more terminal.
-use Rattle.std.proofs.Common.{◌≡◌, ◌≢◌, ℕ, zero, suc, ◌+◌, ◌<◌, ◌≤◌, false, cond, List, [], ◌∷◌, ◌++◌, length, get_or, take, drop, slice_get, slice_set, Option, Some, refl, sym, ap, ◌∙◌, arith, add-one, length-append}
+use Rattle.std.proofs.Common.{◌≡◌, ◌≢◌, ℕ, zero, suc, ◌+◌, ◌<◌, ◌≤◌, Bool, true, false, ◌||◌, if◌then◌else◌, cond, List, [], ◌∷◌, ◌++◌, length, get_or, take, drop, slice_get, slice_set, Option, None, Some, refl, sym, ap, ◌∙◌, arith, add-one, length-append}
 use Rattle.std.proofs.lemmas.List.{drop_all, take_all, append-nil}
 use Rattle.std.proofs.lemmas.Option.{slice_get-get_or}
 use Rattle.leg_lex.proofs.Over.{at_front}
 use Rattle.leg_block.specs.declared.records.Terminal.{Terminal}
+use Rattle.leg_block.specs.declared.records.Terminal.TheVariants.{Pin}
+use Rattle.leg_lex.specs.NameLookup.{place_of}
 use Rattle.leg_block.specs.Terminals.{is_same_terminal}
 use Rattle.leg_block.specs.Records.{PinSaid, NetSaid, net_names, terminal_count, wire_count}
-use Rattle.leg_nets.specs.LonePins.{NetLists, is_listed, with_terminal, with_lone_pin, with_lone_pins}
+use Rattle.leg_nets.specs.LonePins.{NetLists, is_listed, with_terminal, to_entry, to_named, with_lone_pin, with_lone_pins}
 use Rattle.leg_nets.specs.Steps.Index.{lists_of, IsIndexOf}
 use Rattle.leg_nets.proofs.Listed.{index_more, index_by}
 use Rattle.leg_block.proofs.Blank.{blank}
@@ -117,3 +119,62 @@ kept_listed nets after n k t names number reserved last terminals more wires kep
 pub kept_unlisted : (nets after : List NetSaid) (n : ℕ) (names : List (List ℕ)) (number reserved : Terminal → Option ℕ) (terminals wires : ℕ) → IsIndexOf nets (lists_of nets) names number terminals wires → n ≡ length nets → after ≡ nets → ((q : Terminal) → reserved q ≡ number q) → IsIndexOf (take n (after ++ drop (length after) nets)) (lists_of (take n (after ++ drop (length after) nets))) names reserved terminals wires
 kept_unlisted nets after n names number reserved terminals wires kept whole is same =
     rw (written_back nets after n whole (ap (λ (xs : List NetSaid). length xs) is), is) (kept_reserved nets names number reserved terminals wires kept same)
+
+-- how many terminals both lists have together
+abbrev pub all_count : NetLists → ℕ
+all_count lists = terminal_count lists.nets + terminal_count lists.special
+
+-- so many terminals as before, or one more
+record IsOneMore (before after : ℕ) : Type 0 where
+  pub least : before ≤ after
+  pub most : after ≤ before + 1
+
+one_listed : (t : Terminal) (k : ℕ) (nets : List NetSaid) → IsOneMore (terminal_count nets) (terminal_count (with_terminal t k nets))
+one_listed t k nets = by (slice_get nets k) refl where
+  by : (found : Option NetSaid) → slice_get nets k ≡ found → IsOneMore (terminal_count nets) (terminal_count (with_terminal t k nets))
+  by None is = rw is (record { least = omega arith; most = omega arith })
+  by (Some net) is =
+      let e = set_terminals nets k net (record net { terminals = net.terminals ++ t ∷ [] }) is (length-append net.terminals (t ∷ [])) in
+      rw (is, e) (record { least = omega arith; most = omega arith })
+
+one_in_entry : (lists : NetLists) (p : ℕ) (a b : Option ℕ) → IsOneMore (all_count lists) (all_count (to_entry lists p a b))
+one_in_entry lists p (Some k) b =
+    let e = one_listed (Pin p) k lists.nets in
+    let least = e.least in
+    let most = e.most in
+    record { least = omega (arith, least); most = omega (arith, most) }
+one_in_entry lists p None (Some k) =
+    let e = one_listed (Pin p) k lists.special in
+    let least = e.least in
+    let most = e.most in
+    record { least = omega (arith, least); most = omega (arith, most) }
+one_in_entry lists p None None = record { least = omega arith; most = omega arith }
+
+one_named : (lists : NetLists) (p : ℕ) (name : Option (List ℕ)) → IsOneMore (all_count lists) (all_count (to_named lists p name))
+one_named lists p None = record { least = omega arith; most = omega arith }
+one_named lists p (Some name) = one_in_entry lists p (place_of name (net_names lists.nets)) (place_of name (net_names lists.special))
+
+either_one : (n : ℕ) (test : Bool) (a b : NetLists) → IsOneMore n (all_count a) → IsOneMore n (all_count b) → IsOneMore n (all_count (if test then a else b))
+either_one n true a b one other = one
+either_one n false a b one other = other
+
+one_pin : (lists : NetLists) (p : ℕ) (pin : PinSaid) → IsOneMore (all_count lists) (all_count (with_lone_pin lists p pin))
+unfolding with_lone_pin
+one_pin lists p pin =
+    either_one (all_count lists) (is_listed (Pin p) lists.nets || is_listed (Pin p) lists.special) lists (to_named lists p pin.net_name)
+    (record { least = omega arith; most = omega arith }) (one_named lists p pin.net_name)
+
+-- A pin is one terminal more at most.
+pub few_more : (before after : NetLists) (i : ℕ) (limit : ℕ) (pin : PinSaid) → after ≡ with_lone_pin before i pin → all_count before ≤ limit + i → all_count after ≤ limit + (i + 1)
+few_more before after i limit pin is few =
+    let most = (one_pin before i pin).most in
+    rw is (omega (arith, most, few))
+
+-- No pin takes a terminal away.
+pub no_fewer : (lists : NetLists) (p : ℕ) (pins : List PinSaid) → all_count lists ≤ all_count (with_lone_pins lists p pins)
+unfolding with_lone_pins
+no_fewer lists p [] = omega arith
+no_fewer lists p (pin ∷ pins) =
+    let first = (one_pin lists p pin).least in
+    let rest = no_fewer (with_lone_pin lists p pin) (suc p) pins in
+    omega (arith, first, rest)

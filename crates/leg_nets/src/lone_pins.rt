@@ -1,7 +1,8 @@
 //! Pins of the design that no net lists (own rule).
 
-ghost use Rattle.std.specs.Prelude.{◌≡◌, ◌<◌, ◌≤◌, length, OnOk};
-ghost use Rattle.leg_block.specs.declared.limits.TheConstants.{ENTRY_LIMIT};
+ghost use Rattle.std.specs.Prelude.{◌≡◌, ◌+◌, ◌<◌, ◌≤◌, length, OnOk};
+ghost use Rattle.leg_block.specs.declared.limits.TheConstants.{ENTRY_LIMIT, PART_LIMIT};
+ghost use Rattle.leg_block.specs.Records.{terminal_count};
 ghost use Rattle.leg_nets.specs.LonePins.{with_lone_pin, with_lone_pins};
 
 use crate::net_table::NetTable;
@@ -16,7 +17,8 @@ fn add_lone_pin<'a, A: Allocator + Copy>(
     nets: &mut NetTable<'a, A>,
     special: &mut NetTable<'a, A>,
 ) -> Result<(), AllocError>
-    requires { number < ENTRY_LIMIT }
+    requires number { number < ENTRY_LIMIT }
+    requires few { terminal_count nets.old + terminal_count special.old ≤ PART_LIMIT + ENTRY_LIMIT }
     ensures { OnOk result (record { nets = nets.new; special = special.new }
         ≡ with_lone_pin (record { nets = nets.old; special = special.old }) number pin.now) }
 {
@@ -37,13 +39,14 @@ fn add_lone_pin<'a, A: Allocator + Copy>(
 
 /// Appends each pin that no entry lists to the entry of the net that its `+ NET` names: to that of `NETS`, and where
 /// there is none to that of `SPECIALNETS`.
-#[tactic(auto, using(crate::proofs::LonePins::pin_added, crate::proofs::LonePins::all_added))]
+#[tactic(auto, using(crate::proofs::LonePins::all_added))]
 pub fn add_lone_pins<'a, A: Allocator + Copy>(
     pins: &[Pin<'a, A>],
     nets: &mut NetTable<'a, A>,
     special: &mut NetTable<'a, A>,
 ) -> Result<(), AllocError>
-    requires { length pins.now ≤ ENTRY_LIMIT }
+    requires pins { length pins.now ≤ ENTRY_LIMIT }
+    requires few { terminal_count nets.old + terminal_count special.old ≤ PART_LIMIT }
     ensures { OnOk result (record { nets = nets.new; special = special.new }
         ≡ with_lone_pins (record { nets = nets.old; special = special.old }) 0 pins.now) }
 {

@@ -3,7 +3,7 @@
 ghost use Rattle.std.specs.Prelude.{◌≡◌, ◌++◌, ◌∷◌, [], ◌+◌, ◌<◌, ◌≤◌, ◌||◌, false, length, is_some, None, OnOk, OnErr, nat_lt};
 ghost use Rattle.leg_lex.specs.Words.{Means};
 ghost use Rattle.leg_lex.specs.NameLookup.{place_of};
-ghost use Rattle.leg_block.specs.declared.limits.TheConstants.{PART_LIMIT};
+ghost use Rattle.leg_block.specs.declared.limits.TheConstants.{ENTRY_LIMIT, PART_LIMIT};
 ghost use Rattle.leg_block.specs.Terminals.{is_among};
 ghost use Rattle.leg_nets.specs.Terminal.{is_of_other_net, add_terminal};
 ghost use Rattle.leg_nets.specs.LonePins.{is_listed, with_terminal};
@@ -109,19 +109,17 @@ impl<'a, A: Allocator + Copy> NetTable<'a, A> {
         number: usize,
         terminal: Terminal,
     ) -> Result<(), AllocError>
-        requires { is_listed terminal self.old ≡ false }
+        requires unlisted { is_listed terminal self.old ≡ false }
+        requires few { terminal_count self.old ≤ PART_LIMIT + ENTRY_LIMIT }
         ensures { OnOk result (self.new ≡ with_terminal terminal number self.old) }
     {
         if number >= self.items.len() {
             return Ok(());
         }
-        let Some(terminals) = self.terminals.checked_add(1) else {
-            return Err(AllocError);
-        };
         self.index.reserve()?;
         list_terminal(&mut self.items, number, terminal)?;
         self.index.push(terminal, number);
-        self.terminals = terminals;
+        self.terminals += 1;
         Ok(())
     }
 

@@ -1,4 +1,4 @@
-use Rattle.std.proofs.Common.{◌≡◌, ◌+◌, ◌<◌, false, List, length, ap, ◌∙◌, arith}
+use Rattle.std.proofs.Common.{◌≡◌, ◌+◌, ◌<◌, false, List, length, refl, ap, ◌∙◌, arith}
 use Rattle.std.proofs.lemmas.Grind.{common_steps}
 use Rattle.leg_nets.specs.LonePins.{is_listed, with_terminal}
 use Rattle.leg_block.specs.Records.{NetSaid}
@@ -23,6 +23,5 @@ invariant_of-self-2 g c =
     let less : c.args.number < length nets = grind (arith, common_steps) in
     let put : c.list_terminal.new.nets ≡ with_terminal c.args.terminal c.args.number nets =
     c.in_ok-list_terminal.ensures.listed ∙ ap (λ (xs : List NetSaid). with_terminal c.args.terminal c.args.number xs) c.deref_mut.ensures.value in
-    let not : is_listed c.args.terminal nets ≡ false = ap (λ (xs : List NetSaid). is_listed c.args.terminal xs) c.self.view_is ∙ c.requires in
-    let one : c.in-Some.terminals ≡ c.self.inside.terminals + 1 = grind (arith, common_steps) in
-    kept_listed nets c.list_terminal.new.nets c.self.inside.items.len c.args.number c.args.terminal c.self.inside.names (number_of c.self.inside.index.numbers) (number_of c.reserve.new.self.numbers) (number_of c.push.new.self.numbers) c.self.inside.terminals c.in-Some.terminals c.self.inside.wires c.self.invariant whole less put not c.reserve.ensures.same c.push.ensures one
+    let not : is_listed c.args.terminal nets ≡ false = ap (λ (xs : List NetSaid). is_listed c.args.terminal xs) c.self.view_is ∙ c.requires.unlisted in
+    kept_listed nets c.list_terminal.new.nets c.self.inside.items.len c.args.number c.args.terminal c.self.inside.names (number_of c.self.inside.index.numbers) (number_of c.reserve.new.self.numbers) (number_of c.push.new.self.numbers) c.self.inside.terminals (c.self.inside.terminals + 1) c.self.inside.wires c.self.invariant whole less put not c.reserve.ensures.same c.push.ensures refl
