@@ -1,14 +1,14 @@
 -- Texts that begin with white space, and their words.
-use Rattle.std.proofs.Common.{◌≡◌, ℕ, ◌+◌, ◌-◌, Bool, true, false, not, ◌&&◌, ◌||◌, ◌==◌, nat_lt, if◌then◌else◌, MatchBool, List, [], ◌∷◌, ◌++◌, All, length, slice_index, map, count_by, refl, sym, ap, ◌∙◌, subst, arith}
+use Rattle.std.proofs.Common.{◌≡◌, ℕ, ◌+◌, ◌-◌, Bool, true, false, not, ◌&&◌, ◌==◌, nat_lt, if◌then◌else◌, MatchBool, List, [], ◌∷◌, ◌++◌, All, length, slice_index, count_by, refl, sym, ap, ◌∙◌, subst, arith}
 use Rattle.std.specs.List.{list_any, list_all, flat_map}
 use Rattle.std.proofs.lemmas.Bool.{eqb-true, false≢true}
 use Rattle.std.proofs.lemmas.Bool.Decides.{nat_tests}
-use Rattle.std.proofs.lemmas.List.{append_assoc, append-nil, map-append, nil_from_length}
+use Rattle.std.proofs.lemmas.List.{append_assoc, map-append, nil_from_length}
 use Rattle.std.proofs.lemmas.List.Elements.{All-head, All-tail}
-use Rattle.leg_lex.specs.Word.{Word, texts}
+use Rattle.leg_lex.specs.Word.{texts}
 use Rattle.leg_lex.specs.Cut.{Kind, White, Comment, Quoted, Plain, kind_of, Closes, Ends, RunsTo, IsPiece, CutTo, is_white, is_line_feed}
 use Rattle.leg_lex.specs.Tokens.{plain_words, words_in, words_from}
-use Rattle.leg_lex.specs.Words.{Words, is_plain_kind, is_plain, closes, is_closed}
+use Rattle.leg_lex.specs.Words.{Words, is_plain_kind, closes, is_closed}
 use Rattle.leg_text.specs.Spaced.{spaced, stays_one, is_printable}
 
 -- the text is over, or goes on with white space

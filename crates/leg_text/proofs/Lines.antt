@@ -1,15 +1,15 @@
 -- Texts of whole lines, and their words.
-use Rattle.std.proofs.Common.{◌≡◌, ℕ, ◌+◌, Bool, true, false, ◌&&◌, List, [], ◌∷◌, ◌++◌, All, codes, count_by, refl, sym, ap, ◌∙◌, subst}
+use Rattle.std.proofs.Common.{◌≡◌, ℕ, ◌+◌, Bool, true, false, List, [], ◌∷◌, ◌++◌, All, codes, count_by, refl, sym, ap, ◌∙◌, subst}
 use Rattle.std.specs.List.{list_all, flat_map}
 use Rattle.std.proofs.lemmas.Bool.{false≢true}
-use Rattle.std.proofs.lemmas.List.{append_assoc, append-nil, map-append}
+use Rattle.std.proofs.lemmas.List.{append_assoc, append-nil}
 use Rattle.std.proofs.lemmas.List.Folds.{list_all-append}
 use Rattle.std.proofs.lemmas.List.Elements.{All-head, All-tail}
 use Rattle.leg_lex.specs.Word.{Word, texts}
-use Rattle.leg_lex.specs.Cut.{IsPiece, CutTo, Cut, is_line_feed}
-use Rattle.leg_lex.specs.Tokens.{words_in, words_from, AreTokens}
+use Rattle.leg_lex.specs.Cut.{CutTo, Cut, is_line_feed}
+use Rattle.leg_lex.specs.Tokens.{words_from, AreTokens}
 use Rattle.leg_lex.specs.Words.{Words}
-use Rattle.leg_text.specs.Spaced.{spaced, line, is_printable, text_of, words_in_lines}
+use Rattle.leg_text.specs.Spaced.{line, is_printable, text_of, words_in_lines}
 use Rattle.leg_text.proofs.Behind.{IsOne, Behind, printable_is_one, first_passes, others_pass, cut_append, said_append, behind_append, behind_word, behind_spaced}
 
 -- The text has these words, whatever comes after it: it is whole lines.

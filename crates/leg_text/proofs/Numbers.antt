@@ -1,5 +1,5 @@
 -- Numbers in decimals, as words.
-use Rattle.std.proofs.Common.{◌≡◌, ℕ, zero, suc, ◌+◌, ◌-◌, ◌^◌, ◌<◌, ◌≤◌, Bool, true, false, not, ◌&&◌, ◌||◌, ◌==◌, nat_lt, nat_le, List, [], ◌∷◌, length, get_or, slice_index, ℤ, pos, negsuc, unsigned_abs, decimal, Ok, refl, sym, ap, ◌∙◌, arith}
+use Rattle.std.proofs.Common.{◌≡◌, ℕ, suc, ◌-◌, ◌^◌, ◌<◌, ◌≤◌, Bool, true, false, not, ◌&&◌, ◌==◌, nat_le, List, [], ◌∷◌, length, get_or, ℤ, pos, negsuc, decimal, Ok, refl, arith}
 use Rattle.std.specs.Fmt.{signed_decimal}
 use Rattle.std.specs.Int.{IsInRange}
 use Rattle.std.specs.List.{list_any}
@@ -9,8 +9,8 @@ use Rattle.std.proofs.lemmas.Fmt.{decimal_is_IsNumeral, digits_decimal, decimal_
 use Rattle.std.proofs.lemmas.Str.Parse.{numerals_by_value, tells_all_ascii_digits, tells_by_index}
 use Rattle.std.proofs.lemmas.Bool.Decides.{nat_tests}
 use Rattle.leg_lex.specs.declared.limits.TheConstants.{NUMBER_LIMIT}
-use Rattle.leg_lex.specs.Cut.{Kind, Plain, kind_of, is_white}
-use Rattle.leg_lex.specs.Words.{is_name, is_plain_kind, is_plain, is_mark, is_mark_byte}
+use Rattle.leg_lex.specs.Cut.{kind_of, is_white}
+use Rattle.leg_lex.specs.Words.{is_name, is_plain_kind, is_mark, is_mark_byte}
 use Rattle.leg_lex.specs.Number.{IsNumber, whole_of}
 use Rattle.leg_text.specs.Spaced.{stays_one, is_printable}
 
