@@ -1,3 +1,5 @@
+-- Which words are printable
+pub mod Printable
 -- Words behind one another in a text, whatever comes before: each piece of such a text begins with white space
 pub mod Behind
 -- Whole lines, whatever comes after: their words, and the tokens of a text of lines

@@ -9,8 +9,8 @@ use Rattle.leg_lex.specs.Word.{Word, texts}
 use Rattle.leg_lex.specs.Cut.{CutTo, Cut, is_line_feed}
 use Rattle.leg_lex.specs.Tokens.{words_from, AreTokens}
 use Rattle.leg_lex.specs.Words.{Words}
-use Rattle.leg_text.specs.Spaced.{line, is_printable, text_of, words_in_lines}
-use Rattle.leg_text.proofs.Behind.{IsOne, Behind, printable_is_one, first_passes, others_pass, cut_append, said_append, behind_append, behind_word, behind_spaced}
+use Rattle.leg_text.specs.Spaced.{spaced, line, is_printable, text_of, words_in_lines}
+use Rattle.leg_text.proofs.Behind.{IsOne, Behind, printable_is_one, first_passes, others_pass, cut_append, said_append, behind_nil, behind_append, behind_white, behind_word, behind_spaced}
 
 -- The text has these words, whatever comes after it: it is whole lines.
 pub record Lines (text : List ℕ) (words : Words) : Type 0 where
@@ -50,6 +50,27 @@ lines_statement {text} {words} word one behind =
     let whole : Lines (word ++ (text ++ codes " ;") ++ 10 ∷ []) (word ∷ (words ++ codes ";" ∷ [])) = lines_line word one ended in
     subst (λ t. Lines t (word ∷ (words ++ codes ";" ∷ [])))
     (append_assoc word (text ++ codes " ;") (10 ∷ []) ∙ ap (λ t. word ++ t) (append_assoc text (codes " ;") (10 ∷ [])) ∙ sym (append_assoc word text (codes " ;\n"))) whole
+
+-- Further lines of an entry begin with two blanks, which are no words.
+further_line : (words : Words) → list_all is_printable words ≡ true → Behind (codes "\n " ++ spaced words) words
+further_line words all = behind_append (behind_append (behind_white 10 refl) (behind_white 32 refl)) (behind_spaced words all)
+
+pub further_lines : (lines : List Words) → list_all is_printable (words_in_lines lines) ≡ true → Behind (flat_map (λ words. codes "\n " ++ spaced words) lines) (words_in_lines lines)
+further_lines [] all = behind_nil
+further_lines (words ∷ lines) all = by (further_lines lines) (list_all is_printable words) (list_all is_printable (words_in_lines lines)) refl refl where
+  by : (list_all is_printable (words_in_lines lines) ≡ true → Behind (flat_map (λ words. codes "\n " ++ spaced words) lines) (words_in_lines lines)) → (here others : Bool) → list_all is_printable words ≡ here → list_all is_printable (words_in_lines lines) ≡ others
+      → Behind (flat_map (λ words. codes "\n " ++ spaced words) (words ∷ lines)) (words_in_lines (words ∷ lines))
+  by later true true first rest = behind_append (further_line words first) (later rest)
+  by later true false first rest = absurd (false≢true (rw (list_all-append is_printable words (words_in_lines lines), first, rest) at all))
+  by later false others first rest = absurd (false≢true (rw (list_all-append is_printable words (words_in_lines lines), first) at all))
+
+-- a statement over several lines
+pub lines_entry : (word : List ℕ) (head : Words) (lines : List Words) → is_printable word ≡ true → list_all is_printable head ≡ true → list_all is_printable (words_in_lines lines) ≡ true
+    → Lines (word ++ spaced head ++ flat_map (λ words. codes "\n " ++ spaced words) lines ++ codes " ;\n") (word ∷ (head ++ words_in_lines lines ++ codes ";" ∷ []))
+lines_entry word head lines first near far =
+    let further = flat_map (λ words. codes "\n " ++ spaced words) lines in
+    subst (λ t. Lines (t ++ codes " ;\n") (word ∷ (head ++ words_in_lines lines ++ codes ";" ∷ []))) (sym (append_assoc word (spaced head) further))
+    (lines_statement word (printable_is_one word first) (behind_append (behind_spaced head near) (further_lines lines far)))
 
 -- the texts of a list's elements, one after the other
 pub lines_each : {X : Type 0} (text : X → List ℕ) (words : X → Words) (xs : List X) → All (λ x. Lines (text x) (words x)) xs → Lines (flat_map text xs) (flat_map words xs)
