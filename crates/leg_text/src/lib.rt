@@ -1,0 +1,12 @@
+//! Lines of words as the bytes of a text, and that they are read as these words.
+//!
+//! Of the forms of LEF and DEF nothing is known here. LEF/DEF 5.8 lets any white space stand between words; that it is
+//! one blank within a line is an own rule.
+#![tactic(auto)]
+
+pub mod laws;
+#[cfg(test)]
+mod tests;
+mod word_text;
+
+pub use word_text::{push_end, push_first, push_line_feed, push_number, push_word, push_words};
