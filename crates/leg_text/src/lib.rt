@@ -1,0 +1,9 @@
+//! Lines of words as the bytes of a text, and that they are read as these words.
+//!
+//! Of the forms of LEF and DEF nothing is known here.
+#![tactic(auto)]
+
+pub mod laws;
+mod word_text;
+
+pub use word_text::{push_end, push_first, push_line_feed, push_number, push_word, push_words};
