@@ -23,7 +23,7 @@ pub fn push_word<A: Allocator>(text: &mut Vec<u8, A>, word: &[u8]) -> Result<(),
     ensures { OnOk result (text.new.items ≡ text.old.items ++ spaced (word.now ∷ [])) }
 {
     text.push(b' ')?;
-    text.extend_from_slice(word)
+    push_first(text, word)
 }
 
 /// Adds each word behind a blank.
