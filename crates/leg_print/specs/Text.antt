@@ -1,4 +1,3 @@
-pub mod Names
 pub mod Points
 pub mod Clauses
 pub mod Header

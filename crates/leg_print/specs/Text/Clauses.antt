@@ -4,10 +4,10 @@ use Rattle.std.specs.List.{flat_map}
 use Rattle.leg_lex.specs.Words.{Words}
 use Rattle.leg_geom.specs.declared.place.Place.{Place}
 use Rattle.leg_cells.specs.declared.records.Shape.{Shape}
-use Rattle.leg_cells.specs.Records.{Contents}
+use Rattle.leg_block.specs.Records.{DesignContents}
 use Rattle.leg_block.specs.declared.records.Status.{Status}
 use Rattle.leg_block.specs.declared.records.Status.TheVariants.{Unplaced, Placed, Fixed, Cover}
-use Rattle.leg_print.specs.Text.Names.{name_of_layer}
+use Rattle.leg_print.specs.Names.{layer_name}
 use Rattle.leg_print.specs.Text.Points.{corner_words, place_words}
 
 -- each clause behind a `+`
@@ -20,8 +20,8 @@ kept_clause keyword None = []
 kept_clause keyword (Some word) = (keyword ∷ word ∷ []) ∷ []
 
 -- KEYWORD layer ( x1 y1 ) ( x2 y2 )
-abbrev pub shape_clause : List ℕ → Contents → Shape → Words
-shape_clause keyword library shape = keyword ∷ name_of_layer library shape.layer ∷ corner_words shape.rect
+abbrev pub shape_clause : List ℕ → DesignContents → Shape → Words
+shape_clause keyword design shape = keyword ∷ layer_name design shape.layer ∷ corner_words shape.rect
 
 abbrev pub status_word : Status → List ℕ
 status_word Unplaced = codes "UNPLACED"

@@ -28,8 +28,15 @@ units_words units = codes "UNITS" ∷ codes "DISTANCE" ∷ codes "MICRONS" ∷ d
 abbrev pub die_words : Sides → Words
 die_words die = codes "DIEAREA" ∷ corner_words die ++ codes ";" ∷ []
 
--- VERSION; the divider and the brackets of bus bits, where they were kept; DESIGN, UNITS and DIEAREA
-abbrev pub header_text : DesignContents → List ℕ
-header_text design =
+-- how names are written: VERSION, and the divider and the brackets of bus bits, where they were kept
+abbrev pub naming_text : DesignContents → List ℕ
+naming_text design =
     line version_words ++ kept_line (codes "DIVIDERCHAR") design.divider ++ kept_line (codes "BUSBITCHARS") design.bus
-    ++ line (word_words (codes "DESIGN") design.name) ++ line (units_words design.library.units) ++ line (die_words design.die)
+
+-- the design itself: DESIGN, UNITS and DIEAREA
+abbrev pub frame_text : DesignContents → List ℕ
+frame_text design =
+    line (word_words (codes "DESIGN") design.name) ++ line (units_words design.library.units) ++ line (die_words design.die)
+
+abbrev pub header_text : DesignContents → List ℕ
+header_text design = naming_text design ++ frame_text design

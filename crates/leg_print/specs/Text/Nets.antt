@@ -1,22 +1,22 @@
 -- The entry of a net (LEF/DEF 5.8, "Nets", "Special Nets"; that each wire has a line of its own, and that all are
 -- ROUTED, are own rules).
 use Rattle.std.specs.Prelude.{ℕ, Bool, List, [], ◌∷◌, ◌++◌, map, codes}
-use Rattle.std.specs.List.{flat_map, concat}
+use Rattle.std.specs.List.{flat_map}
 use Rattle.leg_lex.specs.Words.{Words}
-use Rattle.leg_text.specs.Spaced.{spaced}
+use Rattle.leg_text.specs.Spaced.{spaced, words_in_lines}
 use Rattle.leg_block.specs.declared.records.Terminal.{Terminal}
 use Rattle.leg_block.specs.declared.records.Terminal.TheVariants.{Comp, Pin}
 use Rattle.leg_block.specs.declared.records.Wire.{Wire}
 use Rattle.leg_block.specs.Records.{DesignContents, NetSaid}
-use Rattle.leg_print.specs.Text.Names.{name_of_component, name_of_component_pin, name_of_pin}
+use Rattle.leg_print.specs.Names.{component_name, component_pin_name, design_pin_name}
 use Rattle.leg_print.specs.Text.Clauses.{clause_words, kept_clause}
 use Rattle.leg_print.specs.Text.Wires.{wire_words}
 
 -- ( component pin ), or ( PIN pin ) for a pin of the design
 abbrev pub terminal_words : DesignContents → Terminal → Words
 terminal_words design (Comp component pin) =
-    codes "(" ∷ name_of_component design component ∷ name_of_component_pin design component pin ∷ codes ")" ∷ []
-terminal_words design (Pin pin) = codes "(" ∷ codes "PIN" ∷ name_of_pin design pin ∷ codes ")" ∷ []
+    codes "(" ∷ component_name design component ∷ component_pin_name design component pin ∷ codes ")" ∷ []
+terminal_words design (Pin pin) = codes "(" ∷ codes "PIN" ∷ design_pin_name design pin ∷ codes ")" ∷ []
 
 -- the words behind the dash, up to the wires: name, terminals, and USE where it was kept
 abbrev pub net_head : DesignContents → NetSaid → Words
@@ -32,7 +32,7 @@ wiring_words design special (wire ∷ wires) =
 
 -- - name terminals + USE word wires
 abbrev pub net_said : DesignContents → Bool → NetSaid → Words
-net_said design special net = codes "-" ∷ net_head design net ++ concat (wiring_words design special net.wires)
+net_said design special net = codes "-" ∷ net_head design net ++ words_in_lines (wiring_words design special net.wires)
 
 -- the same with its semicolon
 abbrev pub net_words : DesignContents → Bool → NetSaid → Words

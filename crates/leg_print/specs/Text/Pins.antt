@@ -3,9 +3,8 @@ use Rattle.std.specs.Prelude.{ℕ, List, [], ◌∷◌, ◌++◌, map, Option, N
 use Rattle.std.specs.List.{flat_map}
 use Rattle.leg_lex.specs.Words.{Words}
 use Rattle.leg_geom.specs.declared.place.Place.{Place}
-use Rattle.leg_cells.specs.Records.{Contents}
 use Rattle.leg_block.specs.declared.records.Status.{Status}
-use Rattle.leg_block.specs.Records.{PortSaid, PinSaid}
+use Rattle.leg_block.specs.Records.{DesignContents, PortSaid, PinSaid}
 use Rattle.leg_print.specs.Text.Clauses.{clause_words, kept_clause, shape_clause, placement_clause}
 
 -- where a port stands, if it stands somewhere
@@ -14,20 +13,20 @@ port_place status None = []
 port_place status (Some place) = placement_clause status (Some place) ∷ []
 
 -- PORT, its rectangles, and its place
-abbrev pub port_clauses : Contents → PortSaid → List Words
-port_clauses library port =
-    (codes "PORT" ∷ []) ∷ map (shape_clause (codes "LAYER") library) port.shapes ++ port_place port.status port.place
+abbrev pub port_clauses : DesignContents → PortSaid → List Words
+port_clauses design port =
+    (codes "PORT" ∷ []) ∷ map (shape_clause (codes "LAYER") design) port.shapes ++ port_place port.status port.place
 
 -- NET, DIRECTION and USE, where they were kept, and the ports
-abbrev pub pin_clauses : Contents → PinSaid → List Words
-pin_clauses library pin =
+abbrev pub pin_clauses : DesignContents → PinSaid → List Words
+pin_clauses design pin =
     kept_clause (codes "NET") pin.net_name ++ kept_clause (codes "DIRECTION") pin.direction
-    ++ kept_clause (codes "USE") pin.usage ++ flat_map (port_clauses library) pin.ports
+    ++ kept_clause (codes "USE") pin.usage ++ flat_map (port_clauses design) pin.ports
 
 -- - name clauses
-abbrev pub pin_said : Contents → PinSaid → Words
-pin_said library pin = codes "-" ∷ pin.name ∷ clause_words (pin_clauses library pin)
+abbrev pub pin_said : DesignContents → PinSaid → Words
+pin_said design pin = codes "-" ∷ pin.name ∷ clause_words (pin_clauses design pin)
 
 -- the same with its semicolon
-abbrev pub pin_words : Contents → PinSaid → Words
-pin_words library pin = pin_said library pin ++ codes ";" ∷ []
+abbrev pub pin_words : DesignContents → PinSaid → Words
+pin_words design pin = pin_said design pin ++ codes ";" ∷ []

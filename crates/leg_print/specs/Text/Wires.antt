@@ -12,7 +12,7 @@ use Rattle.leg_block.specs.declared.records.Wire.TheVariants.{Segment, ViaAt, Pa
 use Rattle.leg_block.specs.Wires.{default_extension}
 use Rattle.leg_block.specs.WellFormedNets.{written}
 use Rattle.leg_block.specs.Records.{DesignContents}
-use Rattle.leg_print.specs.Text.Names.{name_of_layer, name_of_via}
+use Rattle.leg_print.specs.Names.{layer_name, via_numbered, via_name}
 use Rattle.leg_print.specs.Text.Points.{spot_words}
 
 -- a number, where there is one
@@ -47,25 +47,25 @@ shapes_if_any (Some via) = via.shapes
 
 -- the lower routing layer of the via of this number
 abbrev pub layer_of_via : DesignContents → ℕ → ℕ
-layer_of_via design via = lowest_layer (shapes_if_any (slice_get (design.library.vias ++ design.vias) via))
+layer_of_via design via = lowest_layer (shapes_if_any (via_numbered design via))
 
 -- layer width from to: a segment, with its extensions
 abbrev pub segment_words : DesignContents → Bool → ℕ → Spot → Spot → ℤ → ℤ → ℤ → Words
 segment_words design special layer from to width ext_from ext_to =
-    name_of_layer design.library layer ∷ width_words special width
+    layer_name design layer ∷ width_words special width
     ++ point_words from (given_extension design.library special layer ext_from)
     ++ point_words to (given_extension design.library special layer ext_to)
 
 -- layer width ( x y ) name: a via, whose path begins on its lower layer and has no width
 abbrev pub via_wire_words : DesignContents → Bool → ℕ → Spot → Words
 via_wire_words design special via at =
-    name_of_layer design.library (layer_of_via design via) ∷ width_words special (pos 0)
-    ++ spot_words at ++ name_of_via design via ∷ []
+    layer_name design (layer_of_via design via) ∷ width_words special (pos 0)
+    ++ spot_words at ++ via_name design via ∷ []
 
 -- layer ( x y ) RECT ( x1 y1 x2 y2 ): a rectangle, given from its point
 abbrev pub patch_words : DesignContents → ℕ → Spot → Sides → Words
 patch_words design layer at rect =
-    name_of_layer design.library layer ∷ spot_words at
+    layer_name design layer ∷ spot_words at
     ++ codes "RECT" ∷ codes "(" ∷ signed_decimal rect.x1 ∷ signed_decimal rect.y1 ∷ signed_decimal rect.x2
     ∷ signed_decimal rect.y2 ∷ codes ")" ∷ []
 
