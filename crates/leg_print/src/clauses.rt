@@ -17,9 +17,9 @@ use std::alloc::{AllocError, Allocator};
 pub(crate) fn push_kept<A: Allocator>(
     text: &mut Vec<u8, A>,
     keyword: &[u8],
-    word: Option<&Name<'_>>,
+    word: &Option<Name<'_>>,
 ) -> Result<(), AllocError>
-    ensures { OnOk result (text.new.items ≡ text.old.items ++ spaced (clause_words (kept_clause keyword.now (option_map (λ word. word.now) word.entry)))) }
+    ensures { OnOk result (text.new.items ≡ text.old.items ++ spaced (clause_words (kept_clause keyword.now word.now))) }
 {
     let Some(word) = word else {
         return Ok(());

@@ -32,26 +32,29 @@ fn push_component<A: Allocator + Copy>(
 fn push_component_entries<A: Allocator + Copy>(
     text: &mut Vec<u8, A>,
     design: &Design<'_, A>,
+    components: &[Component<'_>],
 ) -> Result<(), AllocError>
-    ensures { OnOk result (text.new.items ≡ text.old.items ++ flat_map (λ component. line (component_words design.now component)) design.now.components) }
+    ensures { OnOk result (text.new.items ≡ text.old.items ++ flat_map (λ component. line (component_words design.now component)) components.now) }
 {
-    for component in design.components() {
+    for component in components {
         push_component(text, design, component)?;
     }
     Ok(())
 }
 
 /// Adds the section of components, where there are any.
+#[tactic(auto, using(crate::proofs::SectionText::no_section))]
 pub(crate) fn push_components<A: Allocator + Copy>(
     text: &mut Vec<u8, A>,
     design: &Design<'_, A>,
+    components: &[Component<'_>],
 ) -> Result<(), AllocError>
-    ensures { OnOk result (text.new.items ≡ text.old.items ++ components_text design.now design.now.components) }
+    ensures { OnOk result (text.new.items ≡ text.old.items ++ components_text design.now components.now) }
 {
-    if design.components().is_empty() {
+    if components.is_empty() {
         return Ok(());
     }
-    push_section_start(text, b"COMPONENTS", design.components().len())?;
-    push_component_entries(text, design)?;
+    push_section_start(text, b"COMPONENTS", components.len())?;
+    push_component_entries(text, design, components)?;
     push_section_end(text, b"COMPONENTS")
 }

@@ -30,11 +30,11 @@ pub fn print_def<A: Allocator + Copy>(
 {
     let mut text = Vec::new(alloc);
     push_header(&mut text, design)?;
-    push_rows(&mut text, design)?;
-    push_tracks(&mut text, design)?;
-    push_vias(&mut text, design)?;
-    push_components(&mut text, design)?;
-    push_pins(&mut text, design)?;
+    push_rows(&mut text, design, design.rows())?;
+    push_tracks(&mut text, design, design.tracks())?;
+    push_vias(&mut text, design, design.vias())?;
+    push_components(&mut text, design, design.components())?;
+    push_pins(&mut text, design, design.pins())?;
     push_nets(&mut text, design, true, design.special())?;
     push_nets(&mut text, design, false, design.nets())?;
     push_section_end(&mut text, b"DESIGN")?;

@@ -1,7 +1,7 @@
 //! The lines that a design text begins with.
 
-ghost use Rattle.std.specs.Prelude.{◌≡◌, ◌++◌, OnOk, option_map};
-ghost use Rattle.leg_text.specs.Spaced.{line};
+ghost use Rattle.std.specs.Prelude.{◌≡◌, ◌++◌, ◌∷◌, [], OnOk, option_map, codes, decimal};
+ghost use Rattle.leg_text.specs.Spaced.{spaced, line};
 ghost use Rattle.leg_print.specs.Text.Header.{word_words, kept_line, units_words, die_words, naming_text, frame_text, header_text};
 
 use crate::points::push_corners;
@@ -38,12 +38,11 @@ fn push_kept_line<A: Allocator>(
     }
 }
 
-/// Adds the line of the database units of a micron.
-fn push_units<A: Allocator>(text: &mut Vec<u8, A>, units: u32) -> Result<(), AllocError>
-    ensures { OnOk result (text.new.items ≡ text.old.items ++ line (units_words units)) }
+/// Adds how many database units a micron has.
+fn push_microns<A: Allocator>(text: &mut Vec<u8, A>, units: u32) -> Result<(), AllocError>
+    ensures { OnOk result (text.new.items ≡ text.old.items ++ spaced (codes "DISTANCE" ∷ codes "MICRONS" ∷ decimal units ∷ [])) }
 {
     let mut digits = Buffer::new();
-    push_first(text, b"UNITS")?;
     push_words(
         text,
         &[
@@ -51,7 +50,15 @@ fn push_units<A: Allocator>(text: &mut Vec<u8, A>, units: u32) -> Result<(), All
             b"MICRONS".as_slice(),
             digits.format(units).as_bytes(),
         ],
-    )?;
+    )
+}
+
+/// Adds the line of the database units of a micron.
+fn push_units<A: Allocator>(text: &mut Vec<u8, A>, units: u32) -> Result<(), AllocError>
+    ensures { OnOk result (text.new.items ≡ text.old.items ++ line (units_words units)) }
+{
+    push_first(text, b"UNITS")?;
+    push_microns(text, units)?;
     push_end(text)
 }
 

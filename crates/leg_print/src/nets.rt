@@ -4,7 +4,8 @@ ghost use Rattle.std.specs.Prelude.{◌≡◌, ◌++◌, OnOk, map, codes, ◌�
 ghost use Rattle.std.specs.List.{flat_map};
 ghost use Rattle.leg_text.specs.Spaced.{spaced};
 ghost use Rattle.leg_print.specs.Text.Wires.{wire_words};
-ghost use Rattle.leg_print.specs.Text.Nets.{terminal_words, wiring_words, wire_line, net_text};
+ghost use Rattle.leg_print.specs.Text.Nets.{terminal_words, net_head, wiring_words, wire_line, net_text};
+ghost use Rattle.leg_print.specs.Text.Sections.{section_text};
 ghost use Rattle.leg_print.specs.Text.Whole.{net_section, nets_text};
 
 use crate::clauses::push_kept;
@@ -116,6 +117,19 @@ fn push_wires<A: Allocator + Copy>(
     push_new_wires(text, design, special, others)
 }
 
+/// Adds the words of a net up to its wires.
+fn push_net_head<A: Allocator + Copy>(
+    text: &mut Vec<u8, A>,
+    design: &Design<'_, A>,
+    net: &Net<'_, A>,
+) -> Result<(), AllocError>
+    ensures { OnOk result (text.new.items ≡ text.old.items ++ spaced (net_head design.now net.now)) }
+{
+    push_word(text, net.name.bytes())?;
+    push_terminals(text, design, net.terminals.as_slice())?;
+    push_kept(text, b"USE", &net.usage)
+}
+
 /// Adds the entry of a net.
 fn push_net<A: Allocator + Copy>(
     text: &mut Vec<u8, A>,
@@ -126,9 +140,7 @@ fn push_net<A: Allocator + Copy>(
     ensures { OnOk result (text.new.items ≡ text.old.items ++ net_text design.now special net.now) }
 {
     push_first(text, b"-")?;
-    push_word(text, net.name.bytes())?;
-    push_terminals(text, design, net.terminals.as_slice())?;
-    push_kept(text, b"USE", net.usage.as_ref())?;
+    push_net_head(text, design, net)?;
     push_wires(text, design, special, net.wires.as_slice())?;
     push_end(text)
 }
@@ -156,6 +168,25 @@ fn net_section(special: bool) -> &'static [u8]
 }
 
 /// Adds a section of these nets, where there are any.
+#[tactic(auto, using(crate::proofs::SectionText::no_section))]
+fn push_net_section<A: Allocator + Copy>(
+    text: &mut Vec<u8, A>,
+    design: &Design<'_, A>,
+    special: bool,
+    keyword: &[u8],
+    nets: &[Net<'_, A>],
+) -> Result<(), AllocError>
+    ensures { OnOk result (text.new.items ≡ text.old.items ++ section_text keyword.now (net_text design.now special) nets.now) }
+{
+    if nets.is_empty() {
+        return Ok(());
+    }
+    push_section_start(text, keyword, nets.len())?;
+    push_net_entries(text, design, special, nets)?;
+    push_section_end(text, keyword)
+}
+
+/// Adds the section of these nets, which are those of `SPECIALNETS` or those of `NETS`.
 pub(crate) fn push_nets<A: Allocator + Copy>(
     text: &mut Vec<u8, A>,
     design: &Design<'_, A>,
@@ -164,11 +195,5 @@ pub(crate) fn push_nets<A: Allocator + Copy>(
 ) -> Result<(), AllocError>
     ensures { OnOk result (text.new.items ≡ text.old.items ++ nets_text design.now special nets.now) }
 {
-    if nets.is_empty() {
-        return Ok(());
-    }
-    let keyword = net_section(special);
-    push_section_start(text, keyword, nets.len())?;
-    push_net_entries(text, design, special, nets)?;
-    push_section_end(text, keyword)
+    push_net_section(text, design, special, net_section(special), nets)
 }

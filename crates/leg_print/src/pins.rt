@@ -4,7 +4,7 @@ ghost use Rattle.std.specs.Prelude.{◌≡◌, ◌++◌, OnOk};
 ghost use Rattle.std.specs.List.{flat_map};
 ghost use Rattle.leg_text.specs.Spaced.{spaced, line};
 ghost use Rattle.leg_print.specs.Text.Clauses.{clause_words};
-ghost use Rattle.leg_print.specs.Text.Pins.{port_place, port_clauses, pin_words};
+ghost use Rattle.leg_print.specs.Text.Pins.{port_place, port_clauses, kept_clauses, pin_clauses, pin_words};
 ghost use Rattle.leg_print.specs.Text.Whole.{pins_text};
 
 use crate::clauses::{push_kept, push_placement, push_shapes};
@@ -53,6 +53,30 @@ fn push_ports<A: Allocator + Copy>(
     Ok(())
 }
 
+/// Adds the words that were kept of a pin, each as a clause.
+fn push_kept_words<A: Allocator>(
+    text: &mut Vec<u8, A>,
+    pin: &Pin<'_, A>,
+) -> Result<(), AllocError>
+    ensures { OnOk result (text.new.items ≡ text.old.items ++ spaced (clause_words (kept_clauses pin.now))) }
+{
+    push_kept(text, b"NET", &pin.net_name)?;
+    push_kept(text, b"DIRECTION", &pin.direction)?;
+    push_kept(text, b"USE", &pin.usage)
+}
+
+/// Adds the clauses of a pin.
+fn push_pin_clauses<A: Allocator + Copy>(
+    text: &mut Vec<u8, A>,
+    design: &Design<'_, A>,
+    pin: &Pin<'_, A>,
+) -> Result<(), AllocError>
+    ensures { OnOk result (text.new.items ≡ text.old.items ++ spaced (clause_words (pin_clauses design.now pin.now))) }
+{
+    push_kept_words(text, pin)?;
+    push_ports(text, design, pin.ports.as_slice())
+}
+
 /// Adds the entry of a pin.
 fn push_pin<A: Allocator + Copy>(
     text: &mut Vec<u8, A>,
@@ -63,10 +87,7 @@ fn push_pin<A: Allocator + Copy>(
 {
     push_first(text, b"-")?;
     push_word(text, pin.name.bytes())?;
-    push_kept(text, b"NET", pin.net_name.as_ref())?;
-    push_kept(text, b"DIRECTION", pin.direction.as_ref())?;
-    push_kept(text, b"USE", pin.usage.as_ref())?;
-    push_ports(text, design, pin.ports.as_slice())?;
+    push_pin_clauses(text, design, pin)?;
     push_end(text)
 }
 
@@ -74,26 +95,29 @@ fn push_pin<A: Allocator + Copy>(
 fn push_pin_entries<A: Allocator + Copy>(
     text: &mut Vec<u8, A>,
     design: &Design<'_, A>,
+    pins: &[Pin<'_, A>],
 ) -> Result<(), AllocError>
-    ensures { OnOk result (text.new.items ≡ text.old.items ++ flat_map (λ pin. line (pin_words design.now pin)) design.now.pins) }
+    ensures { OnOk result (text.new.items ≡ text.old.items ++ flat_map (λ pin. line (pin_words design.now pin)) pins.now) }
 {
-    for pin in design.pins() {
+    for pin in pins {
         push_pin(text, design, pin)?;
     }
     Ok(())
 }
 
 /// Adds the section of pins, where there are any.
+#[tactic(auto, using(crate::proofs::SectionText::no_section))]
 pub(crate) fn push_pins<A: Allocator + Copy>(
     text: &mut Vec<u8, A>,
     design: &Design<'_, A>,
+    pins: &[Pin<'_, A>],
 ) -> Result<(), AllocError>
-    ensures { OnOk result (text.new.items ≡ text.old.items ++ pins_text design.now design.now.pins) }
+    ensures { OnOk result (text.new.items ≡ text.old.items ++ pins_text design.now pins.now) }
 {
-    if design.pins().is_empty() {
+    if pins.is_empty() {
         return Ok(());
     }
-    push_section_start(text, b"PINS", design.pins().len())?;
-    push_pin_entries(text, design)?;
+    push_section_start(text, b"PINS", pins.len())?;
+    push_pin_entries(text, design, pins)?;
     push_section_end(text, b"PINS")
 }

@@ -39,7 +39,7 @@ fn push_start<A: Allocator>(
     push_word(text, orient_word(orient))
 }
 
-/// Adds how many sites a row has, and the step from one to the next.
+/// Adds how many sites there are, and the step from one to the next.
 fn push_sites<A: Allocator>(
     text: &mut Vec<u8, A>,
     count: i64,
@@ -76,6 +76,17 @@ fn push_row_head<A: Allocator + Copy>(
     push_start(text, &row.at, row.orient)
 }
 
+/// Adds the sites of a row.
+fn push_row_sites<A: Allocator + Copy>(
+    text: &mut Vec<u8, A>,
+    design: &Design<'_, A>,
+    row: &Row<'_>,
+) -> Result<(), AllocError>
+    ensures { OnOk result (text.new.items ≡ text.old.items ++ spaced (codes "DO" ∷ signed_decimal row.now.count ∷ codes "BY" ∷ codes "1" ∷ codes "STEP" ∷ signed_decimal (width_of_site design.now row.now.site) ∷ codes "0" ∷ [])) }
+{
+    push_sites(text, row.count, width_of_site(design, row.site))
+}
+
 /// Adds the line of a row.
 fn push_row<A: Allocator + Copy>(
     text: &mut Vec<u8, A>,
@@ -86,18 +97,19 @@ fn push_row<A: Allocator + Copy>(
 {
     push_first(text, b"ROW")?;
     push_row_head(text, design, row)?;
-    push_sites(text, row.count, width_of_site(design, row.site))?;
+    push_row_sites(text, design, row)?;
     push_end(text)
 }
 
-/// Adds a line for each row of the design.
+/// Adds a line for each row.
 pub(crate) fn push_rows<A: Allocator + Copy>(
     text: &mut Vec<u8, A>,
     design: &Design<'_, A>,
+    rows: &[Row<'_>],
 ) -> Result<(), AllocError>
-    ensures { OnOk result (text.new.items ≡ text.old.items ++ rows_text design.now design.now.rows) }
+    ensures { OnOk result (text.new.items ≡ text.old.items ++ rows_text design.now rows.now) }
 {
-    for row in design.rows() {
+    for row in rows {
         push_row(text, design, row)?;
     }
     Ok(())

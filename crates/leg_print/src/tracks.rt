@@ -47,6 +47,28 @@ fn push_steps<A: Allocator>(
     )
 }
 
+/// Adds which tracks there are.
+fn push_track_steps<A: Allocator>(
+    text: &mut Vec<u8, A>,
+    track: &Track<A>,
+) -> Result<(), AllocError>
+    ensures { OnOk result (text.new.items ≡ text.old.items ++ spaced (axis_word track.now.axis ∷ signed_decimal track.now.start ∷ codes "DO" ∷ signed_decimal track.now.count ∷ codes "STEP" ∷ signed_decimal track.now.step ∷ [])) }
+{
+    push_word(text, axis_word(track.axis))?;
+    push_steps(text, track.start, track.count, track.step)
+}
+
+/// Adds the layers of tracks.
+fn push_track_layers<A: Allocator + Copy>(
+    text: &mut Vec<u8, A>,
+    design: &Design<'_, A>,
+    track: &Track<A>,
+) -> Result<(), AllocError>
+    ensures { OnOk result (text.new.items ≡ text.old.items ++ spaced (layer_words design.now track.now.layers)) }
+{
+    push_layers(text, design, track.layers.as_slice())
+}
+
 /// Adds the names of layers.
 fn push_layer_names<A: Allocator + Copy>(
     text: &mut Vec<u8, A>,
@@ -85,20 +107,20 @@ fn push_track<A: Allocator + Copy>(
     ensures { OnOk result (text.new.items ≡ text.old.items ++ line (track_words design.now track.now)) }
 {
     push_first(text, b"TRACKS")?;
-    push_word(text, axis_word(track.axis))?;
-    push_steps(text, track.start, track.count, track.step)?;
-    push_layers(text, design, track.layers.as_slice())?;
+    push_track_steps(text, track)?;
+    push_track_layers(text, design, track)?;
     push_end(text)
 }
 
-/// Adds a line for each of the design's tracks.
+/// Adds a line for each of the tracks.
 pub(crate) fn push_tracks<A: Allocator + Copy>(
     text: &mut Vec<u8, A>,
     design: &Design<'_, A>,
+    tracks: &[Track<A>],
 ) -> Result<(), AllocError>
-    ensures { OnOk result (text.new.items ≡ text.old.items ++ tracks_text design.now design.now.tracks) }
+    ensures { OnOk result (text.new.items ≡ text.old.items ++ tracks_text design.now tracks.now) }
 {
-    for track in design.tracks() {
+    for track in tracks {
         push_track(text, design, track)?;
     }
     Ok(())

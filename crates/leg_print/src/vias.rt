@@ -27,30 +27,33 @@ fn push_via<A: Allocator + Copy>(
     push_end(text)
 }
 
-/// Adds an entry for each via of the design itself.
+/// Adds an entry for each via.
 fn push_via_entries<A: Allocator + Copy>(
     text: &mut Vec<u8, A>,
     design: &Design<'_, A>,
+    vias: &[Via<'_, A>],
 ) -> Result<(), AllocError>
-    ensures { OnOk result (text.new.items ≡ text.old.items ++ flat_map (λ via. line (via_words design.now via)) design.now.vias) }
+    ensures { OnOk result (text.new.items ≡ text.old.items ++ flat_map (λ via. line (via_words design.now via)) vias.now) }
 {
-    for via in design.vias() {
+    for via in vias {
         push_via(text, design, via)?;
     }
     Ok(())
 }
 
-/// Adds the section of vias, where the design has any of its own.
+/// Adds the section of vias, where there are any.
+#[tactic(auto, using(crate::proofs::SectionText::no_section))]
 pub(crate) fn push_vias<A: Allocator + Copy>(
     text: &mut Vec<u8, A>,
     design: &Design<'_, A>,
+    vias: &[Via<'_, A>],
 ) -> Result<(), AllocError>
-    ensures { OnOk result (text.new.items ≡ text.old.items ++ vias_text design.now design.now.vias) }
+    ensures { OnOk result (text.new.items ≡ text.old.items ++ vias_text design.now vias.now) }
 {
-    if design.vias().is_empty() {
+    if vias.is_empty() {
         return Ok(());
     }
-    push_section_start(text, b"VIAS", design.vias().len())?;
-    push_via_entries(text, design)?;
+    push_section_start(text, b"VIAS", vias.len())?;
+    push_via_entries(text, design, vias)?;
     push_section_end(text, b"VIAS")
 }

@@ -6,7 +6,8 @@ ghost use Rattle.std.specs.Ordering.{int_eq};
 ghost use Rattle.leg_text.specs.Spaced.{spaced};
 ghost use Rattle.leg_block.specs.Wires.{default_extension};
 ghost use Rattle.leg_block.specs.WellFormedNets.{written};
-ghost use Rattle.leg_print.specs.Text.Wires.{number_words, width_words, point_words, lowest_layer, layer_of_via, via_wire_words, patch_words, wire_words};
+ghost use Rattle.leg_print.specs.Names.{layer_name};
+ghost use Rattle.leg_print.specs.Text.Wires.{number_words, width_words, point_words, given_extension, lowest_layer, layer_of_via, via_wire_words, patch_words, wire_words};
 
 use crate::name::{layer_name, via_name, via_numbered};
 use crate::points::push_spot;
@@ -176,6 +177,35 @@ fn push_patch<A: Allocator + Copy>(
     push_rect(text, rect)
 }
 
+/// Adds what the path of a segment begins with: its layer and its width.
+fn push_path_start<A: Allocator + Copy>(
+    text: &mut Vec<u8, A>,
+    design: &Design<'_, A>,
+    special: bool,
+    layer: usize,
+    width: i64,
+) -> Result<(), AllocError>
+    ensures { OnOk result (text.new.items ≡ text.old.items ++ spaced (layer_name design.now layer ∷ width_words special width)) }
+{
+    push_word(text, layer_name(design, layer))?;
+    push_width(text, special, width)
+}
+
+/// Adds an end of a segment on this layer, with its extension where that isn't the one that holds without.
+fn push_segment_end<A: Allocator + Copy>(
+    text: &mut Vec<u8, A>,
+    design: &Design<'_, A>,
+    special: bool,
+    layer: usize,
+    spot: &Point,
+    extension: i64,
+) -> Result<(), AllocError>
+    ensures { OnOk result (text.new.items ≡ text.old.items ++ spaced (point_words spot.now (given_extension design.now.library special layer extension))) }
+{
+    let default = default_extension(design, special, layer);
+    push_point(text, spot, extension, default)
+}
+
 /// Adds the path of a wire.
 pub(crate) fn push_wire<A: Allocator + Copy>(
     text: &mut Vec<u8, A>,
@@ -194,11 +224,9 @@ pub(crate) fn push_wire<A: Allocator + Copy>(
             ext_from,
             ext_to,
         } => {
-            let default = default_extension(design, special, *layer);
-            push_word(text, layer_name(design, *layer))?;
-            push_width(text, special, *width)?;
-            push_point(text, from, *ext_from, default)?;
-            push_point(text, to, *ext_to, default)
+            push_path_start(text, design, special, *layer, *width)?;
+            push_segment_end(text, design, special, *layer, from, *ext_from)?;
+            push_segment_end(text, design, special, *layer, to, *ext_to)
         }
         Wire::ViaAt { via, at } => push_via(text, design, special, *via, at),
         Wire::Patch { layer, at, rect } => push_patch(text, design, *layer, at, rect),

@@ -17,11 +17,15 @@ abbrev pub port_clauses : DesignContents → PortSaid → List Words
 port_clauses design port =
     (codes "PORT" ∷ []) ∷ map (shape_clause (codes "LAYER") design) port.shapes ++ port_place port.status port.place
 
--- NET, DIRECTION and USE, where they were kept, and the ports
-abbrev pub pin_clauses : DesignContents → PinSaid → List Words
-pin_clauses design pin =
+-- NET, DIRECTION and USE, where they were kept
+abbrev pub kept_clauses : PinSaid → List Words
+kept_clauses pin =
     kept_clause (codes "NET") pin.net_name ++ kept_clause (codes "DIRECTION") pin.direction
-    ++ kept_clause (codes "USE") pin.usage ++ flat_map (port_clauses design) pin.ports
+    ++ kept_clause (codes "USE") pin.usage
+
+-- the same, and then the ports
+abbrev pub pin_clauses : DesignContents → PinSaid → List Words
+pin_clauses design pin = kept_clauses pin ++ flat_map (port_clauses design) pin.ports
 
 -- - name clauses
 abbrev pub pin_said : DesignContents → PinSaid → Words

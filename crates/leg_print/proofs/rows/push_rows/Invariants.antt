@@ -5,4 +5,4 @@ use Rattle.leg_print.specs.Text.Rows.{row_words}
 use Rattle.leg_print.proofs.rows.push_rows.Given as goal
 
 abbrev pub invariant-loop-row : goal.invariant-loop-row
-invariant-loop-row g l = l.text.items ≡ l.fn.text.items ++ flat_map (λ row. line (row_words l.design row)) (take l.row-index l.design.rows)
+invariant-loop-row g l = l.text.items ≡ l.fn.text.items ++ flat_map (λ row. line (row_words l.design row)) (take l.row-index l.rows)

@@ -5,4 +5,4 @@ use Rattle.leg_print.specs.Text.Vias.{via_words}
 use Rattle.leg_print.proofs.vias.push_via_entries.Given as goal
 
 abbrev pub invariant-loop-via : goal.invariant-loop-via
-invariant-loop-via g l = l.text.items ≡ l.fn.text.items ++ flat_map (λ via. line (via_words l.design via)) (take l.via-index l.design.vias)
+invariant-loop-via g l = l.text.items ≡ l.fn.text.items ++ flat_map (λ via. line (via_words l.design via)) (take l.via-index l.vias)
