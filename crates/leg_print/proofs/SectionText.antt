@@ -16,10 +16,10 @@ some_section : {X : Type 0} (keyword : List ℕ) (entry : X → List ℕ) (xs : 
 some_section keyword entry [] is = absurd (grind (arith, nat_tests))
 some_section keyword entry (x ∷ xs) is = refl
 
-pub section_pushed : {X : Type 0} (keyword : List ℕ) (entry : X → List ℕ) (xs : List X) (n : ℕ) (start one two all : List ℕ)
-    → (length xs == 0) ≡ false → n ≡ length xs → one ≡ start ++ line (section_start_words keyword n) → two ≡ one ++ flat_map entry xs → all ≡ two ++ line (end_words keyword)
+pub section_pushed : {X : Type 0} (keyword : List ℕ) (entry : X → List ℕ) (xs : List X) (start one two all : List ℕ)
+    → (length xs == 0) ≡ false → one ≡ start ++ line (section_start_words keyword (length xs)) → two ≡ one ++ flat_map entry xs → all ≡ two ++ line (end_words keyword)
     → all ≡ start ++ section_text keyword entry xs
-section_pushed keyword entry xs n start one two all some is first second third =
+section_pushed keyword entry xs start one two all some first second third =
     three_parts start one two all (line (section_start_words keyword (length xs))) (flat_map entry xs) (line (end_words keyword))
-    (first ∙ ap (λ count. start ++ line (section_start_words keyword count)) is) second third
+    first second third
     ∙ ap (λ t. start ++ t) (sym (some_section keyword entry xs some))

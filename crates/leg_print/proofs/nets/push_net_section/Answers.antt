@@ -8,5 +8,5 @@ pub returns : goal.returns
 returns g c =
     let design = c.args.design.now in
     on_ok_weaker c.push_section_end.result (λ last.
-    section_pushed c.args.keyword.now (net_text design c.args.special) c.args.nets.now c.len.result _ c.push_section_start.new.text.items c.push_net_entries.new.text.items _
-    (search rules) (search rules) c.in_ok-push_section_start.ensures c.in_ok-push_net_entries.ensures last) c.push_section_end.ensures
+    section_pushed c.args.keyword.now (net_text design c.args.special) c.args.nets.now _ c.push_section_start.new.text.items c.push_net_entries.new.text.items _
+    (search rules) c.in_ok-push_section_start.ensures c.in_ok-push_net_entries.ensures last) c.push_section_end.ensures

@@ -1,4 +1,4 @@
-use Rattle.std.proofs.Common.{◌++◌, codes}
+use Rattle.std.proofs.Common.{◌++◌, codes, rules}
 use Rattle.std.proofs.lemmas.Result.{on_ok_weaker}
 use Rattle.leg_print.specs.Text.Clauses.{kept_clause}
 use Rattle.leg_print.proofs.InTurn.{clauses_pushed}
@@ -12,4 +12,4 @@ returns g c =
     let usage = kept_clause (codes "USE") pin.usage in
     on_ok_weaker c.push_kept-3.result (λ last.
     clauses_pushed _ c.push_kept-2.new.text.items _ (net ++ direction) usage
-    (clauses_pushed _ c.push_kept.new.text.items _ net direction c.in_ok-push_kept.ensures c.in_ok-push_kept-2.ensures) last) c.push_kept-3.ensures
+    (clauses_pushed _ c.push_kept.new.text.items _ net direction (search rules) (search rules)) (search rules)) c.push_kept-3.ensures
