@@ -1,1 +1,5 @@
 mod SidesInTurn
+
+-- the text of a design
+pub mod InTurn
+pub mod SectionText

@@ -1,7 +1,8 @@
--- How violations name what they speak of. A number that nothing has names nothing.
+-- How lines name what they speak of. A number that nothing has names nothing.
 use Rattle.std.specs.Prelude.{ℕ, suc, List, [], ◌++◌, Option, None, Some, codes, decimal, slice_get}
 use Rattle.leg_cells.specs.Records as library
 use Rattle.leg_cells.specs.declared.records.Layer.{Layer}
+use Rattle.leg_cells.specs.declared.records.Site.{Site}
 use Rattle.leg_block.specs.declared.records.Component.{Component}
 use Rattle.leg_block.specs.declared.records.Terminal.{Terminal}
 use Rattle.leg_block.specs.declared.records.Terminal.TheVariants.{Comp, Pin}
@@ -19,6 +20,19 @@ name_by name (Some x) = name x
 
 abbrev pub layer_name : DesignContents → ℕ → List ℕ
 layer_name design layer = name_by (λ (l : Layer). l.name) (slice_get design.library.layers layer)
+
+abbrev pub site_name : DesignContents → ℕ → List ℕ
+site_name design site = name_by (λ (s : Site). s.name) (slice_get design.library.sites site)
+
+abbrev pub master_name : DesignContents → ℕ → List ℕ
+master_name design master = name_by (λ (m : library.MasterSaid). m.name) (slice_get design.library.masters master)
+
+-- the via of this number: those of the library count first, and then those of the design
+abbrev pub via_numbered : DesignContents → ℕ → Option library.ViaSaid
+via_numbered design via = slice_get (design.library.vias ++ design.vias) via
+
+abbrev pub via_name : DesignContents → ℕ → List ℕ
+via_name design via = name_by (λ (v : library.ViaSaid). v.name) (via_numbered design via)
 
 abbrev pub component_name : DesignContents → ℕ → List ℕ
 component_name design c = name_by (λ (component : Component). component.name) (slice_get design.components c)

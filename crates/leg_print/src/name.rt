@@ -1,10 +1,11 @@
-//! How violations name what they speak of.
+//! How lines name what they speak of.
 
-ghost use Rattle.std.specs.Prelude.{◌≡◌, ◌++◌, OnOk};
-ghost use Rattle.leg_print.specs.Names.{layer_name, component_name, net_name, component_pin_name, design_pin_name, terminal_text, owner_text, piece_text};
+ghost use Rattle.std.specs.Prelude.{◌≡◌, ◌++◌, OnOk, option_map};
+ghost use Rattle.leg_print.specs.Names.{layer_name, site_name, master_name, via_numbered, via_name, component_name, net_name, component_pin_name, design_pin_name, terminal_text, owner_text, piece_text};
 
 use itoa::Buffer;
 use leg_block::{Design, Terminal};
+use leg_cells::Via;
 use leg_flat::{Owner, Piece};
 use std::alloc::{AllocError, Allocator};
 
@@ -17,6 +18,55 @@ pub(crate) fn layer_name<'d, A: Allocator + Copy>(
 {
     match design.library().layers().get(layer) {
         Some(layer) => layer.name.bytes(),
+        None => b"",
+    }
+}
+
+/// The name of the site of this number; empty where there is none.
+pub(crate) fn site_name<'d, A: Allocator + Copy>(design: &'d Design<'_, A>, site: usize) -> &'d [u8]
+    ensures { result.now ≡ site_name design.now site }
+{
+    match design.library().sites().get(site) {
+        Some(site) => site.name.bytes(),
+        None => b"",
+    }
+}
+
+/// The name of the macro of this number; empty where there is none.
+pub(crate) fn master_name<'d, A: Allocator + Copy>(
+    design: &'d Design<'_, A>,
+    master: usize,
+) -> &'d [u8]
+    ensures { result.now ≡ master_name design.now master }
+{
+    match design.library().masters().get(master) {
+        Some(master) => master.name.bytes(),
+        None => b"",
+    }
+}
+
+/// The via of this number: those of the library count first.
+pub(crate) fn via_numbered<'d, 'a, A: Allocator + Copy>(
+    design: &'d Design<'a, A>,
+    number: usize,
+) -> Option<&'d Via<'a, A>>
+    ensures { option_map (λ via. via.now) result ≡ via_numbered design.now number }
+{
+    let of_library = design.library().vias();
+    let of_design = design.vias();
+    if number < of_library.len() {
+        of_library.get(number)
+    } else {
+        of_design.get(number - of_library.len())
+    }
+}
+
+/// The name of the via of this number; empty where there is none.
+pub(crate) fn via_name<'d, A: Allocator + Copy>(design: &'d Design<'_, A>, via: usize) -> &'d [u8]
+    ensures { result.now ≡ via_name design.now via }
+{
+    match via_numbered(design, via) {
+        Some(via) => via.name.bytes(),
         None => b"",
     }
 }
@@ -51,7 +101,7 @@ pub(crate) fn net_name<'d, A: Allocator + Copy>(design: &'d Design<'_, A>, numbe
 }
 
 /// The name of a pin of a component, both by their numbers; empty where there is none.
-fn component_pin_name<'d, A: Allocator + Copy>(
+pub(crate) fn component_pin_name<'d, A: Allocator + Copy>(
     design: &'d Design<'_, A>,
     component: u32,
     pin: usize,
@@ -71,7 +121,7 @@ fn component_pin_name<'d, A: Allocator + Copy>(
 }
 
 /// The name of the pin of the design of this number; empty where there is none.
-fn design_pin_name<'d, A: Allocator + Copy>(design: &'d Design<'_, A>, number: u32) -> &'d [u8]
+pub(crate) fn design_pin_name<'d, A: Allocator + Copy>(design: &'d Design<'_, A>, number: u32) -> &'d [u8]
     ensures { result.now ≡ design_pin_name design.now number }
 {
     match design.pins().get(number as usize) {

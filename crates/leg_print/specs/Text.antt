@@ -1,0 +1,12 @@
+pub mod Points
+pub mod Clauses
+pub mod Header
+pub mod Rows
+pub mod Tracks
+pub mod Vias
+pub mod Components
+pub mod Pins
+pub mod Nets
+pub mod Wires
+pub mod Sections
+pub mod Whole

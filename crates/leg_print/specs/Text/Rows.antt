@@ -1,0 +1,28 @@
+-- The line of a row (LEF/DEF 5.8, "Rows"; that the step is always written is an own rule).
+use Rattle.std.specs.Prelude.{ℕ, ℤ, pos, List, [], ◌∷◌, ◌++◌, Option, None, Some, codes, slice_get}
+use Rattle.std.specs.Fmt.{signed_decimal}
+use Rattle.leg_lex.specs.Words.{Words}
+use Rattle.leg_cells.specs.declared.records.Site.{Site}
+use Rattle.leg_block.specs.declared.records.Row.{Row}
+use Rattle.leg_block.specs.Records.{DesignContents}
+use Rattle.leg_print.specs.Names.{site_name}
+use Rattle.leg_print.specs.Text.Points.{orient_word}
+
+-- how wide a site is, if there is one
+abbrev pub width_if_any : Option Site → ℤ
+width_if_any None = pos 0
+width_if_any (Some site) = site.size.width
+
+abbrev pub width_of_site : DesignContents → ℕ → ℤ
+width_of_site design site = width_if_any (slice_get design.library.sites site)
+
+-- ROW name site x y orientation DO count BY 1 STEP width 0, the width being that of the site
+abbrev pub row_said : DesignContents → Row → Words
+row_said design row =
+    codes "ROW" ∷ row.name ∷ site_name design row.site ∷ signed_decimal row.at.x ∷ signed_decimal row.at.y
+    ∷ orient_word row.orient ∷ codes "DO" ∷ signed_decimal row.count ∷ codes "BY" ∷ codes "1"
+    ∷ codes "STEP" ∷ signed_decimal (width_of_site design row.site) ∷ codes "0" ∷ []
+
+-- the same with its semicolon
+abbrev pub row_words : DesignContents → Row → Words
+row_words design row = row_said design row ++ codes ";" ∷ []

@@ -1,0 +1,60 @@
+//! The section of components.
+
+ghost use Rattle.std.specs.Prelude.{◌≡◌, ◌++◌, OnOk};
+ghost use Rattle.std.specs.List.{flat_map};
+ghost use Rattle.leg_text.specs.Spaced.{line};
+ghost use Rattle.leg_print.specs.Text.Components.{component_words};
+ghost use Rattle.leg_print.specs.Text.Whole.{components_text};
+
+use crate::clauses::push_placement;
+use crate::name::master_name;
+use crate::sections::{push_section_end, push_section_start};
+use leg_block::{Component, Design};
+use leg_text::{push_end, push_first, push_word};
+use std::alloc::{AllocError, Allocator};
+
+/// Adds the entry of a component.
+fn push_component<A: Allocator + Copy>(
+    text: &mut Vec<u8, A>,
+    design: &Design<'_, A>,
+    component: &Component<'_>,
+) -> Result<(), AllocError>
+    ensures { OnOk result (text.new.items ≡ text.old.items ++ line (component_words design.now component.now)) }
+{
+    push_first(text, b"-")?;
+    push_word(text, component.name.bytes())?;
+    push_word(text, master_name(design, component.master))?;
+    push_placement(text, component.status, component.place.as_ref())?;
+    push_end(text)
+}
+
+/// Adds an entry for each component.
+fn push_component_entries<A: Allocator + Copy>(
+    text: &mut Vec<u8, A>,
+    design: &Design<'_, A>,
+    components: &[Component<'_>],
+) -> Result<(), AllocError>
+    ensures { OnOk result (text.new.items ≡ text.old.items ++ flat_map (λ component. line (component_words design.now component)) components.now) }
+{
+    for component in components {
+        push_component(text, design, component)?;
+    }
+    Ok(())
+}
+
+/// Adds the section of components, where there are any.
+#[tactic(auto, using(crate::proofs::SectionText::no_section))]
+pub(crate) fn push_components<A: Allocator + Copy>(
+    text: &mut Vec<u8, A>,
+    design: &Design<'_, A>,
+    components: &[Component<'_>],
+) -> Result<(), AllocError>
+    ensures { OnOk result (text.new.items ≡ text.old.items ++ components_text design.now components.now) }
+{
+    if components.is_empty() {
+        return Ok(());
+    }
+    push_section_start(text, b"COMPONENTS", components.len())?;
+    push_component_entries(text, design, components)?;
+    push_section_end(text, b"COMPONENTS")
+}

@@ -1,0 +1,42 @@
+//! The text of a design.
+
+ghost use Rattle.std.specs.Prelude.{◌≡◌, IfOk};
+ghost use Rattle.leg_print.specs.Text.Whole.{design_text};
+
+use crate::components::push_components;
+use crate::header::push_header;
+use crate::nets::push_nets;
+use crate::pins::push_pins;
+use crate::rows::push_rows;
+use crate::sections::push_section_end;
+use crate::tracks::push_tracks;
+use crate::vias::push_vias;
+use leg_block::Design;
+use leg_cells::Library;
+use std::alloc::{AllocError, Allocator};
+
+/// The text of the design, a DEF of which each byte depends on the design alone (LEF/DEF 5.8, "DEF Syntax"; its order
+/// and its layout are own rules).
+///
+/// The design was read with this library. It fails only when out of memory.
+#[tactic(auto, unfolding(crate::specs::Text::Whole::design_text))]
+pub fn print_def<A: Allocator + Copy>(
+    alloc: A,
+    library: &Library<'_, A>,
+    design: &Design<'_, A>,
+) -> Result<Vec<u8, A>, AllocError>
+    requires { library.now ≡ design.now.library }
+    ensures { IfOk result (λ text. text.items ≡ design_text design.now) }
+{
+    let mut text = Vec::new(alloc);
+    push_header(&mut text, design)?;
+    push_rows(&mut text, design, design.rows())?;
+    push_tracks(&mut text, design, design.tracks())?;
+    push_vias(&mut text, design, design.vias())?;
+    push_components(&mut text, design, design.components())?;
+    push_pins(&mut text, design, design.pins())?;
+    push_nets(&mut text, design, true, design.special())?;
+    push_nets(&mut text, design, false, design.nets())?;
+    push_section_end(&mut text, b"DESIGN")?;
+    Ok(text)
+}

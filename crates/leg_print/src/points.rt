@@ -1,0 +1,83 @@
+//! Points, corners and places as words.
+
+ghost use Rattle.std.specs.Prelude.{◌≡◌, ◌++◌, OnOk};
+ghost use Rattle.leg_text.specs.Spaced.{spaced};
+ghost use Rattle.leg_print.specs.Text.Points.{spot_words, corner_words, orient_word, place_words};
+
+use itoa::Buffer;
+use leg_geom::{Orient, Place, Point, Rect};
+use leg_text::{push_word, push_words};
+use std::alloc::{AllocError, Allocator};
+
+/// Adds a point, in its parentheses.
+pub(crate) fn push_spot<A: Allocator>(
+    text: &mut Vec<u8, A>,
+    spot: &Point,
+) -> Result<(), AllocError>
+    ensures { OnOk result (text.new.items ≡ text.old.items ++ spaced (spot_words spot.now)) }
+{
+    let mut x = Buffer::new();
+    let mut y = Buffer::new();
+    push_words(
+        text,
+        &[
+            b"(".as_slice(),
+            x.format(spot.x()).as_bytes(),
+            y.format(spot.y()).as_bytes(),
+            b")".as_slice(),
+        ],
+    )
+}
+
+/// Adds the lower left corner of a rectangle and the upper right one.
+pub(crate) fn push_corners<A: Allocator>(
+    text: &mut Vec<u8, A>,
+    rect: &Rect,
+) -> Result<(), AllocError>
+    ensures { OnOk result (text.new.items ≡ text.old.items ++ spaced (corner_words rect.now)) }
+{
+    let mut left = Buffer::new();
+    let mut bottom = Buffer::new();
+    let mut right = Buffer::new();
+    let mut top = Buffer::new();
+    push_words(
+        text,
+        &[
+            b"(".as_slice(),
+            left.format(rect.x1()).as_bytes(),
+            bottom.format(rect.y1()).as_bytes(),
+            b")".as_slice(),
+            b"(".as_slice(),
+            right.format(rect.x2()).as_bytes(),
+            top.format(rect.y2()).as_bytes(),
+            b")".as_slice(),
+        ],
+    )
+}
+
+/// The word of an orientation.
+pub(crate) fn orient_word(orient: Orient) -> &'static [u8]
+    ensures { result.now ≡ orient_word orient }
+{
+    match orient {
+        Orient::N => b"N",
+        Orient::S => b"S",
+        Orient::W => b"W",
+        Orient::E => b"E",
+        Orient::FN => b"FN",
+        Orient::FS => b"FS",
+        Orient::FW => b"FW",
+        Orient::FE => b"FE",
+    }
+}
+
+/// Adds a place: its point and its orientation.
+pub(crate) fn push_place<A: Allocator>(
+    text: &mut Vec<u8, A>,
+    place: &Place,
+) -> Result<(), AllocError>
+    ensures { OnOk result (text.new.items ≡ text.old.items ++ spaced (place_words place.now)) }
+{
+    push_spot(text, &place.at)?;
+    push_word(text, orient_word(place.orient))
+}

@@ -1,0 +1,35 @@
+//! The lines around the entries of a section.
+
+ghost use Rattle.std.specs.Prelude.{◌≡◌, ◌++◌, OnOk};
+ghost use Rattle.leg_text.specs.Spaced.{line};
+ghost use Rattle.leg_print.specs.Text.Sections.{section_start_words, end_words};
+
+use itoa::Buffer;
+use leg_text::{push_end, push_first, push_line_feed, push_word};
+use std::alloc::{AllocError, Allocator};
+
+/// Adds the line that begins a section of so many entries.
+pub(crate) fn push_section_start<A: Allocator>(
+    text: &mut Vec<u8, A>,
+    keyword: &[u8],
+    count: usize,
+) -> Result<(), AllocError>
+    ensures { OnOk result (text.new.items ≡ text.old.items ++ line (section_start_words keyword.now count)) }
+{
+    let mut digits = Buffer::new();
+    push_first(text, keyword)?;
+    push_word(text, digits.format(count).as_bytes())?;
+    push_end(text)
+}
+
+/// Adds the line that ends a section, or the whole text.
+pub(crate) fn push_section_end<A: Allocator>(
+    text: &mut Vec<u8, A>,
+    keyword: &[u8],
+) -> Result<(), AllocError>
+    ensures { OnOk result (text.new.items ≡ text.old.items ++ line (end_words keyword.now)) }
+{
+    push_first(text, b"END")?;
+    push_word(text, keyword)?;
+    push_line_feed(text)
+}
