@@ -1,2 +1,4 @@
 pub mod Names
 pub mod Lines
+pub mod Wirelength
+pub mod WirelengthSteps
