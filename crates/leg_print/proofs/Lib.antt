@@ -1,1 +1,7 @@
 mod SidesInTurn
+-- The wirelength
+mod LeastBoxes
+mod BoxesKept
+mod PointsOfSome
+mod DrawnPoints
+mod SpecialNamed

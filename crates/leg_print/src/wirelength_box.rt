@@ -2,7 +2,7 @@
 
 ghost use Rattle.std.specs.Prelude.{◌≡◌, ◌≤◌, ◌*◌, Some};
 ghost use Rattle.leg_geom.specs.declared.limits.TheConstants.{COORDINATE_LIMIT};
-ghost use Rattle.leg_geom.specs.Plane.{Spot, IsCentre};
+ghost use Rattle.leg_geom.specs.Plane.{Spot, IsCoordinate, IsHalfway, IsCentre};
 ghost use Rattle.leg_print.specs.Wirelength.{half_perimeter};
 ghost use Rattle.leg_print.specs.WirelengthSteps.{point_box, joined, joined_if_any};
 
@@ -60,8 +60,8 @@ impl Bounds {
     pub(crate) fn centre(&self) -> Bounds
         ensures { (p : Spot) × (result ≡ point_box p) × IsCentre self.now p }
     {
-        let x = (self.x1 + self.x2).div_euclid(2);
-        let y = (self.y1 + self.y2).div_euclid(2);
+        let x = middle(self.x1, self.x2);
+        let y = middle(self.y1, self.y2);
         Bounds {
             x1: x,
             y1: y,
@@ -77,6 +77,16 @@ impl Bounds {
     {
         self.x1.abs_diff(self.x2) + self.y1.abs_diff(self.y2)
     }
+}
+
+/// The number halfway between two others, rounded down.
+fn middle(low: i64, high: i64) -> i64
+    requires low { IsCoordinate low }
+    requires high { IsCoordinate high }
+    ensures halfway { IsHalfway low high result }
+    ensures within { IsCoordinate result }
+{
+    (low + high).div_euclid(2)
 }
 
 /// The least box that holds both, where they are there.
