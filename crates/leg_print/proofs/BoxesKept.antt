@@ -2,6 +2,7 @@
 use Rattle.std.proofs.Common.{◌≡◌, ℤ, ◌≤ℤ◌, w64, to_z, of_z, ◌∙◌, refl, arith}
 use Rattle.std.specs.Int.{int_min, int_max}
 use Rattle.std.proofs.lemmas.Int.{ints, clamps, to_z-of_z}
+use Rattle.leg_lex.specs.Number.{IsNumber}
 use Rattle.leg_geom.specs.Plane.{Spot, Sides, IsCoordinate, IsHalfway, IsCentre}
 use Rattle.leg_print.specs.WirelengthSteps.{IsBox, joined}
 
@@ -38,3 +39,7 @@ box_joined a b p q = record {
   wide = let wide = p.wide in omega (arith, ints, clamps);
   high = let high = p.high in omega (arith, ints, clamps);
 }
+
+-- a number of a LEF is kept too
+pub number_kept : (z v : ℤ) → z ≡ v → IsNumber v → register z ≡ v
+number_kept z v is near = grind (arith, ints, to_z-of_z)

@@ -103,7 +103,7 @@ module _ (H K : Spot → Type 0) where
     least = λ other holds. least.least other (λ p h. holds p (there p h));
   }
 
-one_least : (H : Spot → Type 0) (a b : Sides) → IsLeastBox H a → IsLeastBox H b → a ≡ b
+pub one_least : (H : Spot → Type 0) (a b : Sides) → IsLeastBox H a → IsLeastBox H b → a ≡ b
 one_least H a b first second =
     each_within a b
     (within a b second.wide second.high (second.least a first.around))

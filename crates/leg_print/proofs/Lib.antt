@@ -4,4 +4,7 @@ mod LeastBoxes
 mod BoxesKept
 mod PointsOfSome
 mod DrawnPoints
+mod TerminalsKnown
+mod TerminalCentres
 mod SpecialNamed
+mod NetCentres

@@ -38,5 +38,12 @@ module _ (X : Type 0) (P : X → Spot → Type 0) where
       (least_same _ _ (of_first (take i xs) x) (of_either (take i xs) x) (joined_if_any a b)
       (least_joined_if_any (IsOfSome X P (take i xs)) (P x) a b before one))
 
+  -- the same of what is read there, whatever is read behind the end
+  pub next_one : (xs : List X) (i : ℕ) (d : X) (a b : Option Sides) → i < length xs → IsLeastBoxIfAny (IsOfSome X P (take i xs)) a → IsLeastBoxIfAny (P (get_or xs i d)) b → IsLeastBoxIfAny (IsOfSome X P (take (i + 1) xs)) (joined_if_any a b)
+  next_one xs i d a b less before one =
+      rw (take_more xs i d less)
+      (least_same _ _ (of_first (take i xs) (get_or xs i d)) (of_either (take i xs) (get_or xs i d)) (joined_if_any a b)
+      (least_joined_if_any (IsOfSome X P (take i xs)) (P (get_or xs i d)) a b before one))
+
   pub all_taken : (xs : List X) (i : ℕ) (a : Option Sides) → length xs ≤ i → IsLeastBoxIfAny (IsOfSome X P (take i xs)) a → IsLeastBoxIfAny (IsOfSome X P xs) a
   all_taken xs i a past least = subst (λ (ys : List X). IsLeastBoxIfAny (IsOfSome X P ys) a) (take_all i xs past) least

@@ -1,0 +1,133 @@
+-- The length of a net, and the wirelength of a design.
+use Rattle.std.proofs.Common.{◌≡◌, ◌⊎◌, inl, inr, ℕ, zero, suc, ◌+◌, ◌<◌, ◌≤◌, ℤ, pos, Bool, true, false, not, List, [], ◌∷◌, ◌++◌, length, filter, sum, Contains, Option, None, Some, slice_get, refl, sym, ap, ◌∙◌, subst, add_assoc, zero-add, add-zero, arith}
+use Rattle.std.specs.List.{range_with_len}
+use Rattle.std.proofs.lemmas.List.{map-id}
+use Rattle.std.proofs.lemmas.List.FromFn.{map-range_with_len_more}
+use Rattle.std.proofs.lemmas.List.Elements.{Contains-append_left, Contains-append_right, Contains-append_cases}
+use Rattle.leg_geom.specs.Plane.{Spot, Sides}
+use Rattle.leg_cells.specs.Scale.{OneForOne}
+use Rattle.leg_block.specs.declared.records.Terminal.{Terminal}
+use Rattle.leg_block.specs.Terminals.{is_among}
+use Rattle.leg_block.specs.Records.{DesignContents, NetSaid}
+use Rattle.leg_block.proofs.SameTerminal.{among_contains}
+use Rattle.leg_flat.specs.Nets.{special_named, special_entry, entry_terminals, regular_entry, terminals_of}
+use Rattle.leg_print.specs.Wirelength.{IsLeastBoxIfAny, IsCentreAmong, half_perimeter, IsNetLength, IsWirelength}
+use Rattle.leg_print.specs.WirelengthSteps.{joined_if_any}
+use Rattle.leg_print.proofs.LeastBoxes.{least_same, least_joined_if_any, one_least_if_any}
+
+-- an element of what a filter keeps is one of the list
+in_filter : (p : Terminal → Bool) (xs : List Terminal) (t : Terminal) → Contains (filter p xs) t → Contains xs t
+in_filter p [] t there = there
+in_filter p (x ∷ xs) t there = by (p x) refl where
+  by : (kept : Bool) → p x ≡ kept → Contains (x ∷ xs) t
+  by true is = elim (Contains-append_cases (x ∷ []) (filter p xs) t (rw is at there)) [
+    | inl here ↦ Contains-append_left (x ∷ []) xs t here
+    | inr later ↦ Contains-append_right (x ∷ []) xs t (in_filter p xs t later)
+  ]
+  by false is = Contains-append_right (x ∷ []) xs t (in_filter p xs t (rw is at there))
+
+-- and an element that passes the test is kept
+one_of_one : (x t : Terminal) → Contains (x ∷ []) t → x ≡ t
+one_of_one x t (zero, less, is) = is
+one_of_one x t (suc k, less, is) = absurd (omega arith)
+
+kept_by_filter : (p : Terminal → Bool) (xs : List Terminal) (t : Terminal) → p t ≡ true → Contains xs t → Contains (filter p xs) t
+kept_by_filter p [] t passes there = there
+kept_by_filter p (x ∷ xs) t passes there = by (p x) refl (Contains-append_cases (x ∷ []) xs t there) where
+  by : (kept : Bool) → p x ≡ kept → (Contains (x ∷ []) t ⊎ Contains xs t) → Contains (filter p (x ∷ xs)) t
+  by true is (inl here) = rw is (Contains-append_left (x ∷ []) (filter p xs) t here)
+  by true is (inr later) = rw is (Contains-append_right (x ∷ []) (filter p xs) t (kept_by_filter p xs t passes later))
+  by false is (inl here) =
+      let same : x ≡ t = one_of_one x t here in
+      let test : p t ≡ false = rw same at is in
+      absurd (let f : ⊥ = cc in f)
+  by false is (inr later) = rw is (kept_by_filter p xs t passes later)
+
+-- one list, and what isn't in it of another, have the elements of both
+both_lists : (xs ys : List Terminal) (t : Terminal) → Contains (xs ++ filter (λ u. not (is_among u xs)) ys) t → (Contains xs t ⊎ Contains ys t)
+both_lists xs ys t there = elim (Contains-append_cases xs (filter (λ u. not (is_among u xs)) ys) t there) [
+  | inl first ↦ inl first
+  | inr second ↦ inr (in_filter (λ u. not (is_among u xs)) ys t second)
+]
+
+in_both_lists : (xs ys : List Terminal) (t : Terminal) → (Contains xs t ⊎ Contains ys t) → Contains (xs ++ filter (λ u. not (is_among u xs)) ys) t
+in_both_lists xs ys t (inl first) = Contains-append_left xs (filter (λ u. not (is_among u xs)) ys) t first
+in_both_lists xs ys t (inr second) = by (is_among t xs) refl where
+  by : (there : Bool) → is_among t xs ≡ there → Contains (xs ++ filter (λ u. not (is_among u xs)) ys) t
+  by true is = Contains-append_left xs (filter (λ u. not (is_among u xs)) ys) t (among_contains t xs is)
+  by false is =
+      Contains-append_right xs (filter (λ u. not (is_among u xs)) ys) t
+      (kept_by_filter (λ u. not (is_among u xs)) ys t (ap not is) second)
+
+module _ (design : DesignContents) where
+  both_centres : (xs ys : List Terminal) (p : Spot) → (IsCentreAmong design xs p ⊎ IsCentreAmong design ys p) → IsCentreAmong design (xs ++ filter (λ u. not (is_among u xs)) ys) p
+  both_centres xs ys p (inl has) = record { terminal = has.terminal; listed = in_both_lists xs ys has.terminal (inl has.listed); centre = has.centre }
+  both_centres xs ys p (inr has) = record { terminal = has.terminal; listed = in_both_lists xs ys has.terminal (inr has.listed); centre = has.centre }
+
+  centre_of_either : (xs ys : List Terminal) (p : Spot) → IsCentreAmong design (xs ++ filter (λ u. not (is_among u xs)) ys) p → (IsCentreAmong design xs p ⊎ IsCentreAmong design ys p)
+  centre_of_either xs ys p has = elim (both_lists xs ys has.terminal has.listed) [
+    | inl first ↦ inl (record { terminal = has.terminal; listed = first; centre = has.centre })
+    | inr second ↦ inr (record { terminal = has.terminal; listed = second; centre = has.centre })
+  ]
+
+  -- the box of a net of NETS joins that of its own terminals to that of the terminals of its special entry
+  pub net_least : (n : ℕ) (net : NetSaid) (a b : Option Sides) → slice_get design.nets n ≡ Some net → IsLeastBoxIfAny (IsCentreAmong design net.terminals) a → IsLeastBoxIfAny (IsCentreAmong design (entry_terminals (special_named design net.name))) b → IsLeastBoxIfAny (IsCentreAmong design (terminals_of design n)) (joined_if_any a b)
+  unfolding terminals_of
+  net_least n net a b there regular special =
+      let xs = net.terminals in
+      let ys = entry_terminals (special_named design net.name) in
+      rw there
+      (least_same _ _ (both_centres xs ys) (centre_of_either xs ys) (joined_if_any a b)
+      (least_joined_if_any (IsCentreAmong design xs) (IsCentreAmong design ys) a b regular special))
+
+  -- a net has one length
+  one_length : (n a b : ℕ) → IsNetLength design n a → IsNetLength design n b → a ≡ b
+  one_length n a b first second =
+      first.is ∙ ap half_perimeter (one_least_if_any (IsCentreAmong design (terminals_of design n)) first.box second.box first.least second.least) ∙ sym second.is
+
+  -- so lists of the lengths of the same nets are the same
+  one_list : (nets ls bs : List ℕ) → OneForOne (IsNetLength design) nets ls → OneForOne (IsNetLength design) nets bs → ls ≡ bs
+  one_list [] [] [] first second = refl
+  one_list [] [] (b ∷ bs) first second = absurd second
+  one_list [] (a ∷ ls) bs first second = absurd first
+  one_list (n ∷ nets) [] bs first second = absurd first
+  one_list (n ∷ nets) (a ∷ ls) [] first second = absurd second
+  one_list (n ∷ nets) (a ∷ ls) (b ∷ bs) first second =
+      ap (λ c. c ∷ ls) (one_length n a b first.0 second.0) ∙ ap (λ cs. b ∷ cs) (one_list nets ls bs first.1 second.1)
+
+  -- and a design has one wirelength
+  pub one_wirelength : (a b : ℤ) → IsWirelength design a → IsWirelength design b → a ≡ b
+  one_wirelength a b first second =
+      first.is ∙ ap (λ lengths. pos (sum lengths)) (one_list _ first.lengths second.lengths first.each second.each) ∙ sym second.is
+
+-- one more of a range
+range_more : (a n : ℕ) → range_with_len a (n + 1) ≡ range_with_len a n ++ (a + n) ∷ []
+range_more a n = sym (map-id (range_with_len a (n + 1))) ∙ map-range_with_len_more (λ (k : ℕ). k) a n (a + n) refl ∙ ap (λ ks. ks ++ (a + n) ∷ []) (map-id (range_with_len a n))
+
+push_pair : {X Y : Type 0} (R : X → Y → Type 0) (xs : List X) (ys : List Y) (x : X) (y : Y) → OneForOne R xs ys → R x y → OneForOne R (xs ++ x ∷ []) (ys ++ y ∷ [])
+push_pair R [] [] x y before is = (is, tt)
+push_pair R [] (z ∷ ys) x y before is = absurd before
+push_pair R (w ∷ xs) [] x y before is = absurd before
+push_pair R (w ∷ xs) (z ∷ ys) x y before is = (before.0, push_pair R xs ys x y before.1 is)
+
+-- the lengths of the first nets, and their sum
+pub record AreLengths (design : DesignContents) (count total : ℕ) : Type 0 where
+  pub lengths : List ℕ
+  pub each : OneForOne (IsNetLength design) (range_with_len 0 count) lengths
+  pub is : total ≡ sum lengths
+
+pub no_lengths : (design : DesignContents) → AreLengths design 0 0
+no_lengths design = record { lengths = []; each = tt; is = refl }
+
+sum_push : (xs : List ℕ) (x : ℕ) → sum (xs ++ x ∷ []) ≡ sum xs + x
+sum_push [] x = omega arith
+sum_push (y ∷ xs) x = ap (λ s. y + s) (sum_push xs x) ∙ omega arith
+
+pub one_more_length : (design : DesignContents) (count total length : ℕ) → AreLengths design count total → IsNetLength design count length → AreLengths design (count + 1) (total + length)
+one_more_length design count total length before one = record {
+  lengths = before.lengths ++ length ∷ [];
+  each =
+      let more : range_with_len 0 (count + 1) ≡ range_with_len 0 count ++ count ∷ [] = range_more 0 count ∙ ap (λ n. range_with_len 0 count ++ n ∷ []) (zero-add count) in
+      rw more (push_pair (IsNetLength design) (range_with_len 0 count) before.lengths count length before.each one);
+  is = ap (λ t. t + length) before.is ∙ sym (sum_push before.lengths length);
+}
