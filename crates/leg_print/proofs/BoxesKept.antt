@@ -1,9 +1,9 @@
 -- The sides of boxes are kept by registers.
-use Rattle.std.proofs.Common.{◌≡◌, ℤ, ◌≤ℤ◌, w64, to_z, of_z, ◌∙◌, refl, arith}
+use Rattle.std.proofs.Common.{◌≡◌, ℤ, w64, to_z, of_z, arith}
 use Rattle.std.specs.Int.{int_min, int_max}
 use Rattle.std.proofs.lemmas.Int.{ints, clamps, to_z-of_z}
 use Rattle.leg_lex.specs.Number.{IsNumber}
-use Rattle.leg_geom.specs.Plane.{Spot, Sides, IsCoordinate, IsHalfway, IsCentre}
+use Rattle.leg_geom.specs.Plane.{Sides, IsCoordinate}
 use Rattle.leg_print.specs.WirelengthSteps.{IsBox, joined}
 
 -- what a register keeps of a number

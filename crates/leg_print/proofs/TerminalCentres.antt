@@ -1,5 +1,5 @@
 -- The boxes of terminals, and their centres.
-use Rattle.std.proofs.Common.{◌≡◌, ℕ, ℤ, List, Option, None, Some, Contains, slice_get, sym, ap, ◌∙◌, refl, subst, arith}
+use Rattle.std.proofs.Common.{◌≡◌, ℕ, ℤ, List, Option, None, Some, Contains, slice_get, subst, arith}
 use Rattle.std.proofs.lemmas.Int.{ints}
 use Rattle.leg_geom.specs.Plane.{Spot, Sides, HasPoint, IsCentre}
 use Rattle.leg_geom.specs.declared.place.Place.{Place}
@@ -13,7 +13,7 @@ use Rattle.leg_block.specs.Records.{DesignContents, PortSaid, PinSaid}
 use Rattle.leg_flat.specs.Metal.{OnLayer, drawn, ports_outlines}
 use Rattle.leg_flat.specs.Pieces.{IsOfComponentPin}
 use Rattle.leg_print.specs.Wirelength.{IsLeastBox, IsLeastBoxIfAny, HasTerminalPoint, IsTerminalCentre, IsCentreAmong}
-use Rattle.leg_print.specs.WirelengthSteps.{IsOfSome, IsOfShape, IsOfMetal, IsOfPort, point_box}
+use Rattle.leg_print.specs.WirelengthSteps.{IsOfSome, IsOfShape, IsOfPort, point_box}
 use Rattle.leg_print.proofs.LeastBoxes.{least_same, none_least, one_least}
 use Rattle.leg_print.proofs.DrawnPoints.{shapes_drawn, drawn_shapes, ports_drawn, drawn_ports}
 
@@ -117,8 +117,8 @@ module _ (design : DesignContents) (terminal : Terminal) where
         wide = omega (arith, ints);
         high = omega (arith, ints);
         around = λ q has.
-          let same : has.box ≡ box = one_least (HasTerminalPoint design terminal) has.box box has.least least in
-          one_centre box is.0 q is.2 (rw same at has.middle);
+            let same : has.box ≡ box = one_least (HasTerminalPoint design terminal) has.box box has.least least in
+            one_centre box is.0 q is.2 (rw same at has.middle);
         least = λ other holds q at. in_point other is.0 q (holds is.0 (record { box = box; least = least; middle = is.2 })) at;
       })
 

@@ -80,4 +80,3 @@ pub looked_up : {X : Type 0} (items xs : List X) (i : ℕ) (x : X) → items ≡
 looked_up items xs i x same test is =
     let less : i < length items = grind (arith, nat_tests) in
     rw (← same) (slice_get_read items (length items) i x refl less is)
-

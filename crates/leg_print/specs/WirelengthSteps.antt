@@ -1,5 +1,5 @@
 -- What the code knows on its way to a wirelength. No meaning of a public call speaks of it.
-use Rattle.std.specs.Prelude.{◌≡◌, ◌≤ℤ◌, ℤ, List, Contains, Option, None, Some}
+use Rattle.std.specs.Prelude.{◌≤ℤ◌, List, Contains, Option, None, Some}
 use Rattle.std.specs.Int.{int_min, int_max}
 use Rattle.leg_geom.specs.Plane.{Spot, Sides, IsCoordinate}
 use Rattle.leg_geom.specs.declared.place.Place.{Place}
@@ -8,7 +8,7 @@ use Rattle.leg_cells.specs.declared.records.Shape.{Shape}
 use Rattle.leg_block.specs.Records.{PortSaid}
 use Rattle.leg_flat.specs.Outline.{HasPointOf}
 use Rattle.leg_flat.specs.Outline.Outline.{Drawn}
-use Rattle.leg_flat.specs.Metal.{OnLayer, drawn, port_outlines}
+use Rattle.leg_flat.specs.Metal.{OnLayer, port_outlines}
 
 -- a box that may be as thin as a line or a point
 pub record IsBox (box : Sides) : Type 0 where

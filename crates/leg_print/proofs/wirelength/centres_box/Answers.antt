@@ -1,4 +1,3 @@
-use Rattle.std.proofs.Common.{get_or, refl}
 use Rattle.leg_block.specs.declared.records.Terminal.{Terminal}
 use Rattle.leg_print.specs.Wirelength.{IsTerminalCentre}
 use Rattle.leg_print.proofs.PointsOfSome.{next_one, all_taken}

@@ -1,4 +1,4 @@
-use Rattle.std.proofs.Common.{◌≡◌, Some, None, slice_get, ◌∙◌, sym, ap, rules}
+use Rattle.std.proofs.Common.{◌≡◌, ◌∙◌, ap}
 use Rattle.std.proofs.lemmas.Option.{slice_get_past}
 use Rattle.leg_cells.specs.Measure.{Lengths}
 use Rattle.leg_cells.specs.Records.{MasterSaid, MasterPinSaid}

@@ -1,6 +1,5 @@
 use Rattle.std.proofs.Common.{◌≡◌, Some, ◌∙◌, sym, ap}
 use Rattle.leg_block.specs.Records.{PortSaid}
-use Rattle.leg_flat.specs.Metal.{no_size}
 use Rattle.leg_print.proofs.DrawnPoints.{port_least}
 use Rattle.leg_print.proofs.wirelength.port_box.Goals as goal
 

@@ -1,4 +1,3 @@
-use Rattle.std.proofs.Common.{refl}
 use Rattle.leg_print.proofs.LeastBoxes.{same_sides}
 use Rattle.leg_print.proofs.BoxesKept.{kept}
 use Rattle.leg_print.proofs.wirelength_box.Bounds.centre.Goals as goal

@@ -1,5 +1,5 @@
 use Rattle.std.proofs.Common.{◌≡◌}
-use Rattle.leg_print.specs.WirelengthSteps.{IsBox, joined}
+use Rattle.leg_print.specs.WirelengthSteps.{joined}
 use Rattle.leg_print.proofs.LeastBoxes.{sides, same_sides}
 use Rattle.leg_print.proofs.BoxesKept.{register, min_kept, max_kept, box_joined}
 use Rattle.leg_print.proofs.wirelength_box.Bounds.with.Goals as goal
