@@ -8,3 +8,5 @@ mod TerminalsKnown
 mod TerminalCentres
 mod SpecialNamed
 mod NetCentres
+-- What the proofs of other crates cite
+pub mod OneWirelength

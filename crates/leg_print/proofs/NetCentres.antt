@@ -1,5 +1,5 @@
 -- The length of a net, and the wirelength of a design.
-use Rattle.std.proofs.Common.{◌≡◌, ◌⊎◌, inl, inr, ℕ, zero, suc, ◌+◌, ℤ, pos, Bool, true, false, not, List, [], ◌∷◌, ◌++◌, length, filter, sum, Contains, Option, Some, slice_get, refl, sym, ap, ◌∙◌, subst, zero-add, arith}
+use Rattle.std.proofs.Common.{◌≡◌, ◌⊎◌, inl, inr, ℕ, zero, suc, ◌+◌, pos, Bool, true, false, not, List, [], ◌∷◌, ◌++◌, length, filter, sum, Contains, Option, Some, slice_get, refl, sym, ap, ◌∙◌, subst, zero-add, arith}
 use Rattle.std.specs.List.{range_with_len}
 use Rattle.std.proofs.lemmas.List.{map-id}
 use Rattle.std.proofs.lemmas.List.Sums.{sum_by-append}
@@ -12,9 +12,9 @@ use Rattle.leg_block.specs.Terminals.{is_among}
 use Rattle.leg_block.specs.Records.{DesignContents, NetSaid}
 use Rattle.leg_block.proofs.SameTerminal.{among_contains}
 use Rattle.leg_flat.specs.Nets.{special_named, entry_terminals, terminals_of}
-use Rattle.leg_print.specs.Wirelength.{IsLeastBoxIfAny, IsCentreAmong, half_perimeter, IsNetLength, IsWirelength}
+use Rattle.leg_print.specs.Wirelength.{IsLeastBoxIfAny, IsCentreAmong, IsNetLength, IsWirelength}
 use Rattle.leg_print.specs.WirelengthSteps.{joined_if_any}
-use Rattle.leg_print.proofs.LeastBoxes.{least_same, least_joined_if_any, one_least_if_any}
+use Rattle.leg_print.proofs.LeastBoxes.{least_same, least_joined_if_any}
 
 -- an element of what a filter keeps is one of the list
 in_tail : (x t : Terminal) (xs ys : List Terminal) → (Contains ys t → Contains xs t) → Contains (x ∷ ys) t → Contains (x ∷ xs) t
@@ -86,26 +86,6 @@ module _ (design : DesignContents) where
 
   pub same_box : (n : ℕ) (a b : Option Sides) → a ≡ b → IsLeastBoxIfAny (IsCentreAmong design (terminals_of design n)) a → IsLeastBoxIfAny (IsCentreAmong design (terminals_of design n)) b
   same_box n a b same least = subst (λ (box : Option Sides). IsLeastBoxIfAny (IsCentreAmong design (terminals_of design n)) box) same least
-
-  -- a net has one length
-  one_length : (n a b : ℕ) → IsNetLength design n a → IsNetLength design n b → a ≡ b
-  one_length n a b first second =
-      first.is ∙ ap half_perimeter (one_least_if_any (IsCentreAmong design (terminals_of design n)) first.box second.box first.least second.least) ∙ sym second.is
-
-  -- so lists of the lengths of the same nets are the same
-  one_list : (nets ls bs : List ℕ) → OneForOne (IsNetLength design) nets ls → OneForOne (IsNetLength design) nets bs → ls ≡ bs
-  one_list [] [] [] first second = refl
-  one_list [] [] (b ∷ bs) first second = absurd second
-  one_list [] (a ∷ ls) bs first second = absurd first
-  one_list (n ∷ nets) [] bs first second = absurd first
-  one_list (n ∷ nets) (a ∷ ls) [] first second = absurd second
-  one_list (n ∷ nets) (a ∷ ls) (b ∷ bs) first second =
-      ap (λ c. c ∷ ls) (one_length n a b first.0 second.0) ∙ ap (λ cs. b ∷ cs) (one_list nets ls bs first.1 second.1)
-
-  -- and a design has one wirelength
-  pub one_wirelength : (a b : ℤ) → IsWirelength design a → IsWirelength design b → a ≡ b
-  one_wirelength a b first second =
-      first.is ∙ ap (λ lengths. pos (sum lengths)) (one_list _ first.lengths second.lengths first.each second.each) ∙ sym second.is
 
 -- one more of a range
 range_more : (a n : ℕ) → range_with_len a (n + 1) ≡ range_with_len a n ++ (a + n) ∷ []
