@@ -1,5 +1,5 @@
 -- Answers of every command.
-use Rattle.std.proofs.Common.{◌≡◌, ℕ, false, List, Option, None, Some, is_some, option_map, Result, Ok, Err, IfOk, IfErr, OnErr, codes, refl, sym, arith}
+use Rattle.std.proofs.Common.{◌≡◌, ℕ, false, List, Option, None, Some, is_some, option_map, Result, Ok, Err, IfOk, IfErr, OnErr, codes, inl, refl, sym, arith}
 use Rattle.std.proofs.lemmas.Fmt.{decimal_digit}
 use Rattle.std.proofs.lemmas.Bool.{false≢true}
 use Rattle.leg_app.specs.declared.command.Command.{Command}
@@ -46,7 +46,7 @@ nothing_there f (Some x) e = absurd (false≢true (sym e))
 -- violations that are listed, or told to be none, are an answer where they are all that the command lists
 pub listed_answer : (command : Command) (lefs : List (List ℕ)) (def : List ℕ) (library : Contents) (design : DesignContents) (flat : Option FlatSaid) (violations : List Fault) (status : Status) (text : List ℕ) → SayDesign lefs def library design → IsShown command design flat → IsListOf (Lists command library design) violations → IsListing design flat violations status text → IsAnswer command lefs def status text
 listed_answer command lefs def library design flat violations Success text say shown list listed =
-    record { library = library; design = design; flat = flat; violations = violations; say = say; shown = shown; list = list; is = listed }
+    inl (record { library = library; design = design; flat = flat; violations = violations; say = say; shown = shown; list = list; is = listed })
 listed_answer command lefs def library design flat violations Violations text say shown list listed =
     record { library = library; design = design; flat = flat; violations = violations; say = say; shown = shown; list = list; is = listed }
 listed_answer command lefs def library design flat violations Refused text say shown list listed = absurd listed

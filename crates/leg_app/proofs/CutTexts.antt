@@ -84,7 +84,16 @@ module _ (limit : ℕ) (beyond : TEXT_LIMIT < limit) where
     }
 
     pub cut_answers : (command : Command) (status : Status) (text : List ℕ) → IsAnswer command (map (take limit) lefs) (take limit def) status text → IsAnswer command lefs def status text
-    cut_answers command Success text answer = cut_lists command Success text answer
+    cut_answers command Success text (inl lists) = inl (cut_lists command Success text lists)
+    cut_answers command Success text (inr told) = inr (record {
+      measures = told.measures;
+      library = told.library;
+      design = told.design;
+      length = told.length;
+      say = cut_designs told.library told.design told.say;
+      measured = told.measured;
+      is = told.is;
+    })
     cut_answers command Violations text answer = cut_lists command Violations text answer
     cut_answers command Memory text answer = answer
     cut_answers command Refused text (inl refusal) = inl (record {

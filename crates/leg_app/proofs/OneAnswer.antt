@@ -1,5 +1,5 @@
 -- What texts say, and what is answered to them, is one thing at most.
-use Rattle.std.proofs.Common.{◌≡◌, ◌≢◌, ℕ, ◌≤◌, ◌<◌, List, length, Option, None, Some, inl, inr, refl, sym, ◌∙◌, subst, arith}
+use Rattle.std.proofs.Common.{◌≡◌, ◌≢◌, ℕ, ◌≤◌, ◌<◌, List, length, Option, None, Some, inl, inr, refl, sym, ap, ◌∙◌, subst, arith}
 use Rattle.std.proofs.lemmas.List.Elements.{All-contains}
 use Rattle.leg_sweep.proofs.Lists.{same_rising}
 use Rattle.leg_lex.proofs.Saying.{says_one}
@@ -16,13 +16,16 @@ use Rattle.leg_design.specs.Form.{design_in}
 use Rattle.leg_flat.specs.Flat.{FlatSaid}
 use Rattle.leg_flat.specs.Metal.{metal_of}
 use Rattle.leg_flat.proofs.OneFlat.{one_flat}
+use Rattle.leg_print.specs.Wirelength.{IsWirelength}
+use Rattle.leg_print.proofs.OneWirelength.{one_wirelength}
 use Rattle.leg_app.specs.declared.command.Command.{Command}
-use Rattle.leg_app.specs.declared.command.Command.TheVariants.{PlaceCheck, Check}
+use Rattle.leg_app.specs.declared.command.Command.TheVariants.{PlaceCheck, Check, Measure}
 use Rattle.leg_app.specs.declared.status.Status.{Status}
 use Rattle.leg_app.specs.declared.status.Status.TheVariants.{Success, Violations, Refused, Memory}
 use Rattle.leg_app.specs.Say.{SayLibraryFor, SayDesign}
 use Rattle.leg_app.specs.Violations.{IsViolation, IsJudgedBy, AreAllViolations, AreViolationsOf}
-use Rattle.leg_app.specs.Answer.{Lists, IsShown, IsListing, ListsViolations, IsAnswer}
+use Rattle.leg_app.specs.Lines.{wirelength_text}
+use Rattle.leg_app.specs.Answer.{Lists, IsShown, IsListing, ListsViolations, TellsWirelength, IsAnswer}
 
 ComesBefore-irreflexive : (v : Fault) → ComesBefore v v → ⊥
 ComesBefore-irreflexive v before = omega (arith, before.second refl refl)
@@ -95,6 +98,7 @@ one_shown PlaceCheck design None (Some g) p q = absurd q
 one_shown PlaceCheck design (Some f) g p q = absurd p
 one_shown Check design None g p q = absurd p
 one_shown Check design (Some f) None p q = absurd q
+one_shown Measure design f g p q = absurd p
 one_shown Check design (Some f) (Some g) p q = (let same : f ≡ g = one_flat design f g p.is_flat q.is_flat in cc)
 
 -- one status and one text go with violations
@@ -137,15 +141,38 @@ module _ (command : Command) (lefs : List (List ℕ)) (def : List ℕ) (one : Sa
       let same = one much.many.library p.library much.many.design p.design much.many.say p.say in
       not_too_many p.design p.flat much.flattens p.shown (subst (λ d. PART_LIMIT < length (metal_of d)) same.1 much.many.many)
 
+  -- a command that tells a wirelength lists nothing
+  lists_nothing : (status : Status) (text words : List ℕ) → ListsViolations command lefs def status text → TellsWirelength command lefs def words → ⊥
+  lists_nothing status text words p q = (let none : ⊥ = subst (λ c. IsShown c p.design p.flat) q.measures p.shown in none)
+
+  -- one wirelength is told
+  one_measure : (text words : List ℕ) → TellsWirelength command lefs def text → TellsWirelength command lefs def words → text ≡ words
+  one_measure text words p q =
+      let same = one p.library q.library p.design q.design p.say q.say in
+      let measured : IsWirelength q.design p.length = subst (λ d. IsWirelength d p.length) same.1 p.measured in
+      let lengths : p.length ≡ q.length = one_wirelength q.design p.length q.length measured q.measured in
+      p.is ∙ ap wirelength_text lengths ∙ sym q.is
+
+  -- texts whose wirelength is told are not refused
+  measured_not_refused : (text words : List ℕ) → TellsWirelength command lefs def text → IsAnswer command lefs def Refused words → ⊥
+  measured_not_refused text words p (inl refusal) = refusal.nothing p.library p.design p.say
+  measured_not_refused text words p (inr much) = (let both : ◌≡◌ {A = Command} Check Measure = sym much.flattens ∙ p.measures in cc)
+
   pub one_answer : (status other : Status) (text words : List ℕ) → IsAnswer command lefs def status text → IsAnswer command lefs def other words
       → status ≢ Refused → status ≢ Memory → other ≢ Memory → (status ≡ other) × (text ≡ words)
   one_answer Refused other text words p q judged told told_too = absurd (judged refl)
   one_answer Memory other text words p q judged told told_too = absurd (told refl)
-  one_answer Success Success text words p q judged told told_too = one_judgement Success Success text words p q
-  one_answer Success Violations text words p q judged told told_too = one_judgement Success Violations text words p q
-  one_answer Violations Success text words p q judged told told_too = one_judgement Violations Success text words p q
+  one_answer Success Success text words (inl p) (inl q) judged told told_too = one_judgement Success Success text words p q
+  one_answer Success Success text words (inl p) (inr q) judged told told_too = absurd (lists_nothing Success text words p q)
+  one_answer Success Success text words (inr p) (inl q) judged told told_too = absurd (lists_nothing Success words text q p)
+  one_answer Success Success text words (inr p) (inr q) judged told told_too = (refl, one_measure text words p q)
+  one_answer Success Violations text words (inl p) q judged told told_too = one_judgement Success Violations text words p q
+  one_answer Success Violations text words (inr p) q judged told told_too = absurd (lists_nothing Violations words text q p)
+  one_answer Violations Success text words p (inl q) judged told told_too = one_judgement Violations Success text words p q
+  one_answer Violations Success text words p (inr q) judged told told_too = absurd (lists_nothing Violations text words p q)
   one_answer Violations Violations text words p q judged told told_too = one_judgement Violations Violations text words p q
-  one_answer Success Refused text words p q judged told told_too = absurd (judged_not_refused Success text words p q)
+  one_answer Success Refused text words (inl p) q judged told told_too = absurd (judged_not_refused Success text words p q)
+  one_answer Success Refused text words (inr p) q judged told told_too = absurd (measured_not_refused text words p q)
   one_answer Violations Refused text words p q judged told told_too = absurd (judged_not_refused Violations text words p q)
   one_answer Success Memory text words p q judged told told_too = absurd (told_too refl)
   one_answer Violations Memory text words p q judged told told_too = absurd (told_too refl)

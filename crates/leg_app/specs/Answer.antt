@@ -1,12 +1,12 @@
 -- What a command may answer: its text, and the status that goes with it.
-use Rattle.std.specs.Prelude.{◌≡◌, ◌≢◌, ℕ, List, [], ◌∷◌, ◌++◌, ◌⊎◌, Option, None, Some}
+use Rattle.std.specs.Prelude.{◌≡◌, ◌≢◌, ℕ, ℤ, List, [], ◌∷◌, ◌++◌, ◌⊎◌, Option, None, Some}
 use Rattle.std.specs.Io.KnownBytes.{Appends}
 use Rattle.leg_lex.specs.declared.read_fault.ReadFault.{ReadFault}
 use Rattle.leg_lex.specs.declared.read_fault.FaultKind.TheVariants as kinds
 use Rattle.leg_cells.specs.declared.scale_fault.ScaleKind.{ScaleKind}
 use Rattle.leg_cells.specs.declared.scale_fault.ScaleKind.TheVariants as scale
 use Rattle.leg_app.specs.declared.command.Command.{Command}
-use Rattle.leg_app.specs.declared.command.Command.TheVariants.{PlaceCheck, Check}
+use Rattle.leg_app.specs.declared.command.Command.TheVariants.{PlaceCheck, Check, Measure}
 use Rattle.leg_app.specs.declared.status.Status.{Status}
 use Rattle.leg_app.specs.declared.status.Status.TheVariants.{Success, Violations, Refused, Memory}
 use Rattle.leg_cells.specs.Records.{Contents}
@@ -15,22 +15,25 @@ use Rattle.leg_block.specs.declared.fault.Fault.{Fault}
 use Rattle.leg_block.specs.Violation.{IsListOf}
 use Rattle.leg_flat.specs.Flat.{FlatSaid}
 use Rattle.leg_place.specs.Faults.{Holds}
+use Rattle.leg_print.specs.Wirelength.{IsWirelength}
 use Rattle.leg_app.specs.Say.{SayDesign, SayNothing, SayTooMany}
 use Rattle.leg_app.specs.Violations.{IsViolation, IsJudgedBy}
 use Rattle.leg_app.specs.Stream.{HasEndLibrary, IsSplit}
-use Rattle.leg_app.specs.Lines.{listing_text, legal_text, memory_text, no_library_text, refused_text, scale_text, too_many_text}
+use Rattle.leg_app.specs.Lines.{listing_text, legal_text, wirelength_text, memory_text, no_library_text, refused_text, scale_text, too_many_text}
 
--- the violations that the command lists: those of where components stand, or all
+-- the violations that the command lists: those of where components stand, or all; `measure` lists none
 abbrev pub Lists : Command → Contents → DesignContents → Fault → Type 0
 Lists PlaceCheck library design fault = Holds library design fault
 Lists Check library design fault = IsViolation library design fault
+Lists Measure library design fault = ⊥
 
--- the flat that is judged, and whose shapes and pieces the lines name: none, or the design's own
+-- the flat that is judged, and whose shapes and pieces the lines name: none, or the design's own; `measure` judges nothing
 abbrev pub IsShown : Command → DesignContents → Option FlatSaid → Type 0
 IsShown PlaceCheck design None = Unit {0}
 IsShown PlaceCheck design (Some flat) = ⊥
 IsShown Check design None = ⊥
 IsShown Check design (Some flat) = IsJudgedBy design flat
+IsShown Measure design flat = ⊥
 
 -- the status and the text for these violations: `legal` where there are none, and else a line for each and their number
 abbrev pub IsListing : DesignContents → Option FlatSaid → List Fault → Status → List ℕ → Type 0
@@ -49,6 +52,16 @@ pub record ListsViolations (command : Command) (lefs : List (List ℕ)) (def : L
   pub shown : IsShown command design flat
   pub list : IsListOf (Lists command library design) violations
   pub is : IsListing design flat violations status text
+
+-- the texts say a design, and its wirelength is told
+pub record TellsWirelength (command : Command) (lefs : List (List ℕ)) (def text : List ℕ) : Type 0 where
+  pub measures : command ≡ Measure
+  pub library : Contents
+  pub design : DesignContents
+  pub length : ℤ
+  pub say : SayDesign lefs def library design
+  pub measured : IsWirelength design length
+  pub is : text ≡ wirelength_text length
 
 -- a fault of the texts is told
 pub record TellsFault (text : List ℕ) : Type 0 where
@@ -75,7 +88,8 @@ pub record TellsTooMany (command : Command) (lefs : List (List ℕ)) (def text :
 
 -- The text and the status are an answer of the command to these texts.
 abbrev pub IsAnswer : Command → List (List ℕ) → List ℕ → Status → List ℕ → Type 0
-IsAnswer command lefs def Success text = ListsViolations command lefs def Success text
+IsAnswer command lefs def Success text =
+    ListsViolations command lefs def Success text ⊎ TellsWirelength command lefs def text
 IsAnswer command lefs def Violations text = ListsViolations command lefs def Violations text
 IsAnswer command lefs def Refused text = TellsRefusal lefs def text ⊎ TellsTooMany command lefs def text
 IsAnswer command lefs def Memory text = text ≡ memory_text

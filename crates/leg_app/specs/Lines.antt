@@ -1,5 +1,6 @@
 -- The lines that are printed: words separated by one blank, each line with a line feed at its end.
-use Rattle.std.specs.Prelude.{ℕ, List, ◌++◌, length, Option, codes, decimal}
+use Rattle.std.specs.Prelude.{ℕ, ℤ, List, ◌++◌, length, Option, codes, decimal}
+use Rattle.std.specs.Fmt.{signed_decimal}
 use Rattle.leg_lex.specs.declared.read_fault.ReadFault.{ReadFault}
 use Rattle.leg_lex.specs.declared.read_fault.FaultKind.{FaultKind}
 use Rattle.leg_lex.specs.declared.read_fault.FaultKind.TheVariants as kinds
@@ -17,6 +18,10 @@ listing_text design flat violations =
 
 abbrev pub legal_text : List ℕ
 legal_text = codes "legal\n"
+
+-- the wirelength, in database units
+abbrev pub wirelength_text : ℤ → List ℕ
+wirelength_text length = codes "hpwl " ++ signed_decimal length ++ codes "\n"
 
 abbrev pub too_many_text : List ℕ
 too_many_text = codes "TOOMANY\n"

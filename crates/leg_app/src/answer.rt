@@ -1,7 +1,7 @@
 //! What a command answers.
 
 ghost use Rattle.std.specs.Prelude.{◌≡◌, ℕ, List, map, option_map, IfOk};
-ghost use Rattle.leg_app.specs.declared.command.Command.TheVariants.{PlaceCheck, Check};
+ghost use Rattle.leg_app.specs.declared.command.Command.TheVariants.{PlaceCheck, Check, Measure};
 ghost use Rattle.leg_app.specs.Say.{SayDesign, SayNothing, SayTooMany};
 ghost use Rattle.leg_app.specs.Steps.SaidLibrary.{SaysJust};
 ghost use Rattle.leg_app.specs.Refusal.{Refuses};
@@ -10,7 +10,7 @@ ghost use Rattle.leg_app.specs.Answer.{IsListing};
 
 use crate::check::check_design;
 use crate::command::Command;
-use crate::lines::{listing_text, refused_text, scale_text};
+use crate::lines::{listing_text, refused_text, scale_text, wirelength_text};
 use crate::status::Status;
 use crate::text_fault::TextFault;
 use crate::texts::{behind_lefs, library_for};
@@ -20,6 +20,7 @@ use leg_design::DefText;
 use leg_flat::{Flat, FlatFault};
 use leg_lex::FaultKind;
 use leg_place::place_faults;
+use leg_print::hpwl;
 use std::alloc::{AllocError, Allocator};
 
 /// A text to be written, and the status that goes with it.
@@ -75,6 +76,7 @@ fn design_answer<A: Allocator + Copy>(
     match command {
         Command::Check => whole_answer(alloc, design),
         Command::PlaceCheck => placement_answer(alloc, design),
+        Command::Measure => measure_answer(alloc, design),
     }
 }
 
@@ -104,6 +106,22 @@ fn whole_answer<A: Allocator + Copy>(
         Err(FlatFault::TooMany) => refusal(alloc, Command::Check, &TextFault::TooMany),
         Err(FlatFault::Memory) => Err(AllocError),
     }
+}
+
+fn measure_answer<A: Allocator + Copy>(
+    alloc: A,
+    design: &Design<'_, A>,
+) -> Result<Answer<A>, AllocError>
+    ensures { IfOk result (λ answer. (lefs : List (List ℕ)) (def : List ℕ) →
+        SayDesign lefs def design.now.library design.now →
+        IsAnswer Measure lefs def answer.status answer.text.items) }
+{
+    let length = hpwl(design.library(), design);
+    let text = wirelength_text(alloc, length)?;
+    Ok(Answer {
+        status: Status::Success,
+        text,
+    })
 }
 
 // The violations are listed, or told to be none.

@@ -7,4 +7,6 @@ pub enum Command {
     Check,
     /// Which components are unplaced, outside the die, off the sites of the rows, or on one another.
     PlaceCheck,
+    /// How long the nets are at least: the half-perimeter wirelength.
+    Measure,
 }

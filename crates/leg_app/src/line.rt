@@ -62,6 +62,8 @@ fn command_named(name: &str) -> Option<Command>
         Some(Command::Check)
     } else if name == "place-check" {
         Some(Command::PlaceCheck)
+    } else if name == "measure" {
+        Some(Command::Measure)
     } else {
         None
     }

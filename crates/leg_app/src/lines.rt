@@ -1,7 +1,7 @@
 //! The lines that commands print.
 
 ghost use Rattle.std.specs.Prelude.{◌≡◌, ◌++◌, IfOk, OnOk, option_map, decimal};
-ghost use Rattle.leg_app.specs.Lines.{kind_name, listing_text, refused_text, scale_kind_name, scale_text};
+ghost use Rattle.leg_app.specs.Lines.{kind_name, listing_text, refused_text, scale_kind_name, scale_text, wirelength_text};
 
 use itoa::Buffer;
 use leg_block::{Design, Fault};
@@ -23,6 +23,20 @@ pub(crate) fn listing_text<A: Allocator + Copy>(
     let mut text = print_faults(alloc, design.library(), design, flat, violations)?;
     text.extend_from_slice(b"violations ")?;
     push_number(&mut text, violations.len() as u64)?;
+    text.extend_from_slice(b"\n")?;
+    Ok(text)
+}
+
+/// The line of a wirelength, in database units.
+pub(crate) fn wirelength_text<A: Allocator + Copy>(
+    alloc: A,
+    length: i64,
+) -> Result<Vec<u8, A>, AllocError>
+    ensures { IfOk result (λ text. text.items ≡ wirelength_text length) }
+{
+    let mut text = Vec::from_slice(alloc, b"hpwl ")?;
+    let mut buffer = Buffer::new();
+    text.extend_from_slice(buffer.format(length).as_bytes())?;
     text.extend_from_slice(b"\n")?;
     Ok(text)
 }

@@ -1,5 +1,15 @@
 mod SidesInTurn
-
--- the text of a design
+-- The text of a design
 pub mod InTurn
 pub mod SectionText
+-- The wirelength
+mod LeastBoxes
+mod BoxesKept
+mod PointsOfSome
+mod DrawnPoints
+mod TerminalsKnown
+mod TerminalCentres
+mod SpecialNamed
+mod NetCentres
+-- What the proofs of other crates cite
+pub mod OneWirelength

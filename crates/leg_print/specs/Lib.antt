@@ -1,5 +1,5 @@
 pub mod Names
 pub mod Lines
-
--- the text of a design
 pub mod Text
+pub mod Wirelength
+pub mod Steps

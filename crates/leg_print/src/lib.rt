@@ -1,4 +1,4 @@
-//! What is printed: a design as a DEF text, and the lines of its violations.
+//! What is printed of a design: its text as a DEF, the lines of its violations, and its wirelength.
 #![tactic(auto)]
 
 mod clauses;
@@ -15,6 +15,9 @@ mod sections;
 mod tracks;
 mod vias;
 mod wires;
+mod wirelength;
+mod wirelength_box;
 
 pub use design_text::print_def;
 pub use fault_line::print_faults;
+pub use wirelength::hpwl;
