@@ -121,7 +121,10 @@ pub(crate) fn component_pin_name<'d, A: Allocator + Copy>(
 }
 
 /// The name of the pin of the design of this number; empty where there is none.
-pub(crate) fn design_pin_name<'d, A: Allocator + Copy>(design: &'d Design<'_, A>, number: u32) -> &'d [u8]
+pub(crate) fn design_pin_name<'d, A: Allocator + Copy>(
+    design: &'d Design<'_, A>,
+    number: u32,
+) -> &'d [u8]
     ensures { result.now ≡ design_pin_name design.now number }
 {
     match design.pins().get(number as usize) {

@@ -14,10 +14,7 @@ use leg_text::{push_end, push_first, push_word, push_words};
 use std::alloc::{AllocError, Allocator};
 
 /// Adds where a port stands, if it stands somewhere.
-fn push_port_place<A: Allocator>(
-    text: &mut Vec<u8, A>,
-    port: &Port<A>,
-) -> Result<(), AllocError>
+fn push_port_place<A: Allocator>(text: &mut Vec<u8, A>, port: &Port<A>) -> Result<(), AllocError>
     ensures { OnOk result (text.new.items ≡ text.old.items ++ spaced (clause_words (port_place port.now.status port.now.place))) }
 {
     match &port.place {
@@ -54,10 +51,7 @@ fn push_ports<A: Allocator + Copy>(
 }
 
 /// Adds the words that were kept of a pin, each as a clause.
-fn push_kept_words<A: Allocator>(
-    text: &mut Vec<u8, A>,
-    pin: &Pin<'_, A>,
-) -> Result<(), AllocError>
+fn push_kept_words<A: Allocator>(text: &mut Vec<u8, A>, pin: &Pin<'_, A>) -> Result<(), AllocError>
     ensures { OnOk result (text.new.items ≡ text.old.items ++ spaced (clause_words (kept_clauses pin.now))) }
 {
     push_kept(text, b"NET", &pin.net_name)?;

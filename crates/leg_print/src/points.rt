@@ -10,10 +10,7 @@ use leg_text::{push_word, push_words};
 use std::alloc::{AllocError, Allocator};
 
 /// Adds a point, in its parentheses.
-pub(crate) fn push_spot<A: Allocator>(
-    text: &mut Vec<u8, A>,
-    spot: &Point,
-) -> Result<(), AllocError>
+pub(crate) fn push_spot<A: Allocator>(text: &mut Vec<u8, A>, spot: &Point) -> Result<(), AllocError>
     ensures { OnOk result (text.new.items ≡ text.old.items ++ spaced (spot_words spot.now)) }
 {
     let mut x = Buffer::new();

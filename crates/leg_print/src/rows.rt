@@ -40,11 +40,7 @@ fn push_start<A: Allocator>(
 }
 
 /// Adds how many sites there are, and the step from one to the next.
-fn push_sites<A: Allocator>(
-    text: &mut Vec<u8, A>,
-    count: i64,
-    width: i64,
-) -> Result<(), AllocError>
+fn push_sites<A: Allocator>(text: &mut Vec<u8, A>, count: i64, width: i64) -> Result<(), AllocError>
     ensures { OnOk result (text.new.items ≡ text.old.items ++ spaced (codes "DO" ∷ signed_decimal count ∷ codes "BY" ∷ codes "1" ∷ codes "STEP" ∷ signed_decimal width ∷ codes "0" ∷ [])) }
 {
     let mut sites = Buffer::new();

@@ -48,10 +48,7 @@ fn push_steps<A: Allocator>(
 }
 
 /// Adds which tracks there are.
-fn push_track_steps<A: Allocator>(
-    text: &mut Vec<u8, A>,
-    track: &Track<A>,
-) -> Result<(), AllocError>
+fn push_track_steps<A: Allocator>(text: &mut Vec<u8, A>, track: &Track<A>) -> Result<(), AllocError>
     ensures { OnOk result (text.new.items ≡ text.old.items ++ spaced (axis_word track.now.axis ∷ signed_decimal track.now.start ∷ codes "DO" ∷ signed_decimal track.now.count ∷ codes "STEP" ∷ signed_decimal track.now.step ∷ [])) }
 {
     push_word(text, axis_word(track.axis))?;

@@ -1,5 +1,5 @@
 -- The entry of a component (LEF/DEF 5.8, "Components").
-use Rattle.std.specs.Prelude.{ℕ, List, [], ◌∷◌, ◌++◌, codes}
+use Rattle.std.specs.Prelude.{[], ◌∷◌, ◌++◌, codes}
 use Rattle.leg_lex.specs.Words.{Words}
 use Rattle.leg_block.specs.declared.records.Component.{Component}
 use Rattle.leg_block.specs.Records.{DesignContents}

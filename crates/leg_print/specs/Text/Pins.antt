@@ -1,5 +1,5 @@
 -- The entry of a pin of the design (LEF/DEF 5.8, "Pins"; the order of its clauses is an own rule).
-use Rattle.std.specs.Prelude.{ℕ, List, [], ◌∷◌, ◌++◌, map, Option, None, Some, codes}
+use Rattle.std.specs.Prelude.{List, [], ◌∷◌, ◌++◌, map, Option, None, Some, codes}
 use Rattle.std.specs.List.{flat_map}
 use Rattle.leg_lex.specs.Words.{Words}
 use Rattle.leg_geom.specs.declared.place.Place.{Place}

@@ -1,5 +1,5 @@
 -- The line of a row (LEF/DEF 5.8, "Rows"; that the step is always written is an own rule).
-use Rattle.std.specs.Prelude.{ℕ, ℤ, pos, List, [], ◌∷◌, ◌++◌, Option, None, Some, codes, slice_get}
+use Rattle.std.specs.Prelude.{ℕ, ℤ, pos, [], ◌∷◌, ◌++◌, Option, None, Some, codes, slice_get}
 use Rattle.std.specs.Fmt.{signed_decimal}
 use Rattle.leg_lex.specs.Words.{Words}
 use Rattle.leg_cells.specs.declared.records.Site.{Site}

@@ -1,5 +1,5 @@
 -- The entry of a via (LEF/DEF 5.8, "Vias").
-use Rattle.std.specs.Prelude.{ℕ, List, [], ◌∷◌, ◌++◌, map, codes}
+use Rattle.std.specs.Prelude.{[], ◌∷◌, ◌++◌, map, codes}
 use Rattle.leg_lex.specs.Words.{Words}
 use Rattle.leg_cells.specs.Records.{ViaSaid}
 use Rattle.leg_block.specs.Records.{DesignContents}

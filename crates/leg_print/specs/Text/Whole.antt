@@ -1,6 +1,6 @@
 -- The text of a design in one order and one layout, which depend on the design alone (LEF/DEF 5.8, "DEF Syntax"; the
 -- order of forms that may stand in any order, and the layout, are own rules).
-use Rattle.std.specs.Prelude.{ℕ, Bool, true, false, List, [], ◌∷◌, ◌++◌, if◌then◌else◌, codes}
+use Rattle.std.specs.Prelude.{ℕ, Bool, true, false, List, ◌++◌, codes}
 use Rattle.std.specs.List.{flat_map}
 use Rattle.leg_text.specs.Spaced.{line}
 use Rattle.leg_cells.specs.Records.{ViaSaid}
