@@ -1,17 +1,15 @@
 -- A stream that is cut beyond its limit is answered as the whole of it.
-use Rattle.std.proofs.Common.{◌≡◌, ◌≢◌, ◌≤◌, ◌<◌, ℕ, suc, ◌+◌, ◌-◌, ◌*◌, List, [], ◌∷◌, ◌++◌, length, take, drop, ◌⊎◌, inl, inr, refl, sym, ap, ◌∙◌, subst, append_assoc, arith, length-append, take-append-drop}
+use Rattle.std.proofs.Common.{◌≡◌, ◌≤◌, ◌<◌, ℕ, ◌+◌, ◌-◌, ◌*◌, List, [], ◌∷◌, ◌++◌, length, take, drop, ◌⊎◌, inl, inr, refl, sym, ap, ◌∙◌, subst, append_assoc, arith, length-append, take-append-drop}
 use Rattle.std.proofs.lemmas.Bool.{cases_eq, cases_lt}
 use Rattle.std.proofs.lemmas.List.{take_all, length-take-le}
 use Rattle.std.proofs.Math.Seq.{take-append-add}
 use Rattle.leg_lex.specs.declared.limits.TheConstants.{TEXT_LIMIT}
 use Rattle.leg_lex.specs.declared.read_fault.FaultKind.TheVariants as kinds
-use Rattle.leg_cells.specs.Records.{Contents}
-use Rattle.leg_block.specs.Records.{DesignContents}
 use Rattle.leg_app.specs.declared.command.Command.TheVariants.{Check}
 use Rattle.leg_app.specs.declared.status.Status.{Status}
 use Rattle.leg_app.specs.declared.status.Status.TheVariants.{Success, Violations, Refused, Memory}
-use Rattle.leg_app.specs.Say.{SayDesign, SayNothing}
-use Rattle.leg_app.specs.Stream.{end_library, StandsBehind, HasEndLibrary, IsSplit}
+use Rattle.leg_app.specs.Say.{SayNothing}
+use Rattle.leg_app.specs.Stream.{end_library}
 use Rattle.leg_app.specs.Lines.{no_library_text}
 use Rattle.leg_app.specs.Answer.{IsAnswer, IsStreamAnswer, AnswersParts, TellsNoLibrary}
 

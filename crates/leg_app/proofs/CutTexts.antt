@@ -8,14 +8,14 @@ use Rattle.std.proofs.Common.{Option}
 use Rattle.leg_lex.specs.Say.{Says}
 use Rattle.leg_cells.specs.Records.{RawContents, Contents, empty_library}
 use Rattle.leg_lib.specs.Form.{lef_in}
-use Rattle.leg_lib.specs.Say.{Extend, SayLibrary}
+use Rattle.leg_lib.specs.Say.{Extend}
 use Rattle.leg_block.specs.Records.{DesignContents}
 use Rattle.leg_design.specs.Header.{units_in}
 use Rattle.leg_design.specs.Form.{design_in}
 use Rattle.leg_app.specs.declared.command.Command.{Command}
 use Rattle.leg_app.specs.declared.status.Status.{Status}
 use Rattle.leg_app.specs.declared.status.Status.TheVariants.{Success, Violations, Refused, Memory}
-use Rattle.leg_app.specs.Say.{SayLibraryFor, SayDesign, SayNothing, SayTooMany}
+use Rattle.leg_app.specs.Say.{SayDesign}
 use Rattle.leg_app.specs.Answer.{ListsViolations, IsAnswer}
 
 -- a limit beyond that of texts
