@@ -14,9 +14,9 @@ mod rows;
 mod sections;
 mod tracks;
 mod vias;
-mod wires;
 mod wirelength;
 mod wirelength_box;
+mod wires;
 
 pub use design_text::print_def;
 pub use fault_line::print_faults;

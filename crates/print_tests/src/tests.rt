@@ -96,7 +96,11 @@ END DESIGN
 ";
 
 // The text of the design that a text says, and its wirelength.
-fn printed(alloc: Global, library: &Library<'_, Global>, def: &[u8]) -> Result<(Vec<u8>, i64), Fail> {
+fn printed(
+    alloc: Global,
+    library: &Library<'_, Global>,
+    def: &[u8],
+) -> Result<(Vec<u8>, i64), Fail> {
     let design = read_def(alloc, library, def)?;
     let text = print_def(alloc, design.library(), &design)?;
     Ok((text, hpwl(design.library(), &design)))
