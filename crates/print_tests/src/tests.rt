@@ -40,61 +40,6 @@ END NETS
 END DESIGN
 ";
 
-// Forms that are not kept, kept words, and defaults that are left out.
-const LOOSE: &[u8] = b"DIVIDERCHAR \"/\" ;
-TECHNOLOGY t ;
-DESIGN top ; UNITS DISTANCE MICRONS 1000 ; DIEAREA ( 800 2000 ) ( 0 0 ) ;
-ROW r0 core 0 0 n DO 4 BY 1 ;
-ROW r1 core 200 0 FS ;
-TRACKS Y 100 DO 10 STEP 200 ;
-VIAS 1 ; - big + RECT m2 ( 60 60 ) ( -60 -60 ) + RECT v1 ( -50 -50 ) ( 50 50 ) + RECT m1 ( -50 -50 ) ( 50 50 ) ; END VIAS
-COMPONENTS 2 ; - u1 INV + SOURCE DIST + PLACED ( 0 0 ) N ; - u2 INV ; END COMPONENTS
-PINS 2 ; - p + NET P + USE POWER + PORT + LAYER m1 ( 0 0 ) ( 20 20 ) + FIXED ( 0 1900 ) S + PORT + LAYER m2 ( -5 -5 ) ( 5 5 ) ; - q ; END PINS
-SPECIALNETS 1 ; - P ( * VDD ) + USE POWER + FIXED m1 100 ( 0 2000 ) ( 800 * ) big NEW m2 0 ( 100 100 ) V12 ; END SPECIALNETS
-NETS 2 ;
-- n9 + ROUTED m1 TAPER ( 100 400 ) ( 300 400 ) ( 300 400 70 ) + USE SIGNAL ;
-- n8 ( u1 A ) + ROUTED m1 ( 100 400 0 ) ( 300 * ) V12 ( 300 600 ) NEW m1 ( 0 0 ) RECT ( 10 20 30 5 ) ;
-END NETS
-END DESIGN
-";
-
-const LAID_OUT: &[u8] = b"VERSION 5.8 ;
-DIVIDERCHAR \"/\" ;
-DESIGN top ;
-UNITS DISTANCE MICRONS 1000 ;
-DIEAREA ( 0 0 ) ( 800 2000 ) ;
-ROW r0 core 0 0 N DO 4 BY 1 STEP 200 0 ;
-ROW r1 core 200 0 FS DO 1 BY 1 STEP 200 0 ;
-TRACKS Y 100 DO 10 STEP 200 ;
-VIAS 1 ;
-- big + RECT m2 ( -60 -60 ) ( 60 60 ) + RECT v1 ( -50 -50 ) ( 50 50 ) + RECT m1 ( -50 -50 ) ( 50 50 ) ;
-END VIAS
-COMPONENTS 2 ;
-- u1 INV + PLACED ( 0 0 ) N ;
-- u2 INV + UNPLACED ;
-END COMPONENTS
-PINS 2 ;
-- p + NET P + USE POWER + PORT + LAYER m1 ( 0 0 ) ( 20 20 ) + FIXED ( 0 1900 ) S + PORT + LAYER m2 ( -5 -5 ) ( 5 5 ) ;
-- q ;
-END PINS
-SPECIALNETS 1 ;
-- P ( u1 VDD ) ( u2 VDD ) ( PIN p ) + USE POWER
-  + ROUTED m1 100 ( 0 2000 ) ( 800 2000 )
-  NEW m1 0 ( 800 2000 ) big
-  NEW m1 0 ( 100 100 ) V12 ;
-END SPECIALNETS
-NETS 2 ;
-- n9 + USE SIGNAL
-  + ROUTED m1 ( 100 400 ) ( 300 400 70 ) ;
-- n8 ( u1 A )
-  + ROUTED m1 ( 100 400 0 ) ( 300 400 )
-  NEW m1 ( 300 400 ) V12
-  NEW m2 ( 300 400 ) ( 300 600 )
-  NEW m1 ( 0 0 ) RECT ( 10 5 30 20 ) ;
-END NETS
-END DESIGN
-";
-
 // The text of the design that a text says, and its wirelength.
 fn printed(
     alloc: Global,
@@ -113,17 +58,5 @@ fn a_text_as_it_is_laid_out_comes_back(rt: HostRuntime) -> Result<(), Fail> {
     assert_eq!(rt; text.as_slice(), WIRED);
     // From (300 950) to (500 950).
     assert_eq!(rt; length, 200);
-    Ok(())
-}
-
-#[test]
-fn what_is_kept_is_laid_out_in_one_way(rt: HostRuntime) -> Result<(), Fail> {
-    let library = read_lefs(rt.alloc(), &[LEF])?.at(rt.alloc(), 1000)?;
-    let (text, _) = printed(rt.alloc(), &library, LOOSE)?;
-    assert_eq!(rt; text.as_slice(), LAID_OUT);
-    let (again, length) = printed(rt.alloc(), &library, LAID_OUT)?;
-    assert_eq!(rt; again.as_slice(), LAID_OUT);
-    // No net of NETS has two terminals with shapes.
-    assert_eq!(rt; length, 0);
     Ok(())
 }
