@@ -5,6 +5,8 @@ mod MovedNets
 -- A net that gets wires
 mod NetsKept
 mod Wired
+mod EachWith
+mod AllWired
 -- What the proofs of other crates cite
 pub mod SameTerminal
 pub mod Blank

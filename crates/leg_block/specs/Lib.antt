@@ -3,6 +3,7 @@ pub mod Layers
 pub mod Rows
 pub mod Wires
 pub mod Terminals
+pub mod MoreWires
 pub mod WellFormedParts
 pub mod WellFormedNets
 pub mod WellFormed

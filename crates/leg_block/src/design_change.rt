@@ -1,15 +1,18 @@
-//! Changes of a design: a component that moves, and a net that gets wires.
+//! Changes of a design: a component that moves, and nets that get wires.
 
-ghost use Rattle.std.specs.Prelude.{◌≡◌, ◌<◌, ◌≤◌, ◌+◌, ◌++◌, false, length, Some, slice_get, slice_set, All, IfOk, IfErr};
+ghost use Rattle.std.specs.Prelude.{◌≡◌, ◌<◌, ◌≤◌, ◌+◌, ◌++◌, false, List, length, map, Some, slice_get, slice_set, All, IfOk, IfErr, OnOk, OnErr};
 ghost use Rattle.leg_block.specs.declared.records.Status.TheVariants.{Placed};
 ghost use Rattle.leg_block.specs.declared.records.Component.{Component};
 ghost use Rattle.leg_block.specs.declared.limits.TheConstants.{PART_LIMIT};
+ghost use Rattle.leg_block.specs.declared.records.Wire as wires;
+ghost use Rattle.leg_block.specs.MoreWires.{with_more_wires};
+ghost use Rattle.leg_block.specs.Steps.FirstWires.{with_first_wires};
 ghost use Rattle.leg_block.specs.Records.{NetSaid, wire_count};
 ghost use Rattle.leg_block.specs.WellFormedParts.{IsPosition};
 ghost use Rattle.leg_block.specs.WellFormedNets.{IsWire};
 
 use crate::design::Design;
-use crate::records::{Status, Wire};
+use crate::records::{Net, Status, Wire};
 use leg_geom::Place;
 use std::alloc::{AllocError, Allocator};
 
@@ -48,5 +51,88 @@ impl<'a, A: Allocator + Copy> Design<'a, A> {
             Ok(()) => Ok(self),
             Err(refusal) => Err((self, refusal)),
         }
+    }
+
+    /// The same design with the wires of each list after those of one entry of `NETS`: the first list's for the first entry,
+    /// and so on. Where memory is refused, the design comes back as it was, and all the lists are dropped.
+    pub fn with_all_wires(
+        mut self,
+        lists: Vec<Vec<Wire, A>, A>,
+    ) -> Result<Design<'a, A>, (Design<'a, A>, AllocError)>
+        requires one_each { length lists.items ≡ length self.nets }
+        requires spelled { All (λ wires. All (IsWire self.library self.vias false) wires.items) lists.items }
+        requires few { wire_count (with_more_wires self.nets (map (λ wires. wires.items) lists.items)) + wire_count self.special ≤ PART_LIMIT }
+        // The wires of the entries of `NETS` change, and nothing else.
+        ensures added { IfOk result (λ design. design ≡ record self.entry { nets = with_more_wires self.entry.nets (map (λ wires. wires.items) lists.items) }) }
+        ensures unchanged { IfErr result (λ back. back.0 ≡ self.entry) }
+    {
+        let alloc = *self.nets.allocator();
+        match append_to_all(alloc, self.nets.as_mut_slice(), lists) {
+            Ok(()) => Ok(self),
+            Err(refusal) => Err((self, refusal)),
+        }
+    }
+}
+
+/// Adds the wires of each list to one entry, all or none.
+fn append_to_all<'a, A: Allocator + Copy>(
+    alloc: A,
+    nets: &mut [Net<'a, A>],
+    lists: Vec<Vec<Wire, A>, A>,
+) -> Result<(), AllocError>
+    requires { length lists.items ≡ length nets.old }
+    ensures appended { OnOk result (nets.new ≡ with_more_wires nets.old (map (λ wires. wires.items) lists.items)) }
+    ensures unchanged { OnErr result (nets.new ≡ nets.old) }
+{
+    let counts = counts_of_wires(alloc, nets)?;
+    match append_in_turn(nets, lists) {
+        Ok(()) => Ok(()),
+        Err(refusal) => {
+            keep_first_wires(nets, counts.as_slice());
+            Err(refusal)
+        }
+    }
+}
+
+/// How many wires each entry has.
+fn counts_of_wires<A: Allocator + Copy>(
+    alloc: A,
+    nets: &[Net<'_, A>],
+) -> Result<Vec<usize, A>, AllocError>
+    ensures { IfOk result (λ counts. counts.items ≡ map (λ net. length net.wires) nets.now) }
+{
+    let mut counts = Vec::with_capacity(alloc, nets.len())?;
+    for net in nets {
+        counts.push(net.wires.as_slice().len())?;
+    }
+    Ok(counts)
+}
+
+/// Adds the wires of each list to one entry, in turn, until memory is refused.
+fn append_in_turn<'a, A: Allocator + Copy>(
+    nets: &mut [Net<'a, A>],
+    lists: Vec<Vec<Wire, A>, A>,
+) -> Result<(), AllocError>
+    requires { length lists.items ≡ length nets.old }
+    ensures all { OnOk result (nets.new ≡ with_more_wires nets.old (map (λ wires. wires.items) lists.items)) }
+    ensures some { OnErr result ((more : List (List wires.Wire)) × (nets.new ≡ with_more_wires nets.old more)) }
+{
+    let mut n = 0;
+    for wires in lists {
+        let net = &mut nets[n];
+        net.wires.append(wires)?;
+        n += 1;
+    }
+    Ok(())
+}
+
+/// Leaves of each entry so many first wires.
+fn keep_first_wires<'a, A: Allocator + Copy>(nets: &mut [Net<'a, A>], counts: &[usize])
+    requires { length counts.now ≡ length nets.old }
+    ensures { nets.new ≡ with_first_wires nets.old counts.now }
+{
+    for n in 0..counts.len() {
+        let net = &mut nets[n];
+        net.wires.truncate(counts[n]);
     }
 }

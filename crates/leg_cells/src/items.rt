@@ -1,6 +1,6 @@
 //! The list in a field of a record.
 
-ghost use Rattle.std.specs.Prelude.{◌≡◌, ◌++◌, ◌∷◌, [], OnOk, OnErr};
+ghost use Rattle.std.specs.Prelude.{◌≡◌, ◌++◌, ◌∷◌, [], take, OnOk, OnErr};
 ghost use Rattle.std.specs.Cmp.Lexicographic.{pointwise, lists_per};
 
 use std::alloc::{AllocError, Allocator};
@@ -57,6 +57,15 @@ impl<T, A: Allocator> Items<T, A> {
         ensures unchanged { OnErr result (self.new ≡ self.old) }
     {
         self.items.append(&mut more)
+    }
+
+    /// Keeps the first elements, so many or as many as there are.
+    pub fn truncate(&mut self, len: usize)
+    where
+        T: Drop,
+        ensures { self.new ≡ take len self.old }
+    {
+        self.items.truncate(len);
     }
 }
 

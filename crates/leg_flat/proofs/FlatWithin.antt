@@ -1,15 +1,17 @@
 -- A flat keeps its limits.
-use Rattle.std.proofs.Common.{◌≡◌, ℕ, ◌+◌, ◌^◌, ◌<◌, List, [], ◌∷◌, length, length-append, map, All, refl, arith}
+use Rattle.std.proofs.Common.{◌≡◌, ℕ, ◌+◌, ◌*◌, ◌^◌, ◌<◌, ◌≤◌, List, [], ◌∷◌, length, length-append, map, get_or, All, refl, arith}
 use Rattle.std.specs.List.{range_with_len}
 use Rattle.std.proofs.lemmas.List.{length-map}
 use Rattle.std.proofs.lemmas.List.Elements.{All-map}
 use Rattle.std.proofs.lemmas.List.FromFn.{length-range_with_len, length-map-range_with_len}
 use Rattle.leg_cells.specs.Scale.{OneForOne}
+use Rattle.leg_block.specs.declared.limits.TheConstants.{PART_LIMIT}
 use Rattle.leg_block.specs.Records.{DesignContents}
 use Rattle.leg_block.specs.WellFormedNets.{HasNets}
 use Rattle.leg_flat.specs.declared.piece.Piece.{Piece}
 use Rattle.leg_flat.specs.declared.piece.Piece.TheVariants.{Term, Wire}
 use Rattle.leg_flat.specs.Nets.{regular_entry, special_entry, entry_wires, terminals_of, wires_of, pieces_of}
+use Rattle.leg_flat.specs.Flat.{ArePieces}
 use Rattle.leg_flat.specs.Steps.Places.{net_numbers}
 use Rattle.leg_flat.proofs.NetSizes.{few_wires}
 use Rattle.leg_flat.proofs.MetalSizes.{terminals_few}
@@ -22,7 +24,7 @@ same_length R (x ∷ xs) [] one = absurd one
 same_length R (x ∷ xs) (y ∷ ys) one = omega (arith, same_length R xs ys one.1)
 
 module _ (design : DesignContents) (has : HasNets design) where
-  few_pieces : (n : ℕ) → length (pieces_of design n) < 2 ^ 32
+  few_pieces : (n : ℕ) → length (pieces_of design n) ≤ 2 * PART_LIMIT
   unfolding pieces_of wires_of
   few_pieces n =
       let terminals = map Term (terminals_of design n) in
@@ -41,7 +43,21 @@ module _ (design : DesignContents) (has : HasNets design) where
   -- the pieces of each net of a design are few
   pub all_few_pieces : (pieces : List (List Piece)) → pieces ≡ map (pieces_of design) (net_numbers design) → All (λ (of : List Piece). length of < 2 ^ 32) pieces
   all_few_pieces pieces is =
-      rw is (All-map (λ (of : List Piece). length of < 2 ^ 32) (pieces_of design) (net_numbers design) (λ i n less. few_pieces _))
+      rw is (All-map (λ (of : List Piece). length of < 2 ^ 32) (pieces_of design) (net_numbers design) (λ i n less. omega (arith, few_pieces (get_or (net_numbers design) i n))))
+
+  are_pieces : (shapes n : ℕ) → ArePieces shapes (pieces_of design n)
+  unfolding pieces_of
+  are_pieces shapes n = record {
+    terminals = terminals_of design n;
+    wires = length (wires_of design n);
+    are = refl;
+    few = omega (arith, few_pieces n);
+  }
+
+  -- the pieces of each net are terminals, and then wires
+  pub all_are_pieces : (shapes : ℕ) (pieces : List (List Piece)) → pieces ≡ map (pieces_of design) (net_numbers design) → All (ArePieces shapes) pieces
+  all_are_pieces shapes pieces is =
+      rw is (All-map (ArePieces shapes) (pieces_of design) (net_numbers design) (λ i n less. are_pieces shapes _))
 
   -- and so are its nets
   pub few_nets : (pieces : List (List Piece)) → pieces ≡ map (pieces_of design) (net_numbers design) → length pieces < 2 ^ 32

@@ -36,3 +36,6 @@ mod Counted
 mod FlatWithin
 -- What the proofs of other crates cite
 pub mod OneFlat
+-- A net that gets a wire
+mod LastPiece
+mod OneMoreWire

@@ -1,5 +1,5 @@
 -- A design has one flat at most: rectangles with the same points are the same.
-use Rattle.std.proofs.Common.{◌≡◌, ◌↔◌, ℤ, ◌≤ℤ◌, ℕ, List, Option, [], ◌∷◌, refl, sym, ◌∙◌, arith}
+use Rattle.std.proofs.Common.{◌≡◌, ℤ, ◌≤ℤ◌, ℕ, List, Option, [], ◌∷◌, refl, sym, ◌∙◌, arith}
 use Rattle.std.proofs.lemmas.Int.{ints}
 use Rattle.leg_geom.specs.Plane.{Spot, Sides, IsRect, HasPoint}
 use Rattle.leg_cells.specs.Scale.{OneForOne}

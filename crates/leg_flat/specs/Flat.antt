@@ -1,11 +1,13 @@
 -- A flat design: the metal of a design as rectangles, and the pieces of its nets.
-use Rattle.std.specs.Prelude.{◌≡◌, ◌↔◌, ◌+◌, ◌^◌, ◌<◌, ◌≤◌, List, All, length, map}
+use Rattle.std.specs.Prelude.{◌≡◌, ◌↔◌, ℕ, ◌+◌, ◌*◌, ◌^◌, ◌<◌, ◌≤◌, List, ◌++◌, All, length, map}
 use Rattle.std.specs.List.{range_with_len}
 use Rattle.leg_geom.specs.Plane.{Spot, IsRect, HasPoint}
 use Rattle.leg_cells.specs.Scale.{OneForOne}
 use Rattle.leg_block.specs.declared.limits.TheConstants.{PART_LIMIT}
 use Rattle.leg_block.specs.Records.{DesignContents}
+use Rattle.leg_block.specs.declared.records.Terminal.{Terminal}
 use Rattle.leg_flat.specs.declared.piece.Piece.{Piece}
+use Rattle.leg_flat.specs.declared.piece.Piece.TheVariants.{Term, Wire}
 use Rattle.leg_flat.specs.declared.shape.Shape.{Shape}
 use Rattle.leg_flat.specs.Nets.{pieces_of}
 use Rattle.leg_flat.specs.Outline.{HasPointOf}
@@ -16,11 +18,23 @@ pub record FlatSaid : Type 0 where
   pub shapes : List Shape
   pub pieces : List (List Piece)
 
+-- these terminals, and then so many wires by their numbers
+abbrev pub pieces_with : List Terminal → ℕ → List Piece
+pieces_with terminals wires = map Term terminals ++ map Wire (range_with_len 0 wires)
+
+-- a net of a flat with so many shapes: its pieces are terminals and then wires, and 32 bits tell their numbers
+pub record ArePieces (shapes : ℕ) (pieces : List Piece) : Type 0 where
+  pub terminals : List Terminal
+  pub wires : ℕ
+  pub are : pieces ≡ pieces_with terminals wires
+  pub few : length pieces ≤ 2 * PART_LIMIT + shapes
+
 -- a flat keeps the limit of shapes, and 32 bits tell its nets and their pieces
 pub record IsWithin (flat : FlatSaid) : Type 0 where
   pub shapes : length flat.shapes ≤ PART_LIMIT
   pub nets : length flat.pieces < 2 ^ 32
   pub pieces : All (λ pieces. length pieces < 2 ^ 32) flat.pieces
+  pub of_nets : All (ArePieces (length flat.shapes)) flat.pieces
 
 -- the shape is a rectangle with area that has exactly the points of the metal, and its layer, owner, component and piece
 pub record IsShapeOf (metal : Metal) (shape : Shape) : Type 0 where

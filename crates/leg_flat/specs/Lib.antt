@@ -4,4 +4,5 @@ pub mod Outline
 pub mod Metal
 pub mod Pieces
 pub mod Flat
+pub mod MoreWires
 pub mod Steps

@@ -3,6 +3,7 @@
 ghost use Rattle.std.specs.Prelude.{◌≡◌, ◌↔◌, ◌<◌, ◌≤◌, length, Some, IfOk, IfErr, option_map, slice_get};
 ghost use Rattle.leg_cells.specs.Scale.{OneForOne};
 ghost use Rattle.leg_cells.specs.Sound.{IsSound};
+ghost use Rattle.leg_block.specs.WellFormed.{IsWellFormed};
 ghost use Rattle.leg_block.specs.declared.limits.TheConstants.{PART_LIMIT};
 ghost use Rattle.leg_flat.specs.declared.fault.FlatFault.TheVariants.{TooMany};
 ghost use Rattle.leg_flat.specs.Metal.{metal_of};
@@ -24,8 +25,8 @@ use std::marker::Model;
 /// The metal of a design as rectangles, and the pieces of its nets.
 #[derive(Drop)]
 pub struct Flat<A: Allocator> {
-    shapes: Vec<Shape, A>,
-    pieces: Vec<Items<Piece, A>, A>,
+    pub(crate) shapes: Vec<Shape, A>,
+    pub(crate) pieces: Vec<Items<Piece, A>, A>,
 }
 
 impl<A: Allocator> Model for Flat<A> {
@@ -112,7 +113,7 @@ fn shapes_of<A: Allocator + Copy>(
     requires { AreNetsOf design.now nets.now }
     ensures { IfOk result (λ shapes. OneForOne IsShapeOf (metal_of design.now) shapes.items) }
 {
-    library_is_sound(design);
+    design_is_sound(design);
     let mut shapes = Vec::with_capacity(alloc, count)?;
     add_components(&mut shapes, design, nets)?;
     add_design_pins(&mut shapes, design, nets)?;
@@ -121,9 +122,11 @@ fn shapes_of<A: Allocator + Copy>(
     Ok(shapes)
 }
 
-/// What holds of the library of every design, as its readers say: nothing is done.
-fn library_is_sound<A: Allocator + Copy>(design: &Design<'_, A>)
-    ensures { IsSound design.now.library }
+/// What holds of every design and of its library, as their types say: nothing is done.
+pub(crate) fn design_is_sound<A: Allocator + Copy>(design: &Design<'_, A>)
+    ensures library { IsSound design.now.library }
+    ensures proper { IsWellFormed design.now }
 {
     let _layers = design.library().layers();
+    let _vias = design.vias();
 }

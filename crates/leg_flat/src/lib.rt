@@ -3,6 +3,7 @@
 
 mod fault;
 mod flat;
+mod flat_change;
 pub mod laws;
 mod metal;
 mod metal_count;

@@ -92,7 +92,7 @@ fn count_design_pins<A: Allocator + Copy>(before: u64, design: &Design<'_, A>) -
 }
 
 /// How many shapes a wire has.
-fn wire_shapes<A: Allocator + Copy>(design: &Design<'_, A>, wire: &Wire) -> usize
+pub(crate) fn wire_shapes<A: Allocator + Copy>(design: &Design<'_, A>, wire: &Wire) -> usize
     ensures { result ≡ length (wire_outlines design.now wire.now) }
 {
     match wire {

@@ -56,7 +56,7 @@ fn add_via<A: Allocator + Copy>(
 }
 
 /// Adds the shapes of a wire.
-fn add_wire<A: Allocator + Copy>(
+pub(crate) fn add_wire<A: Allocator + Copy>(
     shapes: &mut Vec<Shape, A>,
     design: &Design<'_, A>,
     wire: &Wire,

@@ -1,10 +1,11 @@
 //! The nets of a design: their pieces, and where terminals are.
 
-ghost use Rattle.std.specs.Prelude.{◌≡◌, ◌≢◌, ◌<◌, ◌^◌, suc, ◌+◌, ◌++◌, length, map, Some, option_map, All, AllPairs, IfOk, OnOk, slice_get};
+ghost use Rattle.std.specs.Prelude.{◌≡◌, ◌≢◌, ℕ, ◌<◌, ◌^◌, suc, ◌+◌, ◌++◌, length, map, Some, option_map, All, AllPairs, IfOk, OnOk, slice_get};
 ghost use Rattle.std.specs.List.{range_with_len};
 ghost use Rattle.leg_block.specs.declared.records.Terminal.{Terminal};
 ghost use Rattle.leg_flat.specs.declared.piece.Piece.TheVariants.{Term, Wire};
 ghost use Rattle.leg_flat.specs.Nets.{entry_terminals, entry_wires, terminals_of, pieces_of};
+ghost use Rattle.leg_flat.specs.Flat.{ArePieces};
 ghost use Rattle.leg_flat.specs.Steps.Places.{AreSpecialNumbers, AreNetsOf, place_in};
 ghost use Rattle.leg_flat.specs.Steps.PlacesBelow.{place_below, ArePiecesAdded};
 
@@ -162,6 +163,7 @@ pub(crate) fn nets_of<A: Allocator + Copy>(
     ensures is { IfOk result (λ nets. AreNetsOf design.now nets) }
     ensures nets { IfOk result (λ nets. length nets.pieces < 2 ^ 32) }
     ensures pieces { IfOk result (λ nets. All (λ pieces. length pieces < 2 ^ 32) nets.pieces) }
+    ensures of_nets { IfOk result (λ nets. (shapes : ℕ) → All (ArePieces shapes) nets.pieces) }
 {
     let index = NetIndex::new(alloc, design)?;
     let special = special_numbers(alloc, &index)?;

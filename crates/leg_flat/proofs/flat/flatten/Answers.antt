@@ -14,4 +14,5 @@ invariant_of-result g c =
       shapes = rw (same_length IsShapeOf metal shapes c.in_ok-shapes.ensures) at (counted_within (length metal) c.shape_count-count.result c.shape_count-count.ensures c.if-count-gt-PART_LIMIT.false);
       nets = rw c.into_pieces.ensures c.in_ok-nets.ensures.nets;
       pieces = rw c.into_pieces.ensures c.in_ok-nets.ensures.pieces;
+      of_nets = rw c.into_pieces.ensures (c.in_ok-nets.ensures.of_nets _);
     }

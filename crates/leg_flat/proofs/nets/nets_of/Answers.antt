@@ -1,5 +1,5 @@
 use Rattle.std.proofs.Common.{◌≡◌, ◌+◌, length, ap, ◌∙◌, arith}
-use Rattle.leg_flat.proofs.FlatWithin.{few_nets, all_few_pieces}
+use Rattle.leg_flat.proofs.FlatWithin.{few_nets, all_few_pieces, all_are_pieces}
 use Rattle.leg_flat.proofs.NetDone.{nets_started, nets_more, nets_done}
 use Rattle.leg_flat.proofs.nets.nets_of.Goals as goal
 
@@ -27,3 +27,6 @@ returns-clause-nets g c = few_nets c.args.design.now c.nets.ensures.proper.nets 
 
 pub returns-clause-pieces : goal.returns-clause-pieces
 returns-clause-pieces g c = all_few_pieces c.args.design.now c.nets.ensures.proper.nets _ (returns-clause-is g c).pieces
+
+pub returns-clause-of_nets : goal.returns-clause-of_nets
+returns-clause-of_nets g c = λ shapes. all_are_pieces c.args.design.now c.nets.ensures.proper.nets shapes _ (returns-clause-is g c).pieces
