@@ -5,6 +5,8 @@ mod AllTold
 mod SetRoots
 mod WayUp
 mod SetsUnited
+-- Metal that may lie somewhere
+mod CleanMetal
 -- Pieces that touch
 mod SinglePoints
 mod SeenPoints

@@ -1,5 +1,6 @@
 pub mod Comparable
 pub mod Spacing
+pub mod Clean
 pub mod Touch
 pub mod Open
 pub mod Steps

@@ -1,5 +1,6 @@
 -- What the code knows on its way. No meaning of a public call speaks of it.
 pub mod TooCloseRule
+pub mod LayerSpacing
 pub mod MeetingRule
 pub mod NetShapes
 pub mod PieceMetal

@@ -2,9 +2,10 @@
 //! pieces aren't joined.
 //!
 //! `spacing_faults` and `open_faults` list exactly the violations of these kinds, each once, in order; `joined` says which
-//! pieces of a net are joined to its first one.
+//! pieces of a net are joined to its first one. `clean` says where metal of a net may lie.
 #![tactic(auto)]
 
+mod clean_metal;
 mod comparable;
 mod corner;
 mod join;
@@ -18,6 +19,7 @@ mod sets;
 mod spacing;
 mod too_close;
 
+pub use clean_metal::clean;
 pub use join::joined;
 pub use open_fault::open_faults;
 pub use spacing::spacing_faults;

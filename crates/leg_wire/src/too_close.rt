@@ -4,7 +4,7 @@ ghost use Rattle.std.specs.Prelude.{◌≡◌, ◌≤◌, ◌<◌, ◌+◌, ◌^
 ghost use Rattle.std.proofs.Common.{ap};
 ghost use Rattle.leg_cells.specs.Sound.{IsSoundLayer};
 ghost use Rattle.leg_wire.specs.Spacing.{AreNearer};
-ghost use Rattle.leg_wire.specs.Steps.TooCloseRule.{AreClose, limit_at, AreClose-symmetric, AreClose-near, AreClose-near_on_layer};
+ghost use Rattle.leg_wire.specs.Steps.TooCloseRule.{AreCloserThan, AreClose, limit_at, AreClose-symmetric, AreClose-near, AreClose-near_on_layer};
 
 use crate::comparable::are_comparable;
 use leg_cells::Layer;
@@ -63,6 +63,14 @@ fn greatest_spacing(layers: &[Layer<'_>]) -> u32
     greatest
 }
 
+/// Whether the shapes are comparable, and share a point or lie nearer to one another than this.
+pub(crate) fn are_closer_than(distance: u64, a: &Shape, b: &Shape) -> bool
+    requires { distance < 2 ^ 32 }
+    ensures { IsTrue result ↔ AreCloserThan distance a.now b.now }
+{
+    are_comparable(a, b) && (a.rect.shares_point(&b.rect) || are_nearer(distance, &a.rect, &b.rect))
+}
+
 /// Whether some points of the rectangles lie nearer to one another than this.
 fn are_nearer(distance: u64, a: &Rect, b: &Rect) -> bool
     requires { distance < 2 ^ 32 }
@@ -101,8 +109,7 @@ impl<'l, 'a> PairRule for TooClose<'l, 'a> {
 
     fn meets(&mut self, a: &Shape, b: &Shape) -> bool {
         self.tests += 1;
-        are_comparable(a, b)
-            && (a.rect.shares_point(&b.rect) || are_nearer(self.limit(a.layer), &a.rect, &b.rect))
+        are_closer_than(self.limit(a.layer), a, b)
     }
 
     fn tests(&self) -> u64 {

@@ -17,10 +17,14 @@ limit_at layers reach number = within (slice_get layers number) where
   within None = 0
   within (Some layer) = min (unsigned_abs layer.spacing) reach
 
--- two comparable shapes share a point, or lie nearer than their layer's spacing, as far as that is within the reach
-pub record AreClose (layers : List Layer) (reach : ℕ) (a b : Shape) : Type 0 where
+-- two comparable shapes share a point, or lie nearer than this
+pub record AreCloserThan (distance : ℕ) (a b : Shape) : Type 0 where
   pub comparable : AreComparable a b
-  pub close : SharePoint a.rect b.rect ⊎ AreNearer (limit_at layers reach a.layer) a.rect b.rect
+  pub close : SharePoint a.rect b.rect ⊎ AreNearer distance a.rect b.rect
+
+-- two comparable shapes share a point, or lie nearer than their layer's spacing, as far as that is within the reach
+abbrev pub AreClose : List Layer → ℕ → Shape → Shape → Type 0
+AreClose layers reach a b = AreCloserThan (limit_at layers reach a.layer) a b
 
 -- shapes are too close in either order
 pub AreClose-symmetric : (layers : List Layer) (reach : ℕ) (a b : Shape) → AreClose layers reach a b → AreClose layers reach b a

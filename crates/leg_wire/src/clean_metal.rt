@@ -1,0 +1,58 @@
+//! Where metal of a net may lie.
+
+ghost use Rattle.std.specs.Prelude.{◌≡◌, ◌↔◌, ◌<◌, ◌^◌, All, IsTrue};
+ghost use Rattle.leg_cells.specs.Sound.{IsSoundLayer};
+ghost use Rattle.leg_wire.specs.Clean.{net_metal, IsClean};
+ghost use Rattle.leg_wire.specs.Steps.LayerSpacing.{spacing_at};
+
+use crate::too_close::are_closer_than;
+use leg_cells::{Layer, Library};
+use leg_flat::{Flat, Owner, Shape};
+use leg_geom::Rect;
+use std::alloc::Allocator;
+
+/// The rectangle as metal of this net, as no piece of it and of no component.
+fn net_metal(net: u32, layer: usize, rect: Rect) -> Shape
+    ensures { result ≡ net_metal net layer rect }
+{
+    Shape {
+        layer,
+        rect,
+        owner: Owner::Net(net),
+        component: None,
+        piece: None,
+    }
+}
+
+/// The spacing of the layer of this number; 0 where there is none.
+fn spacing_at(layers: &[Layer<'_>], layer: usize) -> u64
+    requires { All IsSoundLayer layers.now }
+    ensures is { result ≡ spacing_at layers.now layer }
+    ensures within { result < 2 ^ 32 }
+{
+    match layers.get(layer) {
+        Some(layer) => layer.spacing.unsigned_abs(),
+        None => 0,
+    }
+}
+
+/// Whether metal of this net may lie there: the rectangle, which is on this layer, shares no point with a shape of another
+/// owner, and is no nearer to one than the layer's spacing. It looks at all shapes of the flat, and takes no memory.
+pub fn clean<A: Allocator + Copy>(
+    library: &Library<'_, A>,
+    flat: &Flat<A>,
+    net: u32,
+    layer: usize,
+    rect: Rect,
+) -> bool
+    ensures { IsTrue result ↔ IsClean library.now flat.now net layer rect }
+{
+    let spacing = spacing_at(library.layers(), layer);
+    let metal = net_metal(net, layer, rect);
+    for shape in flat.shapes() {
+        if are_closer_than(spacing, &metal, shape) {
+            return false;
+        }
+    }
+    true
+}
