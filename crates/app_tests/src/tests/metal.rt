@@ -5,9 +5,10 @@ use leg_block::Fault;
 use leg_cells::Library;
 use leg_design::read_def;
 use leg_flat::flatten;
+use leg_geom::Rect;
 use leg_lib::read_lefs;
 use leg_print::print_faults;
-use leg_wire::{joined, spacing_faults};
+use leg_wire::{clean, joined, spacing_faults};
 use std::alloc::{AllocError, Global};
 use std::test::Fail;
 
@@ -123,5 +124,40 @@ END NETS
     )?;
     let found = check_texts(rt.alloc(), &[layer_text()], &def);
     assert!(rt; found.is_ok_and(|found| found.as_slice() == [Fault::OpenNet(0, 1)].as_slice()));
+    Ok(())
+}
+
+// Whether metal of net `net` may lie there, on the first layer of the design that the text says.
+fn is_clean(
+    alloc: Global,
+    library: &Library<'_, Global>,
+    def: &[u8],
+    net: u32,
+    rect: Rect,
+) -> Result<bool, Fail> {
+    let design = read_def(alloc, library, def)?;
+    let flat = flatten(alloc, design.library(), &design)?;
+    Ok(clean(design.library(), &flat, net, 0, rect))
+}
+
+// The same beside one wire, of net 0, whose right edge is at 300.
+fn is_clean_beside(alloc: Global, net: u32, x1: i64) -> Result<bool, Fail> {
+    let def = block_text(
+        alloc,
+        b"SPECIALNETS 1 ; - a + ROUTED m1 100 ( 100 400 ) ( 300 400 ) ; END SPECIALNETS\n",
+    )?;
+    let library = read_lefs(alloc, &[layer_text()])?.at(alloc, 1000)?;
+    match Rect::new(x1, 350, 600, 450) {
+        Some(rect) => is_clean(alloc, &library, &def, net, rect),
+        None => Err(Fail::from("no rectangle")),
+    }
+}
+
+#[test]
+fn metal_is_clean_from_the_spacing_on(rt: HostRuntime) -> Result<(), Fail> {
+    assert!(rt; is_clean_beside(rt.alloc(), 1, 400)?);
+    assert!(rt; !is_clean_beside(rt.alloc(), 1, 399)?);
+    assert!(rt; !is_clean_beside(rt.alloc(), 1, 200)?);
+    assert!(rt; is_clean_beside(rt.alloc(), 0, 200)?);
     Ok(())
 }
