@@ -2,3 +2,13 @@
 pub mod FreeWords
 -- A statement, clauses and lists of forms are read back
 pub mod Again
+-- Names that stand for numbers are found again, and tests on numbers are met
+pub mod Named
+pub mod Facts
+-- Points, corners and orientations
+pub mod Points
+-- Each line and entry is read as its form
+pub mod Saying
+pub mod Rows
+pub mod Tracks
+pub mod HeaderLines

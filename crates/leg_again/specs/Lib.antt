@@ -1,0 +1,2 @@
+pub mod SaysForm
+pub mod PrintedNames
