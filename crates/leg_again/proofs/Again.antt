@@ -1,11 +1,10 @@
 -- A statement, its clauses, and forms one after the other are read back from their words.
-use Rattle.std.proofs.Common.{◌≡◌, ℕ, ◌<◌, Bool, true, false, List, [], ◌∷◌, ◌++◌, All, length, get_or, take, map, slice_get, Option, None, Some, codes, refl, sym, ap, ◌∙◌, subst, arith}
-use Rattle.std.specs.List.{list_any, list_all, flat_map, slice_split}
-use Rattle.std.proofs.lemmas.Bool.{false≢true}
-use Rattle.std.proofs.lemmas.List.{append_assoc, append-nil, length-map}
+use Rattle.std.proofs.Common.{◌≡◌, Bool, true, false, List, [], ◌∷◌, ◌++◌, All, Option, None, Some, codes, refl, sym, ap, ◌∙◌}
+use Rattle.std.specs.List.{list_any, flat_map, slice_split}
+use Rattle.std.proofs.lemmas.List.{append_assoc, append-nil}
 use Rattle.std.proofs.lemmas.List.Elements.{All-head, All-tail}
 use Rattle.std.proofs.lemmas.List.Splits.{slice_split-cons_yes, slice_split-cons_no}
-use Rattle.leg_lex.specs.Words.{Words, ◌>>=◌}
+use Rattle.leg_lex.specs.Words.{Words}
 use Rattle.leg_lex.specs.Statements.{is_semicolon, is_plus, up_to, statement_at, clauses_of}
 use Rattle.leg_lex.specs.Until.{until, over}
 use Rattle.leg_lex.proofs.Until.{Shortens, ends, goes_on}

@@ -1,16 +1,16 @@
 -- Words that stay one word in a text, and that neither end a statement nor begin a clause.
-use Rattle.std.proofs.Common.{◌≡◌, ℕ, Bool, true, false, not, ◌&&◌, ◌||◌, ◌==◌, List, [], ◌∷◌, ◌++◌, All, ℤ, codes, refl, sym, ap, ◌∙◌, arith}
+use Rattle.std.proofs.Common.{◌≡◌, ℕ, Bool, true, false, ◌&&◌, ◌||◌, ◌==◌, List, [], ◌∷◌, ◌++◌, All, ℤ, refl, sym}
 use Rattle.std.specs.List.{list_any, list_all, flat_map}
 use Rattle.std.specs.Str.{bytes_eq}
 use Rattle.std.proofs.lemmas.Bool.{false≢true}
 use Rattle.std.proofs.lemmas.List.Elements.{All-head, All-tail}
 use Rattle.std.specs.Fmt.{signed_decimal}
-use Rattle.leg_lex.specs.Words.{Words, is_name, is_word, is_mark_byte, is_closed, is_plain}
+use Rattle.leg_lex.specs.Words.{Words, is_name, is_word, is_mark_byte, is_plain}
 use Rattle.leg_lex.specs.Statements.{is_semicolon, is_plus}
 use Rattle.leg_lex.specs.Number.{IsNumber}
 use Rattle.leg_lex.proofs.NameLookup.{same_name}
 use Rattle.leg_text.specs.Spaced.{stays_one, is_printable}
-use Rattle.leg_text.proofs.Numbers.{IsNumberWord, number_word}
+use Rattle.leg_text.proofs.Numbers.{number_word}
 use Rattle.leg_text.proofs.Printable.{printable_word, printable_append}
 
 -- a name is a word

@@ -1,25 +1,20 @@
 -- The lines that a text begins with are read as what they say.
-use Rattle.std.proofs.Common.{◌≡◌, ℕ, ◌≤◌, ℤ, pos, Bool, true, false, ◌&&◌, int_lt, nat_le, unsigned_abs, List, [], ◌∷◌, ◌++◌, Option, None, Some, codes, decimal, IsTrue, refl, arith}
+use Rattle.std.proofs.Common.{◌≡◌, ℕ, ◌≤◌, pos, true, int_lt, nat_le, List, ◌++◌, Some, codes, refl, arith}
 use Rattle.std.specs.List.{list_all}
 use Rattle.std.proofs.lemmas.Int.{ints}
 use Rattle.std.proofs.lemmas.Bool.Decides.{nat_tests}
-use Rattle.leg_lex.specs.declared.limits.TheConstants.{NUMBER_LIMIT, UNITS_LIMIT}
+use Rattle.leg_lex.specs.declared.limits.TheConstants.{UNITS_LIMIT}
 use Rattle.leg_lex.specs.Number.{IsNumber}
-use Rattle.leg_lex.specs.Words.{Words, next_at, keyword_at, mark_at, name_at, word_at, whole_at, is_name, is_word, is_keyword}
-use Rattle.leg_lex.specs.Statements.{statement_at, up_to}
-use Rattle.leg_lex.specs.Until.{steps, until}
+use Rattle.leg_lex.specs.Words.{Words, next_at, keyword_at, mark_at, name_at, word_at, is_name, is_word, is_keyword}
+use Rattle.leg_lex.specs.Until.{steps}
 use Rattle.leg_text.specs.Spaced.{stays_one, line, is_printable}
-use Rattle.leg_text.proofs.Behind.{first_passes, others_pass}
-use Rattle.leg_text.proofs.Numbers.{number_word}
-use Rattle.leg_geom.specs.Plane.{Spot, Sides}
-use Rattle.leg_block.specs.WellFormedParts.{IsPosition, IsArea}
-use Rattle.leg_floorplan.specs.Die.{one_spot, at_no_spot, die_of, die_at}
+use Rattle.leg_geom.specs.Plane.{Sides}
+use Rattle.leg_block.specs.WellFormedParts.{IsArea}
+use Rattle.leg_floorplan.specs.Die.{one_spot, die_at}
 use Rattle.leg_design.specs.Header.{word_after, design_name_at, microns_at, units_after, units_at}
-use Rattle.leg_print.specs.Text.Points.{spot_words, corner_words}
 use Rattle.leg_print.specs.Text.Header.{word_words, units_words, die_words}
-use Rattle.leg_again.specs.PrintedNames.{StayOne}
 use Rattle.leg_again.specs.SaysForm.{SaysForm}
-use Rattle.leg_again.proofs.FreeWords.{IsFree, free_literal, free_word, free_name, free_number, free_nil, free_cons, free_append}
+use Rattle.leg_again.proofs.FreeWords.{IsFree, free_literal, free_word, free_name, free_number, free_nil, free_cons}
 use Rattle.leg_again.proofs.Points.{number_again, spot_again, between_again, corners_free}
 use Rattle.leg_again.proofs.Saying.{said_printable, line_says}
 

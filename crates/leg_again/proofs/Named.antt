@@ -1,5 +1,5 @@
 -- A name that is printed for a number is found at this number again.
-use Rattle.std.proofs.Common.{◌≡◌, ℕ, zero, suc, ◌<◌, Bool, true, false, ◌&&◌, length-append, List, [], ◌∷◌, ◌++◌, All, length, get_or, take, map, slice_get, Option, None, Some, IsTrue, refl, sym, ap, ◌∙◌, subst, arith}
+use Rattle.std.proofs.Common.{◌≡◌, ℕ, zero, suc, ◌<◌, Bool, true, false, ◌&&◌, length-append, List, [], ◌∷◌, ◌++◌, All, length, get_or, map, slice_get, None, Some, IsTrue, refl, sym, ◌∙◌, subst, arith}
 use Rattle.std.specs.List.{list_all, flat_map}
 use Rattle.std.proofs.Math.Seq.{get_or-append_seam, take-append_seam}
 use Rattle.std.proofs.lemmas.List.{length-map, map-append}
@@ -9,8 +9,6 @@ use Rattle.std.proofs.lemmas.Option.{slice_get_within, get_or_from_slice_get, sl
 use Rattle.leg_lex.specs.Words.{Words, is_name}
 use Rattle.leg_lex.specs.NameLookup.{place_of, AreApart}
 use Rattle.leg_lex.proofs.NameLookup.{not_yet_there}
-use Rattle.leg_text.proofs.Behind.{first_passes, others_pass}
-use Rattle.leg_cells.specs.LibraryNames.{AreNames}
 
 -- a number within a list has an element
 pub element : {X : Type 0} (xs : List X) (i : ℕ) → i < length xs → (x : X) × (slice_get xs i ≡ Some x)

@@ -1,16 +1,16 @@
 -- Points, corners and orientations are read back.
-use Rattle.std.proofs.Common.{◌≡◌, ℕ, Bool, true, false, List, [], ◌∷◌, ◌++◌, Some, codes, int_lt, ℤ, ◌<ℤ◌, ◌&&◌, refl, arith}
+use Rattle.std.proofs.Common.{◌≡◌, true, false, ◌∷◌, ◌++◌, Some, codes, int_lt, ℤ, ◌<ℤ◌, refl, arith}
 use Rattle.std.specs.Fmt.{signed_decimal}
 use Rattle.std.specs.Int.{int_min, int_max}
 use Rattle.std.proofs.lemmas.Int.{ints}
-use Rattle.leg_lex.specs.Words.{Words, next_at, mark_at, whole_at, said_number}
+use Rattle.leg_lex.specs.Words.{Words, next_at, mark_at, whole_at}
 use Rattle.leg_lex.specs.Number.{IsNumber}
 use Rattle.leg_text.proofs.Numbers.{number_word}
 use Rattle.leg_geom.specs.Plane.{Spot, Sides}
 use Rattle.leg_geom.specs.declared.orient.Orient.{Orient}
 use Rattle.leg_geom.specs.declared.orient.Orient.TheVariants.{N, S, W, E, FN, FS, FW, FE}
 use Rattle.leg_geom.specs.declared.place.Place.{Place}
-use Rattle.leg_cells.specs.Measure.{IsProper, sides_between, rect_between}
+use Rattle.leg_cells.specs.Measure.{IsProper, rect_between}
 use Rattle.leg_block.specs.WellFormedParts.{IsPosition, IsArea}
 use Rattle.leg_floorplan.specs.Placement.{spot_at, rect_at, orient_of, orient_at, place_at}
 use Rattle.leg_print.specs.Text.Points.{spot_words, corner_words, orient_word, place_words}

@@ -1,26 +1,23 @@
 -- The line of a row is read as the row.
-use Rattle.std.proofs.Common.{◌≡◌, ℕ, ℤ, pos, ◌+ℤ◌, ◌*ℤ◌, Bool, true, false, ◌||◌, int_le, List, [], ◌∷◌, ◌++◌, slice_get, Option, None, Some, codes, refl, arith}
+use Rattle.std.proofs.Common.{◌≡◌, pos, ◌+ℤ◌, ◌*ℤ◌, true, [], ◌∷◌, ◌++◌, Some, codes, refl}
 use Rattle.std.specs.List.{list_all}
 use Rattle.std.specs.Ordering.{int_eq}
 use Rattle.std.specs.Fmt.{signed_decimal}
 use Rattle.leg_lex.specs.Words.{Words, next_at, keyword_at, name_at, whole_at, nothing_at, is_name}
 use Rattle.leg_lex.specs.Number.{IsNumber}
-use Rattle.leg_lex.specs.Statements.{statement_at, clauses_of}
 use Rattle.leg_text.specs.Spaced.{stays_one, line, is_printable}
 use Rattle.leg_text.proofs.Behind.{first_passes, others_pass}
 use Rattle.leg_cells.specs.declared.records.Site.{Site}
-use Rattle.leg_cells.specs.Records.{site_names}
 use Rattle.leg_cells.specs.Sound.{IsSound}
 use Rattle.leg_cells.specs.Measure.{IsExtent}
 use Rattle.leg_block.specs.declared.records.Row.{Row}
 use Rattle.leg_block.specs.Records.{DesignContents}
 use Rattle.leg_block.specs.WellFormedParts.{IsRow}
-use Rattle.leg_floorplan.specs.Placement.{orient_at}
 use Rattle.leg_floorplan.specs.Row.{site_named_at, step_in, sites_in, row_in, row_at}
 use Rattle.leg_print.specs.Names.{site_name}
 use Rattle.leg_print.specs.Text.Rows.{row_said, row_words, width_of_site}
 use Rattle.leg_again.specs.PrintedNames.{StayOne, row_names}
-use Rattle.leg_again.proofs.FreeWords.{IsFree, AreFree, AreInside, free_literal, free_name, free_number, free_nil, free_cons, inside_append, inside_cons, inside_nil}
+use Rattle.leg_again.proofs.FreeWords.{IsFree, AreFree, free_literal, free_name, free_number, free_nil, free_cons}
 use Rattle.leg_again.proofs.Again.{said_again, clauses_none}
 use Rattle.leg_again.proofs.Named.{holds_of, found, name_is}
 use Rattle.leg_again.proofs.Facts.{within_is, le_is, same_is, or_true}

@@ -1,6 +1,5 @@
 -- Bytes of printable words say what these words are read as.
 use Rattle.std.proofs.Common.{◌≡◌, ℕ, true, List, [], ◌∷◌, ◌++◌, Option, Some, codes, refl}
-use Rattle.leg_lex.specs.Word.{texts}
 use Rattle.leg_lex.specs.Words.{Words}
 use Rattle.std.specs.List.{list_all}
 use Rattle.leg_text.specs.Spaced.{line, is_printable}

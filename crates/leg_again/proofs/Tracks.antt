@@ -1,11 +1,9 @@
 -- The line of tracks is read as the tracks.
-use Rattle.std.proofs.Common.{◌≡◌, ℕ, ℤ, pos, ◌+ℤ◌, ◌-ℤ◌, ◌*ℤ◌, ◌<◌, Bool, true, false, int_le, List, [], ◌∷◌, ◌++◌, All, length, map, slice_get, Option, None, Some, codes, IsTrue, refl, ap, ◌∙◌, sym, subst, arith}
-use Rattle.std.specs.List.{list_all, flat_map}
-use Rattle.std.specs.Fmt.{signed_decimal}
+use Rattle.std.proofs.Common.{◌≡◌, ℕ, pos, ◌+ℤ◌, ◌-ℤ◌, ◌*ℤ◌, ◌<◌, true, List, [], ◌∷◌, ◌++◌, All, length, map, Some, codes, refl, ap, ◌∙◌}
+use Rattle.std.specs.List.{list_all}
 use Rattle.std.proofs.lemmas.List.{append_assoc, append-nil}
 use Rattle.std.proofs.lemmas.List.Elements.{All-head, All-tail}
-use Rattle.leg_lex.specs.Words.{Words, next_at, keyword_at, name_at, whole_at, is_name}
-use Rattle.leg_lex.specs.Number.{IsNumber}
+use Rattle.leg_lex.specs.Words.{Words, next_at, keyword_at, name_at, is_name}
 use Rattle.leg_lex.specs.NameLookup.{place_of}
 use Rattle.leg_lex.specs.Until.{until}
 use Rattle.leg_lex.proofs.Until.{ends, goes_on}
@@ -21,7 +19,7 @@ use Rattle.leg_block.specs.WellFormedParts.{IsTrack}
 use Rattle.leg_floorplan.specs.Guard.{is_over}
 use Rattle.leg_floorplan.specs.Track.{axis_at, one_layer, layers_in, track_in, track_at}
 use Rattle.leg_floorplan.proofs.Tracks.{one_layer_shortens}
-use Rattle.leg_print.specs.Names.{layer_name, name_by}
+use Rattle.leg_print.specs.Names.{layer_name}
 use Rattle.leg_print.specs.Text.Tracks.{axis_word, layer_words, track_said, track_words}
 use Rattle.leg_again.specs.PrintedNames.{StayOne, track_names}
 use Rattle.leg_again.specs.SaysForm.{SaysForm}
