@@ -12,3 +12,9 @@ pub mod Saying
 pub mod Rows
 pub mod Tracks
 pub mod HeaderLines
+pub mod Placements
+pub mod Components
+-- Sections of entries
+pub mod Sections
+pub mod Clauses
+pub mod Vias

@@ -46,6 +46,15 @@ module _ {X : Type 0} (name_of : X → List ℕ) where
       let free = not_yet_there (map name_of front ++ (name_of x ∷ map name_of back)) (length (map name_of front)) [] (subst AreApart e apart) (within (map name_of front) (name_of x) (map name_of back)) in
       rw (get_or-append_seam (map name_of front) (name_of x) (map name_of back) [], take-append_seam (map name_of front) (name_of x ∷ map name_of back)) at free
 
+-- what holds of each element holds of one in the middle
+pub middle : {X : Type 0} (P : X → Type 0) (xs before : List X) (x : X) (after : List X) → xs ≡ before ++ (x ∷ after) → All P xs → P x
+middle P xs before x after is each =
+    subst P (get_or-append_seam before x after x) (All-get_or P (before ++ (x ∷ after)) (length before) x (within before x after) (subst (All P) is each))
+
+-- and there are fewer before it than there are
+pub fewer_before : {X : Type 0} (xs before : List X) (x : X) (after : List X) → xs ≡ before ++ (x ∷ after) → length before < length xs
+fewer_before xs before x after is = rw is (within before x after)
+
 -- tests of all words, of two runs, and of each element's words
 both_are : (a b : Bool) → (a && b) ≡ true → (a ≡ true) × (b ≡ true)
 both_are true b all = (refl, all)
