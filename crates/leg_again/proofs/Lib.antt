@@ -18,3 +18,4 @@ pub mod Components
 pub mod Sections
 pub mod Clauses
 pub mod Vias
+pub mod Pins
