@@ -19,3 +19,6 @@ pub mod Sections
 pub mod Clauses
 pub mod Vias
 pub mod Pins
+-- Wires
+pub mod GoodVias
+pub mod Wires
