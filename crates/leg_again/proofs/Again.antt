@@ -1,12 +1,12 @@
 -- A statement, its clauses, and forms one after the other are read back from their words.
-use Rattle.std.proofs.Common.{◌≡◌, Bool, true, false, List, [], ◌∷◌, ◌++◌, All, Option, None, Some, codes, refl, sym, ap, ◌∙◌}
+use Rattle.std.proofs.Common.{◌≡◌, ℕ, zero, suc, ◌<◌, ◌≤◌, Bool, true, false, List, [], ◌∷◌, ◌++◌, All, length, length-append, Option, None, Some, codes, refl, sym, ap, ◌∙◌, arith}
 use Rattle.std.specs.List.{list_any, flat_map, slice_split}
 use Rattle.std.proofs.lemmas.List.{append_assoc, append-nil}
 use Rattle.std.proofs.lemmas.List.Elements.{All-head, All-tail}
 use Rattle.std.proofs.lemmas.List.Splits.{slice_split-cons_yes, slice_split-cons_no}
 use Rattle.leg_lex.specs.Words.{Words}
 use Rattle.leg_lex.specs.Statements.{is_semicolon, is_plus, up_to, statement_at, clauses_of}
-use Rattle.leg_lex.specs.Until.{until, over}
+use Rattle.leg_lex.specs.Until.{steps, until, over}
 use Rattle.leg_lex.proofs.Until.{Shortens, ends, goes_on}
 use Rattle.leg_again.proofs.FreeWords.{AreInside, first_is_none, others_are_none}
 
@@ -81,3 +81,31 @@ over_append {S} step (x ∷ xs) ys made next is = by (step made x) refl (λ more
   by : (said : Option S) → step made x ≡ said → ((more : S) → over step more xs ≡ Some next → over step more (xs ++ ys) ≡ over step next ys) → over step made ((x ∷ xs) ++ ys) ≡ over step next ys
   by None none later = absurd (let e : ⊥ = cc (rw none at is) in e)
   by (Some more) some later = rw some (later more (rw some at is))
+
+-- The same where each form's words are known to be some.
+module _ {S X : Type 0} (stop : Words → Bool) (form : S → Words → Option (S × Words)) (words : X → Words) (made : List X → S) (last : Words) where
+  steps_again : (n : ℕ) (front xs : List X) → stop last ≡ true → length xs < n
+      → ((before : List X) (x : X) (after : List X) → front ++ xs ≡ before ++ (x ∷ after) → IsRead stop form words made last before x after)
+      → steps stop form n (made front) (flat_map words xs ++ last) ≡ Some (made (front ++ xs), last)
+  unfolding steps
+  steps_again zero front xs stops less each = absurd (omega arith)
+  steps_again (suc n) front [] stops less each = rw (stops, append-nil front) refl
+  steps_again (suc n) front (x ∷ xs) stops less each =
+      let one : IsRead stop form words made last front x xs = each front x xs refl in
+      let e : (front ++ x ∷ []) ++ xs ≡ front ++ (x ∷ xs) = append_assoc front (x ∷ []) xs in
+      ap (λ all. steps stop form (suc n) (made front) all) (append_assoc (words x) (flat_map words xs) last)
+      ∙ rw (one.goes, one.read) (steps_again n (front ++ x ∷ []) xs stops (omega arith) (λ before y after is. each before y after (sym e ∙ is)) ∙ ap (λ all. Some (made all, last)) e)
+
+  no_fewer : (xs : List X) → ((x : X) → 0 < length (words x)) → length xs ≤ length (flat_map words xs ++ last)
+  no_fewer [] some = omega arith
+  no_fewer (x ∷ xs) some =
+      let here = some x in
+      let later = no_fewer xs some in
+      rw (append_assoc (words x) (flat_map words xs) last, length-append (words x) (flat_map words xs ++ last)) (omega arith)
+
+  pub some_again : ((x : X) → 0 < length (words x)) → stop last ≡ true → (xs : List X)
+      → ((before : List X) (x : X) (after : List X) → xs ≡ before ++ (x ∷ after) → IsRead stop form words made last before x after)
+      → until stop form (made []) (flat_map words xs ++ last) ≡ Some (made xs, last)
+  some_again some stops xs each =
+      let enough = no_fewer xs some in
+      steps_again (suc (length (flat_map words xs ++ last))) [] xs stops (omega arith) each

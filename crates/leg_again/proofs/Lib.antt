@@ -22,3 +22,7 @@ pub mod Pins
 -- Wires
 pub mod GoodVias
 pub mod Wires
+pub mod DesignWires
+-- Nets
+pub mod Terminals
+pub mod WireWords

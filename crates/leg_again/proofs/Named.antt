@@ -20,7 +20,7 @@ element (x ∷ xs) (suc i) less = element xs i (omega arith)
 pub holds_of : {X : Type 0} (P : X → Type 0) (xs : List X) (i : ℕ) (x : X) → slice_get xs i ≡ Some x → All P xs → P x
 holds_of P xs i x is each = subst P (get_or_from_slice_get xs i x x is) (All-get_or P xs i x (slice_get_within xs i x is) each)
 
-within : {X : Type 0} (xs : List X) (y : X) (ys : List X) → length xs < length (xs ++ (y ∷ ys))
+pub within : {X : Type 0} (xs : List X) (y : X) (ys : List X) → length xs < length (xs ++ (y ∷ ys))
 within xs y ys = rw (length-append xs (y ∷ ys)) (omega arith)
 
 module _ {X : Type 0} (name_of : X → List ℕ) where

@@ -1,5 +1,5 @@
 -- The path of each wire is read as the wire, and paths joined by NEW as all of them.
-use Rattle.std.proofs.Common.{◌≡◌, ◌≢◌, ℕ, suc, ◌+◌, ◌<◌, ◌≤◌, ℤ, pos, ◌≤ℤ◌, ◌<ℤ◌, ◌⊎◌, inl, inr, int_lt, Bool, true, false, not, ◌&&◌, ◌||◌, unwrap_or, List, [], ◌∷◌, ◌++◌, All, length, map, slice_get, Option, None, Some, option_map, codes, IsTrue, refl, sym, ap, ◌∙◌, subst, arith}
+use Rattle.std.proofs.Common.{◌≡◌, ◌≢◌, ℕ, suc, ◌+◌, ◌<◌, ◌≤◌, ℤ, pos, ◌≤ℤ◌, ◌<ℤ◌, ◌⊎◌, inl, inr, int_lt, Bool, true, false, not, ◌&&◌, ◌||◌, unwrap_or, List, [], ◌∷◌, ◌++◌, All, length, map, drop, slice_get, Option, None, Some, option_map, codes, IsTrue, refl, sym, ap, ◌∙◌, subst, arith}
 use Rattle.std.specs.List.{list_any, list_all, flat_map}
 use Rattle.std.specs.Option.{option_or}
 use Rattle.std.specs.Str.{bytes_eq}
@@ -17,7 +17,7 @@ use Rattle.leg_lex.specs.Until.{steps, until}
 use Rattle.leg_lex.proofs.NameLookup.{same_name}
 use Rattle.leg_text.proofs.Numbers.{number_word}
 use Rattle.leg_geom.specs.Plane.{Spot, Sides}
-use Rattle.leg_cells.specs.Joins.{is_wiring_word}
+use Rattle.leg_cells.specs.Joins.{is_wiring_word, wiring_words}
 use Rattle.leg_cells.specs.Records.{Contents, ViaSaid, layer_names}
 use Rattle.leg_block.specs.declared.records.Wire.{Wire}
 use Rattle.leg_block.specs.declared.records.Wire.TheVariants.{Segment, ViaAt, Patch}
@@ -32,6 +32,7 @@ use Rattle.leg_nets.specs.PathItem.{count_at, coordinate_at, extension_in_point,
 use Rattle.leg_nets.specs.Wiring.{routing_at, past_taper, written_width_at, at_no_shape, past_shape, written_at, path_at}
 use Rattle.leg_print.specs.Text.Points.{spot_words}
 use Rattle.leg_print.specs.Text.Wires.{number_words, width_words, point_words, given_extension}
+use Rattle.leg_again.proofs.FreeWords.{first_is_none, others_are_none, no_mark_byte, name_is_word}
 use Rattle.leg_again.proofs.Points.{number_again, between_again}
 use Rattle.leg_again.proofs.Tracks.{IsLayerName}
 
@@ -80,7 +81,7 @@ first_point_again p (Some z) rest is given =
     rw (number_again p.x _ is.x, number_again p.y _ is.y, no_mark_number 41 refl (omega arith) z given.0, number_again z _ given.0, not_below z given.1) refl
 
 -- the width that a path writes
-abbrev written_as : Bool → ℤ → Option ℤ
+abbrev pub written_as : Bool → ℤ → Option ℤ
 written_as false width = None
 written_as true width = Some width
 
@@ -130,9 +131,9 @@ width_written library true layer width is = (is.0, at_least width is.1, is.2) wh
   at_least w above = omega (arith, ints)
 
 -- what is known of a layer that a path is on
-record IsPathLayer (library : Contents) (layer : ℕ) (name : List ℕ) : Type 0 where
-  named : IsLayerName library layer name
-  routes : is_routing library layer ≡ true
+pub record IsPathLayer (library : Contents) (layer : ℕ) (name : List ℕ) : Type 0 where
+  pub named : IsLayerName library layer name
+  pub routes : is_routing library layer ≡ true
 
 module _ (known : KnownSaid) (special : Bool) (layer : ℕ) (name : List ℕ) (is_layer : IsPathLayer known.library layer name) where
   layer_again : (rest : Words) → routing_at known.library (name ∷ rest) ≡ Some (layer, rest)
@@ -140,7 +141,7 @@ module _ (known : KnownSaid) (special : Bool) (layer : ℕ) (name : List ℕ) (i
   layer_again rest = rw (is_layer.named.is_one, is_layer.named.there, is_layer.routes) refl
 
   module _ (from to : Spot) (width : ℤ) (is_from : IsPosition from) (is_to : IsPosition to) (straight : is_straight from to ≡ true) (long : from ≢ to) (is_width : IsWidth known.library special layer width) where
-    segment_path : (first next : Option ℤ) (rest : Words) → IsGiven first → IsGiven next → at_path_end rest ≡ true
+    pub segment_path : (first next : Option ℤ) (rest : Words) → IsGiven first → IsGiven next → at_path_end rest ≡ true
         → path_at known special (name ∷ (width_words special width ++ (point_words from first ++ (point_words to next ++ rest))))
           ≡ Some (Segment layer from to width (unwrap_or first (default_extension known.library (written_as special width) layer)) (unwrap_or next (default_extension known.library (written_as special width) layer)) ∷ [], rest)
     unfolding path_at next_at steps one_item item_at point_item coordinate_at extension_in_point count_at mark_at wires_from extension_at segment_to
@@ -153,3 +154,52 @@ module _ (known : KnownSaid) (special : Bool) (layer : ℕ) (name : List ℕ) (i
           no_mark_number 42 refl (omega arith) to.x is_to.x, number_again to.x _ is_to.x, no_mark_number 42 refl (omega arith) to.y is_to.y, number_again to.y _ is_to.y,
           no_mark_number 41 refl (omega arith) z is_next.0, number_again z _ is_next.0, not_below z is_next.1,
           ends, other_spot from to long, straight, width_again known.library special layer width is_width) refl
+
+  -- a via, where its path begins on a layer from which it leads to another
+  pub via_path : (at : Spot) (number other : ℕ) (via : List ℕ) (rest : Words) → IsPosition at → is_name via ≡ true → is_wiring_word via ≡ false → via_named known via ≡ Some number → across known number layer ≡ Some other
+      → at_path_end rest ≡ true → is_at (codes "N") rest ≡ false
+      → path_at known special (name ∷ (width_words special (pos 0) ++ (point_words at None ++ (via ∷ rest)))) ≡ Some (ViaAt number at ∷ [], rest)
+  unfolding path_at name_at next_at steps one_item item_at via_item past_north wires_from extension_at
+  via_path at number other via rest is named free there leads ends no_north =
+      let no_new : is_keyword (codes "NEW") via ≡ false = first_is_none (λ word. is_keyword word via) (codes "NEW") (drop 1 wiring_words) free in
+      let no_others = others_are_none (λ word. is_keyword word via) (codes "NEW") (drop 1 wiring_words) free in
+      let no_rect : is_keyword (codes "RECT") via ≡ false = first_is_none (λ word. is_keyword word via) (codes "RECT") (drop 2 wiring_words) no_others in
+      rw (layer_again _, written_again special (pos 0) _ zero_written, first_point_again at None _ is tt,
+        no_new, no_mark_byte 43 refl via (name_is_word via named), no_mark 40 refl (omega arith) via named, no_rect, named, free, there, no_north, ends, leads) refl where
+      zero_written : IsWritten special (pos 0)
+      zero_written = by special where
+        by : (special : Bool) → IsWritten special (pos 0)
+        by false = tt
+        by true = (zero_is, least, refl) where
+          zero_is : IsNumber (pos 0)
+          zero_is = omega arith
+
+          least : pos 0 ≤ℤ pos 0
+          least = omega (arith, ints)
+
+-- a rectangle, in NETS
+pub patch_path : (known : KnownSaid) (layer : ℕ) (name : List ℕ) (at : Spot) (rect : Sides) (rest : Words) → IsPathLayer known.library layer name → IsPosition at → IsArea rect → at_path_end rest ≡ true
+    → path_at known false (name ∷ (spot_words at ++ (codes "RECT" ∷ codes "(" ∷ signed_decimal rect.x1 ∷ signed_decimal rect.y1 ∷ signed_decimal rect.x2 ∷ signed_decimal rect.y2 ∷ codes ")" ∷ rest)))
+      ≡ Some (Patch layer at rect ∷ [], rest)
+unfolding path_at keyword_at next_at steps one_item item_at rect_item mark_at wires_from extension_at
+patch_path known layer name at rect rest is_layer is is_rect ends =
+    rw (layer_again known false layer name is_layer _, written_again false (pos 0) _ tt, first_point_again at None _ is tt,
+      number_again rect.x1 _ is_rect.x1, number_again rect.y1 _ is_rect.y1, number_again rect.x2 _ is_rect.x2, number_again rect.y2 _ is_rect.y2, between_again rect is_rect.proper, ends) refl
+
+-- an extension that is printed where it isn't the one that holds where none is given
+module _ (library : Contents) (special : Bool) (layer : ℕ) (extension : ℤ) where
+  pub given_is : IsExtension library special layer extension → IsGiven (given_extension library special layer extension)
+  given_is is = by (int_eq extension (default_extension library (written special) layer)) refl is where
+    self : (z : ℤ) → int_eq z z ≡ true
+    self z = grind (arith, ints)
+
+    by : (same : Bool) → int_eq extension (default_extension library (written special) layer) ≡ same → IsExtension library special layer extension → IsGiven (given_extension library special layer extension)
+    by true test is = rw test tt
+    by false test (inl given) = rw test given
+    by false test (inr same) = absurd (false≢true (sym test ∙ ap (λ z. int_eq extension z) (sym same) ∙ self extension))
+
+  pub extension_again : (width : ℤ) → unwrap_or (given_extension library special layer extension) (default_extension library (written_as special width) layer) ≡ extension
+  extension_again width = by (int_eq extension (default_extension library (written special) layer)) refl where
+    by : (same : Bool) → int_eq extension (default_extension library (written special) layer) ≡ same → unwrap_or (given_extension library special layer extension) (default_extension library (written_as special width) layer) ≡ extension
+    by true test = rw test (same_default library special layer width ∙ sym (int_same extension (default_extension library (written special) layer) test))
+    by false test = rw test refl
