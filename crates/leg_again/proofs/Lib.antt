@@ -26,3 +26,4 @@ pub mod DesignWires
 -- Nets
 pub mod Terminals
 pub mod WireWords
+pub mod Nets
