@@ -27,3 +27,7 @@ pub mod DesignWires
 pub mod Terminals
 pub mod WireWords
 pub mod Nets
+pub mod NoLonePins
+-- The whole text
+pub mod Leads
+pub mod Forms

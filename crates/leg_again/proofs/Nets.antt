@@ -129,3 +129,82 @@ module _ (design : DesignContents) (has : HasParts design) (special : Bool) wher
           let whole : Lines (codes "-" ++ (spaced (net_head design net) ++ flat_map wire_line (wiring_words design special net.wires)) ++ codes " ;\n") (net_words design special net) =
               lines_statement (codes "-") (printable_is_one (codes "-") refl) (behind_append head wires) in
           whole
+
+-- counts of two lists of entries
+terminals_of_both : (a b : List NetSaid) → terminal_count (a ++ b) ≡ terminal_count a + terminal_count b
+terminals_of_both [] b = omega arith
+terminals_of_both (net ∷ a) b = let later = terminals_of_both a b in omega (arith, later)
+
+wires_of_both : (a b : List NetSaid) → wire_count (a ++ b) ≡ wire_count a + wire_count b
+wires_of_both [] b = omega arith
+wires_of_both (net ∷ a) b = let later = wires_of_both a b in omega (arith, later)
+
+not_above : (n limit : ℕ) → n ≤ limit → nat_lt limit n ≡ false
+not_above n limit le = grind (arith, nat_tests)
+
+-- What is known of the entries of a section, where the other section has those others.
+pub record AreEntries (design : DesignContents) (special : Bool) (nets others : List NetSaid) : Type 0 where
+  pub are : AreNets design special nets
+  pub one_net : AreInOneNet (nets ++ others)
+  pub few : length nets + length others ≤ ENTRY_LIMIT
+  pub few_terminals : terminal_count nets + terminal_count others ≤ PART_LIMIT
+  pub few_wires : wire_count nets + wire_count others ≤ PART_LIMIT
+
+module _ (design : DesignContents) (has : HasParts design) (special : Bool) (nets others : List NetSaid) (entries : AreEntries design special nets others)
+    (one : StayOne (flat_map (net_entry_names design) nets)) where
+  -- the entries up to one of them have no more than all
+  up_to_one : (before : List NetSaid) (net : NetSaid) (after : List NetSaid) → nets ≡ before ++ (net ∷ after) → are_too_many others (before ++ net ∷ []) ≡ false
+  up_to_one before net after is =
+      let whole : nets ≡ (before ++ net ∷ []) ++ after = is ∙ sym (append_assoc before (net ∷ []) after) in
+      let terminals : terminal_count nets ≡ terminal_count (before ++ net ∷ []) + terminal_count after = ap terminal_count whole ∙ terminals_of_both (before ++ net ∷ []) after in
+      let wires : wire_count nets ≡ wire_count (before ++ net ∷ []) + wire_count after = ap wire_count whole ∙ wires_of_both (before ++ net ∷ []) after in
+      let t_limit : terminal_count (before ++ net ∷ []) + terminal_count others ≤ PART_LIMIT = omega (arith, terminals, entries.few_terminals) in
+      let w_limit : wire_count (before ++ net ∷ []) + wire_count others ≤ PART_LIMIT = omega (arith, wires, entries.few_wires) in
+      rw (not_above (terminal_count (before ++ net ∷ []) + terminal_count others) PART_LIMIT t_limit, not_above (wire_count (before ++ net ∷ []) + wire_count others) PART_LIMIT w_limit) refl
+
+  own_name : (before : List NetSaid) (net : NetSaid) (after : List NetSaid) → nets ≡ before ++ (net ∷ after)
+      → (other : NetSaid) (t : Terminal) → Contains (before ++ others) other → Contains other.terminals t → Contains net.terminals t → other.name ≡ net.name
+  own_name before net after is other t there lists here =
+      entries.one_net other net t (by (Contains-append_cases before others other there)) (Contains-append_left nets others net net_there) lists here where
+        net_there : Contains nets net
+        net_there = rw is (length before, within before net after, get_or-append_seam before net after net)
+
+        by : Contains before other ⊎ Contains others other → Contains (nets ++ others) other
+        by (inl first) = Contains-append_left nets others other (rw is (Contains-append_left before (net ∷ after) other first))
+        by (inr later) = Contains-append_right nets others other later
+
+  entry_again : (before : List NetSaid) (net : NetSaid) (after : List NetSaid) → nets ≡ before ++ (net ∷ after) → (rest : Words)
+      → net_entry (known_of design) special others before (net_words design special net ++ rest) ≡ Some (before ++ net ∷ [], rest)
+  entry_again before net after is =
+      net_again design has special net (middle (IsNet design special) nets before net after is entries.are.each)
+      (middle (λ n. StayOne (net_entry_names design n)) nets before net after is (each_passes stays_one (net_entry_names design) nets one)) before others
+      (omega (arith, fewer_before nets before net after is, entries.few))
+      (not_before (λ (n : NetSaid). n.name) before net after (subst (λ ns. AreApart (net_names ns)) is entries.are.apart)) (own_name before net after is) (up_to_one before net after is)
+
+  few_nets : length nets ≤ NUMBER_LIMIT
+  few_nets = omega (arith, entries.few)
+
+  -- the lines of the section have its words
+  pub nets_lines : Lines (nets_text design special nets) (section_words (net_section special) (net_words design special) nets)
+  nets_lines =
+      section_lines (net_section special) (net_text design special) (net_words design special) nets (keyword_free special) few_nets
+      (λ k d less. net_lines design has special (get_or nets k d) (entries.are.each k d less) (each_passes stays_one (net_entry_names design) nets one k d less)) where
+        keyword_free : (special : Bool) → IsFree (net_section special)
+        keyword_free false = free_literal (codes "NETS") refl refl refl
+        keyword_free true = free_literal (codes "SPECIALNETS") refl refl refl
+
+net_goes : (design : DesignContents) (special : Bool) (net : NetSaid) (rest : Words) → at_end (net_words design special net ++ rest) ≡ false
+net_goes design special net rest = refl
+
+pub nets_again : (design : DesignContents) → HasParts design → (special : Bool) (net : NetSaid) (nets others : List NetSaid) → AreEntries design special (net ∷ nets) others
+    → StayOne (flat_map (net_entry_names design) (net ∷ nets)) → (rest : Words)
+    → nets_at (known_of design) special others (section_words (net_section special) (net_words design special) (net ∷ nets) ++ rest) ≡ Some (net ∷ nets, rest)
+unfolding nets_at
+nets_again design has false net nets others entries one rest =
+    section_again (codes "NETS") (net_entry (known_of design) false others) (net_words design false) (λ entries. entries) refl (net_entry_shortens (known_of design) false others) net nets
+    (few_nets design has false (net ∷ nets) others entries one)
+    (record { goes = net_goes design false; read = entry_again design has false (net ∷ nets) others entries one }) rest
+nets_again design has true net nets others entries one rest =
+    section_again (codes "SPECIALNETS") (net_entry (known_of design) true others) (net_words design true) (λ entries. entries) refl (net_entry_shortens (known_of design) true others) net nets
+    (few_nets design has true (net ∷ nets) others entries one)
+    (record { goes = net_goes design true; read = entry_again design has true (net ∷ nets) others entries one }) rest
