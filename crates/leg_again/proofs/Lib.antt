@@ -31,3 +31,5 @@ pub mod NoLonePins
 -- The whole text
 pub mod Leads
 pub mod Forms
+pub mod SectionForms
+pub mod Whole
