@@ -26,14 +26,11 @@ use Rattle.leg_nets.specs.PathItem.{at_path_end}
 use Rattle.leg_nets.specs.Wiring.{path_at}
 use Rattle.leg_print.specs.Names.{layer_name, via_numbered, via_name}
 use Rattle.leg_print.specs.Text.Wires.{width_words, point_words, given_extension, segment_words, wire_words, via_wire_words, patch_words, layer_of_via, lowest_layer}
+use Rattle.leg_again.specs.Known.{known_of}
 use Rattle.leg_again.proofs.Named.{holds_of, found, name_is}
 use Rattle.leg_again.proofs.Tracks.{layer_named}
 use Rattle.leg_again.proofs.GoodVias.{JoinsTwo, good_joins, lowest_is, across_good}
 use Rattle.leg_again.proofs.Wires.{IsPathLayer, written_as, segment_path, via_path, patch_path, given_is, extension_again}
-
--- what is known when the nets of a design are read
-abbrev pub known_of : DesignContents → KnownSaid
-known_of design = record { library = design.library; vias = design.vias; components = design.components; pins = design.pins }
 
 -- an element of two lists is one of the first or of the second
 pub either_list : {X : Type 0} (xs ys : List X) (i : ℕ) (x : X) → slice_get (xs ++ ys) i ≡ Some x → (slice_get xs i ≡ Some x) ⊎ ((j : ℕ) × (i ≡ length xs + j) × (slice_get ys j ≡ Some x))

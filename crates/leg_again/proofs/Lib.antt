@@ -33,3 +33,5 @@ pub mod Leads
 pub mod Forms
 pub mod SectionForms
 pub mod Whole
+-- What the laws cite
+pub mod Entries

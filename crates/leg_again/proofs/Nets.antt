@@ -34,7 +34,7 @@ use Rattle.leg_again.proofs.FreeWords.{AreInside, AreFree, IsFree, free_literal,
 use Rattle.leg_again.proofs.Again.{said_again}
 use Rattle.leg_again.proofs.Named.{not_before, middle, fewer_before, within, each_passes, first_run_passes, next_run_passes}
 use Rattle.leg_again.proofs.Components.{room_is}
-use Rattle.leg_again.proofs.DesignWires.{known_of}
+use Rattle.leg_again.specs.Known.{known_of}
 use Rattle.leg_again.proofs.WireWords.{wiring_again, wires_inside}
 use Rattle.leg_again.proofs.Terminals.{terminals_again, terminal_free}
 use Rattle.leg_again.proofs.Sections.{section_words, section_again, section_lines}
@@ -150,8 +150,7 @@ pub record AreEntries (design : DesignContents) (special : Bool) (nets others : 
   pub few_terminals : terminal_count nets + terminal_count others ≤ PART_LIMIT
   pub few_wires : wire_count nets + wire_count others ≤ PART_LIMIT
 
-module _ (design : DesignContents) (has : HasParts design) (special : Bool) (nets others : List NetSaid) (entries : AreEntries design special nets others)
-    (one : StayOne (flat_map (net_entry_names design) nets)) where
+module _ (design : DesignContents) (has : HasParts design) (special : Bool) (nets others : List NetSaid) (entries : AreEntries design special nets others) where
   -- the entries up to one of them have no more than all
   up_to_one : (before : List NetSaid) (net : NetSaid) (after : List NetSaid) → nets ≡ before ++ (net ∷ after) → are_too_many others (before ++ net ∷ []) ≡ false
   up_to_one before net after is =
@@ -173,25 +172,36 @@ module _ (design : DesignContents) (has : HasParts design) (special : Bool) (net
         by (inl first) = Contains-append_left nets others other (rw is (Contains-append_left before (net ∷ after) other first))
         by (inr later) = Contains-append_right nets others other later
 
-  entry_again : (before : List NetSaid) (net : NetSaid) (after : List NetSaid) → nets ≡ before ++ (net ∷ after) → (rest : Words)
-      → net_entry (known_of design) special others before (net_words design special net ++ rest) ≡ Some (before ++ net ∷ [], rest)
-  entry_again before net after is =
-      net_again design has special net (middle (IsNet design special) nets before net after is entries.are.each)
-      (middle (λ n. StayOne (net_entry_names design n)) nets before net after is (each_passes stays_one (net_entry_names design) nets one)) before others
-      (omega (arith, fewer_before nets before net after is, entries.few))
-      (not_before (λ (n : NetSaid). n.name) before net after (subst (λ ns. AreApart (net_names ns)) is entries.are.apart)) (own_name before net after is) (up_to_one before net after is)
-
   few_nets : length nets ≤ NUMBER_LIMIT
   few_nets = omega (arith, entries.few)
 
-  -- the lines of the section have its words
-  pub nets_lines : Lines (nets_text design special nets) (section_words (net_section special) (net_words design special) nets)
-  nets_lines =
-      section_lines (net_section special) (net_text design special) (net_words design special) nets (keyword_free special) few_nets
-      (λ k d less. net_lines design has special (get_or nets k d) (entries.are.each k d less) (each_passes stays_one (net_entry_names design) nets one k d less)) where
-        keyword_free : (special : Bool) → IsFree (net_section special)
-        keyword_free false = free_literal (codes "NETS") refl refl refl
-        keyword_free true = free_literal (codes "SPECIALNETS") refl refl refl
+  -- an entry among the others
+  pub one_net_line : (before : List NetSaid) (net : NetSaid) (after : List NetSaid) → nets ≡ before ++ (net ∷ after) → StayOne (net_entry_names design net)
+      → SaysForm (net_entry (known_of design) special others before) (net_text design special net) (before ++ net ∷ [])
+  one_net_line before net after is stays =
+      lines_say (net_entry (known_of design) special others before) (net_text design special net) (net_words design special net) (before ++ net ∷ [])
+      (net_lines design has special net (middle (IsNet design special) nets before net after is entries.are.each) stays)
+      (net_again design has special net (middle (IsNet design special) nets before net after is entries.are.each) stays before others
+        (omega (arith, fewer_before nets before net after is, entries.few))
+        (not_before (λ (n : NetSaid). n.name) before net after (subst (λ ns. AreApart (net_names ns)) is entries.are.apart)) (own_name before net after is) (up_to_one before net after is))
+
+  module _ (one : StayOne (flat_map (net_entry_names design) nets)) where
+    entry_again : (before : List NetSaid) (net : NetSaid) (after : List NetSaid) → nets ≡ before ++ (net ∷ after) → (rest : Words)
+        → net_entry (known_of design) special others before (net_words design special net ++ rest) ≡ Some (before ++ net ∷ [], rest)
+    entry_again before net after is =
+        net_again design has special net (middle (IsNet design special) nets before net after is entries.are.each)
+        (middle (λ n. StayOne (net_entry_names design n)) nets before net after is (each_passes stays_one (net_entry_names design) nets one)) before others
+        (omega (arith, fewer_before nets before net after is, entries.few))
+        (not_before (λ (n : NetSaid). n.name) before net after (subst (λ ns. AreApart (net_names ns)) is entries.are.apart)) (own_name before net after is) (up_to_one before net after is)
+
+    -- the lines of the section have its words
+    pub nets_lines : Lines (nets_text design special nets) (section_words (net_section special) (net_words design special) nets)
+    nets_lines =
+        section_lines (net_section special) (net_text design special) (net_words design special) nets (keyword_free special) few_nets
+        (λ k d less. net_lines design has special (get_or nets k d) (entries.are.each k d less) (each_passes stays_one (net_entry_names design) nets one k d less)) where
+          keyword_free : (special : Bool) → IsFree (net_section special)
+          keyword_free false = free_literal (codes "NETS") refl refl refl
+          keyword_free true = free_literal (codes "SPECIALNETS") refl refl refl
 
 net_goes : (design : DesignContents) (special : Bool) (net : NetSaid) (rest : Words) → at_end (net_words design special net ++ rest) ≡ false
 net_goes design special net rest = refl
@@ -202,9 +212,9 @@ pub nets_again : (design : DesignContents) → HasParts design → (special : Bo
 unfolding nets_at
 nets_again design has false net nets others entries one rest =
     section_again (codes "NETS") (net_entry (known_of design) false others) (net_words design false) (λ entries. entries) refl (net_entry_shortens (known_of design) false others) net nets
-    (few_nets design has false (net ∷ nets) others entries one)
+    (few_nets design has false (net ∷ nets) others entries)
     (record { goes = net_goes design false; read = entry_again design has false (net ∷ nets) others entries one }) rest
 nets_again design has true net nets others entries one rest =
     section_again (codes "SPECIALNETS") (net_entry (known_of design) true others) (net_words design true) (λ entries. entries) refl (net_entry_shortens (known_of design) true others) net nets
-    (few_nets design has true (net ∷ nets) others entries one)
+    (few_nets design has true (net ∷ nets) others entries)
     (record { goes = net_goes design true; read = entry_again design has true (net ∷ nets) others entries one }) rest

@@ -32,7 +32,7 @@ use Rattle.leg_again.proofs.FreeWords.{AreFree, free_literal, free_name, free_ni
 use Rattle.leg_again.proofs.Again.{IsRead, all_again}
 use Rattle.leg_again.proofs.Named.{element, holds_of, found, name_is, within, middle}
 use Rattle.leg_again.proofs.Wires.{no_mark}
-use Rattle.leg_again.proofs.DesignWires.{known_of}
+use Rattle.leg_again.specs.Known.{known_of}
 
 and_false : (a b : Bool) → b ≡ false → (a && b) ≡ false
 and_false true b is = is

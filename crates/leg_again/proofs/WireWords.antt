@@ -25,12 +25,13 @@ use Rattle.leg_print.specs.Text.Points.{spot_words}
 use Rattle.leg_print.specs.Text.Wires.{number_words, width_words, point_words, given_extension, wire_words, layer_of_via}
 use Rattle.leg_print.specs.Text.Nets.{wiring_words}
 use Rattle.leg_again.specs.PrintedNames.{StayOne, wire_names}
+use Rattle.leg_again.specs.Known.{known_of}
 use Rattle.leg_again.proofs.FreeWords.{AreInside, AreFree, free_literal, free_name, free_number, free_nil, free_cons, free_append, inside_nil, inside_cons, inside_each}
 use Rattle.leg_again.proofs.Again.{IsRead, some_again}
 use Rattle.leg_again.proofs.Named.{middle, first_run_passes, next_run_passes}
 use Rattle.leg_again.proofs.Points.{spot_free}
 use Rattle.leg_again.proofs.Wires.{IsPathLayer, IsGiven, given_is}
-use Rattle.leg_again.proofs.DesignWires.{known_of, path_layer, wire_again, lower_named, via_is_name}
+use Rattle.leg_again.proofs.DesignWires.{path_layer, wire_again, lower_named, via_is_name}
 
 extension_free : (extension : Option ℤ) → IsGiven extension → AreFree (number_words extension)
 extension_free None is = free_nil
