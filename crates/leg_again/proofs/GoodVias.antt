@@ -108,17 +108,27 @@ module _ (library : Contents) (shapes : List Shape) where
         each = λ k d less. on_least a.layer b.layer c.layer (get_or shapes k d).layer (holds_origin (get_or shapes k d).rect) below above (parts k d less);
       }
 
+  -- the tests of one, of two and of three of the shapes
+  abbrev third : ℕ → ℕ → ViaPart → Bool
+  third low cut part = join (uses_of library.layers) low cut part.layer (parts_of shapes)
+
+  abbrev second : ℕ → ViaPart → Bool
+  second low part = list_any (third low part.layer) (parts_of shapes)
+
+  abbrev first : ViaPart → Bool
+  first part = list_any (second part.layer) (parts_of shapes)
+
+  -- a part that passes is that of a shape
+  passing : (test : ViaPart → Bool) → list_any test (parts_of shapes) ≡ true → Passes (λ shape. test (part_of shape)) shapes
+  passing test some = passes_from (λ shape. test (part_of shape)) shapes (sym (any_map test part_of shapes) ∙ some)
+
   pub good_joins : (name : List ℕ) → is_good_via library name shapes ≡ true → (low : ℕ) × (high : ℕ) × JoinsTwo library shapes low high
   unfolding is_good_via
   good_joins name good =
-      let uses = uses_of library.layers in
-      let joined : join_layers uses (parts_of shapes) ≡ true = (both (not (is_wiring_word name)) (join_layers uses (parts_of shapes)) good).1 in
-      let a = passes_from (λ (s : Shape). list_any (λ b. list_any (λ c. join uses s.layer b.layer c.layer (parts_of shapes)) (parts_of shapes)) (parts_of shapes)) shapes
-          (sym (any_map (λ a. list_any (λ b. list_any (λ c. join uses a.layer b.layer c.layer (parts_of shapes)) (parts_of shapes)) (parts_of shapes)) part_of shapes) ∙ joined) in
-      let b = passes_from (λ (s : Shape). list_any (λ c. join uses a.it.layer s.layer c.layer (parts_of shapes)) (parts_of shapes)) shapes
-          (sym (any_map (λ b. list_any (λ c. join uses a.it.layer b.layer c.layer (parts_of shapes)) (parts_of shapes)) part_of shapes) ∙ a.passes) in
-      let c = passes_from (λ (s : Shape). join uses a.it.layer b.it.layer s.layer (parts_of shapes)) shapes
-          (sym (any_map (λ c. join uses a.it.layer b.it.layer c.layer (parts_of shapes)) part_of shapes) ∙ b.passes) in
+      let joined : join_layers (uses_of library.layers) (parts_of shapes) ≡ true = (both (not (is_wiring_word name)) (join_layers (uses_of library.layers) (parts_of shapes)) good).1 in
+      let a = passing first joined in
+      let b = passing (second a.it.layer) a.passes in
+      let c = passing (third a.it.layer b.it.layer) b.passes in
       (a.it.layer, c.it.layer, layers_join a.it b.it c.it c.passes a.in_list c.in_list)
 
 -- the lowest layer

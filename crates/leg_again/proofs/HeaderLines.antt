@@ -1,5 +1,5 @@
 -- The lines that a text begins with are read as what they say.
-use Rattle.std.proofs.Common.{◌≡◌, ℕ, ◌≤◌, pos, true, int_lt, nat_le, List, ◌++◌, Some, codes, refl, arith}
+use Rattle.std.proofs.Common.{◌≡◌, ℕ, ◌≤◌, pos, true, int_lt, nat_le, List, ◌∷◌, ◌++◌, Some, codes, decimal, refl, arith}
 use Rattle.std.specs.List.{list_all}
 use Rattle.std.proofs.lemmas.Int.{ints}
 use Rattle.std.proofs.lemmas.Bool.Decides.{nat_tests}
@@ -75,3 +75,8 @@ die_printable die is = said_printable (free_cons (free_literal (codes "DIEAREA")
 
 pub die_line : (die : Sides) → IsArea die → SaysForm die_at (line (die_words die)) die
 die_line die is = line_says die_at (die_words die) die (die_printable die is) (λ rest. die_again die rest is)
+
+-- n ; alone
+pub units_after_again : (n : ℕ) (rest : Words) → 1 ≤ n → n ≤ UNITS_LIMIT → units_after (decimal n ∷ codes ";" ∷ rest) ≡ Some (n, rest)
+unfolding units_after mark_at next_at
+units_after_again n rest some most = rw (number_again (pos n) _ (units_number n most), above_zero n some, in_limit n most) refl

@@ -1,14 +1,16 @@
 -- The printed text of a design says the design.
-use Rattle.std.proofs.Common.{◌≡◌, ℕ, ◌+◌, ◌<◌, ◌≤◌, Bool, true, false, List, [], ◌∷◌, ◌++◌, All, length, length-append, get_or, Option, None, Some, codes, IsTrue, refl, sym, ap, ◌∙◌, subst, arith}
+use Rattle.std.proofs.Common.{◌≡◌, ℕ, ◌+◌, ◌<◌, ◌≤◌, Bool, true, false, List, [], ◌∷◌, ◌++◌, All, length, length-append, get_or, Option, None, Some, codes, decimal, IsTrue, refl, sym, ap, ◌∙◌, subst, arith}
 use Rattle.std.specs.List.{list_all, flat_map}
+use Rattle.std.proofs.lemmas.List.{append_assoc, append-nil}
 use Rattle.leg_lex.specs.declared.limits.TheConstants.{NUMBER_LIMIT, TEXT_LIMIT}
 use Rattle.leg_lex.specs.Word.{texts}
 use Rattle.leg_lex.specs.Words.{Words, is_word, is_name, is_keyword, keyword_at, next_at, end_at, nothing_at}
+use Rattle.leg_lex.specs.Cut.{Cut}
 use Rattle.leg_lex.specs.Say.{Says}
 use Rattle.leg_lex.specs.Past.{past}
 use Rattle.leg_text.specs.Spaced.{stays_one, line, is_printable}
 use Rattle.leg_text.proofs.Behind.{first_passes, others_pass}
-use Rattle.leg_text.proofs.Lines.{Lines, lines_nil, lines_append, lines_each, lines_of_words, lines_are_text}
+use Rattle.leg_text.proofs.Lines.{Lines, lines_nil, lines_append, lines_each, lines_of_words, lines_are_text, lines_have_only}
 use Rattle.leg_cells.specs.Records.{ViaSaid}
 use Rattle.leg_cells.specs.Sound.{IsSound}
 use Rattle.leg_block.specs.declared.records.Row.{Row}
@@ -31,7 +33,7 @@ use Rattle.leg_again.specs.PrintedNames.{StayOne, kept_words, row_names, track_n
 use Rattle.leg_again.proofs.FreeWords.{IsFree, free_literal, free_word, free_nil, free_cons}
 use Rattle.leg_again.proofs.Named.{each_passes, first_run_passes, next_run_passes}
 use Rattle.leg_again.proofs.Saying.{said_printable}
-use Rattle.leg_again.proofs.HeaderLines.{name_printable, units_printable, die_printable}
+use Rattle.leg_again.proofs.HeaderLines.{units_after_again, name_printable, units_printable, die_printable}
 use Rattle.leg_again.proofs.Rows.{row_printable}
 use Rattle.leg_again.proofs.Tracks.{track_printable}
 use Rattle.leg_again.proofs.Vias.{vias_lines}
@@ -218,3 +220,82 @@ past_word keyword word rest other = rw (other, ends_first word rest) refl
 past_kept : (keyword : List ℕ) (word : Option (List ℕ)) (rest : Words) → is_keyword (codes "UNITS") keyword ≡ false → past microns_at (kept_line_words keyword word ++ rest) ≡ past microns_at rest
 past_kept keyword None rest other = refl
 past_kept keyword (Some word) rest other = past_word keyword word rest other
+
+past_version : (rest : Words) → past microns_at (version_words ++ rest) ≡ past microns_at rest
+unfolding past microns_at keyword_at next_at
+past_version rest = refl
+
+at_units : (n : ℕ) (rest : Words) → past microns_at (units_words n ++ rest) ≡ Some (tt, decimal n ∷ codes ";" ∷ rest)
+unfolding past microns_at keyword_at next_at
+at_units n rest = refl
+
+-- a text's words begin so
+record Begins (words front : Words) : Type 0 where
+  tail : Words
+  are : words ≡ front ++ tail
+
+begins_itself : (words : Words) → Begins words words
+begins_itself words = record { tail = []; are = sym (append-nil words) }
+
+begins_more : {words front : Words} (more : Words) → Begins words front → Begins (words ++ more) front
+begins_more {words} {front} more begins = record { tail = begins.tail ++ more; are = ap (λ all. all ++ more) begins.are ∙ append_assoc front begins.tail more }
+
+in_turn : (version divider bus name units die tail : Words) → ((version ++ divider ++ bus) ++ (name ++ units ++ die)) ++ tail ≡ version ++ (divider ++ (bus ++ (name ++ (units ++ (die ++ tail)))))
+in_turn version divider bus name units die tail =
+    append_assoc (version ++ divider ++ bus) (name ++ units ++ die) tail
+    ∙ append_assoc (version ++ divider) bus ((name ++ units ++ die) ++ tail)
+    ∙ append_assoc version divider (bus ++ ((name ++ units ++ die) ++ tail))
+    ∙ ap (λ all. version ++ (divider ++ (bus ++ all))) (append_assoc (name ++ units) die tail ∙ append_assoc name units (die ++ tail))
+
+units_read : (design : DesignContents) → IsSound design.library → (tail : Words) → units_in ((naming_words design ++ frame_words design) ++ tail) ≡ Some design.library.units
+unfolding units_in
+units_read design sound tail =
+    let divider = kept_line_words (codes "DIVIDERCHAR") design.divider in
+    let bus = kept_line_words (codes "BUSBITCHARS") design.bus in
+    let name = word_words (codes "DESIGN") design.name in
+    let units = units_words design.library.units in
+    let rest = die_words design.die ++ tail in
+    let there : past microns_at ((naming_words design ++ frame_words design) ++ tail) ≡ Some (tt, decimal design.library.units ∷ codes ";" ∷ rest) =
+        ap (past microns_at) (in_turn version_words divider bus name units (die_words design.die) tail)
+        ∙ past_version (divider ++ (bus ++ (name ++ (units ++ rest))))
+        ∙ past_kept (codes "DIVIDERCHAR") design.divider (bus ++ (name ++ (units ++ rest))) refl
+        ∙ past_kept (codes "BUSBITCHARS") design.bus (name ++ (units ++ rest)) refl
+        ∙ past_word (codes "DESIGN") design.name (units ++ rest) refl
+        ∙ at_units design.library.units rest in
+    rw (there, units_after_again design.library.units rest sound.least_units sound.most_units) refl
+
+units_are : (design : DesignContents) → IsSound design.library → units_in (whole_words design) ≡ Some design.library.units
+units_are design sound =
+    let begins : Begins (whole_words design) (naming_words design ++ frame_words design) =
+        begins_more (end_words (codes "DESIGN"))
+        (begins_more (section_words (net_section false) (net_words design false) design.nets)
+        (begins_more (section_words (net_section true) (net_words design true) design.special)
+        (begins_more (section_words (codes "PINS") (pin_words design) design.pins)
+        (begins_more (section_words (codes "COMPONENTS") (component_words design) design.components)
+        (begins_more (section_words (codes "VIAS") (via_words design) design.vias)
+        (begins_more (flat_map (track_words design) design.tracks)
+        (begins_more (flat_map (row_words design) design.rows) (begins_itself (naming_words design ++ frame_words design))))))))) in
+    ap units_in begins.are ∙ units_read design sound begins.tail
+
+-- The text says the units of the library.
+pub text_says_units : (design : DesignContents) → IsSound design.library → IsWellFormed design → StayOne (printed_names design) → length (design_text design) ≤ TEXT_LIMIT
+    → Says units_in (design_text design) design.library.units
+text_says_units design sound well one fits =
+    let found = lines_are_text (design_text design) (whole_words design) (whole_lines design sound well (all_stay_one design one) (few_vias design fits)) in record {
+      fits = fits;
+      words = found.0;
+      tokens = found.1;
+      reads = ap units_in found.2 ∙ units_are design sound;
+    }
+
+-- It says no other design, where a text is cut in one way.
+some_same : {X : Type 0} (a b : X) → Some a ≡ Some b → a ≡ b
+some_same a b is = cc
+
+pub text_says_only : (design other : DesignContents) → IsSound design.library → IsWellFormed design → StayOne (printed_names design) → length (design_text design) ≤ TEXT_LIMIT
+    → ((p q : List (List ℕ)) → Cut p (design_text design) → Cut q (design_text design) → p ≡ q) → Says (design_in design.library) (design_text design) other → other ≡ design
+text_says_only design other sound well one fits cut says =
+    let each = all_stay_one design one in
+    let few = few_vias design fits in
+    let words = lines_have_only (design_text design) (whole_words design) cut (whole_lines design sound well each few) says.words says.tokens in
+    some_same other design (sym says.reads ∙ ap (design_in design.library) words ∙ whole_again design sound well each few)
