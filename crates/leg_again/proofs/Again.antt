@@ -44,8 +44,8 @@ clauses_again head [] none each = rw (append-nil head) (split_last head none)
 clauses_again head (clause ∷ clauses) none each =
     split_more head (clause ++ flat_map (λ clause. codes "+" ∷ clause) clauses) none
     ∙ ap (λ parts. head ∷ parts) (clauses_again clause clauses
-      (All-head (λ clause. list_any is_plus clause ≡ false) clause clauses each)
-      (All-tail (λ clause. list_any is_plus clause ≡ false) clause clauses each))
+    (All-head (λ clause. list_any is_plus clause ≡ false) clause clauses each)
+    (All-tail (λ clause. list_any is_plus clause ≡ false) clause clauses each))
 
 -- one clause alone
 pub clause_again : (head clause : Words) → list_any is_plus head ≡ false → list_any is_plus clause ≡ false → clauses_of (head ++ (codes "+" ∷ clause)) ≡ head ∷ clause ∷ []

@@ -36,10 +36,11 @@ room_is n limit less = grind (arith, nat_tests)
 module _ (design : DesignContents) (sound : IsSound design.library) (component : Component) (is : IsComponent design.library component) where
   master : (m : MasterSaid) × (IsTrue (is_name (master_name design component.master))) × (place_of (master_name design component.master) (master_names design.library) ≡ Some component.master)
   master =
-      let there = element design.library.masters component.master is.master in
-      (there.0,
+      let there = element design.library.masters component.master is.master in (
+        there.0,
         rw (there.1) (name_is (λ (m : MasterSaid). m.name) design.library.masters component.master there.0 there.1 sound.names.masters.each),
-        rw (there.1) (found (λ (m : MasterSaid). m.name) design.library.masters component.master there.0 there.1 sound.names.masters.apart))
+        rw (there.1) (found (λ (m : MasterSaid). m.name) design.library.masters component.master there.0 there.1 sound.names.masters.apart),
+      )
 
   component_in_again : (names : List (List ℕ)) → place_of component.name names ≡ None
       → component_in design.library names ((codes "-" ∷ component.name ∷ master_name design component.master ∷ []) ∷ placement_clause component.status component.place ∷ []) ≡ Some component
@@ -53,7 +54,7 @@ module _ (design : DesignContents) (sound : IsSound design.library) (component :
         free_cons (free_literal (codes "-") refl refl refl)
         (free_cons (free_name component.name is.name (first_passes stays_one component.name (master_name design component.master ∷ []) one))
         (free_cons (free_name (master_name design component.master) master.1
-          (first_passes stays_one (master_name design component.master) [] (others_pass stays_one component.name (master_name design component.master ∷ []) one))) free_nil))
+        (first_passes stays_one (master_name design component.master) [] (others_pass stays_one component.name (master_name design component.master ∷ []) one))) free_nil))
 
     clause_free : AreFree (placement_clause component.status component.place)
     clause_free = placement_free component.status component.place is.placed
@@ -65,9 +66,12 @@ module _ (design : DesignContents) (sound : IsSound design.library) (component :
         → component_entry design.library front (component_words design component ++ rest) ≡ Some (front ++ component ∷ [], rest)
     unfolding component_entry
     component_again front few new rest =
-        rw (room_is (length front) ENTRY_LIMIT few, said_again (component_said design component) rest component_inside,
+        rw (
+          room_is (length front) ENTRY_LIMIT few,
+          said_again (component_said design component) rest component_inside,
           clause_again (codes "-" ∷ component.name ∷ master_name design component.master ∷ []) (placement_clause component.status component.place) head_free.plus clause_free.plus,
-          component_in_again (component_names front) new) refl
+          component_in_again (component_names front) new,
+        ) refl
 
     pub component_printable : list_all is_printable (component_words design component) ≡ true
     component_printable = said_printable component_inside
@@ -92,7 +96,7 @@ components_again design component components sound are one rest =
       read = λ before x after is.
           component_again design sound x (middle (IsComponent design.library) (component ∷ components) before x after is are.each)
           (middle (λ c. StayOne (component_entry_names design c)) (component ∷ components) before x after is
-            (each_passes stays_one (component_entry_names design) (component ∷ components) one))
+          (each_passes stays_one (component_entry_names design) (component ∷ components) one))
           before (less before x after is) (not_before (λ (c : Component). c.name) before x after (subst (λ cs. AreApart (component_names cs)) is are.apart));
     }) rest where
       few : length (component ∷ components) ≤ NUMBER_LIMIT
@@ -108,4 +112,4 @@ components_lines design components sound are one =
     section_lines (codes "COMPONENTS") (λ component. line (component_words design component)) (component_words design) components (free_literal (codes "COMPONENTS") refl refl refl)
     (omega (arith, are.few))
     (λ k d less. lines_of_words (component_words design (get_or components k d)) (component_printable design sound (get_or components k d) (are.each k d less)
-      (each_passes stays_one (component_entry_names design) components one k d less)))
+    (each_passes stays_one (component_entry_names design) components one k d less)))

@@ -1,13 +1,10 @@
 -- The words of a wire of a design are read as the wire.
-use Rattle.std.proofs.Common.{◌≡◌, ℕ, zero, suc, ◌+◌, ◌<◌, ◌⊎◌, inl, inr, Bool, true, false, not, ◌&&◌, List, [], ◌∷◌, ◌++◌, All, length, map, slice_get, unwrap_or, ℤ, pos, Option, None, Some, codes, IsTrue, refl, sym, ap, ◌∙◌, subst, arith}
-use Rattle.std.specs.List.{list_all}
+use Rattle.std.proofs.Common.{◌≡◌, ℕ, zero, suc, ◌+◌, ◌<◌, ◌⊎◌, inl, inr, Bool, true, false, not, ◌&&◌, List, [], ◌∷◌, ◌++◌, length, slice_get, unwrap_or, ℤ, pos, Option, None, Some, codes, refl, sym, ap, ◌∙◌, subst, arith}
 use Rattle.std.proofs.lemmas.Bool.{false≢true}
 use Rattle.std.proofs.lemmas.List.{append_assoc}
 use Rattle.std.proofs.lemmas.Option.{slice_get_within}
 use Rattle.leg_lex.specs.Words.{Words, is_at, is_name}
-use Rattle.leg_text.specs.Spaced.{stays_one}
-use Rattle.leg_text.proofs.Behind.{first_passes, others_pass}
-use Rattle.leg_geom.specs.Plane.{Spot, Sides}
+use Rattle.leg_geom.specs.Plane.{Spot}
 use Rattle.leg_cells.specs.declared.records.Layer.{Layer}
 use Rattle.leg_cells.specs.Records.{Contents, ViaSaid}
 use Rattle.leg_cells.specs.Joins.{is_wiring_word, join_layers}
@@ -16,20 +13,20 @@ use Rattle.leg_cells.specs.References.{IsViaOf}
 use Rattle.leg_cells.specs.Sound.{IsSound}
 use Rattle.leg_block.specs.declared.records.Wire.{Wire}
 use Rattle.leg_block.specs.declared.records.Wire.TheVariants.{Segment, ViaAt, Patch}
-use Rattle.leg_block.specs.Layers.{is_routing, wire_width}
+use Rattle.leg_block.specs.Layers.{is_routing}
 use Rattle.leg_block.specs.Wires.{default_extension}
 use Rattle.leg_block.specs.Records.{DesignContents}
-use Rattle.leg_block.specs.WellFormedParts.{IsPosition, IsArea, IsDesignVia, AreVias}
-use Rattle.leg_block.specs.WellFormedNets.{IsWidth, IsSegment, IsWire}
-use Rattle.leg_floorplan.specs.Namespace.{KnownSaid, via_named}
+use Rattle.leg_block.specs.WellFormedParts.{IsPosition, IsDesignVia, AreVias}
+use Rattle.leg_block.specs.WellFormedNets.{IsSegment, IsWire}
+use Rattle.leg_floorplan.specs.Namespace.{via_named}
 use Rattle.leg_nets.specs.PathItem.{at_path_end}
 use Rattle.leg_nets.specs.Wiring.{path_at}
 use Rattle.leg_print.specs.Names.{layer_name, via_numbered, via_name}
-use Rattle.leg_print.specs.Text.Wires.{width_words, point_words, given_extension, segment_words, wire_words, via_wire_words, patch_words, layer_of_via, lowest_layer}
+use Rattle.leg_print.specs.Text.Wires.{width_words, point_words, given_extension, segment_words, wire_words, via_wire_words, patch_words, layer_of_via}
 use Rattle.leg_again.specs.Known.{known_of}
 use Rattle.leg_again.proofs.Named.{holds_of, found, name_is}
 use Rattle.leg_again.proofs.Tracks.{layer_named}
-use Rattle.leg_again.proofs.GoodVias.{JoinsTwo, good_joins, lowest_is, across_good}
+use Rattle.leg_again.proofs.GoodVias.{good_joins, lowest_is, across_good}
 use Rattle.leg_again.proofs.Wires.{IsPathLayer, written_as, segment_path, via_path, patch_path, given_is, extension_again}
 
 -- an element of two lists is one of the first or of the second
@@ -91,9 +88,9 @@ module _ (design : DesignContents) (sound : IsSound design.library) (vias : AreV
       let first = given_extension design.library special layer ext_from in
       let next = given_extension design.library special layer ext_to in
       ap (λ words. path_at (known_of design) special (layer_name design layer ∷ words))
-        (append_assoc (width_words special width ++ point_words from first) (point_words to next) rest ∙ append_assoc (width_words special width) (point_words from first) (point_words to next ++ rest))
+      (append_assoc (width_words special width ++ point_words from first) (point_words to next) rest ∙ append_assoc (width_words special width) (point_words from first) (point_words to next ++ rest))
       ∙ segment_path (known_of design) special layer (layer_name design layer) (path_layer layer is.routes) from to width is.from_ is.to_ is.straight is.long is.width_ first next rest
-        (given_is design.library special layer ext_from is.from_extension) (given_is design.library special layer ext_to is.to_extension) ends
+      (given_is design.library special layer ext_from is.from_extension) (given_is design.library special layer ext_to is.to_extension) ends
       ∙ ap (λ e. Some (Segment layer from to width e (unwrap_or next (default_extension design.library (written_as special width) layer)) ∷ [], rest)) (extension_again design.library special layer ext_from width)
       ∙ ap (λ e. Some (Segment layer from to width ext_from e ∷ [], rest)) (extension_again design.library special layer ext_to width)
 
@@ -107,7 +104,7 @@ module _ (design : DesignContents) (sound : IsSound design.library) (vias : AreV
       let lower : layer_of_via design number ≡ two.0 = rw there (lowest_is two.0 via.shapes two.2.on_low two.2.each) in
       let named : via_name design number ≡ via.name = rw there refl in
       ap (λ words. path_at (known_of design) special (layer_name design (layer_of_via design number) ∷ words))
-        (append_assoc (width_words special (pos 0) ++ point_words at None) (via_name design number ∷ []) rest ∙ append_assoc (width_words special (pos 0)) (point_words at None) (via_name design number ∷ rest))
+      (append_assoc (width_words special (pos 0) ++ point_words at None) (via_name design number ∷ []) rest ∙ append_assoc (width_words special (pos 0)) (point_words at None) (via_name design number ∷ rest))
       ∙ ap (λ layer. path_at (known_of design) special (layer_name design layer ∷ (width_words special (pos 0) ++ (point_words at None ++ (via_name design number ∷ rest))))) lower
       ∙ ap (λ word. path_at (known_of design) special (layer_name design two.0 ∷ (width_words special (pos 0) ++ (point_words at None ++ (word ∷ rest))))) named
       ∙ via_path (known_of design) special two.0 (layer_name design two.0) (path_layer two.0 two.2.low_routes) at number other.0 via.name rest is known.name (no_wiring_word design.library via known.good) known.there other.1 ends no_north

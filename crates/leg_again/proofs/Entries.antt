@@ -1,10 +1,9 @@
 -- Each entry of a design is read behind those before it.
-use Rattle.std.proofs.Common.{◌≡◌, ℕ, ◌<◌, ◌≤◌, Bool, true, false, List, [], ◌∷◌, ◌++◌, All, length, Option, Some, codes, IsTrue, refl, subst, arith}
+use Rattle.std.proofs.Common.{◌≡◌, true, false, List, [], ◌∷◌, ◌++◌, subst, arith}
 use Rattle.leg_lex.specs.NameLookup.{AreApart}
 use Rattle.leg_text.specs.Spaced.{line}
 use Rattle.leg_cells.specs.Records.{ViaSaid}
 use Rattle.leg_cells.specs.Sound.{IsSound}
-use Rattle.leg_block.specs.declared.limits.TheConstants.{ENTRY_LIMIT}
 use Rattle.leg_block.specs.declared.records.Component.{Component}
 use Rattle.leg_block.specs.Records.{DesignContents, PinSaid, NetSaid, design_via_names, component_names, pin_names}
 use Rattle.leg_block.specs.WellFormedParts.{IsDesignVia, IsComponent, IsPin}

@@ -1,41 +1,30 @@
 -- Each form of the printed text leads on.
-use Rattle.std.proofs.Common.{◌≡◌, ℕ, ◌<◌, ◌≤◌, ◌==◌, Bool, true, false, List, [], ◌∷◌, ◌++◌, All, length, Option, None, Some, codes, IsTrue, refl, sym, ap, ◌∙◌, subst, arith}
-use Rattle.std.specs.List.{list_all, flat_map}
+use Rattle.std.proofs.Common.{◌≡◌, ℕ, ◌≤◌, Bool, true, false, List, [], ◌∷◌, ◌++◌, All, Option, None, Some, codes, IsTrue, refl, sym, subst, arith}
+use Rattle.std.specs.List.{flat_map}
 use Rattle.std.proofs.lemmas.List.{append_assoc, append-nil}
 use Rattle.std.proofs.lemmas.List.Elements.{All-head, All-tail}
-use Rattle.leg_lex.specs.declared.limits.TheConstants.{NUMBER_LIMIT, UNITS_LIMIT}
-use Rattle.leg_lex.specs.Words.{Words, is_word, is_name}
+use Rattle.leg_lex.specs.declared.limits.TheConstants.{UNITS_LIMIT}
+use Rattle.leg_lex.specs.Words.{Words, is_name}
 use Rattle.leg_lex.specs.Statements.{statement_at, up_to}
 use Rattle.leg_text.specs.Spaced.{stays_one}
 use Rattle.leg_geom.specs.Plane.{Sides}
-use Rattle.leg_cells.specs.Records.{Contents, ViaSaid}
+use Rattle.leg_cells.specs.Records.{Contents}
 use Rattle.leg_cells.specs.Sound.{IsSound}
 use Rattle.leg_block.specs.declared.records.Row.{Row}
-use Rattle.leg_block.specs.declared.records.Component.{Component}
-use Rattle.leg_block.specs.Records.{DesignContents, TrackSaid, PinSaid, NetSaid}
-use Rattle.leg_block.specs.WellFormedParts.{IsKept, IsArea, AreComponents, IsRow, IsTrack, AreVias, ArePins}
+use Rattle.leg_block.specs.Records.{DesignContents, TrackSaid}
+use Rattle.leg_block.specs.WellFormedParts.{IsKept, IsArea, IsRow, IsTrack}
 use Rattle.leg_block.proofs.SameTerminal.{number_itself}
-use Rattle.leg_design.specs.Header.{units_at}
-use Rattle.leg_design.specs.Parts.{Stood, DesignParts, no_parts, divider_form, bus_form, name_form, units_form, die_form, row_form, track_form, vias_form, components_form, pins_form, nets_form, special_form}
+use Rattle.leg_design.specs.Parts.{DesignParts, no_parts, divider_form, bus_form, name_form, units_form, die_form, row_form, track_form}
 use Rattle.leg_design.specs.Skipped.{past_def_form}
 use Rattle.leg_design.specs.Form.{header_form, def_form_at}
 use Rattle.leg_print.specs.Text.Header.{version_words, word_words, units_words, die_words}
 use Rattle.leg_print.specs.Text.Rows.{row_words}
 use Rattle.leg_print.specs.Text.Tracks.{track_words}
-use Rattle.leg_print.specs.Text.Vias.{via_words}
-use Rattle.leg_print.specs.Text.Components.{component_words}
-use Rattle.leg_print.specs.Text.Pins.{pin_words}
-use Rattle.leg_print.specs.Text.Nets.{net_words}
-use Rattle.leg_again.specs.PrintedNames.{StayOne, row_names, track_names, via_entry_names, component_entry_names, pin_entry_names, net_entry_names}
-use Rattle.leg_again.proofs.Named.{each_passes, first_run_passes, next_run_passes}
+use Rattle.leg_again.specs.PrintedNames.{StayOne, row_names, track_names}
+use Rattle.leg_again.proofs.Named.{first_run_passes, next_run_passes}
 use Rattle.leg_again.proofs.HeaderLines.{word_again, name_again, units_again, die_again}
 use Rattle.leg_again.proofs.Rows.{row_again}
 use Rattle.leg_again.proofs.Tracks.{track_again}
-use Rattle.leg_again.proofs.Vias.{vias_again}
-use Rattle.leg_again.proofs.Components.{components_again}
-use Rattle.leg_again.proofs.Pins.{pins_again}
-use Rattle.leg_again.proofs.Nets.{HasParts, AreEntries, nets_again}
-use Rattle.leg_again.proofs.Sections.{section_words}
 use Rattle.leg_again.proofs.Leads.{Leads, leads_nil, leads_append, leads_form}
 
 -- KEYWORD word ; where the word was kept
@@ -47,8 +36,17 @@ kept_line_words keyword (Some word) = word_words keyword word
 abbrev header_parts : Option (List ℕ) → Option (List ℕ) → Option (List ℕ) → Bool → Option Sides → List Row → List TrackSaid → DesignParts
 header_parts divider bus name units die rows tracks = record {
   stood = record { units = units; vias = false; components = false; pins = false; nets = false; special = false };
-  name = name; divider = divider; bus = bus; die = die; rows = rows; tracks = tracks;
-  vias = []; components = []; pins = []; nets = []; special = [];
+  name = name;
+  divider = divider;
+  bus = bus;
+  die = die;
+  rows = rows;
+  tracks = tracks;
+  vias = [];
+  components = [];
+  pins = [];
+  nets = [];
+  special = [];
 }
 
 module _ (library : Contents) where
@@ -93,15 +91,15 @@ module _ (library : Contents) where
 
 pub header_leads : (design : DesignContents) → IsSound design.library → IsTrue (is_name design.name) → IsKept design.divider → IsKept design.bus → IsArea design.die
     → Leads design.library no_parts
-      ((version_words ++ kept_line_words (codes "DIVIDERCHAR") design.divider ++ kept_line_words (codes "BUSBITCHARS") design.bus)
-        ++ (word_words (codes "DESIGN") design.name ++ units_words design.library.units ++ die_words design.die))
-      (header_parts design.divider design.bus (Some design.name) true (Some design.die) [] [])
+    ((version_words ++ kept_line_words (codes "DIVIDERCHAR") design.divider ++ kept_line_words (codes "BUSBITCHARS") design.bus)
+    ++ (word_words (codes "DESIGN") design.name ++ units_words design.library.units ++ die_words design.die))
+    (header_parts design.divider design.bus (Some design.name) true (Some design.die) [] [])
 header_leads design sound name divider bus die =
     leads_append
     (leads_append (leads_append (version_leads design.library) (divider_leads design.library design.divider divider)) (bus_leads design.library design.divider design.bus bus))
     (leads_append (leads_append (name_leads design.library design.divider design.bus design.name name)
-      (units_leads design.library design.divider design.bus design.name sound.least_units sound.most_units))
-      (die_leads design.library design.divider design.bus design.name design.die die))
+    (units_leads design.library design.divider design.bus design.name sound.least_units sound.most_units))
+    (die_leads design.library design.divider design.bus design.name design.die die))
 
 module _ (design : DesignContents) (sound : IsSound design.library) where
   -- rows and tracks
@@ -114,7 +112,7 @@ module _ (design : DesignContents) (sound : IsSound design.library) where
   rows_lead front (row ∷ rows) each one =
       leads_append (leads_form design.library (framed front []) (row_words design row) (framed (front ++ row ∷ []) []) (omega arith) (λ rest. refl) read)
       (subst (λ all. Leads design.library (framed (front ++ row ∷ []) []) (flat_map (row_words design) rows) (framed all [])) (append_assoc front (row ∷ []) rows)
-        (rows_lead (front ++ row ∷ []) rows (All-tail (IsRow design.library) row rows each) (next_run_passes stays_one (row_names design row) (flat_map (row_names design) rows) one))) where
+      (rows_lead (front ++ row ∷ []) rows (All-tail (IsRow design.library) row rows each) (next_run_passes stays_one (row_names design row) (flat_map (row_names design) rows) one))) where
         read : (rest : Words) → def_form_at design.library (framed front []) (row_words design row ++ rest) ≡ Some (framed (front ++ row ∷ []) [], rest)
         read rest = rw (row_again design row sound (All-head (IsRow design.library) row rows each) (first_run_passes stays_one (row_names design row) (flat_map (row_names design) rows) one) rest) refl
 
@@ -125,6 +123,6 @@ module _ (design : DesignContents) (sound : IsSound design.library) where
   tracks_lead front (track ∷ tracks) each one =
       leads_append (leads_form design.library (framed design.rows front) (track_words design track) (framed design.rows (front ++ track ∷ [])) (omega arith) (λ rest. refl) read)
       (subst (λ all. Leads design.library (framed design.rows (front ++ track ∷ [])) (flat_map (track_words design) tracks) (framed design.rows all)) (append_assoc front (track ∷ []) tracks)
-        (tracks_lead (front ++ track ∷ []) tracks (All-tail (IsTrack design.library) track tracks each) (next_run_passes stays_one (track_names design track) (flat_map (track_names design) tracks) one))) where
+      (tracks_lead (front ++ track ∷ []) tracks (All-tail (IsTrack design.library) track tracks each) (next_run_passes stays_one (track_names design track) (flat_map (track_names design) tracks) one))) where
         read : (rest : Words) → def_form_at design.library (framed design.rows front) (track_words design track ++ rest) ≡ Some (framed design.rows (front ++ track ∷ []), rest)
         read rest = rw (track_again design sound track (All-head (IsTrack design.library) track tracks each) (first_run_passes stays_one (track_names design track) (flat_map (track_names design) tracks) one) rest) refl

@@ -1,12 +1,10 @@
 -- A good via joins two routing layers, of which the lowest of its layers is the lower one.
-use Rattle.std.proofs.Common.{◌≡◌, ℕ, zero, suc, ◌+◌, ◌<◌, ◌≤◌, min, fold, ◌⊎◌, inl, inr, Bool, true, false, not, ◌&&◌, ◌||◌, ◌==◌, nat_lt, is_some, List, [], ◌∷◌, ◌++◌, All, Contains, length, get_or, map, slice_get, Option, None, Some, option_map, refl, sym, ap, ◌∙◌, subst, arith}
+use Rattle.std.proofs.Common.{◌≡◌, ℕ, ◌+◌, ◌<◌, ◌≤◌, min, fold, Bool, true, false, not, ◌&&◌, ◌||◌, ◌==◌, nat_lt, is_some, List, [], ◌∷◌, All, Contains, get_or, map, slice_get, Option, None, Some, option_map, refl, sym, ap, ◌∙◌, arith}
 use Rattle.std.specs.List.{list_any, list_all, find, slice_range}
 use Rattle.std.proofs.lemmas.Bool.{false≢true}
 use Rattle.std.proofs.lemmas.Bool.Decides.{nat_tests}
-use Rattle.std.proofs.lemmas.Option.{slice_get-map, get_or_from_slice_get}
-use Rattle.std.proofs.lemmas.List.Elements.{All-head, All-tail, All-nil, All-cons, All-contains}
-use Rattle.leg_lex.specs.Words.{◌>>=◌}
-use Rattle.leg_cells.specs.declared.joins.LayerUse.{LayerUse}
+use Rattle.std.proofs.lemmas.Option.{slice_get-map}
+use Rattle.std.proofs.lemmas.List.Elements.{All-head, All-tail, All-nil, All-cons}
 use Rattle.leg_cells.specs.declared.joins.ViaPart.{ViaPart}
 use Rattle.leg_cells.specs.declared.records.LayerKind.{LayerKind}
 use Rattle.leg_cells.specs.declared.records.LayerKind.TheVariants.{Routing, Cut, Other}
@@ -18,9 +16,8 @@ use Rattle.leg_cells.specs.GoodVia.{use_of, uses_of, holds_origin, parts_of, is_
 use Rattle.leg_cells.specs.Records.{Contents, ViaSaid}
 use Rattle.leg_block.specs.Layers.{is_routing, wire_width}
 use Rattle.leg_block.proofs.SameTerminal.{Passes, passes_from, some_passes, number_itself}
-use Rattle.leg_floorplan.specs.Guard.{when}
 use Rattle.leg_floorplan.specs.Namespace.{KnownSaid, via_numbered}
-use Rattle.leg_nets.specs.Path.{other_layer, across}
+use Rattle.leg_nets.specs.Path.{across}
 use Rattle.leg_print.specs.Text.Wires.{lowest_layer}
 
 both : (a b : Bool) → (a && b) ≡ true → (a ≡ true) × (b ≡ true)
@@ -89,7 +86,7 @@ module _ (library : Contents) (shapes : List Shape) where
   layers_join a b c joined there here =
       let uses = uses_of library.layers in
       let last = both (joins.is_routing uses a.layer && is_cut uses b.layer && joins.is_routing uses c.layer && nat_lt a.layer b.layer && nat_lt b.layer c.layer && not (list_any has_wires (slice_range uses (a.layer + 1) c.layer)))
-          (list_all (is_part a.layer b.layer c.layer) (parts_of shapes)) joined in
+      (list_all (is_part a.layer b.layer c.layer) (parts_of shapes)) joined in
       let five = both (joins.is_routing uses a.layer && is_cut uses b.layer && joins.is_routing uses c.layer && nat_lt a.layer b.layer && nat_lt b.layer c.layer) (not (list_any has_wires (slice_range uses (a.layer + 1) c.layer))) last.0 in
       let four = both (joins.is_routing uses a.layer && is_cut uses b.layer && joins.is_routing uses c.layer && nat_lt a.layer b.layer) (nat_lt b.layer c.layer) five.0 in
       let three = both (joins.is_routing uses a.layer && is_cut uses b.layer && joins.is_routing uses c.layer) (nat_lt a.layer b.layer) four.0 in

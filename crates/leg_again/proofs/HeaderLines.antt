@@ -67,8 +67,11 @@ units_line n some most = line_says units_at (units_words n) n (units_printable n
 pub die_again : (die : Sides) (rest : Words) → IsArea die → die_at (die_words die ++ rest) ≡ Some (die, rest)
 unfolding die_at one_spot steps keyword_at mark_at next_at
 die_again die rest is =
-    rw (spot_again (record { x = die.x1; y = die.y1 }) _ (record { x = is.x1; y = is.y1 }),
-      spot_again (record { x = die.x2; y = die.y2 }) _ (record { x = is.x2; y = is.y2 }), between_again die is.proper) refl
+    rw (
+      spot_again (record { x = die.x1; y = die.y1 }) _ (record { x = is.x1; y = is.y1 }),
+      spot_again (record { x = die.x2; y = die.y2 }) _ (record { x = is.x2; y = is.y2 }),
+      between_again die is.proper,
+    ) refl
 
 pub die_printable : (die : Sides) → IsArea die → list_all is_printable (die_words die) ≡ true
 die_printable die is = said_printable (free_cons (free_literal (codes "DIEAREA") refl refl refl) (corners_free die is)).inside

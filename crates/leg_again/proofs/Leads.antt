@@ -1,8 +1,6 @@
 -- Forms of a text, one after the other: what each adds to what was said before.
-use Rattle.std.proofs.Common.{◌≡◌, ℕ, suc, ◌+◌, ◌-◌, ◌<◌, ◌≤◌, Bool, true, false, List, [], ◌∷◌, ◌++◌, All, length, length-append, Option, None, Some, codes, IsTrue, refl, sym, ap, ◌∙◌, subst, arith}
-use Rattle.std.specs.List.{flat_map}
-use Rattle.std.proofs.lemmas.List.{append_assoc, append-nil}
-use Rattle.std.proofs.lemmas.List.Elements.{All-head, All-tail}
+use Rattle.std.proofs.Common.{◌≡◌, ℕ, suc, ◌+◌, ◌-◌, ◌<◌, ◌≤◌, true, false, [], ◌++◌, length, length-append, Some, refl, ap, ◌∙◌, arith}
+use Rattle.std.proofs.lemmas.List.{append_assoc}
 use Rattle.leg_lex.specs.Words.{Words}
 use Rattle.leg_lex.specs.Until.{steps, until}
 use Rattle.leg_lex.specs.Statements.{at_end}
@@ -41,8 +39,8 @@ leads_append {library} {parts} {middle} {next} {words} {more} first later = reco
       ∙ ap (λ all. steps at_end (def_form_at library) (first.count + (later.count + n)) parts all) (append_assoc words more rest)
       ∙ first.read (later.count + n) (more ++ rest) ∙ later.read n rest;
 } where
-    both : {a b c d : ℕ} → a ≤ c → b ≤ d → a + b ≤ c + d
-    both {a} {b} {c} {d} h k = omega arith
+  both : {a b c d : ℕ} → a ≤ c → b ≤ d → a + b ≤ c + d
+  both {a} {b} {c} {d} h k = omega arith
 
 -- one form
 pub leads_form : (library : Contents) (parts : DesignParts) (words : Words) (next : DesignParts) → 0 < length words → ((rest : Words) → at_end (words ++ rest) ≡ false)
@@ -53,8 +51,8 @@ leads_form library parts words next some goes is = record {
   few = omega arith;
   read = λ n rest. ap (λ m. steps at_end (def_form_at library) m parts (words ++ rest)) (one_more n) ∙ step n rest;
 } where
-    step : (n : ℕ) (rest : Words) → steps at_end (def_form_at library) (suc n) parts (words ++ rest) ≡ steps at_end (def_form_at library) n next rest
-    step n rest = rw (goes rest, is rest) refl
+  step : (n : ℕ) (rest : Words) → steps at_end (def_form_at library) (suc n) parts (words ++ rest) ≡ steps at_end (def_form_at library) n next rest
+  step n rest = rw (goes rest, is rest) refl
 
 -- all forms, up to END
 pub leads_all : (library : Contents) (parts next : DesignParts) (words : Words) (last : Words) → Leads library parts words next → at_end last ≡ true

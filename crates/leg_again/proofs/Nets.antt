@@ -1,16 +1,16 @@
 -- The entry of a net is read as the net, and the section as all of them.
-use Rattle.std.proofs.Common.{◌≡◌, ◌≢◌, ℕ, ◌+◌, ◌<◌, ◌≤◌, nat_le, nat_lt, ◌⊎◌, inl, inr, Bool, true, false, ◌||◌, List, [], ◌∷◌, ◌++◌, All, AllPairs, Contains, length, get_or, map, Option, None, Some, codes, IsTrue, refl, sym, ap, ◌∙◌, subst, arith}
+use Rattle.std.proofs.Common.{◌≡◌, ℕ, ◌+◌, ◌<◌, ◌≤◌, nat_lt, ◌⊎◌, inl, inr, Bool, true, false, List, [], ◌∷◌, ◌++◌, All, Contains, length, get_or, Option, None, Some, codes, refl, sym, ap, ◌∙◌, subst, arith}
 use Rattle.std.specs.List.{list_all, flat_map}
 use Rattle.std.proofs.lemmas.Bool.Decides.{nat_tests}
-use Rattle.std.proofs.lemmas.List.{append_assoc, append-nil}
-use Rattle.std.proofs.lemmas.List.Elements.{All-append, All-weaker, Contains-append_left, Contains-append_right, Contains-append_cases}
+use Rattle.std.proofs.lemmas.List.{append_assoc}
+use Rattle.std.proofs.lemmas.List.Elements.{Contains-append_left, Contains-append_right, Contains-append_cases}
 use Rattle.std.proofs.Math.Seq.{get_or-append_seam}
 use Rattle.leg_lex.specs.declared.limits.TheConstants.{NUMBER_LIMIT}
-use Rattle.leg_lex.specs.Words.{Words, is_keyword, next_at, keyword_at, mark_at, name_at, word_at, is_name}
+use Rattle.leg_lex.specs.Words.{Words, next_at, keyword_at, mark_at, name_at, word_at}
 use Rattle.leg_lex.specs.NameLookup.{place_of, AreApart}
 use Rattle.leg_lex.specs.Until.{steps, until}
 use Rattle.leg_lex.specs.Statements.{at_end}
-use Rattle.leg_text.specs.Spaced.{stays_one, spaced, words_in_lines, line, is_printable}
+use Rattle.leg_text.specs.Spaced.{stays_one, spaced, words_in_lines}
 use Rattle.leg_text.proofs.Behind.{Behind, printable_is_one, behind_spaced, behind_append, first_passes, others_pass}
 use Rattle.leg_text.proofs.Lines.{Lines, lines_statement, further_lines}
 use Rattle.leg_cells.specs.Sound.{IsSound}
@@ -19,18 +19,17 @@ use Rattle.leg_block.specs.declared.records.Terminal.{Terminal}
 use Rattle.leg_block.specs.declared.records.Wire.{Wire}
 use Rattle.leg_block.specs.Records.{DesignContents, NetSaid, net_names, terminal_count, wire_count}
 use Rattle.leg_block.specs.WellFormedParts.{IsKept, AreVias, AreComponents, ArePins}
-use Rattle.leg_block.specs.WellFormedNets.{IsTerminal, IsWire, IsNet, AreNets, AreInOneNet}
+use Rattle.leg_block.specs.WellFormedNets.{IsWire, IsNet, AreNets, AreInOneNet}
 use Rattle.leg_floorplan.specs.Guard.{is_over}
-use Rattle.leg_nets.specs.Terminal.{at_no_terminal, terminal_form}
+use Rattle.leg_nets.specs.Terminal.{at_no_terminal}
 use Rattle.leg_nets.specs.Net.{NetParts, no_net_parts, use_clause, wiring_clause, clause_at, net_clause, net_name_at, net_in, are_too_many, net_entry, nets_at}
 use Rattle.leg_nets.proofs.NetEntries.{net_entry_shortens}
 use Rattle.leg_print.specs.Text.Clauses.{clause_words, kept_clause}
 use Rattle.leg_print.specs.Text.Nets.{terminal_words, net_head, wiring_words, net_said, net_words, net_text, wire_line}
-use Rattle.leg_print.specs.Text.Wires.{wire_words}
 use Rattle.leg_print.specs.Text.Whole.{net_section, nets_text}
 use Rattle.leg_again.specs.PrintedNames.{StayOne, kept_words, terminal_names, wire_names, net_entry_names}
 use Rattle.leg_again.specs.SaysForm.{SaysForm}
-use Rattle.leg_again.proofs.FreeWords.{AreInside, AreFree, IsFree, free_literal, free_name, free_word, free_nil, free_cons, inside_nil, inside_cons, inside_append, inside_each}
+use Rattle.leg_again.proofs.FreeWords.{AreInside, IsFree, free_literal, free_name, free_word, inside_nil, inside_cons, inside_append, inside_each}
 use Rattle.leg_again.proofs.Again.{said_again}
 use Rattle.leg_again.proofs.Named.{not_before, middle, fewer_before, within, each_passes, first_run_passes, next_run_passes}
 use Rattle.leg_again.proofs.Components.{room_is}
@@ -38,7 +37,7 @@ use Rattle.leg_again.specs.Known.{known_of}
 use Rattle.leg_again.proofs.WireWords.{wiring_again, wires_inside}
 use Rattle.leg_again.proofs.Terminals.{terminals_again, terminal_free}
 use Rattle.leg_again.proofs.Sections.{section_words, section_again, section_lines}
-use Rattle.leg_again.proofs.Saying.{said_printable, lines_say}
+use Rattle.leg_again.proofs.Saying.{lines_say}
 
 -- What is known of the design whose nets are printed.
 pub record HasParts (design : DesignContents) : Type 0 where
@@ -77,9 +76,14 @@ module _ (design : DesignContents) (has : HasParts design) (special : Bool) wher
         let terminals = flat_map (terminal_words design) net.terminals in
         let usage = clause_words (kept_clause (codes "USE") net.usage) in
         let wires = words_in_lines (wiring_words design special net.wires) in
-        rw (is.name, is.no_must_join, new, append_assoc terminals usage wires,
+        rw (
+          is.name,
+          is.no_must_join,
+          new,
+          append_assoc terminals usage wires,
           terminals_again design has.sound has.components has.pins special net.name (nets ++ others) net.terminals (clauses net.usage net.wires) is.terminals is.once own (no_more_terminals net.usage net.wires),
-          clauses_again net.usage net.wires is.usage is.wires) refl
+          clauses_again net.usage net.wires is.usage is.wires,
+        ) refl
 
     module _ (one : StayOne (net_entry_names design net)) where
       front_one : list_all stays_one (net.name ∷ kept_words net.usage ++ flat_map (terminal_names design) net.terminals) ≡ true
@@ -92,7 +96,7 @@ module _ (design : DesignContents) (has : HasParts design) (special : Bool) wher
       terminals_inside =
           inside_each (terminal_words design) net.terminals (λ k d less.
           (terminal_free design has.sound has.components has.pins (get_or net.terminals k d) (is.terminals k d less)
-            (each_passes stays_one (terminal_names design) net.terminals (next_run_passes stays_one (kept_words net.usage) (flat_map (terminal_names design) net.terminals) more_one) k d less)).inside)
+          (each_passes stays_one (terminal_names design) net.terminals (next_run_passes stays_one (kept_words net.usage) (flat_map (terminal_names design) net.terminals) more_one) k d less)).inside)
 
       usage_inside : (usage : Option (List ℕ)) → IsKept usage → list_all stays_one (kept_words usage) ≡ true → AreInside (clause_words (kept_clause (codes "USE") usage))
       usage_inside None kept stays = inside_nil
@@ -127,7 +131,7 @@ module _ (design : DesignContents) (has : HasParts design) (special : Bool) wher
           let head : Behind (spaced (net_head design net)) (net_head design net) = behind_spaced (net_head design net) head_inside.printable in
           let wires : Behind (flat_map wire_line (wiring_words design special net.wires)) (words_in_lines (wiring_words design special net.wires)) = further_lines (wiring_words design special net.wires) wiring_inside.printable in
           let whole : Lines (codes "-" ++ (spaced (net_head design net) ++ flat_map wire_line (wiring_words design special net.wires)) ++ codes " ;\n") (net_words design special net) =
-              lines_statement (codes "-") (printable_is_one (codes "-") refl) (behind_append head wires) in
+          lines_statement (codes "-") (printable_is_one (codes "-") refl) (behind_append head wires) in
           whole
 
 -- counts of two lists of entries
@@ -182,8 +186,8 @@ module _ (design : DesignContents) (has : HasParts design) (special : Bool) (net
       lines_say (net_entry (known_of design) special others before) (net_text design special net) (net_words design special net) (before ++ net ∷ [])
       (net_lines design has special net (middle (IsNet design special) nets before net after is entries.are.each) stays)
       (net_again design has special net (middle (IsNet design special) nets before net after is entries.are.each) stays before others
-        (omega (arith, fewer_before nets before net after is, entries.few))
-        (not_before (λ (n : NetSaid). n.name) before net after (subst (λ ns. AreApart (net_names ns)) is entries.are.apart)) (own_name before net after is) (up_to_one before net after is))
+      (omega (arith, fewer_before nets before net after is, entries.few))
+      (not_before (λ (n : NetSaid). n.name) before net after (subst (λ ns. AreApart (net_names ns)) is entries.are.apart)) (own_name before net after is) (up_to_one before net after is))
 
   module _ (one : StayOne (flat_map (net_entry_names design) nets)) where
     entry_again : (before : List NetSaid) (net : NetSaid) (after : List NetSaid) → nets ≡ before ++ (net ∷ after) → (rest : Words)

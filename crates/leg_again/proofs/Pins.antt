@@ -1,13 +1,13 @@
 -- The entry of a pin of the design is read as the pin, and the section as all of them.
-use Rattle.std.proofs.Common.{◌≡◌, ℕ, ◌<◌, ◌≤◌, Bool, true, false, ◌||◌, is_some, List, [], ◌∷◌, ◌++◌, All, length, get_or, map, Option, None, Some, codes, IsTrue, refl, sym, ap, ◌∙◌, subst, arith}
+use Rattle.std.proofs.Common.{◌≡◌, ℕ, ◌<◌, ◌≤◌, true, false, List, [], ◌∷◌, ◌++◌, All, length, get_or, map, Option, None, Some, codes, refl, sym, ap, ◌∙◌, subst, arith}
 use Rattle.std.specs.List.{list_all, flat_map}
 use Rattle.std.proofs.lemmas.List.{append_assoc, append-nil}
 use Rattle.std.proofs.lemmas.List.Elements.{All-nil, All-cons, All-append, All-head, All-tail}
 use Rattle.leg_lex.specs.declared.limits.TheConstants.{NUMBER_LIMIT}
-use Rattle.leg_lex.specs.Words.{Words, next_at, keyword_at, mark_at, name_at, word_at, nothing_at, is_name, is_word}
+use Rattle.leg_lex.specs.Words.{Words, next_at, keyword_at, mark_at, name_at, word_at, nothing_at}
 use Rattle.leg_lex.specs.NameLookup.{place_of, AreApart}
 use Rattle.leg_lex.specs.Until.{over}
-use Rattle.leg_lex.specs.Statements.{clauses_of, at_end}
+use Rattle.leg_lex.specs.Statements.{at_end}
 use Rattle.leg_text.specs.Spaced.{stays_one, line, is_printable}
 use Rattle.leg_text.proofs.Behind.{first_passes, others_pass}
 use Rattle.leg_text.proofs.Lines.{Lines, lines_of_words}
@@ -26,7 +26,7 @@ use Rattle.leg_floorplan.specs.PinClauses.{PinClauses, no_pin_clauses, net_of_pi
 use Rattle.leg_floorplan.specs.Pin.{pin_head, pin_in, pin_entry, pins_at}
 use Rattle.leg_floorplan.proofs.Pins.{entry_shortens}
 use Rattle.leg_print.specs.Text.Points.{corner_words}
-use Rattle.leg_print.specs.Text.Clauses.{shape_clause, clause_words, kept_clause, placement_clause}
+use Rattle.leg_print.specs.Text.Clauses.{shape_clause, kept_clause, placement_clause}
 use Rattle.leg_print.specs.Text.Pins.{port_place, port_clauses, kept_clauses, pin_clauses, pin_said, pin_words}
 use Rattle.leg_print.specs.Text.Whole.{pins_text}
 use Rattle.leg_again.specs.PrintedNames.{StayOne, kept_words, pin_entry_names, names_of_layers}
@@ -52,14 +52,14 @@ module _ (design : DesignContents) (sound : IsSound design.library) (net directi
   -- rectangles of the last port
   shape_again : (front : List Shape) (shape : Shape) → IsMetalShape design.library shape
       → pin_clause design.library (parts_of net direction usage done (Some (port_of front Unplaced None))) (shape_clause (codes "LAYER") design shape)
-        ≡ Some (parts_of net direction usage done (Some (port_of (front ++ shape ∷ []) Unplaced None)))
+      ≡ Some (parts_of net direction usage done (Some (port_of (front ++ shape ∷ []) Unplaced None)))
   unfolding pin_clause port_rect layer_rect past_rules past_number keyword_at nothing_at next_at
   shape_again front shape is =
       rw (layer_again design sound shape.layer (corner_words shape.rect) (metal_named design sound shape is), corners_again shape.rect [] is.rect, is.metal) refl
 
   shapes_again : (front shapes : List Shape) → All (IsMetalShape design.library) shapes
       → over (pin_clause design.library) (parts_of net direction usage done (Some (port_of front Unplaced None))) (map (shape_clause (codes "LAYER") design) shapes)
-        ≡ Some (parts_of net direction usage done (Some (port_of (front ++ shapes) Unplaced None)))
+      ≡ Some (parts_of net direction usage done (Some (port_of (front ++ shapes) Unplaced None)))
   unfolding over
   shapes_again front [] each = rw (append-nil front) refl
   shapes_again front (shape ∷ shapes) each =
@@ -70,7 +70,7 @@ module _ (design : DesignContents) (sound : IsSound design.library) (net directi
   -- its place
   place_said : (shapes : List Shape) (status : Status) (place : Place) → IsPlaced status (Some place)
       → pin_clause design.library (parts_of net direction usage done (Some (port_of shapes Unplaced None))) (placement_clause status (Some place))
-        ≡ Some (parts_of net direction usage done (Some (port_of shapes status (Some place))))
+      ≡ Some (parts_of net direction usage done (Some (port_of shapes status (Some place))))
   unfolding pin_clause read.port_place
   place_said shapes Unplaced place is = absurd is
   place_said shapes Placed place is = rw (placed_again Placed place is) refl
@@ -85,7 +85,7 @@ module _ (design : DesignContents) (sound : IsSound design.library) (net directi
 
   place_clauses_again : (shapes : List Shape) (status : Status) (place : Option Place) → IsPlaced status place
       → over (pin_clause design.library) (parts_of net direction usage done (Some (port_of shapes Unplaced None))) (port_place status place)
-        ≡ Some (parts_of net direction usage done (Some (port_of shapes status place)))
+      ≡ Some (parts_of net direction usage done (Some (port_of shapes status place)))
   unfolding over
   place_clauses_again shapes status None is = rw (unplaced status is) refl
   place_clauses_again shapes status (Some place) is = rw (place_said shapes status place is) refl
@@ -93,18 +93,18 @@ module _ (design : DesignContents) (sound : IsSound design.library) (net directi
   -- the clauses behind PORT
   port_said : (port : PortSaid) → IsPort design.library port
       → over (pin_clause design.library) (parts_of net direction usage done (Some (port_of [] Unplaced None))) (map (shape_clause (codes "LAYER") design) port.shapes ++ port_place port.status port.place)
-        ≡ Some (parts_of net direction usage done (Some port))
+      ≡ Some (parts_of net direction usage done (Some port))
   port_said port is =
       over_append (pin_clause design.library) (map (shape_clause (codes "LAYER") design) port.shapes) (port_place port.status port.place)
-        (parts_of net direction usage done (Some (port_of [] Unplaced None))) (parts_of net direction usage done (Some (port_of port.shapes Unplaced None)))
-        (shapes_again [] port.shapes is.shapes)
+      (parts_of net direction usage done (Some (port_of [] Unplaced None))) (parts_of net direction usage done (Some (port_of port.shapes Unplaced None)))
+      (shapes_again [] port.shapes is.shapes)
       ∙ place_clauses_again port.shapes port.status port.place is.placed
 
 module _ (design : DesignContents) (sound : IsSound design.library) (net direction usage : Option (List ℕ)) where
   -- PORT begins a port behind those before it
   port_again : (done : List PortSaid) (last : Option PortSaid) (port : PortSaid) → IsPort design.library port
       → over (pin_clause design.library) (parts_of net direction usage done last) (port_clauses design port)
-        ≡ Some (parts_of net direction usage (all_ports (parts_of net direction usage done last)) (Some port))
+      ≡ Some (parts_of net direction usage (all_ports (parts_of net direction usage done last)) (Some port))
   unfolding over pin_clause port_start keyword_at nothing_at next_at
   port_again done last port is = port_said design sound net direction usage (all_ports (parts_of net direction usage done last)) port is
 
@@ -121,11 +121,12 @@ module _ (design : DesignContents) (sound : IsSound design.library) (net directi
   ports_again done last front [] is each =
       (parts_of net direction usage done last, refl, record { done = done; last = last; are = refl; ports_are = is ∙ sym (append-nil front) })
   ports_again done last front (port ∷ ports) is each =
-      let later = ports_again (all_ports (parts_of net direction usage done last)) (Some port) (front ++ port ∷ []) ports (ap (λ all. all ++ port ∷ []) is) (All-tail (IsPort design.library) port ports each) in
-      (later.0,
+      let later = ports_again (all_ports (parts_of net direction usage done last)) (Some port) (front ++ port ∷ []) ports (ap (λ all. all ++ port ∷ []) is) (All-tail (IsPort design.library) port ports each) in (
+        later.0,
         over_append (pin_clause design.library) (port_clauses design port) (flat_map (port_clauses design) ports) (parts_of net direction usage done last)
-          (parts_of net direction usage (all_ports (parts_of net direction usage done last)) (Some port)) (port_again done last port (All-head (IsPort design.library) port ports each)) ∙ later.1,
-        subst (HavePorts later.0) (append_assoc front (port ∷ []) ports) later.2)
+            (parts_of net direction usage (all_ports (parts_of net direction usage done last)) (Some port)) (port_again done last port (All-head (IsPort design.library) port ports each)) ∙ later.1,
+        subst (HavePorts later.0) (append_assoc front (port ∷ []) ports) later.2,
+      )
 
 -- the words that are kept
 module _ (library : Contents) where
@@ -147,8 +148,8 @@ module _ (library : Contents) where
   kept_again : (pin : PinSaid) → IsPin library pin → over (pin_clause library) no_pin_clauses (kept_clauses pin) ≡ Some (parts_of pin.net_name pin.direction pin.usage [] None)
   kept_again pin is =
       over_append (pin_clause library) (kept_clause (codes "NET") pin.net_name ++ kept_clause (codes "DIRECTION") pin.direction) (kept_clause (codes "USE") pin.usage) no_pin_clauses (parts_of pin.net_name pin.direction None [] None)
-        (over_append (pin_clause library) (kept_clause (codes "NET") pin.net_name) (kept_clause (codes "DIRECTION") pin.direction) no_pin_clauses (parts_of pin.net_name None None [] None) (net_kept pin.net_name is.net_name)
-        ∙ direction_kept pin.net_name pin.direction is.direction)
+      (over_append (pin_clause library) (kept_clause (codes "NET") pin.net_name) (kept_clause (codes "DIRECTION") pin.direction) no_pin_clauses (parts_of pin.net_name None None [] None) (net_kept pin.net_name is.net_name)
+      ∙ direction_kept pin.net_name pin.direction is.direction)
       ∙ usage_kept pin.net_name pin.direction pin.usage is.usage
 
 -- a kept word as a clause
@@ -171,7 +172,7 @@ module _ (design : DesignContents) (sound : IsSound design.library) where
   port_free port is one =
       All-cons AreFree (codes "PORT" ∷ []) (map (shape_clause (codes "LAYER") design) port.shapes ++ port_place port.status port.place) (free_cons (free_literal (codes "PORT") refl refl refl) free_nil)
       (All-append AreFree (map (shape_clause (codes "LAYER") design) port.shapes) (port_place port.status port.place)
-        (shapes_free design sound (codes "LAYER") port.shapes (free_literal (codes "LAYER") refl refl refl) is.shapes one) (place_clauses_free port.status port.place is.placed))
+      (shapes_free design sound (codes "LAYER") port.shapes (free_literal (codes "LAYER") refl refl refl) is.shapes one) (place_clauses_free port.status port.place is.placed))
 
   ports_free : (ports : List PortSaid) → All (IsPort design.library) ports → list_all stays_one (flat_map (λ (port : PortSaid). names_of_layers design port.shapes) ports) ≡ true → All AreFree (flat_map (port_clauses design) ports)
   ports_free [] each one = All-nil AreFree
@@ -206,10 +207,10 @@ module _ (design : DesignContents) (sound : IsSound design.library) where
       clauses_free =
           All-append AreFree (kept_clauses pin) (flat_map (port_clauses design) pin.ports)
           (All-append AreFree (kept_clause (codes "NET") pin.net_name ++ kept_clause (codes "DIRECTION") pin.direction) (kept_clause (codes "USE") pin.usage)
-            (All-append AreFree (kept_clause (codes "NET") pin.net_name) (kept_clause (codes "DIRECTION") pin.direction)
-              (name_free (codes "NET") pin.net_name (free_literal (codes "NET") refl refl refl) is.net_name (first_run_passes stays_one (kept_words pin.net_name) (kept_words pin.direction) two_one))
-              (kept_free (codes "DIRECTION") pin.direction (free_literal (codes "DIRECTION") refl refl refl) is.direction (next_run_passes stays_one (kept_words pin.net_name) (kept_words pin.direction) two_one)))
-            (kept_free (codes "USE") pin.usage (free_literal (codes "USE") refl refl refl) is.usage (next_run_passes stays_one (kept_words pin.net_name ++ kept_words pin.direction) (kept_words pin.usage) words_one)))
+          (All-append AreFree (kept_clause (codes "NET") pin.net_name) (kept_clause (codes "DIRECTION") pin.direction)
+          (name_free (codes "NET") pin.net_name (free_literal (codes "NET") refl refl refl) is.net_name (first_run_passes stays_one (kept_words pin.net_name) (kept_words pin.direction) two_one))
+          (kept_free (codes "DIRECTION") pin.direction (free_literal (codes "DIRECTION") refl refl refl) is.direction (next_run_passes stays_one (kept_words pin.net_name) (kept_words pin.direction) two_one)))
+          (kept_free (codes "USE") pin.usage (free_literal (codes "USE") refl refl refl) is.usage (next_run_passes stays_one (kept_words pin.net_name ++ kept_words pin.direction) (kept_words pin.usage) words_one)))
           (ports_free pin.ports is.ports ports_one)
 
       head_free : AreFree (codes "-" ∷ pin.name ∷ [])
@@ -224,9 +225,12 @@ module _ (design : DesignContents) (sound : IsSound design.library) where
           → pin_entry design.library front (pin_words design pin ++ rest) ≡ Some (front ++ pin ∷ [], rest)
       unfolding pin_entry
       pin_again front few new rest =
-          rw (room_is (length front) ENTRY_LIMIT few, said_again (pin_said design pin) rest pin_inside,
+          rw (
+            room_is (length front) ENTRY_LIMIT few,
+            said_again (pin_said design pin) rest pin_inside,
             clauses_again (codes "-" ∷ pin.name ∷ []) (pin_clauses design pin) head_free.plus (no_pluses (pin_clauses design pin) clauses_free),
-            pin_in_again (pin_names front) new) refl
+            pin_in_again (pin_names front) new,
+          ) refl
 
       pub pin_printable : list_all is_printable (pin_words design pin) ≡ true
       pin_printable = said_printable pin_inside
@@ -264,4 +268,4 @@ pub pins_lines : (design : DesignContents) (pins : List PinSaid) → IsSound des
 pins_lines design pins sound are one =
     section_lines (codes "PINS") (λ pin. line (pin_words design pin)) (pin_words design) pins (free_literal (codes "PINS") refl refl refl) (omega (arith, are.few))
     (λ k d less. lines_of_words (pin_words design (get_or pins k d)) (pin_printable design sound (get_or pins k d) (are.each k d less)
-      (each_passes stays_one (pin_entry_names design) pins one k d less)))
+    (each_passes stays_one (pin_entry_names design) pins one k d less)))

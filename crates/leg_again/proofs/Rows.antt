@@ -35,11 +35,22 @@ module _ (design : DesignContents) (row : Row) (sound : IsSound design.library) 
   pub row_in_again : row_in design.library (row_said design row) ≡ Some row
   unfolding row_in site_named_at sites_in step_in keyword_at name_at nothing_at next_at whole_at
   row_in_again =
-      rw (is.there, is.name, site_is_name, found (λ (s : Site). s.name) design.library.sites row.site is.site is.there sound.names.sites.apart,
-        is.there, number_again row.at.x _ is.at.x, number_again row.at.y _ is.at.y, orient_again row.orient _, is.upright,
-        number_again row.count _ is.count, le_is (pos 1) row.count is.some, number_again is.site.size.width _ wide,
+      rw (
+        is.there,
+        is.name,
+        site_is_name,
+        found (λ (s : Site). s.name) design.library.sites row.site is.site is.there sound.names.sites.apart,
+        is.there,
+        number_again row.at.x _ is.at.x,
+        number_again row.at.y _ is.at.y,
+        orient_again row.orient _,
+        is.upright,
+        number_again row.count _ is.count,
+        le_is (pos 1) row.count is.some,
+        number_again is.site.size.width _ wide,
         or_true (int_eq row.count (pos 1)) (int_eq is.site.size.width is.site.size.width) (same_is is.site.size.width),
-        within_is (row.at.x +ℤ row.count *ℤ is.site.size.width) is.end) refl
+        within_is (row.at.x +ℤ row.count *ℤ is.site.size.width) is.end,
+      ) refl
 
   row_free : AreFree (row_said design row)
   row_free =
@@ -51,12 +62,12 @@ module _ (design : DesignContents) (row : Row) (sound : IsSound design.library) 
       (free_cons (free_literal (codes "BY") refl refl refl) (free_cons (free_literal (codes "1") refl refl refl)
       (free_cons (free_literal (codes "STEP") refl refl refl) (free_cons width_free
       (free_cons (free_literal (codes "0") refl refl refl) free_nil)))))))))))) where
-    site_free : IsFree (site_name design row.site)
-    site_free = free_name (site_name design row.site) (rw is.there site_is_name)
-        (first_passes stays_one (site_name design row.site) [] (others_pass stays_one row.name (site_name design row.site ∷ []) one))
+        site_free : IsFree (site_name design row.site)
+        site_free = free_name (site_name design row.site) (rw is.there site_is_name)
+            (first_passes stays_one (site_name design row.site) [] (others_pass stays_one row.name (site_name design row.site ∷ []) one))
 
-    width_free : IsFree (signed_decimal (width_of_site design row.site))
-    width_free = rw is.there (free_number is.site.size.width wide)
+        width_free : IsFree (signed_decimal (width_of_site design row.site))
+        width_free = rw is.there (free_number is.site.size.width wide)
 
   pub row_again : (rest : Words) → row_at design.library (row_words design row ++ rest) ≡ Some (row, rest)
   unfolding row_at

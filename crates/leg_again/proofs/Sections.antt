@@ -62,6 +62,6 @@ pub section_lines : {X : Type 0} (keyword : List ℕ) (entry_text : X → List �
 section_lines keyword entry_text words [] free few each = lines_nil
 section_lines keyword entry_text words (x ∷ xs) free few each =
     lines_append (lines_append
-      (lines_of_words (section_start_words keyword (length (x ∷ xs))) (said_printable (free_cons free (free_cons (free_number (pos (length (x ∷ xs))) few) free_nil)).inside))
-      (lines_each entry_text words (x ∷ xs) each))
+    (lines_of_words (section_start_words keyword (length (x ∷ xs))) (said_printable (free_cons free (free_cons (free_number (pos (length (x ∷ xs))) few) free_nil)).inside))
+    (lines_each entry_text words (x ∷ xs) each))
     (lines_of_words (end_words keyword) (rw (free.inside.printable) refl))

@@ -1,35 +1,33 @@
 -- The terminals of a net are read back.
-use Rattle.std.proofs.Common.{◌≡◌, ◌≢◌, ℕ, ◌<◌, Bool, true, false, not, ◌&&◌, List, [], ◌∷◌, ◌++◌, All, AllPairs, Contains, length, get_or, map, slice_get, Option, None, Some, codes, refl, sym, ap, ◌∙◌, subst, arith}
-use Rattle.std.specs.List.{list_any, list_all, flat_map}
+use Rattle.std.proofs.Common.{◌≡◌, ◌≢◌, ℕ, Bool, true, false, not, ◌&&◌, List, [], ◌∷◌, ◌++◌, All, AllPairs, Contains, length, slice_get, Some, codes, refl, sym, ◌∙◌, subst, arith}
+use Rattle.std.specs.List.{flat_map}
 use Rattle.std.specs.Str.{bytes_eq}
 use Rattle.std.proofs.lemmas.Bool.{false≢true}
 use Rattle.std.proofs.Math.Seq.{get_or-append_seam}
 use Rattle.std.proofs.lemmas.List.{get_or_append_left}
-use Rattle.leg_lex.specs.Words.{Words, is_at, is_keyword, is_name, next_at, keyword_at, mark_at, name_at}
-use Rattle.leg_lex.specs.NameLookup.{place_of}
+use Rattle.leg_lex.specs.Words.{Words, is_keyword, is_name, next_at, mark_at, name_at}
 use Rattle.leg_lex.specs.Until.{until, over}
 use Rattle.leg_lex.proofs.NameLookup.{name_itself}
 use Rattle.leg_text.specs.Spaced.{stays_one}
 use Rattle.leg_text.proofs.Behind.{first_passes, others_pass}
-use Rattle.leg_cells.specs.Records.{Contents, MasterSaid, MasterPinSaid}
+use Rattle.leg_cells.specs.Records.{MasterSaid, MasterPinSaid}
 use Rattle.leg_cells.specs.References.{IsMasterOf}
 use Rattle.leg_cells.specs.Sound.{IsSound}
 use Rattle.leg_block.specs.declared.records.Component.{Component}
 use Rattle.leg_block.specs.declared.records.Terminal.{Terminal}
 use Rattle.leg_block.specs.declared.records.Terminal.TheVariants.{Comp, Pin}
 use Rattle.leg_block.specs.Terminals.{is_among}
-use Rattle.leg_block.specs.Records.{DesignContents, NetSaid, PinSaid, component_names, pin_names}
+use Rattle.leg_block.specs.Records.{DesignContents, NetSaid, PinSaid}
 use Rattle.leg_block.specs.WellFormedParts.{IsComponent, AreComponents, IsPin, ArePins}
 use Rattle.leg_block.specs.WellFormedNets.{IsTerminal}
 use Rattle.leg_block.proofs.SameTerminal.{passes_from, among_contains}
-use Rattle.leg_floorplan.specs.Namespace.{KnownSaid}
-use Rattle.leg_nets.specs.Terminal.{pin_of_component, component_terminal, pin_terminal, one_terminal_at, past_synthesized, terminals_at, is_of_other_net, add_terminal, terminal_form, at_no_terminal}
+use Rattle.leg_nets.specs.Terminal.{one_terminal_at, past_synthesized, terminals_at, is_of_other_net, add_terminal, terminal_form, at_no_terminal}
 use Rattle.leg_nets.proofs.NetEntries.{terminal_form_shortens}
 use Rattle.leg_print.specs.Names.{component_name, component_pin_name, design_pin_name}
 use Rattle.leg_print.specs.Text.Nets.{terminal_words}
 use Rattle.leg_again.specs.PrintedNames.{StayOne, terminal_names}
 use Rattle.leg_again.proofs.FreeWords.{AreFree, free_literal, free_name, free_nil, free_cons}
-use Rattle.leg_again.proofs.Again.{IsRead, all_again}
+use Rattle.leg_again.proofs.Again.{all_again}
 use Rattle.leg_again.proofs.Named.{element, holds_of, found, name_is, within, middle}
 use Rattle.leg_again.proofs.Wires.{no_mark}
 use Rattle.leg_again.specs.Known.{known_of}
@@ -64,17 +62,29 @@ module _ (design : DesignContents) (sound : IsSound design.library) (components 
   comp_again special c k rest are =
       let one : IsComponent design.library are.component = holds_of (IsComponent design.library) design.components c are.component are.component_there components.each in
       let macro : IsMasterOf design.library are.master = holds_of (IsMasterOf design.library) design.library.masters are.component.master are.master are.master_there sound.references.masters in
-      rw (are.component_there, are.master_there, are.pin_there,
+      rw (
+        are.component_there,
+        are.master_there,
+        are.pin_there,
         and_false special (is_keyword (codes "*") are.component.name) (no_mark 42 refl (omega arith) are.component.name one.name),
-        one.name, name_is (λ (p : MasterPinSaid). p.name) are.master.pins k are.pin are.pin_there macro.pin_names.each, one.no_pin,
-        found (λ (x : Component). x.name) design.components c are.component are.component_there components.apart, are.component_there, are.master_there,
-        found (λ (p : MasterPinSaid). p.name) are.master.pins k are.pin are.pin_there macro.pin_names.apart) refl
+        one.name,
+        name_is (λ (p : MasterPinSaid). p.name) are.master.pins k are.pin are.pin_there macro.pin_names.each,
+        one.no_pin,
+        found (λ (x : Component). x.name) design.components c are.component are.component_there components.apart,
+        are.component_there,
+        are.master_there,
+        found (λ (p : MasterPinSaid). p.name) are.master.pins k are.pin are.pin_there macro.pin_names.apart,
+      ) refl
 
   pin_again : (special : Bool) (p : ℕ) (pin : PinSaid) (rest : Words) → slice_get design.pins p ≡ Some pin → terminals_at (known_of design) special (terminal_words design (Pin p) ++ rest) ≡ Some (Pin p ∷ [], rest)
   unfolding terminals_at one_terminal_at past_synthesized mark_at name_at next_at
   pin_again special p pin rest is =
-      rw (is, and_false special (is_keyword (codes "*") (codes "PIN")) refl, (holds_of (IsPin design.library) design.pins p pin is pins.each).name,
-        found (λ (x : PinSaid). x.name) design.pins p pin is pins.apart) refl
+      rw (
+        is,
+        and_false special (is_keyword (codes "*") (codes "PIN")) refl,
+        (holds_of (IsPin design.library) design.pins p pin is pins.each).name,
+        found (λ (x : PinSaid). x.name) design.pins p pin is pins.apart,
+      ) refl
 
   pub terminal_again : (special : Bool) (terminal : Terminal) (rest : Words) → IsTerminal design terminal → terminals_at (known_of design) special (terminal_words design terminal ++ rest) ≡ Some (terminal ∷ [], rest)
   terminal_again special (Comp c k) rest is = comp_again special c k rest (pin_names_are design c k is)
@@ -107,7 +117,7 @@ once_before before t after once = by (is_among t before) refl where
   by true is =
       let there = among_contains t before is in
       absurd (once there.0 (length before) t there.1 (within before t after)
-        (get_or_append_left before (t ∷ after) t there.0 there.1 ∙ there.2 ∙ sym (get_or-append_seam before t after t)))
+      (get_or_append_left before (t ∷ after) t there.0 there.1 ∙ there.2 ∙ sym (get_or-append_seam before t after t)))
 
 -- entries that list it have this name
 no_other_net : (name : List ℕ) (t : Terminal) (nets : List NetSaid) → ((net : NetSaid) → Contains nets net → Contains net.terminals t → net.name ≡ name) → is_of_other_net name t nets ≡ false

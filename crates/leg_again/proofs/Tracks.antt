@@ -62,7 +62,7 @@ module _ (design : DesignContents) (sound : IsSound design.library) where
   more_again numbers [] each = ends is_over (one_layer design.library) numbers [] refl ∙ rw (append-nil numbers) refl
   more_again numbers (layer ∷ layers) each =
       goes_on is_over (one_layer design.library) (one_layer_shortens design.library) numbers (numbers ++ layer ∷ []) (layer_name design layer ∷ map (layer_name design) layers) (map (layer_name design) layers) refl
-          (one_again numbers layer (map (layer_name design) layers) (All-head (λ l. l < length design.library.layers) layer layers each))
+      (one_again numbers layer (map (layer_name design) layers) (All-head (λ l. l < length design.library.layers) layer layers each))
       ∙ more_again (numbers ++ layer ∷ []) layers (All-tail (λ l. l < length design.library.layers) layer layers each)
       ∙ ap (λ all. Some (all, [])) (append_assoc numbers (layer ∷ []) layers)
 
@@ -70,8 +70,10 @@ module _ (design : DesignContents) (sound : IsSound design.library) where
   unfolding layers_in keyword_at next_at
   layers_again [] each = refl
   layers_again (layer ∷ layers) each =
-      rw (one_again [] layer (map (layer_name design) layers) (All-head (λ l. l < length design.library.layers) layer layers each),
-        more_again (layer ∷ []) layers (All-tail (λ l. l < length design.library.layers) layer layers each)) refl
+      rw (
+        one_again [] layer (map (layer_name design) layers) (All-head (λ l. l < length design.library.layers) layer layers each),
+        more_again (layer ∷ []) layers (All-tail (λ l. l < length design.library.layers) layer layers each),
+      ) refl
 
   names_free : (layers : List ℕ) → All (λ layer. layer < length design.library.layers) layers → list_all stays_one (map (layer_name design) layers) ≡ true → AreFree (map (layer_name design) layers)
   names_free [] each one = free_nil
@@ -94,9 +96,16 @@ module _ (design : DesignContents) (sound : IsSound design.library) where
     track_in_again : track_in design.library (track_said design track) ≡ Some track
     unfolding track_in keyword_at next_at
     track_in_again =
-        rw (axis_again track.axis _, number_again track.start _ is.start, number_again track.count _ is.count, le_is (pos 1) track.count is.some,
-          number_again track.step _ is.step, le_is (pos 1) track.step is.apart, within_is (track.start +ℤ (track.count -ℤ pos 1) *ℤ track.step) is.end,
-          layers_again track.layers is.layers) refl
+        rw (
+          axis_again track.axis _,
+          number_again track.start _ is.start,
+          number_again track.count _ is.count,
+          le_is (pos 1) track.count is.some,
+          number_again track.step _ is.step,
+          le_is (pos 1) track.step is.apart,
+          within_is (track.start +ℤ (track.count -ℤ pos 1) *ℤ track.step) is.end,
+          layers_again track.layers is.layers,
+        ) refl
 
     pub track_again : (rest : Words) → track_at design.library (track_words design track ++ rest) ≡ Some (track, rest)
     unfolding track_at

@@ -70,9 +70,11 @@ module _ (design : DesignContents) (sound : IsSound design.library) where
           → via_entry design.library front (via_words design via ++ rest) ≡ Some (front ++ via ∷ [], rest)
       unfolding via_entry
       via_again front new rest =
-          rw (said_again (via_said design via) rest via_inside,
+          rw (
+            said_again (via_said design via) rest via_inside,
             clauses_again (codes "-" ∷ via.name ∷ []) (map (shape_clause (codes "RECT") design) via.shapes) head_free.plus (no_pluses (map (shape_clause (codes "RECT") design) via.shapes) clauses_free),
-            via_in_again front new) refl
+            via_in_again front new,
+          ) refl
 
       pub via_printable : list_all is_printable (via_words design via) ≡ true
       via_printable = said_printable via_inside
@@ -104,4 +106,4 @@ pub vias_lines : (design : DesignContents) (vias : List ViaSaid) → IsSound des
 vias_lines design vias sound are few one =
     section_lines (codes "VIAS") (λ via. line (via_words design via)) (via_words design) vias (free_literal (codes "VIAS") refl refl refl) few
     (λ k d less. lines_of_words (via_words design (get_or vias k d)) (via_printable design sound (get_or vias k d) (are.each k d less)
-      (each_passes stays_one (via_entry_names design) vias one k d less)))
+    (each_passes stays_one (via_entry_names design) vias one k d less)))

@@ -1,26 +1,24 @@
 -- The printed text of a design says the design.
-use Rattle.std.proofs.Common.{◌≡◌, ℕ, ◌+◌, ◌<◌, ◌≤◌, Bool, true, false, List, [], ◌∷◌, ◌++◌, All, length, length-append, get_or, Option, None, Some, codes, decimal, IsTrue, refl, sym, ap, ◌∙◌, subst, arith}
-use Rattle.std.specs.List.{list_all, flat_map}
+use Rattle.std.proofs.Common.{◌≡◌, ℕ, ◌+◌, ◌<◌, ◌≤◌, Bool, true, false, List, [], ◌∷◌, ◌++◌, length, length-append, get_or, Option, None, Some, codes, decimal, refl, sym, ap, ◌∙◌, arith}
+use Rattle.std.specs.List.{flat_map}
 use Rattle.std.proofs.lemmas.List.{append_assoc, append-nil}
 use Rattle.leg_lex.specs.declared.limits.TheConstants.{NUMBER_LIMIT, TEXT_LIMIT}
-use Rattle.leg_lex.specs.Word.{texts}
-use Rattle.leg_lex.specs.Words.{Words, is_word, is_name, is_keyword, keyword_at, next_at, end_at, nothing_at}
+use Rattle.leg_lex.specs.Words.{Words, is_keyword, keyword_at, next_at, end_at, nothing_at}
 use Rattle.leg_lex.specs.Cut.{Cut}
 use Rattle.leg_lex.specs.Say.{Says}
 use Rattle.leg_lex.specs.Past.{past}
-use Rattle.leg_text.specs.Spaced.{stays_one, line, is_printable}
+use Rattle.leg_text.specs.Spaced.{stays_one, line}
 use Rattle.leg_text.proofs.Behind.{first_passes, others_pass}
 use Rattle.leg_text.proofs.Lines.{Lines, lines_nil, lines_append, lines_each, lines_of_words, lines_are_text, lines_have_only}
 use Rattle.leg_cells.specs.Records.{ViaSaid}
 use Rattle.leg_cells.specs.Sound.{IsSound}
-use Rattle.leg_block.specs.declared.records.Row.{Row}
-use Rattle.leg_block.specs.Records.{DesignContents, TrackSaid}
-use Rattle.leg_block.specs.WellFormedParts.{IsKept, IsRow, IsTrack}
+use Rattle.leg_block.specs.Records.{DesignContents}
+use Rattle.leg_block.specs.WellFormedParts.{IsKept}
 use Rattle.leg_block.specs.WellFormed.{IsWellFormed}
-use Rattle.leg_design.specs.Header.{microns_at, units_after, units_in}
+use Rattle.leg_design.specs.Header.{microns_at, units_in}
 use Rattle.leg_design.specs.Parts.{no_parts}
-use Rattle.leg_design.specs.Form.{design_of, design_in}
-use Rattle.leg_print.specs.Text.Header.{version_words, word_words, kept_line, units_words, die_words, naming_text, frame_text, header_text}
+use Rattle.leg_design.specs.Form.{design_in}
+use Rattle.leg_print.specs.Text.Header.{version_words, word_words, kept_line, units_words, die_words, header_text}
 use Rattle.leg_print.specs.Text.Rows.{row_words}
 use Rattle.leg_print.specs.Text.Tracks.{track_words}
 use Rattle.leg_print.specs.Text.Vias.{via_words}
@@ -130,7 +128,7 @@ few_vias design fits =
     let some : (via : ViaSaid) → 1 < length (line (via_words design via)) = λ via. omega arith in
     let inside = in_section (codes "VIAS") (λ via. line (via_words design via)) design.vias some in
     let whole = inner (header_text design ++ rows_text design design.rows ++ tracks_text design design.tracks) (vias_text design design.vias) (components_text design design.components)
-        (pins_text design design.pins) (nets_text design true design.special) (nets_text design false design.nets) (line (end_words (codes "DESIGN"))) in
+    (pins_text design design.pins) (nets_text design true design.special) (nets_text design false design.nets) (line (end_words (codes "DESIGN"))) in
     omega (arith, fits, inside, whole)
 
 -- lines of the header
@@ -147,10 +145,10 @@ module _ (design : DesignContents) (sound : IsSound design.library) (well : IsWe
   header_lines =
       lines_append
       (lines_append (lines_append (lines_of_words version_words refl) (kept_lines (codes "DIVIDERCHAR") design.divider (free_literal (codes "DIVIDERCHAR") refl refl refl) well.divider one.divider))
-        (kept_lines (codes "BUSBITCHARS") design.bus (free_literal (codes "BUSBITCHARS") refl refl refl) well.bus one.bus))
+      (kept_lines (codes "BUSBITCHARS") design.bus (free_literal (codes "BUSBITCHARS") refl refl refl) well.bus one.bus))
       (lines_append (lines_append (lines_of_words (word_words (codes "DESIGN") design.name) (name_printable design.name well.name one.name))
-        (lines_of_words (units_words design.library.units) (units_printable design.library.units sound.most_units)))
-        (lines_of_words (die_words design.die) (die_printable design.die well.die)))
+      (lines_of_words (units_words design.library.units) (units_printable design.library.units sound.most_units)))
+      (lines_of_words (die_words design.die) (die_printable design.die well.die)))
 
   rows_lines : Lines (rows_text design design.rows) (flat_map (row_words design) design.rows)
   rows_lines =
@@ -166,31 +164,33 @@ module _ (design : DesignContents) (sound : IsSound design.library) (well : IsWe
   unfolding design_text
   whole_lines =
       lines_append (lines_append (lines_append (lines_append (lines_append (lines_append (lines_append (lines_append header_lines rows_lines) tracks_lines)
-        (vias_lines design design.vias sound well.vias few one.vias)) (components_lines design design.components sound well.components one.components))
-        (pins_lines design design.pins sound well.pins one.pins))
-        (nets_lines design has true design.special [] (special_are design has well.nets) one.special))
-        (nets_lines design has false design.nets design.special (nets_are design has well.nets) one.nets))
+      (vias_lines design design.vias sound well.vias few one.vias)) (components_lines design design.components sound well.components one.components))
+      (pins_lines design design.pins sound well.pins one.pins))
+      (nets_lines design has true design.special [] (special_are design has well.nets) one.special))
+      (nets_lines design has false design.nets design.special (nets_are design has well.nets) one.nets))
       (lines_of_words (end_words (codes "DESIGN")) refl)
 
   forms_lead : Leads design.library no_parts (forms_words design)
       (said_parts design (stood_with (has_some design.vias) (has_some design.components) (has_some design.pins) (has_some design.special) (has_some design.nets))
-        design.vias design.components design.pins design.special design.nets)
+      design.vias design.components design.pins design.special design.nets)
   forms_lead =
       leads_append (leads_append (leads_append (leads_append (leads_append (leads_append (leads_append
-        (header_leads design sound well.name well.divider well.bus well.die)
-        (rows_lead design sound [] design.rows well.rows one.rows))
-        (tracks_lead design sound [] design.tracks well.tracks one.tracks))
-        (vias_lead design has design.vias well.vias few one.vias))
-        (components_lead design has (has_some design.vias) design.vias design.components well.components one.components))
-        (pins_lead design has (has_some design.vias) (has_some design.components) design.vias design.components design.pins well.pins one.pins))
-        (special_lead design has (has_some design.vias) (has_some design.components) (has_some design.pins) design.special (special_are design has well.nets) one.special))
-        (nets_lead design has (has_some design.vias) (has_some design.components) (has_some design.pins) (has_some design.special) design.special design.nets (nets_are design has well.nets) one.nets)
+      (header_leads design sound well.name well.divider well.bus well.die)
+      (rows_lead design sound [] design.rows well.rows one.rows))
+      (tracks_lead design sound [] design.tracks well.tracks one.tracks))
+      (vias_lead design has design.vias well.vias few one.vias))
+      (components_lead design has (has_some design.vias) design.vias design.components well.components one.components))
+      (pins_lead design has (has_some design.vias) (has_some design.components) design.vias design.components design.pins well.pins one.pins))
+      (special_lead design has (has_some design.vias) (has_some design.components) (has_some design.pins) design.special (special_are design has well.nets) one.special))
+      (nets_lead design has (has_some design.vias) (has_some design.components) (has_some design.pins) (has_some design.special) design.special design.nets (nets_are design has well.nets) one.nets)
 
   whole_again : design_in design.library (whole_words design) ≡ Some design
   unfolding design_in end_at keyword_at nothing_at next_at
   whole_again =
-      rw (leads_all design.library no_parts _ (forms_words design) (end_words (codes "DESIGN")) forms_lead refl,
-        design_said design (has_some design.vias) (has_some design.components) (has_some design.pins) (has_some design.special) (has_some design.nets) well.nets) refl
+      rw (
+        leads_all design.library no_parts _ (forms_words design) (end_words (codes "DESIGN")) forms_lead refl,
+        design_said design (has_some design.vias) (has_some design.components) (has_some design.pins) (has_some design.special) (has_some design.nets) well.nets,
+      ) refl
 
 -- The text says the design.
 pub text_says : (design : DesignContents) → IsSound design.library → IsWellFormed design → StayOne (printed_names design) → length (design_text design) ≤ TEXT_LIMIT
@@ -256,25 +256,25 @@ units_read design sound tail =
     let units = units_words design.library.units in
     let rest = die_words design.die ++ tail in
     let there : past microns_at ((naming_words design ++ frame_words design) ++ tail) ≡ Some (tt, decimal design.library.units ∷ codes ";" ∷ rest) =
-        ap (past microns_at) (in_turn version_words divider bus name units (die_words design.die) tail)
-        ∙ past_version (divider ++ (bus ++ (name ++ (units ++ rest))))
-        ∙ past_kept (codes "DIVIDERCHAR") design.divider (bus ++ (name ++ (units ++ rest))) refl
-        ∙ past_kept (codes "BUSBITCHARS") design.bus (name ++ (units ++ rest)) refl
-        ∙ past_word (codes "DESIGN") design.name (units ++ rest) refl
-        ∙ at_units design.library.units rest in
+    ap (past microns_at) (in_turn version_words divider bus name units (die_words design.die) tail)
+    ∙ past_version (divider ++ (bus ++ (name ++ (units ++ rest))))
+    ∙ past_kept (codes "DIVIDERCHAR") design.divider (bus ++ (name ++ (units ++ rest))) refl
+    ∙ past_kept (codes "BUSBITCHARS") design.bus (name ++ (units ++ rest)) refl
+    ∙ past_word (codes "DESIGN") design.name (units ++ rest) refl
+    ∙ at_units design.library.units rest in
     rw (there, units_after_again design.library.units rest sound.least_units sound.most_units) refl
 
 units_are : (design : DesignContents) → IsSound design.library → units_in (whole_words design) ≡ Some design.library.units
 units_are design sound =
     let begins : Begins (whole_words design) (naming_words design ++ frame_words design) =
-        begins_more (end_words (codes "DESIGN"))
-        (begins_more (section_words (net_section false) (net_words design false) design.nets)
-        (begins_more (section_words (net_section true) (net_words design true) design.special)
-        (begins_more (section_words (codes "PINS") (pin_words design) design.pins)
-        (begins_more (section_words (codes "COMPONENTS") (component_words design) design.components)
-        (begins_more (section_words (codes "VIAS") (via_words design) design.vias)
-        (begins_more (flat_map (track_words design) design.tracks)
-        (begins_more (flat_map (row_words design) design.rows) (begins_itself (naming_words design ++ frame_words design))))))))) in
+    begins_more (end_words (codes "DESIGN"))
+    (begins_more (section_words (net_section false) (net_words design false) design.nets)
+    (begins_more (section_words (net_section true) (net_words design true) design.special)
+    (begins_more (section_words (codes "PINS") (pin_words design) design.pins)
+    (begins_more (section_words (codes "COMPONENTS") (component_words design) design.components)
+    (begins_more (section_words (codes "VIAS") (via_words design) design.vias)
+    (begins_more (flat_map (track_words design) design.tracks)
+    (begins_more (flat_map (row_words design) design.rows) (begins_itself (naming_words design ++ frame_words design))))))))) in
     ap units_in begins.are ∙ units_read design sound begins.tail
 
 -- The text says the units of the library.

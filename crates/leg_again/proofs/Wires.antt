@@ -1,37 +1,30 @@
 -- The path of each wire is read as the wire, and paths joined by NEW as all of them.
-use Rattle.std.proofs.Common.{◌≡◌, ◌≢◌, ℕ, suc, ◌+◌, ◌<◌, ◌≤◌, ℤ, pos, ◌≤ℤ◌, ◌<ℤ◌, ◌⊎◌, inl, inr, int_lt, Bool, true, false, not, ◌&&◌, ◌||◌, unwrap_or, List, [], ◌∷◌, ◌++◌, All, length, map, drop, slice_get, Option, None, Some, option_map, codes, IsTrue, refl, sym, ap, ◌∙◌, subst, arith}
-use Rattle.std.specs.List.{list_any, list_all, flat_map}
-use Rattle.std.specs.Option.{option_or}
-use Rattle.std.specs.Str.{bytes_eq}
+use Rattle.std.proofs.Common.{◌≡◌, ◌≢◌, ℕ, ◌≤◌, ℤ, pos, ◌≤ℤ◌, ◌<ℤ◌, inl, inr, int_lt, Bool, true, false, ◌&&◌, unwrap_or, List, [], ◌∷◌, ◌++◌, map, drop, Option, None, Some, codes, refl, sym, ap, ◌∙◌, arith}
 use Rattle.std.specs.Char.{to_ascii_lowercase}
 use Rattle.std.specs.Fmt.{signed_decimal}
 use Rattle.std.specs.Ordering.{int_eq}
 use Rattle.std.proofs.lemmas.Bool.{false≢true}
 use Rattle.std.proofs.lemmas.Bool.Decides.{nat_tests}
 use Rattle.std.proofs.lemmas.Int.{ints}
-use Rattle.std.proofs.lemmas.List.{append_assoc}
-use Rattle.leg_lex.specs.Words.{Words, is_keyword, is_name, is_plain, is_mark_byte, is_at, next_at, keyword_at, mark_at, name_at, whole_at}
+use Rattle.leg_lex.specs.Words.{Words, is_keyword, is_name, is_plain, is_mark_byte, is_at, next_at, keyword_at, mark_at, name_at}
 use Rattle.leg_lex.specs.Number.{IsNumber}
-use Rattle.leg_lex.specs.NameLookup.{place_of}
-use Rattle.leg_lex.specs.Until.{steps, until}
+use Rattle.leg_lex.specs.Until.{steps}
 use Rattle.leg_lex.proofs.NameLookup.{same_name}
 use Rattle.leg_text.proofs.Numbers.{number_word}
 use Rattle.leg_geom.specs.Plane.{Spot, Sides}
 use Rattle.leg_cells.specs.Joins.{is_wiring_word, wiring_words}
-use Rattle.leg_cells.specs.Records.{Contents, ViaSaid, layer_names}
-use Rattle.leg_block.specs.declared.records.Wire.{Wire}
+use Rattle.leg_cells.specs.Records.{Contents}
 use Rattle.leg_block.specs.declared.records.Wire.TheVariants.{Segment, ViaAt, Patch}
-use Rattle.leg_block.specs.Layers.{is_routing, width_of_layer}
+use Rattle.leg_block.specs.Layers.{is_routing}
 use Rattle.leg_block.specs.Wires.{is_straight, default_extension, is_even}
 use Rattle.leg_block.specs.WellFormedParts.{IsPosition, IsArea}
-use Rattle.leg_block.specs.WellFormedNets.{IsWidth, written, IsExtension, IsSegment, IsWire}
-use Rattle.leg_floorplan.specs.Guard.{when, unless}
+use Rattle.leg_block.specs.WellFormedNets.{IsWidth, written, IsExtension}
 use Rattle.leg_floorplan.specs.Namespace.{KnownSaid, via_named}
-use Rattle.leg_nets.specs.Path.{is_same_spot, next_spot, extension_at, segment_width, segment_to, across, wires_from}
+use Rattle.leg_nets.specs.Path.{is_same_spot, extension_at, segment_width, segment_to, across, wires_from}
 use Rattle.leg_nets.specs.PathItem.{count_at, coordinate_at, extension_in_point, point_item, first_point_at, rect_item, past_north, via_item, item_at, one_item, at_path_end}
-use Rattle.leg_nets.specs.Wiring.{routing_at, past_taper, written_width_at, at_no_shape, past_shape, written_at, path_at}
+use Rattle.leg_nets.specs.Wiring.{routing_at, past_taper, written_width_at, written_at, path_at}
 use Rattle.leg_print.specs.Text.Points.{spot_words}
-use Rattle.leg_print.specs.Text.Wires.{number_words, width_words, point_words, given_extension}
+use Rattle.leg_print.specs.Text.Wires.{width_words, point_words, given_extension}
 use Rattle.leg_again.proofs.FreeWords.{first_is_none, others_are_none, no_mark_byte, name_is_word}
 use Rattle.leg_again.proofs.Points.{number_again, between_again}
 use Rattle.leg_again.proofs.Tracks.{IsLayerName}
@@ -143,17 +136,39 @@ module _ (known : KnownSaid) (special : Bool) (layer : ℕ) (name : List ℕ) (i
   module _ (from to : Spot) (width : ℤ) (is_from : IsPosition from) (is_to : IsPosition to) (straight : is_straight from to ≡ true) (long : from ≢ to) (is_width : IsWidth known.library special layer width) where
     pub segment_path : (first next : Option ℤ) (rest : Words) → IsGiven first → IsGiven next → at_path_end rest ≡ true
         → path_at known special (name ∷ (width_words special width ++ (point_words from first ++ (point_words to next ++ rest))))
-          ≡ Some (Segment layer from to width (unwrap_or first (default_extension known.library (written_as special width) layer)) (unwrap_or next (default_extension known.library (written_as special width) layer)) ∷ [], rest)
+        ≡ Some (Segment layer from to width (unwrap_or first (default_extension known.library (written_as special width) layer)) (unwrap_or next (default_extension known.library (written_as special width) layer)) ∷ [], rest)
     unfolding path_at next_at steps one_item item_at point_item coordinate_at extension_in_point count_at mark_at wires_from extension_at segment_to
     segment_path first None rest is_first is_next ends =
-        rw (layer_again _, written_again special width _ (width_written known.library special layer width is_width), first_point_again from first _ is_from is_first,
-          no_mark_number 42 refl (omega arith) to.x is_to.x, number_again to.x _ is_to.x, no_mark_number 42 refl (omega arith) to.y is_to.y, number_again to.y _ is_to.y,
-          ends, other_spot from to long, straight, width_again known.library special layer width is_width) refl
+        rw (
+          layer_again _,
+          written_again special width _ (width_written known.library special layer width is_width),
+          first_point_again from first _ is_from is_first,
+          no_mark_number 42 refl (omega arith) to.x is_to.x,
+          number_again to.x _ is_to.x,
+          no_mark_number 42 refl (omega arith) to.y is_to.y,
+          number_again to.y _ is_to.y,
+          ends,
+          other_spot from to long,
+          straight,
+          width_again known.library special layer width is_width,
+        ) refl
     segment_path first (Some z) rest is_first is_next ends =
-        rw (layer_again _, written_again special width _ (width_written known.library special layer width is_width), first_point_again from first _ is_from is_first,
-          no_mark_number 42 refl (omega arith) to.x is_to.x, number_again to.x _ is_to.x, no_mark_number 42 refl (omega arith) to.y is_to.y, number_again to.y _ is_to.y,
-          no_mark_number 41 refl (omega arith) z is_next.0, number_again z _ is_next.0, not_below z is_next.1,
-          ends, other_spot from to long, straight, width_again known.library special layer width is_width) refl
+        rw (
+          layer_again _,
+          written_again special width _ (width_written known.library special layer width is_width),
+          first_point_again from first _ is_from is_first,
+          no_mark_number 42 refl (omega arith) to.x is_to.x,
+          number_again to.x _ is_to.x,
+          no_mark_number 42 refl (omega arith) to.y is_to.y,
+          number_again to.y _ is_to.y,
+          no_mark_number 41 refl (omega arith) z is_next.0,
+          number_again z _ is_next.0,
+          not_below z is_next.1,
+          ends,
+          other_spot from to long,
+          straight,
+          width_again known.library special layer width is_width,
+        ) refl
 
   -- a via, where its path begins on a layer from which it leads to another
   pub via_path : (at : Spot) (number other : ℕ) (via : List ℕ) (rest : Words) → IsPosition at → is_name via ≡ true → is_wiring_word via ≡ false → via_named known via ≡ Some number → across known number layer ≡ Some other
@@ -164,27 +179,49 @@ module _ (known : KnownSaid) (special : Bool) (layer : ℕ) (name : List ℕ) (i
       let no_new : is_keyword (codes "NEW") via ≡ false = first_is_none (λ word. is_keyword word via) (codes "NEW") (drop 1 wiring_words) free in
       let no_others = others_are_none (λ word. is_keyword word via) (codes "NEW") (drop 1 wiring_words) free in
       let no_rect : is_keyword (codes "RECT") via ≡ false = first_is_none (λ word. is_keyword word via) (codes "RECT") (drop 2 wiring_words) no_others in
-      rw (layer_again _, written_again special (pos 0) _ zero_written, first_point_again at None _ is tt,
-        no_new, no_mark_byte 43 refl via (name_is_word via named), no_mark 40 refl (omega arith) via named, no_rect, named, free, there, no_north, ends, leads) refl where
-      zero_written : IsWritten special (pos 0)
-      zero_written = by special where
-        by : (special : Bool) → IsWritten special (pos 0)
-        by false = tt
-        by true = (zero_is, least, refl) where
-          zero_is : IsNumber (pos 0)
-          zero_is = omega arith
+      rw (
+        layer_again _,
+        written_again special (pos 0) _ zero_written,
+        first_point_again at None _ is tt,
+        no_new,
+        no_mark_byte 43 refl via (name_is_word via named),
+        no_mark 40 refl (omega arith) via named,
+        no_rect,
+        named,
+        free,
+        there,
+        no_north,
+        ends,
+        leads,
+      ) refl where
+        zero_written : IsWritten special (pos 0)
+        zero_written = by special where
+          by : (special : Bool) → IsWritten special (pos 0)
+          by false = tt
+          by true = (zero_is, least, refl) where
+            zero_is : IsNumber (pos 0)
+            zero_is = omega arith
 
-          least : pos 0 ≤ℤ pos 0
-          least = omega (arith, ints)
+            least : pos 0 ≤ℤ pos 0
+            least = omega (arith, ints)
 
 -- a rectangle, in NETS
 pub patch_path : (known : KnownSaid) (layer : ℕ) (name : List ℕ) (at : Spot) (rect : Sides) (rest : Words) → IsPathLayer known.library layer name → IsPosition at → IsArea rect → at_path_end rest ≡ true
     → path_at known false (name ∷ (spot_words at ++ (codes "RECT" ∷ codes "(" ∷ signed_decimal rect.x1 ∷ signed_decimal rect.y1 ∷ signed_decimal rect.x2 ∷ signed_decimal rect.y2 ∷ codes ")" ∷ rest)))
-      ≡ Some (Patch layer at rect ∷ [], rest)
+    ≡ Some (Patch layer at rect ∷ [], rest)
 unfolding path_at keyword_at next_at steps one_item item_at rect_item mark_at wires_from extension_at
 patch_path known layer name at rect rest is_layer is is_rect ends =
-    rw (layer_again known false layer name is_layer _, written_again false (pos 0) _ tt, first_point_again at None _ is tt,
-      number_again rect.x1 _ is_rect.x1, number_again rect.y1 _ is_rect.y1, number_again rect.x2 _ is_rect.x2, number_again rect.y2 _ is_rect.y2, between_again rect is_rect.proper, ends) refl
+    rw (
+      layer_again known false layer name is_layer _,
+      written_again false (pos 0) _ tt,
+      first_point_again at None _ is tt,
+      number_again rect.x1 _ is_rect.x1,
+      number_again rect.y1 _ is_rect.y1,
+      number_again rect.x2 _ is_rect.x2,
+      number_again rect.y2 _ is_rect.y2,
+      between_again rect is_rect.proper,
+      ends,
+    ) refl
 
 -- an extension that is printed where it isn't the one that holds where none is given
 module _ (library : Contents) (special : Bool) (layer : ℕ) (extension : ℤ) where
