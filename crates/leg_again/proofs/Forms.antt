@@ -1,0 +1,128 @@
+-- Each form of the printed text leads on.
+use Rattle.std.proofs.Common.{◌≡◌, ℕ, ◌≤◌, Bool, true, false, List, [], ◌∷◌, ◌++◌, All, Option, None, Some, codes, IsTrue, refl, sym, subst, arith}
+use Rattle.std.specs.List.{flat_map}
+use Rattle.std.proofs.lemmas.List.{append_assoc, append-nil}
+use Rattle.std.proofs.lemmas.List.Elements.{All-head, All-tail}
+use Rattle.leg_lex.specs.declared.limits.TheConstants.{UNITS_LIMIT}
+use Rattle.leg_lex.specs.Words.{Words, is_name}
+use Rattle.leg_lex.specs.Statements.{statement_at, up_to}
+use Rattle.leg_text.specs.Spaced.{stays_one}
+use Rattle.leg_geom.specs.Plane.{Sides}
+use Rattle.leg_cells.specs.Records.{Contents}
+use Rattle.leg_cells.specs.Sound.{IsSound}
+use Rattle.leg_block.specs.declared.records.Row.{Row}
+use Rattle.leg_block.specs.Records.{DesignContents, TrackSaid}
+use Rattle.leg_block.specs.WellFormedParts.{IsKept, IsArea, IsRow, IsTrack}
+use Rattle.leg_block.proofs.SameTerminal.{number_itself}
+use Rattle.leg_design.specs.Parts.{DesignParts, no_parts, divider_form, bus_form, name_form, units_form, die_form, row_form, track_form}
+use Rattle.leg_design.specs.Skipped.{past_def_form}
+use Rattle.leg_design.specs.Form.{header_form, def_form_at}
+use Rattle.leg_print.specs.Text.Header.{version_words, word_words, units_words, die_words}
+use Rattle.leg_print.specs.Text.Rows.{row_words}
+use Rattle.leg_print.specs.Text.Tracks.{track_words}
+use Rattle.leg_again.specs.PrintedNames.{StayOne, row_names, track_names}
+use Rattle.leg_again.proofs.Named.{first_run_passes, next_run_passes}
+use Rattle.leg_again.proofs.HeaderLines.{word_again, name_again, units_again, die_again}
+use Rattle.leg_again.proofs.Rows.{row_again}
+use Rattle.leg_again.proofs.Tracks.{track_again}
+use Rattle.leg_again.proofs.Leads.{Leads, leads_nil, leads_append, leads_form}
+
+-- KEYWORD word ; where the word was kept
+abbrev pub kept_line_words : List ℕ → Option (List ℕ) → Words
+kept_line_words keyword None = []
+kept_line_words keyword (Some word) = word_words keyword word
+
+-- the parts of the header
+abbrev header_parts : Option (List ℕ) → Option (List ℕ) → Option (List ℕ) → Bool → Option Sides → List Row → List TrackSaid → DesignParts
+header_parts divider bus name units die rows tracks = record {
+  stood = record { units = units; vias = false; components = false; pins = false; nets = false; special = false };
+  name = name;
+  divider = divider;
+  bus = bus;
+  die = die;
+  rows = rows;
+  tracks = tracks;
+  vias = [];
+  components = [];
+  pins = [];
+  nets = [];
+  special = [];
+}
+
+module _ (library : Contents) where
+  version_leads : Leads library no_parts version_words no_parts
+  unfolding def_form_at header_form past_def_form statement_at up_to
+  version_leads = leads_form library no_parts version_words no_parts (omega arith) (λ rest. refl) read where
+    read : (rest : Words) → def_form_at library no_parts (version_words ++ rest) ≡ Some (no_parts, rest)
+    read rest = refl
+
+  divider_leads : (divider : Option (List ℕ)) → IsKept divider → Leads library no_parts (kept_line_words (codes "DIVIDERCHAR") divider) (header_parts divider None None false None [] [])
+  unfolding def_form_at header_form divider_form
+  divider_leads None kept = leads_nil library no_parts
+  divider_leads (Some word) kept = leads_form library no_parts (word_words (codes "DIVIDERCHAR") word) _ (omega arith) (λ rest. refl) read where
+    read : (rest : Words) → def_form_at library no_parts (word_words (codes "DIVIDERCHAR") word ++ rest) ≡ Some (header_parts (Some word) None None false None [] [], rest)
+    read rest = rw (word_again (codes "DIVIDERCHAR") word rest refl kept) refl
+
+  bus_leads : (divider bus : Option (List ℕ)) → IsKept bus → Leads library (header_parts divider None None false None [] []) (kept_line_words (codes "BUSBITCHARS") bus) (header_parts divider bus None false None [] [])
+  unfolding def_form_at header_form bus_form
+  bus_leads divider None kept = leads_nil library (header_parts divider None None false None [] [])
+  bus_leads divider (Some word) kept = leads_form library (header_parts divider None None false None [] []) (word_words (codes "BUSBITCHARS") word) _ (omega arith) (λ rest. refl) read where
+    read : (rest : Words) → def_form_at library (header_parts divider None None false None [] []) (word_words (codes "BUSBITCHARS") word ++ rest) ≡ Some (header_parts divider (Some word) None false None [] [], rest)
+    read rest = rw (word_again (codes "BUSBITCHARS") word rest refl kept) refl
+
+  module _ (divider bus : Option (List ℕ)) where
+    name_leads : (name : List ℕ) → is_name name ≡ true → Leads library (header_parts divider bus None false None [] []) (word_words (codes "DESIGN") name) (header_parts divider bus (Some name) false None [] [])
+    unfolding def_form_at header_form name_form
+    name_leads name is = leads_form library (header_parts divider bus None false None [] []) (word_words (codes "DESIGN") name) _ (omega arith) (λ rest. refl) read where
+      read : (rest : Words) → def_form_at library (header_parts divider bus None false None [] []) (word_words (codes "DESIGN") name ++ rest) ≡ Some (header_parts divider bus (Some name) false None [] [], rest)
+      read rest = rw (name_again name rest is) refl
+
+    units_leads : (name : List ℕ) → 1 ≤ library.units → library.units ≤ UNITS_LIMIT → Leads library (header_parts divider bus (Some name) false None [] []) (units_words library.units) (header_parts divider bus (Some name) true None [] [])
+    unfolding def_form_at header_form units_form
+    units_leads name some most = leads_form library (header_parts divider bus (Some name) false None [] []) (units_words library.units) _ (omega arith) (λ rest. refl) read where
+      read : (rest : Words) → def_form_at library (header_parts divider bus (Some name) false None [] []) (units_words library.units ++ rest) ≡ Some (header_parts divider bus (Some name) true None [] [], rest)
+      read rest = rw (units_again library.units rest some most, number_itself library.units) refl
+
+    die_leads : (name : List ℕ) (die : Sides) → IsArea die → Leads library (header_parts divider bus (Some name) true None [] []) (die_words die) (header_parts divider bus (Some name) true (Some die) [] [])
+    unfolding def_form_at header_form die_form
+    die_leads name die is = leads_form library (header_parts divider bus (Some name) true None [] []) (die_words die) _ (omega arith) (λ rest. refl) read where
+      read : (rest : Words) → def_form_at library (header_parts divider bus (Some name) true None [] []) (die_words die ++ rest) ≡ Some (header_parts divider bus (Some name) true (Some die) [] [], rest)
+      read rest = rw (die_again die rest is) refl
+
+pub header_leads : (design : DesignContents) → IsSound design.library → IsTrue (is_name design.name) → IsKept design.divider → IsKept design.bus → IsArea design.die
+    → Leads design.library no_parts
+    ((version_words ++ kept_line_words (codes "DIVIDERCHAR") design.divider ++ kept_line_words (codes "BUSBITCHARS") design.bus)
+    ++ (word_words (codes "DESIGN") design.name ++ units_words design.library.units ++ die_words design.die))
+    (header_parts design.divider design.bus (Some design.name) true (Some design.die) [] [])
+header_leads design sound name divider bus die =
+    leads_append
+    (leads_append (leads_append (version_leads design.library) (divider_leads design.library design.divider divider)) (bus_leads design.library design.divider design.bus bus))
+    (leads_append (leads_append (name_leads design.library design.divider design.bus design.name name)
+    (units_leads design.library design.divider design.bus design.name sound.least_units sound.most_units))
+    (die_leads design.library design.divider design.bus design.name design.die die))
+
+module _ (design : DesignContents) (sound : IsSound design.library) where
+  -- rows and tracks
+  abbrev framed : List Row → List TrackSaid → DesignParts
+  framed rows tracks = header_parts design.divider design.bus (Some design.name) true (Some design.die) rows tracks
+
+  pub rows_lead : (front rows : List Row) → All (IsRow design.library) rows → StayOne (flat_map (row_names design) rows) → Leads design.library (framed front []) (flat_map (row_words design) rows) (framed (front ++ rows) [])
+  unfolding def_form_at header_form row_form
+  rows_lead front [] each one = subst (λ all. Leads design.library (framed front []) [] (framed all [])) (sym (append-nil front)) (leads_nil design.library (framed front []))
+  rows_lead front (row ∷ rows) each one =
+      leads_append (leads_form design.library (framed front []) (row_words design row) (framed (front ++ row ∷ []) []) (omega arith) (λ rest. refl) read)
+      (subst (λ all. Leads design.library (framed (front ++ row ∷ []) []) (flat_map (row_words design) rows) (framed all [])) (append_assoc front (row ∷ []) rows)
+      (rows_lead (front ++ row ∷ []) rows (All-tail (IsRow design.library) row rows each) (next_run_passes stays_one (row_names design row) (flat_map (row_names design) rows) one))) where
+        read : (rest : Words) → def_form_at design.library (framed front []) (row_words design row ++ rest) ≡ Some (framed (front ++ row ∷ []) [], rest)
+        read rest = rw (row_again design row sound (All-head (IsRow design.library) row rows each) (first_run_passes stays_one (row_names design row) (flat_map (row_names design) rows) one) rest) refl
+
+  pub tracks_lead : (front tracks : List TrackSaid) → All (IsTrack design.library) tracks → StayOne (flat_map (track_names design) tracks)
+      → Leads design.library (framed design.rows front) (flat_map (track_words design) tracks) (framed design.rows (front ++ tracks))
+  unfolding def_form_at header_form track_form
+  tracks_lead front [] each one = subst (λ all. Leads design.library (framed design.rows front) [] (framed design.rows all)) (sym (append-nil front)) (leads_nil design.library (framed design.rows front))
+  tracks_lead front (track ∷ tracks) each one =
+      leads_append (leads_form design.library (framed design.rows front) (track_words design track) (framed design.rows (front ++ track ∷ [])) (omega arith) (λ rest. refl) read)
+      (subst (λ all. Leads design.library (framed design.rows (front ++ track ∷ [])) (flat_map (track_words design) tracks) (framed design.rows all)) (append_assoc front (track ∷ []) tracks)
+      (tracks_lead (front ++ track ∷ []) tracks (All-tail (IsTrack design.library) track tracks each) (next_run_passes stays_one (track_names design track) (flat_map (track_names design) tracks) one))) where
+        read : (rest : Words) → def_form_at design.library (framed design.rows front) (track_words design track ++ rest) ≡ Some (framed design.rows (front ++ track ∷ []), rest)
+        read rest = rw (track_again design sound track (All-head (IsTrack design.library) track tracks each) (first_run_passes stays_one (track_names design track) (flat_map (track_names design) tracks) one) rest) refl

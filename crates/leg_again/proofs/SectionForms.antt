@@ -1,0 +1,131 @@
+-- Each section of the printed text leads on, and at the end the design is said.
+use Rattle.std.proofs.Common.{◌≡◌, ℕ, ◌+◌, ◌≤◌, nat_lt, Bool, true, false, List, [], ◌∷◌, ◌++◌, Contains, length, Some, codes, refl, subst, arith}
+use Rattle.std.specs.List.{flat_map}
+use Rattle.std.proofs.lemmas.Bool.Decides.{nat_tests}
+use Rattle.std.proofs.lemmas.List.{append-nil}
+use Rattle.std.proofs.lemmas.List.Elements.{Contains-append_right}
+use Rattle.leg_lex.specs.declared.limits.TheConstants.{NUMBER_LIMIT}
+use Rattle.leg_cells.specs.Records.{ViaSaid}
+use Rattle.leg_block.specs.declared.limits.TheConstants.{PART_LIMIT}
+use Rattle.leg_block.specs.declared.records.Component.{Component}
+use Rattle.leg_block.specs.Records.{DesignContents, PinSaid, NetSaid, terminal_count}
+use Rattle.leg_block.specs.WellFormedParts.{AreComponents, AreVias, ArePins}
+use Rattle.leg_block.specs.WellFormedNets.{IsInSomeNet, HasNets}
+use Rattle.leg_design.specs.Parts.{Stood, DesignParts, vias_form, components_form, pins_form, nets_form, special_form}
+use Rattle.leg_design.specs.Form.{def_form_at, design_of}
+use Rattle.leg_print.specs.Text.Vias.{via_words}
+use Rattle.leg_print.specs.Text.Components.{component_words}
+use Rattle.leg_print.specs.Text.Pins.{pin_words}
+use Rattle.leg_print.specs.Text.Nets.{net_words}
+use Rattle.leg_print.specs.Text.Whole.{net_section}
+use Rattle.leg_again.specs.PrintedNames.{StayOne, via_entry_names, component_entry_names, pin_entry_names, net_entry_names}
+use Rattle.leg_again.proofs.Vias.{vias_again}
+use Rattle.leg_again.proofs.Components.{components_again}
+use Rattle.leg_again.proofs.Pins.{pins_again}
+use Rattle.leg_again.proofs.Nets.{HasParts, AreEntries, nets_again}
+use Rattle.leg_again.proofs.NoLonePins.{no_lone_pins}
+use Rattle.leg_again.proofs.Sections.{section_words}
+use Rattle.leg_again.proofs.Leads.{Leads, leads_nil, leads_form}
+
+-- a section stands where it has entries
+abbrev pub has_some : {X : Type 0} → List X → Bool
+has_some [] = false
+has_some (x ∷ xs) = true
+
+-- which sections stood, and what they said
+abbrev pub stood_with : Bool → Bool → Bool → Bool → Bool → Stood
+stood_with vias components pins special nets = record { units = true; vias = vias; components = components; pins = pins; nets = nets; special = special }
+
+abbrev pub said_parts : DesignContents → Stood → List ViaSaid → List Component → List PinSaid → List NetSaid → List NetSaid → DesignParts
+said_parts design stood vias components pins special nets = record {
+  stood = stood;
+  name = Some design.name;
+  divider = design.divider;
+  bus = design.bus;
+  die = Some design.die;
+  rows = design.rows;
+  tracks = design.tracks;
+  vias = vias;
+  components = components;
+  pins = pins;
+  nets = nets;
+  special = special;
+}
+
+module _ (design : DesignContents) (has : HasParts design) where
+  pub vias_lead : (vias : List ViaSaid) → AreVias design.library vias → length vias ≤ NUMBER_LIMIT → StayOne (flat_map (via_entry_names design) vias)
+      → Leads design.library (said_parts design (stood_with false false false false false) [] [] [] [] []) (section_words (codes "VIAS") (via_words design) vias)
+      (said_parts design (stood_with (has_some vias) false false false false) vias [] [] [] [])
+  unfolding def_form_at vias_form
+  vias_lead [] are few one = leads_nil design.library (said_parts design (stood_with false false false false false) [] [] [] [] [])
+  vias_lead (via ∷ vias) are few one =
+      leads_form design.library _ (section_words (codes "VIAS") (via_words design) (via ∷ vias)) _ (omega arith) (λ rest. refl)
+      (λ rest. rw (vias_again design via vias has.sound are few one rest) refl)
+
+  pub components_lead : (v : Bool) (vias : List ViaSaid) (components : List Component) → AreComponents design.library components → StayOne (flat_map (component_entry_names design) components)
+      → Leads design.library (said_parts design (stood_with v false false false false) vias [] [] [] []) (section_words (codes "COMPONENTS") (component_words design) components)
+      (said_parts design (stood_with v (has_some components) false false false) vias components [] [] [])
+  unfolding def_form_at components_form
+  components_lead v vias [] are one = leads_nil design.library (said_parts design (stood_with v false false false false) vias [] [] [] [])
+  components_lead v vias (component ∷ components) are one =
+      leads_form design.library _ (section_words (codes "COMPONENTS") (component_words design) (component ∷ components)) _ (omega arith) (λ rest. refl)
+      (λ rest. rw (components_again design component components has.sound are one rest) refl)
+
+  pub pins_lead : (v c : Bool) (vias : List ViaSaid) (components : List Component) (pins : List PinSaid) → ArePins design.library pins → StayOne (flat_map (pin_entry_names design) pins)
+      → Leads design.library (said_parts design (stood_with v c false false false) vias components [] [] []) (section_words (codes "PINS") (pin_words design) pins)
+      (said_parts design (stood_with v c (has_some pins) false false) vias components pins [] [])
+  unfolding def_form_at pins_form
+  pins_lead v c vias components [] are one = leads_nil design.library (said_parts design (stood_with v c false false false) vias components [] [] [])
+  pins_lead v c vias components (pin ∷ pins) are one =
+      leads_form design.library _ (section_words (codes "PINS") (pin_words design) (pin ∷ pins)) _ (omega arith) (λ rest. refl)
+      (λ rest. rw (pins_again design pin pins has.sound are one rest) refl)
+
+  pub special_lead : (v c p : Bool) (special : List NetSaid) → AreEntries design true special [] → StayOne (flat_map (net_entry_names design) special)
+      → Leads design.library (said_parts design (stood_with v c p false false) design.vias design.components design.pins [] []) (section_words (net_section true) (net_words design true) special)
+      (said_parts design (stood_with v c p (has_some special) false) design.vias design.components design.pins special [])
+  unfolding def_form_at special_form
+  special_lead v c p [] are one = leads_nil design.library (said_parts design (stood_with v c p false false) design.vias design.components design.pins [] [])
+  special_lead v c p (net ∷ nets) are one =
+      leads_form design.library _ (section_words (net_section true) (net_words design true) (net ∷ nets)) _ (omega arith) (λ rest. refl)
+      (λ rest. rw (nets_again design has true net nets [] are one rest) refl)
+
+  pub nets_lead : (v c p s : Bool) (special nets : List NetSaid) → AreEntries design false nets special → StayOne (flat_map (net_entry_names design) nets)
+      → Leads design.library (said_parts design (stood_with v c p s false) design.vias design.components design.pins special []) (section_words (net_section false) (net_words design false) nets)
+      (said_parts design (stood_with v c p s (has_some nets)) design.vias design.components design.pins special nets)
+  unfolding def_form_at nets_form
+  nets_lead v c p s special [] are one = leads_nil design.library (said_parts design (stood_with v c p s false) design.vias design.components design.pins special [])
+  nets_lead v c p s special (net ∷ nets) are one =
+      leads_form design.library _ (section_words (net_section false) (net_words design false) (net ∷ nets)) _ (omega arith) (λ rest. refl)
+      (λ rest. rw (nets_again design has false net nets special are one rest) refl)
+
+  -- the entries of both sections
+  pub nets_are : HasNets design → AreEntries design false design.nets design.special
+  nets_are nets = record { are = nets.nets; one_net = nets.one_net; few = nets.few; few_terminals = nets.few_terminals; few_wires = nets.few_wires }
+
+  pub special_are : HasNets design → AreEntries design true design.special []
+  special_are nets = record {
+    are = nets.special;
+    one_net = λ a b t in_a in_b there here. nets.one_net a b t (all a in_a) (all b in_b) there here;
+    few = omega (arith, nets.few);
+    few_terminals = omega (arith, nets.few_terminals);
+    few_wires = omega (arith, nets.few_wires);
+  } where
+    all : (net : NetSaid) → Contains (design.special ++ []) net → Contains (design.nets ++ design.special) net
+    all net inside = Contains-append_right design.nets design.special net (rw (append-nil design.special) at inside)
+
+-- what was said in the end is the design
+not_above : (n limit : ℕ) → n ≤ limit → nat_lt limit n ≡ false
+not_above n limit le = grind (arith, nat_tests)
+
+from_zero : (k : ℕ) → k ≡ 0 + k
+from_zero k = omega arith
+
+pub design_said : (design : DesignContents) (v c p s n : Bool) → HasNets design
+    → design_of design.library (said_parts design (stood_with v c p s n) design.vias design.components design.pins design.special design.nets) ≡ Some design
+unfolding design_of
+design_said design v c p s n nets =
+    rw (
+      no_lone_pins (record { nets = design.nets; special = design.special }) 0 design.pins
+          (λ k pin is. subst (λ i. IsInSomeNet (design.nets ++ design.special) i pin.net_name) (from_zero k) (nets.lone k pin is)),
+      not_above (terminal_count design.nets + terminal_count design.special) PART_LIMIT nets.few_terminals,
+    ) refl

@@ -1,0 +1,3 @@
+pub mod SaysForm
+pub mod PrintedNames
+pub mod Known

@@ -1,0 +1,11 @@
+-- What a line or an entry of a text says.
+use Rattle.std.specs.Prelude.{◌≡◌, ℕ, List, ◌++◌, Option, Some}
+use Rattle.leg_lex.specs.Word.{Word, texts}
+use Rattle.leg_lex.specs.Words.{Words}
+use Rattle.leg_lex.specs.Tokens.{AreTokens}
+
+-- the tokens of the bytes say this, whatever words come after them
+pub record SaysForm {Said : Type 0} (form : Words → Option (Said × Words)) (bytes : List ℕ) (said : Said) : Type 0 where
+  pub tokens : List Word
+  pub are : AreTokens bytes tokens
+  pub reads : (rest : Words) → form (texts tokens ++ rest) ≡ Some (said, rest)

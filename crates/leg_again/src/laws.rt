@@ -1,0 +1,126 @@
+//! What the lines and entries of the printed text of a design are read as.
+//!
+//! No function does anything: its contract is the law. The library is a sound one, as each `Library` is, and what is
+//! printed is well-formed under it, as each part of a `Design` is. No name that is printed ends with `;`, for it would be
+//! read as two words.
+
+ghost use Rattle.std.specs.Prelude.{◌≡◌, ℕ, ◌≤◌, true, false, List, [], ◌∷◌, ◌++◌, length, IsTrue, codes};
+ghost use Rattle.leg_lex.specs.Say.{Says};
+ghost use Rattle.leg_lex.specs.Words.{is_word, is_name};
+ghost use Rattle.leg_lex.specs.declared.limits.TheConstants.{UNITS_LIMIT, TEXT_LIMIT};
+ghost use Rattle.leg_text.specs.Spaced.{stays_one, line};
+ghost use Rattle.leg_geom.specs.Plane.{Sides};
+ghost use Rattle.leg_cells.specs.Records.{ViaSaid};
+ghost use Rattle.leg_cells.specs.Sound.{IsSound};
+ghost use Rattle.leg_block.specs.declared.records.Row.{Row};
+ghost use Rattle.leg_block.specs.declared.records.Component.{Component};
+ghost use Rattle.leg_block.specs.Records.{DesignContents, TrackSaid, PinSaid, NetSaid};
+ghost use Rattle.leg_block.specs.WellFormedParts.{IsArea, IsRow, IsTrack};
+ghost use Rattle.leg_block.specs.WellFormed.{IsWellFormed};
+ghost use Rattle.leg_floorplan.specs.Die.{die_at};
+ghost use Rattle.leg_floorplan.specs.Row.{row_at};
+ghost use Rattle.leg_floorplan.specs.Track.{track_at};
+ghost use Rattle.leg_floorplan.specs.Via.{via_entry};
+ghost use Rattle.leg_floorplan.specs.Component.{component_entry};
+ghost use Rattle.leg_floorplan.specs.Pin.{pin_entry};
+ghost use Rattle.leg_nets.specs.Net.{net_entry};
+ghost use Rattle.leg_design.specs.Header.{word_after, design_name_at, units_at, units_in};
+ghost use Rattle.leg_design.specs.Form.{design_in};
+ghost use Rattle.leg_print.specs.Text.Header.{word_words, units_words, die_words};
+ghost use Rattle.leg_print.specs.Text.Rows.{row_words};
+ghost use Rattle.leg_print.specs.Text.Tracks.{track_words};
+ghost use Rattle.leg_print.specs.Text.Vias.{via_words};
+ghost use Rattle.leg_print.specs.Text.Components.{component_words};
+ghost use Rattle.leg_print.specs.Text.Pins.{pin_words};
+ghost use Rattle.leg_print.specs.Text.Nets.{net_text};
+ghost use Rattle.leg_print.specs.Text.Whole.{design_text};
+ghost use Rattle.leg_again.specs.SaysForm.{SaysForm};
+ghost use Rattle.leg_again.specs.Known.{known_of};
+ghost use Rattle.leg_again.specs.PrintedNames.{StayOne, row_names, track_names, via_entry_names, component_entry_names, pin_entry_names, net_entry_names, printed_names};
+
+/// The printed text of a design says exactly this design, and the units of its library.
+pub fn printed_text_says_its_design()
+    ensures design { (design : DesignContents) → IsSound design.library → IsWellFormed design → StayOne (printed_names design)
+        → length (design_text design) ≤ TEXT_LIMIT → Says (design_in design.library) (design_text design) design }
+    ensures units { (design : DesignContents) → IsSound design.library → IsWellFormed design → StayOne (printed_names design)
+        → length (design_text design) ≤ TEXT_LIMIT → Says units_in (design_text design) design.library.units }
+{}
+
+/// The printed text of a design says no other design, so that what is read of it is printed as the same bytes again.
+pub fn printed_text_says_no_other()
+    ensures same { (design other : DesignContents) → IsSound design.library → IsWellFormed design → StayOne (printed_names design)
+        → length (design_text design) ≤ TEXT_LIMIT → Says (design_in design.library) (design_text design) other → other ≡ design }
+    ensures bytes { (design other : DesignContents) → IsSound design.library → IsWellFormed design → StayOne (printed_names design)
+        → length (design_text design) ≤ TEXT_LIMIT → Says (design_in design.library) (design_text design) other
+        → design_text other ≡ design_text design }
+{
+    leg_lex::laws::one_cut();
+}
+
+/// The lines of the divider and of the brackets of bus bits say these words.
+pub fn naming_lines_are_read()
+    ensures divider { (word : List ℕ) → IsTrue (is_word word) → IsTrue (stays_one word)
+        → SaysForm (word_after (codes "DIVIDERCHAR")) (line (word_words (codes "DIVIDERCHAR") word)) word }
+    ensures bus { (word : List ℕ) → IsTrue (is_word word) → IsTrue (stays_one word)
+        → SaysForm (word_after (codes "BUSBITCHARS")) (line (word_words (codes "BUSBITCHARS") word)) word }
+{}
+
+/// The line of the design says its name.
+pub fn name_line_is_read()
+    ensures { (name : List ℕ) → IsTrue (is_name name) → IsTrue (stays_one name)
+        → SaysForm design_name_at (line (word_words (codes "DESIGN") name)) name }
+{}
+
+/// The line of the units says how many a micron has.
+pub fn units_line_is_read()
+    ensures { (n : ℕ) → 1 ≤ n → n ≤ UNITS_LIMIT → SaysForm units_at (line (units_words n)) n }
+{}
+
+/// The line of the die area says this rectangle.
+pub fn die_line_is_read()
+    ensures { (die : Sides) → IsArea die → SaysForm die_at (line (die_words die)) die }
+{}
+
+/// The line of a row says this row.
+pub fn row_line_is_read()
+    ensures { (design : DesignContents) (row : Row) → IsSound design.library → IsRow design.library row
+        → StayOne (row_names design row) → SaysForm (row_at design.library) (line (row_words design row)) row }
+{}
+
+/// The line of tracks says these tracks.
+pub fn track_line_is_read()
+    ensures { (design : DesignContents) (track : TrackSaid) → IsSound design.library → IsTrack design.library track
+        → StayOne (track_names design track) → SaysForm (track_at design.library) (line (track_words design track)) track }
+{}
+
+/// The entry of a via says this via, behind those before it.
+pub fn via_entry_is_read()
+    ensures { (design : DesignContents) (before after : List ViaSaid) (via : ViaSaid) → IsSound design.library → IsWellFormed design
+        → design.vias ≡ before ++ (via ∷ after) → StayOne (via_entry_names design via)
+        → SaysForm (via_entry design.library before) (line (via_words design via)) (before ++ via ∷ []) }
+{}
+
+/// The entry of a component says this component, behind those before it.
+pub fn component_entry_is_read()
+    ensures { (design : DesignContents) (before after : List Component) (component : Component) → IsSound design.library → IsWellFormed design
+        → design.components ≡ before ++ (component ∷ after) → StayOne (component_entry_names design component)
+        → SaysForm (component_entry design.library before) (line (component_words design component)) (before ++ component ∷ []) }
+{}
+
+/// The entry of a pin says this pin, behind those before it.
+pub fn pin_entry_is_read()
+    ensures { (design : DesignContents) (before after : List PinSaid) (pin : PinSaid) → IsSound design.library → IsWellFormed design
+        → design.pins ≡ before ++ (pin ∷ after) → StayOne (pin_entry_names design pin)
+        → SaysForm (pin_entry design.library before) (line (pin_words design pin)) (before ++ pin ∷ []) }
+{}
+
+/// The entry of a net says this net, with its terminals and its wires, behind those before it: an entry of SPECIALNETS
+/// where NETS has none yet, and one of NETS where SPECIALNETS has all of its entries.
+pub fn net_entry_is_read()
+    ensures special { (design : DesignContents) (before after : List NetSaid) (net : NetSaid) → IsSound design.library → IsWellFormed design
+        → design.special ≡ before ++ (net ∷ after) → StayOne (net_entry_names design net)
+        → SaysForm (net_entry (known_of design) true [] before) (net_text design true net) (before ++ net ∷ []) }
+    ensures nets { (design : DesignContents) (before after : List NetSaid) (net : NetSaid) → IsSound design.library → IsWellFormed design
+        → design.nets ≡ before ++ (net ∷ after) → StayOne (net_entry_names design net)
+        → SaysForm (net_entry (known_of design) false design.special before) (net_text design false net) (before ++ net ∷ []) }
+{}
