@@ -1,5 +1,7 @@
 -- Wires of one design that another may get.
 use Rattle.std.proofs.Common.{◌≡◌, ℕ, ◌<◌, List, [], ◌∷◌, length, false, All, slice_index_or, arith}
+use Rattle.std.proofs.lemmas.List.{length-append}
+use Rattle.leg_block.specs.MoreWires.{each_with, with_more_wires}
 use Rattle.leg_cells.specs.Records.{Contents, ViaSaid}
 use Rattle.leg_block.specs.declared.records.Wire.{Wire}
 use Rattle.leg_block.specs.Records.{DesignContents, NetSaid, wire_count}
@@ -16,3 +18,10 @@ pub wire_count_one : (nets : List NetSaid) (net : NetSaid) → length nets ≡ 1
 wire_count_one [] net one is none = absurd (omega (arith, one))
 wire_count_one (first ∷ []) net one is none = omega (arith, rw is at none)
 wire_count_one (first ∷ second ∷ rest) net one is none = absurd (omega (arith, one))
+
+-- the one net of a list, which has no wires, gets those of a list
+pub wire_count_with : (nets : List NetSaid) (net : NetSaid) (wires : List Wire) → length nets ≡ 1 → net ≡ slice_index_or nets 0 net → length net.wires ≡ 0 → wire_count (with_more_wires nets (wires ∷ [])) ≡ length wires
+unfolding each_with
+wire_count_with [] net wires one is none = absurd (omega (arith, one))
+wire_count_with (first ∷ []) net wires one is none = omega (arith, length-append first.wires wires, rw is at none)
+wire_count_with (first ∷ second ∷ rest) net wires one is none = absurd (omega (arith, one))

@@ -57,6 +57,43 @@ fn gets_wire(
     }
 }
 
+// The same, where the wires come in a list for all nets.
+fn gets_all_wires(
+    alloc: Global,
+    open: Design<'_, Global>,
+    wired: &Design<'_, Global>,
+) -> Result<bool, Fail> {
+    if !open.fits(wired.library()) || open.vias().len() != 0 || wired.vias().len() != 0 {
+        return Ok(false);
+    }
+    if open.nets().len() != 1 || open.special().len() != 0 || wired.nets().len() != 1 {
+        return Ok(false);
+    }
+    let (before, net) = (&open.nets()[0], &wired.nets()[0]);
+    if before.wires.as_slice().len() != 0 || net.wires.as_slice().len() != 1 {
+        return Ok(false);
+    }
+    let wires = Vec::from_slice(alloc, net.wires.as_slice())?;
+    let mut lists = Vec::new(alloc);
+    lists.push(wires)?;
+    match open.with_all_wires(lists) {
+        Ok(design) => Ok(has_wire(&design)),
+        Err(_) => Ok(false),
+    }
+}
+
+fn all_nets_get_wires_under(alloc: Global, library: &Library<'_, Global>) -> Result<bool, Fail> {
+    let open = read_def(alloc, library, open_block().as_bytes())?;
+    let wired = read_def(alloc, library, wired_block().as_bytes())?;
+    gets_all_wires(alloc, open, &wired)
+}
+
+#[test]
+fn all_nets_get_wires(rt: HostRuntime) -> Result<(), Fail> {
+    assert!(rt; under_library(rt.alloc(), all_nets_get_wires_under)?);
+    Ok(())
+}
+
 fn a_net_gets_wires_under(alloc: Global, library: &Library<'_, Global>) -> Result<bool, Fail> {
     let open = read_def(alloc, library, open_block().as_bytes())?;
     let wired = read_def(alloc, library, wired_block().as_bytes())?;
