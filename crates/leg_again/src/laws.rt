@@ -39,7 +39,6 @@ ghost use Rattle.leg_again.specs.Known.{known_of};
 ghost use Rattle.leg_again.specs.PrintedNames.{StayOne, row_names, track_names, via_entry_names, component_entry_names, pin_entry_names, net_entry_names, printed_names};
 
 use leg_block::Design;
-use leg_cells::Library;
 use std::alloc::Allocator;
 
 /// The printed text of a design says exactly this design, and the units of its library.
@@ -61,14 +60,12 @@ pub fn printed_text_says_no_other()
     leg_lex::laws::one_cut();
 }
 
-/// The same of a design that the program has, under its library: both are as the laws ask for, by their types.
-pub fn printed_design_is_read_again<A: Allocator + Copy>(
-    library: &Library<'_, A>,
-    design: &Design<'_, A>,
-)
-    ensures { library.now ≡ design.now.library → StayOne (printed_names design.now) → length (design_text design.now) ≤ TEXT_LIMIT
-        → Says (design_in library.now) (design_text design.now) design.now }
+/// The same of a design that the program has: it and its library are as the laws ask for, by their types.
+pub fn printed_design_is_read_again<A: Allocator + Copy>(design: &Design<'_, A>)
+    ensures { StayOne (printed_names design.now) → length (design_text design.now) ≤ TEXT_LIMIT
+        → Says (design_in design.now.library) (design_text design.now) design.now }
 {
+    let library = design.library();
     let _layers = library.layers();
     let _die = design.die();
 }
