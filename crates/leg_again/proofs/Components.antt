@@ -1,7 +1,6 @@
 -- The entry of a component is read as the component, and the section as all of them.
-use Rattle.std.proofs.Common.{◌≡◌, ℕ, ◌<◌, ◌≤◌, nat_le, true, false, List, [], ◌∷◌, ◌++◌, length, get_or, None, Some, codes, IsTrue, refl, subst, arith}
+use Rattle.std.proofs.Common.{◌≡◌, ℕ, ◌<◌, ◌≤◌, true, false, List, [], ◌∷◌, ◌++◌, length, get_or, None, Some, codes, IsTrue, refl, subst, arith}
 use Rattle.std.specs.List.{list_all, flat_map}
-use Rattle.std.proofs.lemmas.Bool.Decides.{nat_tests}
 use Rattle.leg_lex.specs.Words.{Words, next_at, mark_at, name_at, nothing_at, is_name}
 use Rattle.leg_lex.specs.NameLookup.{place_of, AreApart}
 use Rattle.leg_lex.specs.Statements.{at_end}
@@ -18,6 +17,7 @@ use Rattle.leg_floorplan.proofs.Components.{entry_shortens}
 use Rattle.leg_lex.specs.declared.limits.TheConstants.{NUMBER_LIMIT}
 use Rattle.leg_text.proofs.Lines.{Lines, lines_of_words}
 use Rattle.leg_print.specs.Text.Whole.{components_text}
+use Rattle.leg_again.proofs.Facts.{room_is}
 use Rattle.leg_again.proofs.Sections.{section_words, section_again, section_lines}
 use Rattle.leg_print.specs.Names.{master_name}
 use Rattle.leg_print.specs.Text.Clauses.{placement_clause}
@@ -29,9 +29,6 @@ use Rattle.leg_again.proofs.Again.{said_again, clause_again}
 use Rattle.leg_again.proofs.Named.{element, found, name_is, not_before, middle, fewer_before, each_passes}
 use Rattle.leg_again.proofs.Placements.{placement_again, placement_free}
 use Rattle.leg_again.proofs.Saying.{said_printable, line_says}
-
-pub room_is : (n limit : ℕ) → n < limit → nat_le limit n ≡ false
-room_is n limit less = grind (arith, nat_tests)
 
 module _ (design : DesignContents) (sound : IsSound design.library) (component : Component) (is : IsComponent design.library component) where
   master : (m : MasterSaid) × (IsTrue (is_name (master_name design component.master))) × (place_of (master_name design component.master) (master_names design.library) ≡ Some component.master)

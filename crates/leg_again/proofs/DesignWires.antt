@@ -44,10 +44,6 @@ record IsNamedVia (design : DesignContents) (number : ℕ) (via : ViaSaid) : Typ
   there : via_named (known_of design) via.name ≡ Some number
   good : is_good_via design.library via.name via.shapes ≡ true
 
-both : (a b : Bool) → (a && b) ≡ true → (a ≡ true) × (b ≡ true)
-both true b is = (refl, is)
-both false b is = absurd (false≢true is)
-
 free_word : (wiring rest : Bool) → (not wiring && rest) ≡ true → wiring ≡ false
 free_word false rest is = refl
 free_word true rest is = absurd (false≢true is)

@@ -19,10 +19,7 @@ use Rattle.leg_block.proofs.SameTerminal.{Passes, passes_from, some_passes, numb
 use Rattle.leg_floorplan.specs.Namespace.{KnownSaid, via_numbered}
 use Rattle.leg_nets.specs.Path.{across}
 use Rattle.leg_print.specs.Text.Wires.{lowest_layer}
-
-both : (a b : Bool) → (a && b) ≡ true → (a ≡ true) × (b ≡ true)
-both true b is = (refl, is)
-both false b is = absurd (false≢true is)
+use Rattle.leg_again.proofs.Facts.{both}
 
 all_pass : {X : Type 0} (p : X → Bool) (xs : List X) → list_all p xs ≡ true → All (λ x. p x ≡ true) xs
 all_pass p [] all = All-nil (λ x. p x ≡ true)

@@ -1,7 +1,6 @@
 -- The entry of a net is read as the net, and the section as all of them.
-use Rattle.std.proofs.Common.{◌≡◌, ℕ, ◌+◌, ◌<◌, ◌≤◌, nat_lt, ◌⊎◌, inl, inr, Bool, true, false, List, [], ◌∷◌, ◌++◌, All, Contains, length, get_or, Option, None, Some, codes, refl, sym, ap, ◌∙◌, subst, arith}
+use Rattle.std.proofs.Common.{◌≡◌, ℕ, ◌+◌, ◌<◌, ◌≤◌, ◌⊎◌, inl, inr, Bool, true, false, List, [], ◌∷◌, ◌++◌, All, Contains, length, get_or, Option, None, Some, codes, refl, sym, ap, ◌∙◌, subst, arith}
 use Rattle.std.specs.List.{list_all, flat_map}
-use Rattle.std.proofs.lemmas.Bool.Decides.{nat_tests}
 use Rattle.std.proofs.lemmas.List.{append_assoc}
 use Rattle.std.proofs.lemmas.List.Elements.{Contains-append_left, Contains-append_right, Contains-append_cases}
 use Rattle.std.proofs.Math.Seq.{get_or-append_seam}
@@ -27,12 +26,12 @@ use Rattle.leg_nets.proofs.NetEntries.{net_entry_shortens}
 use Rattle.leg_print.specs.Text.Clauses.{clause_words, kept_clause}
 use Rattle.leg_print.specs.Text.Nets.{terminal_words, net_head, wiring_words, net_said, net_words, net_text, wire_line}
 use Rattle.leg_print.specs.Text.Whole.{net_section, nets_text}
+use Rattle.leg_again.proofs.Facts.{room_is, not_above}
 use Rattle.leg_again.specs.PrintedNames.{StayOne, kept_words, terminal_names, wire_names, net_entry_names}
 use Rattle.leg_again.specs.SaysForm.{SaysForm}
 use Rattle.leg_again.proofs.FreeWords.{AreInside, IsFree, free_literal, free_name, free_word, inside_nil, inside_cons, inside_append, inside_each}
 use Rattle.leg_again.proofs.Again.{said_again}
 use Rattle.leg_again.proofs.Named.{not_before, middle, fewer_before, within, each_passes, first_run_passes, next_run_passes}
-use Rattle.leg_again.proofs.Components.{room_is}
 use Rattle.leg_again.specs.Known.{known_of}
 use Rattle.leg_again.proofs.WireWords.{wiring_again, wires_inside}
 use Rattle.leg_again.proofs.Terminals.{terminals_again, terminal_free}
@@ -142,9 +141,6 @@ terminals_of_both (net ∷ a) b = let later = terminals_of_both a b in omega (ar
 wires_of_both : (a b : List NetSaid) → wire_count (a ++ b) ≡ wire_count a + wire_count b
 wires_of_both [] b = omega arith
 wires_of_both (net ∷ a) b = let later = wires_of_both a b in omega (arith, later)
-
-not_above : (n limit : ℕ) → n ≤ limit → nat_lt limit n ≡ false
-not_above n limit le = grind (arith, nat_tests)
 
 -- What is known of the entries of a section, where the other section has those others.
 pub record AreEntries (design : DesignContents) (special : Bool) (nets others : List NetSaid) : Type 0 where

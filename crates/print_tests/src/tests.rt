@@ -1,5 +1,6 @@
 //! The text of a design by worked values, and its wirelength.
 
+use leg_again::laws::printed_design_is_read_again;
 use leg_cells::Library;
 use leg_design::read_def;
 use leg_lib::read_lefs;
@@ -48,6 +49,7 @@ fn printed(
 ) -> Result<(Vec<u8>, i64), Fail> {
     let design = read_def(alloc, library, def)?;
     let text = print_def(alloc, design.library(), &design)?;
+    printed_design_is_read_again(&design);
     Ok((text, hpwl(design.library(), &design)))
 }
 
