@@ -2,7 +2,7 @@
 //! pieces aren't joined.
 //!
 //! `spacing_faults` and `open_faults` list exactly the violations of these kinds, each once, in order; `joined` says which
-//! pieces of a net are joined to its first one. `clean` says where metal of a net may lie.
+//! pieces of a net are joined to its first one. `clean` says where metal of a net may lie, and `clean_indexed` says it by an index.
 #![tactic(auto)]
 
 mod clean_metal;
@@ -19,7 +19,7 @@ mod sets;
 mod spacing;
 mod too_close;
 
-pub use clean_metal::clean;
+pub use clean_metal::{clean, clean_indexed};
 pub use join::joined;
 pub use open_fault::open_faults;
 pub use spacing::spacing_faults;
