@@ -8,6 +8,7 @@ ghost use Rattle.leg_walk.specs.Steps.Spread.{IsSpread, IsEntered};
 use crate::graph::Graph;
 use crate::mark::Mark;
 use crate::side::Side;
+use crate::side::Side::{Above, Below, East, North, South, West};
 use std::alloc::{AllocError, Allocator};
 
 /// A level, and the limit of the search: a node is marked only where its level and the steps that are left at least come to
@@ -94,66 +95,12 @@ pub(crate) fn one_level<G: Graph, A: Allocator>(
         marks.old next.old.items left_out.old marks.new next.new.items left_out.new) }
     ensures noted { IsNoted marks.new touched.new.items }
 {
-    follow(
-        graph,
-        front,
-        Side::East,
-        level,
-        marks,
-        next,
-        touched,
-        left_out,
-    )?;
-    follow(
-        graph,
-        front,
-        Side::West,
-        level,
-        marks,
-        next,
-        touched,
-        left_out,
-    )?;
-    follow(
-        graph,
-        front,
-        Side::North,
-        level,
-        marks,
-        next,
-        touched,
-        left_out,
-    )?;
-    follow(
-        graph,
-        front,
-        Side::South,
-        level,
-        marks,
-        next,
-        touched,
-        left_out,
-    )?;
-    follow(
-        graph,
-        front,
-        Side::Above,
-        level,
-        marks,
-        next,
-        touched,
-        left_out,
-    )?;
-    follow(
-        graph,
-        front,
-        Side::Below,
-        level,
-        marks,
-        next,
-        touched,
-        left_out,
-    )?;
+    follow(graph, front, East, level, marks, next, touched, left_out)?;
+    follow(graph, front, West, level, marks, next, touched, left_out)?;
+    follow(graph, front, North, level, marks, next, touched, left_out)?;
+    follow(graph, front, South, level, marks, next, touched, left_out)?;
+    follow(graph, front, Above, level, marks, next, touched, left_out)?;
+    follow(graph, front, Below, level, marks, next, touched, left_out)?;
     Ok(())
 }
 
