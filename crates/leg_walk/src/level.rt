@@ -71,7 +71,8 @@ fn seed_one<G: Graph, A: Allocator>(
         level: level.number,
         from: start,
     };
-    enter(graph, start, mark, marks, next, touched)?;
+    let is_open = graph.is_open_node(start);
+    enter(start, is_open, mark, marks, next, touched)?;
     Ok(())
 }
 
@@ -166,7 +167,8 @@ fn follow_one<G: Graph, A: Allocator>(
         level: level.number,
         from: node,
     };
-    enter(graph, to, mark, marks, next, touched)?;
+    let is_open = graph.is_open_beyond(node, side, to);
+    enter(to, is_open, mark, marks, next, touched)?;
     Ok(())
 }
 
@@ -189,23 +191,22 @@ fn is_too_far<G: Graph>(graph: &G, node: u32, level: Level) -> bool
     u64::from(level.number) + u64::from(graph.bound(node)) > level.limit
 }
 
-/// Asks whether the node is open. Where it is, gives it the mark and puts it into `next`, and else shuts it.
-fn enter<G: Graph, A: Allocator>(
-    graph: &G,
+/// Where the node is open, gives it the mark and puts it into `next`, and else shuts it.
+fn enter<A: Allocator>(
     to: u32,
+    is_open: bool,
     mark: Mark,
     marks: &mut [Mark],
     next: &mut Vec<u32, A>,
     touched: &mut Vec<u32, A>,
 ) -> Result<(), AllocError>
-    requires count { length marks.old ≡ G.size_of graph.now }
-    requires within { to < G.size_of graph.now }
+    requires within { to < length marks.old }
     requires noted { IsNoted marks.old touched.old.items }
-    ensures entered { OnOk result (IsEntered (G.OpenNode graph.now) to mark marks.old next.old.items marks.new next.new.items) }
+    ensures entered { OnOk result (IsEntered (IsTrue is_open) to mark marks.old next.old.items marks.new next.new.items) }
     ensures noted { IsNoted marks.new touched.new.items }
 {
     touched.push(to)?;
-    if !graph.is_open_node(to) {
+    if !is_open {
         marks[to as usize] = Mark::Shut;
         return Ok(());
     }

@@ -6,8 +6,8 @@ use Rattle.leg_walk.specs.Steps.Marks.{IsNoted}
 use Rattle.leg_walk.proofs.Marks.{noted_push_mark}
 use Rattle.leg_walk.proofs.level.enter.Goals as goal
 
-pub returns-then-not-is_open_node-clause-noted : goal.returns-then-not-is_open_node-clause-noted
-returns-then-not-is_open_node-clause-noted g c =
+pub returns-then-not-is_open-clause-noted : goal.returns-then-not-is_open-clause-noted
+returns-then-not-is_open-clause-noted g c =
     let pushed : c.push.new.self.items ≡ c.args.touched.now.items ++ c.args.to ∷ [] = c.in_ok-push.ensures.items in
     rw pushed (noted_push_mark c.args.marks.now c.args.touched.now.items c.args.to Shut (omega arith) c.requires.noted)
 
