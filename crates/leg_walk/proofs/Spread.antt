@@ -1,14 +1,10 @@
 -- Marks that spread: one node, one step after another, and all sides.
-use Rattle.std.proofs.Common.{◌≡◌, zero, suc, ℕ, ◌+◌, ◌^◌, ◌<◌, ◌≤◌, Bool, true, false, List, [], ◌∷◌, ◌++◌, length, get_or, take, slice_set, slice_get, count_by, Contains, Some, ◌⊎◌, ◌↔◌, inl, inr, refl, sym, ap, ◌∙◌, subst, arith, length-append}
-use Rattle.std.proofs.lemmas.List.{take_more}
+use Rattle.std.proofs.Common.{◌≡◌, ℕ, ◌+◌, ◌^◌, ◌<◌, ◌≤◌, Bool, true, false, List, [], ◌∷◌, ◌++◌, length, slice_set, slice_get, Contains, Some, ◌⊎◌, ◌↔◌, inl, inr, refl, ◌∙◌, subst, arith, length-append}
 use Rattle.std.proofs.lemmas.List.Elements.{Contains-append_left, Contains-push, Contains-push_cases}
 use Rattle.std.proofs.Math.ListN.{length-set}
 use Rattle.leg_walk.specs.declared.mark.Mark.{Mark}
 use Rattle.leg_walk.specs.declared.mark.Mark.TheVariants.{Unseen, Shut, Reached}
-use Rattle.leg_walk.specs.declared.side.Side.{Side}
-use Rattle.leg_walk.specs.declared.side.Side.TheVariants.{West, East, South, North, Below, Above}
-use Rattle.leg_walk.specs.Walk.{IsStepTo, IsStep}
-use Rattle.leg_walk.specs.Steps.Marks.{is_unseen, IsMark, IsSeen, IsAt}
+use Rattle.leg_walk.specs.Steps.Marks.{is_unseen, IsSeen, IsAt}
 use Rattle.leg_walk.specs.Steps.Spread.{IsNew, IsSpread, IsEntered}
 use Rattle.leg_walk.proofs.Marks.{mark_here, mark_kept, mark_cases, one_fewer}
 

@@ -1,8 +1,5 @@
-use Rattle.std.proofs.Common.{◌≡◌, ℕ, ◌<◌, List, ◌∷◌, [], ◌++◌, length, Contains, arith}
-use Rattle.std.proofs.lemmas.List.Elements.{Contains-push}
-use Rattle.leg_walk.specs.declared.mark.Mark.{Mark}
+use Rattle.std.proofs.Common.{◌≡◌, ◌∷◌, [], ◌++◌, arith}
 use Rattle.leg_walk.specs.declared.mark.Mark.TheVariants.{Shut}
-use Rattle.leg_walk.specs.Steps.Marks.{IsNoted}
 use Rattle.leg_walk.proofs.Marks.{noted_push_mark}
 use Rattle.leg_walk.proofs.level.enter.Goals as goal
 

@@ -1,4 +1,4 @@
-use Rattle.std.proofs.Common.{◌≡◌, ℕ, ◌+◌, ◌<◌, ◌≤◌, true, false, Some, refl, sym, arith}
+use Rattle.std.proofs.Common.{◌≡◌, ℕ, refl, sym, arith}
 use Rattle.std.proofs.lemmas.Option.{same_Some}
 use Rattle.leg_walk.specs.Walk.{IsStepTo}
 use Rattle.leg_walk.proofs.Spread.{spread_entered}

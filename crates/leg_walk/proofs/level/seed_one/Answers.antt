@@ -1,4 +1,4 @@
-use Rattle.std.proofs.Common.{◌≡◌, ℕ, ◌+◌, ◌<◌, ◌≤◌, true, false, refl, arith}
+use Rattle.std.proofs.Common.{◌≡◌, ℕ, refl, arith}
 use Rattle.leg_walk.proofs.Spread.{spread_entered}
 use Rattle.leg_walk.proofs.level.seed_one.Goals as goal
 
