@@ -1,0 +1,3 @@
+-- What the code knows on its way. No meaning of a public call speaks of it.
+pub mod Nearest
+pub mod TakeSites
