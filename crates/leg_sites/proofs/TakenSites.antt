@@ -47,6 +47,11 @@ without_unmet free from end first last are cut unmet = record {
   );
 }
 
+-- a stretch with two rests is replaced by both
+pub both_rests : (first last : ℕ) (left right : Stretch) (free : List Stretch) → first + 1 ≡ last → nat_lt left.from left.end ≡ true → nat_lt right.from right.end ≡ true → take first free ++ (left ∷ right ∷ []) ++ drop (first + 1) free ≡ with_rests first last left right free
+both_rests first last left right free one l r =
+    rw (l, r, one) refl
+
 module _ (free : List Stretch) (from end first last : ℕ) (are : AreStretches free) (cut : IsCutAt free from end first last)
     (order : from < end) (met : first < last) (a b : Stretch) (at_a : slice_get free first ≡ Some a) (at_b : slice_get free (last - 1) ≡ Some b) where
   abbrev left : Stretch
@@ -189,7 +194,7 @@ module _ (free : List Stretch) (from end first last : ℕ) (are : AreStretches f
     );
   }
 
--- a stretch with two rests is replaced by both
-pub both_rests : (first last : ℕ) (left right : Stretch) (free : List Stretch) → first + 1 ≡ last → nat_lt left.from left.end ≡ true → nat_lt right.from right.end ≡ true → take first free ++ (left ∷ right ∷ []) ++ drop (first + 1) free ≡ with_rests first last left right free
-both_rests first last left right free one l r =
-    rw (l, r, one) refl
+  -- where one stretch is met, and there are two rests
+  pub without_both : first + 1 ≡ last → nat_lt a.from from ≡ true → nat_lt end b.end ≡ true → (new : List Stretch) → new ≡ take first free ++ (left ∷ right ∷ []) ++ drop (first + 1) free → IsWithout free from end new
+  without_both one l r new is =
+      rw (is ∙ both_rests first last left right free one l r) without_met

@@ -5,7 +5,7 @@ use Rattle.std.proofs.lemmas.Option.{slice_get_read}
 use Rattle.std.proofs.lemmas.Result.{on_ok_weaker}
 use Rattle.leg_sites.specs.Stretches.{IsWithout}
 use Rattle.leg_sites.specs.Steps.TakeSites.{IsCutAt, with_rests}
-use Rattle.leg_sites.proofs.TakenSites.{without_unmet, without_met, both_rests}
+use Rattle.leg_sites.proofs.TakenSites.{without_unmet, without_met, without_both}
 use Rattle.leg_sites.proofs.take_sites.take_sites.Goals as goal
 
 pub returns-then-last-first-clause-ok : goal.returns-then-last-first-clause-ok
@@ -30,9 +30,7 @@ returns-then-has_sites-2-clause-ok g c =
     let one : first + 1 ≡ last = c.if-first-last.true in
     let l : nat_lt a.from c.args.from ≡ true = sym c.has_sites.ensures ∙ c.if-has_sites.true in
     let r : nat_lt c.args.end b.end ≡ true = sym c.has_sites-then-has_sites.ensures ∙ c.if-has_sites-2.true in
-    on_ok_weaker c.split.result (λ is.
-    rw (is, both_rests first last (record { from = a.from; end = c.args.from }) (record { from = c.args.end; end = b.end }) free one l r)
-    (without_met free c.args.from c.args.end first last c.requires cut c.if-end-from.false met a b at_a at_b)) c.split.ensures.ok
+    on_ok_weaker c.split.result (without_both free c.args.from c.args.end first last c.requires cut c.if-end-from.false met a b at_a at_b one l r c.split.new.stretches.items) c.split.ensures.ok
 
 pub returns-else-first-last-clause-ok : goal.returns-else-first-last-clause-ok
 returns-else-first-last-clause-ok g c =
