@@ -1,0 +1,4 @@
+pub mod Stretches
+pub mod RowOrder
+pub mod BestPosition
+pub mod Steps

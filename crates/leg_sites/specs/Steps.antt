@@ -1,0 +1,5 @@
+-- What the code knows on its way. No meaning of a public call speaks of it.
+pub mod Nearest
+pub mod TakeSites
+pub mod RowKeys
+pub mod RowsSeen
