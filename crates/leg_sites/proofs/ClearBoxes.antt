@@ -1,12 +1,12 @@
 -- Consecutive sites are free just where the box of them all is clear.
-use Rattle.std.proofs.Common.{◌≡◌, ◌↔◌, ℕ, ◌+◌, ◌-◌, ◌<◌, ◌≤◌, ℤ, pos, ◌+ℤ◌, ◌<ℤ◌, ◌≤ℤ◌, List, arith}
+use Rattle.std.proofs.Common.{◌≡◌, ◌↔◌, ℕ, ◌+◌, ◌-◌, ◌<◌, ◌≤◌, pos, ◌≤ℤ◌, List, arith}
 use Rattle.std.proofs.lemmas.Int.{ints}
-use Rattle.leg_geom.specs.Plane.{Spot, Sides, HasCell, ShareCell}
+use Rattle.leg_geom.specs.Plane.{Spot, Sides, HasCell}
 use Rattle.leg_cells.specs.Measure.{Lengths, HasArea}
 use Rattle.leg_block.specs.declared.records.Row.{Row}
 use Rattle.leg_place.specs.Sites.{site_box}
 use Rattle.leg_sites.specs.declared.stretch.Stretch.{Stretch}
-use Rattle.leg_sites.specs.Stretches.{IsFreeSite, AreFreeSites}
+use Rattle.leg_sites.specs.Stretches.{AreFreeSites}
 use Rattle.leg_sites.specs.Known.{IsClear, IsKnown, sites_box}
 use Rattle.leg_sites.proofs.SiteCells.{site_of_cell, cell_of_site}
 

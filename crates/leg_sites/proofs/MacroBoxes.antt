@@ -1,6 +1,5 @@
 -- A macro that is as high as a row's sites and as wide as some of them, with its lower left corner at that of a site.
-use Rattle.std.proofs.Common.{◌≡◌, ℕ, ◌+◌, ◌≤◌, add-mul, ℤ, pos, ◌+ℤ◌, ◌-ℤ◌, ◌*ℤ◌, ◌<ℤ◌, ◌≤ℤ◌, if◌then◌else◌, Bool, true, false, IsTrue, int_lt, inl, inr, refl, sym, ap, ◌∙◌, arith, unsigned_abs}
-use Rattle.std.proofs.Math.IntN.{pos-*ℤ-pos}
+use Rattle.std.proofs.Common.{◌≡◌, ℕ, ◌+◌, add-mul, ℤ, pos, ◌+ℤ◌, ◌-ℤ◌, ◌*ℤ◌, ◌<ℤ◌, ◌≤ℤ◌, Bool, true, false, IsTrue, int_lt, inl, inr, refl, sym, ap, ◌∙◌, arith, unsigned_abs}
 use Rattle.std.proofs.lemmas.Bool.{false≢true}
 use Rattle.std.proofs.lemmas.Int.{ints}
 use Rattle.leg_geom.specs.Plane.{Spot, Sides}
@@ -8,7 +7,7 @@ use Rattle.leg_geom.specs.Line.{between, Interval}
 use Rattle.leg_geom.specs.declared.orient.Orient.{Orient}
 use Rattle.leg_geom.specs.declared.orient.Orient.TheVariants.{N, S, W, E, FN, FS, FW, FE}
 use Rattle.leg_geom.specs.declared.place.Place.{Place}
-use Rattle.leg_geom.specs.Orientation.{turned, placed, IsMirrored}
+use Rattle.leg_geom.specs.Orientation.{turned}
 use Rattle.leg_cells.specs.Measure.{Lengths, HasArea}
 use Rattle.leg_block.specs.Rows.{is_upright}
 use Rattle.leg_block.specs.declared.records.Row.{Row}

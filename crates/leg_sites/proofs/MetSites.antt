@@ -7,7 +7,7 @@ use Rattle.leg_cells.specs.Measure.{Lengths, HasArea, IsProper}
 use Rattle.leg_block.specs.declared.records.Row.{Row}
 use Rattle.leg_place.specs.Sites.{site_box}
 use Rattle.leg_sites.specs.declared.stretch.Stretch.{Stretch}
-use Rattle.leg_sites.specs.RowSites.{IsAmong, HasAllCells, AreSitesMet, AreSitesInside}
+use Rattle.leg_sites.specs.RowSites.{AreSitesMet, AreSitesInside}
 use Rattle.leg_sites.proofs.SharedCells.{overlap_from_shared, shared_from_overlap, all_cells_from_bounds, bounds_from_all_cells}
 use Rattle.leg_sites.proofs.SiteCells.{site_proper}
 

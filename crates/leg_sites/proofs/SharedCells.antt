@@ -1,8 +1,8 @@
 -- Rectangles by their sides: whether two of them share a cell, and whether one has all cells of another.
-use Rattle.std.proofs.Common.{◌↔◌, ℤ, ◌<ℤ◌, ◌≤ℤ◌, pos, ◌-ℤ◌, arith}
+use Rattle.std.proofs.Common.{◌<ℤ◌, ◌≤ℤ◌, pos, ◌-ℤ◌, arith}
 use Rattle.std.specs.Int.{int_max}
 use Rattle.std.proofs.lemmas.Int.{ints, clamps}
-use Rattle.leg_geom.specs.Plane.{Spot, Sides, HasCell, ShareCell}
+use Rattle.leg_geom.specs.Plane.{Sides, ShareCell}
 use Rattle.leg_cells.specs.Measure.{IsProper}
 use Rattle.leg_sites.specs.RowSites.{HasAllCells}
 

@@ -1,5 +1,5 @@
 -- Along y the row lies in the die or not; along x the edges of sites and the count decide.
-use Rattle.std.proofs.Common.{◌≡◌, ◌↔◌, ◌⊎◌, ℕ, ◌<◌, pos, ◌+ℤ◌, ◌<ℤ◌, ◌≤ℤ◌, inl, inr, arith}
+use Rattle.std.proofs.Common.{◌↔◌, ◌⊎◌, ℕ, ◌<◌, pos, ◌+ℤ◌, ◌<ℤ◌, ◌≤ℤ◌, inl, inr, arith}
 use Rattle.std.proofs.lemmas.Int.{ints, clamps}
 use Rattle.leg_sites.proofs.MetSites.{coordinate_passed, inside_between, none_inside}
 use Rattle.leg_sites.proofs.row_sites.sites_inside.Goals as goal

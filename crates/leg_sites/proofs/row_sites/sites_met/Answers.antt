@@ -1,5 +1,5 @@
 -- Along y the rectangle meets the row or not; along x the edges of sites decide.
-use Rattle.std.proofs.Common.{◌≡◌, ◌⊎◌, ◌+ℤ◌, ◌<ℤ◌, ◌≤ℤ◌, inl, inr, arith}
+use Rattle.std.proofs.Common.{◌⊎◌, ◌+ℤ◌, ◌<ℤ◌, ◌≤ℤ◌, inl, inr, arith}
 use Rattle.std.proofs.lemmas.Int.{ints}
 use Rattle.leg_cells.specs.Measure.{IsProper}
 use Rattle.leg_sites.proofs.MetSites.{coordinate_passed, met_between, none_met}
