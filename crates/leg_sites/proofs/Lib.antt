@@ -7,3 +7,4 @@ pub mod MetSites
 pub mod KnownSites
 pub mod ClearBoxes
 pub mod MacroBoxes
+pub mod MacroPlaces
