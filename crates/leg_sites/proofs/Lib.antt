@@ -16,3 +16,13 @@ mod KeysSorted
 mod RowsAround
 mod RowCandidates
 mod BestSoFar
+-- Sites by their edges
+mod SiteEdges
+mod SharedCells
+mod SiteCells
+-- What the proofs of other crates cite: which sites are met, free sites and clear boxes
+pub mod MetSites
+pub mod KnownSites
+pub mod ClearBoxes
+pub mod MacroBoxes
+pub mod MacroPlaces

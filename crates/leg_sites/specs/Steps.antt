@@ -3,3 +3,4 @@ pub mod Nearest
 pub mod TakeSites
 pub mod RowKeys
 pub mod RowsSeen
+pub mod SiteEdges

@@ -9,6 +9,8 @@ mod free_sites;
 mod nearest;
 mod row_keys;
 mod row_search;
+mod row_sites;
+mod site_edges;
 mod stretch;
 mod take_sites;
 
@@ -16,4 +18,5 @@ pub use candidate::{Candidate, Wanted};
 pub use free_sites::FreeSites;
 pub use row_keys::{RowKey, row_order};
 pub use row_search::best_position;
+pub use row_sites::{sites_inside, sites_met};
 pub use stretch::Stretch;
