@@ -1,0 +1,14 @@
+-- Lists, and the pieces of nets
+mod Places
+mod PiecesWith
+-- Shapes that are clear of one another
+mod Clear
+mod Covered
+mod LinePoints
+mod RunClean
+-- A flat that grows
+mod Grown
+mod WiresClean
+-- The design that gets the wires
+mod SameNets
+mod FixedMetal

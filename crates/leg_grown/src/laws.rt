@@ -1,0 +1,64 @@
+//! Laws of flats and designs that grow by wires. Each function does nothing: its contract is the law.
+
+ghost use Rattle.std.specs.Prelude.{◌≡◌, ◌≢◌, ◌++◌, ◌∷◌, [], ◌≤ℤ◌, ℕ, ℤ, pos, List, All, Contains};
+ghost use Rattle.leg_geom.specs.Plane.{Spot, Sides, HasPoint};
+ghost use Rattle.leg_cells.specs.Records.{Contents};
+ghost use Rattle.leg_block.specs.declared.records.Wire.{Wire};
+ghost use Rattle.leg_block.specs.declared.records.Wire.TheVariants.{Segment};
+ghost use Rattle.leg_block.specs.Records.{DesignContents};
+ghost use Rattle.leg_flat.specs.Metal.{OnLayer, wire_outlines};
+ghost use Rattle.leg_flat.specs.Flat.{FlatSaid};
+ghost use Rattle.leg_flat.specs.MoreWires.{HasOneMoreWire};
+ghost use Rattle.leg_wire.specs.Clean.{IsClean};
+ghost use Rattle.leg_grown.specs.Growth.{AddedWire, Grows, of_net, HasGrown};
+ghost use Rattle.leg_grown.specs.CleanWire.{HasNoSpacingFault, IsRectOf, IsCleanWire, HasCleanRect, LiesInClean};
+ghost use Rattle.leg_grown.specs.Lines.{EachStep, last_spot, AreInLine, line};
+
+/// A flat without shorts and without shapes too near one another stays so when a net gets a wire whose metal is clean in it.
+pub fn clean_wire_stays_clean()
+    ensures { (library : Contents) (design : DesignContents) (net : ℕ) (wire : Wire) (old new : FlatSaid)
+        → HasNoSpacingFault library old → IsCleanWire library design old net wire → HasOneMoreWire design net wire old new
+        → HasNoSpacingFault library new }
+{}
+
+/// So it does when a net gets several wires, of each of which the metal is clean in the flat before all of them.
+pub fn clean_wires_stay_clean()
+    ensures { (library : Contents) (design : DesignContents) (net : ℕ) (wires : List Wire) (old new : FlatSaid)
+        → HasNoSpacingFault library old → All (IsCleanWire library design old net) wires → Grows design (of_net net wires) old new
+        → HasNoSpacingFault library new }
+{}
+
+/// A rectangle is clean if each of its points lies in a clean one on the same layer.
+pub fn covered_is_clean()
+    ensures { (library : Contents) (flat : FlatSaid) (net layer : ℕ) (rect : Sides)
+        → ((p : Spot) → HasPoint rect p → LiesInClean library flat net layer p) → IsClean library flat net layer rect }
+{}
+
+/// A wire is clean if for each of its pieces of metal some clean rectangle has all its points.
+pub fn covered_wire_is_clean()
+    ensures { (library : Contents) (design : DesignContents) (flat : FlatSaid) (net : ℕ) (wire : Wire)
+        → ((metal : OnLayer) → Contains (wire_outlines design wire) metal → HasCleanRect library flat net metal.layer metal.outline)
+        → IsCleanWire library design flat net wire }
+{}
+
+/// A wire that runs straight over several points is clean if the metal from each point to the next is. All of it is on one
+/// layer, of one width, and reaches equally far beyond its ends.
+pub fn run_of_clean_steps_is_clean()
+    ensures { (library : Contents) (design : DesignContents) (flat : FlatSaid) (net layer : ℕ) (width reach : ℤ) (from : Spot) (spots : List Spot)
+        → pos 0 ≤ℤ reach → AreInLine from spots → from ≢ last_spot from spots
+        → EachStep (λ a b. HasCleanRect library flat net layer (line width reach a b)) from spots
+        → IsCleanWire library design flat net (Segment layer from (last_spot from spots) width reach reach) }
+{}
+
+/// What a flat has that grew by wires.
+pub fn growth()
+    ensures { (design : DesignContents) (added : List AddedWire) (before after : FlatSaid)
+        → Grows design added before after → HasGrown design added before after }
+{}
+
+/// A flat that grew by wires and then gets one more has grown by all of these.
+pub fn growth_goes_on()
+    ensures { (design : DesignContents) (added : List AddedWire) (one : AddedWire) (before between after : FlatSaid)
+        → Grows design added before between → HasOneMoreWire design one.net one.wire between after
+        → Grows design (added ++ one ∷ []) before after }
+{}
