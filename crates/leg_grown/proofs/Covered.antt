@@ -49,5 +49,5 @@ module _ (library : Contents) (flat : FlatSaid) (net layer : ℕ) where
 pub clean_wire : (library : Contents) (design : DesignContents) (flat : FlatSaid) (net : ℕ) (wire : Wire)
     → ((metal : OnLayer) → Contains (wire_outlines design wire) metal → HasCleanRect library flat net metal.layer metal.outline)
     → IsCleanWire library design flat net wire
-clean_wire library design flat net wire has metal rect there proper is =
+clean_wire library design flat net wire has metal rect there is =
     covered_outline library flat net metal.layer metal.outline rect (has metal there) is

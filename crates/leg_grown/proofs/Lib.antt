@@ -5,6 +5,7 @@ mod PiecesWith
 mod Clear
 mod Covered
 mod LinePoints
+mod LineRects
 mod RunClean
 -- A flat that grows
 mod Grown

@@ -10,7 +10,7 @@ data IsNear (reach a b z : ℤ) : Type 0 where
   up : (a -ℤ reach) ≤ℤ z → z ≤ℤ (b +ℤ reach) → IsNear reach a b z
   down : (b -ℤ reach) ≤ℤ z → z ≤ℤ (a +ℤ reach) → IsNear reach a b z
 
-either : (a b : ℤ) → (a <ℤ b) ⊎ (b ≤ℤ a)
+pub either : (a b : ℤ) → (a <ℤ b) ⊎ (b ≤ℤ a)
 either a b = by (int_lt a b) refl where
   by : (less : Bool) → int_lt a b ≡ less → (a <ℤ b) ⊎ (b ≤ℤ a)
   by true less = inl (grind (arith, ints, less))
@@ -66,7 +66,7 @@ last_upright : (from : Spot) (spots : List Spot) → EachStep IsUpright from spo
 last_upright from [] each = refl
 last_upright from (to ∷ spots) each = each.0 ∙ last_upright to spots each.1
 
-same_spot : (a b : Spot) → a.x ≡ b.x → a.y ≡ b.y → a ≡ b
+pub same_spot : (a b : Spot) → a.x ≡ b.x → a.y ≡ b.y → a ≡ b
 same_spot a b x y = by a.x a.y x y where
   by : (u v : ℤ) → u ≡ b.x → v ≡ b.y → record { x = u; y = v } ≡ b
   by u v e f = rw (e, f) refl

@@ -73,6 +73,9 @@ set_elsewhere (z ∷ xs) zero (suc m) y other = refl
 set_elsewhere (z ∷ xs) (suc n) zero y other = refl
 set_elsewhere (z ∷ xs) (suc n) (suc m) y other = set_elsewhere xs n m y (λ same. other (ap suc same))
 
+pub contains_only : {X : Type 0} (x : X) → Contains (x ∷ []) x
+contains_only x = contains_at (x ∷ []) 0 x refl
+
 -- what stands for an element of a list, in a list that is like it one for one
 pub record HasLike {X Y : Type 0} (R : X → Y → Type 0) (ys : List Y) (x : X) : Type 0 where
   pub y : Y

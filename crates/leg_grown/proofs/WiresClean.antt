@@ -29,7 +29,7 @@ module _ (library : Contents) (design : DesignContents) (net : ℕ) (wires : Lis
       let outline : from.0 ≡ metal.metal = ap (λ (m : Metal). m.metal) from.2 in
       let owner : Net net ≡ metal.belongs.owner = ap (λ (m : Metal). m.belongs.owner) from.2 in
       let here : Contains (wire_outlines design wire) metal.metal = subst (Contains (wire_outlines design wire)) outline from.1 in
-      (is.owner ∙ sym owner, subst (λ layer. IsClean library old net layer shape.rect) (sym is.layer) (is_clean metal.metal shape.rect here is.proper is.points))
+      (is.owner ∙ sym owner, subst (λ layer. IsClean library old net layer shape.rect) (sym is.layer) (is_clean metal.metal shape.rect here is.points))
     where
       belongs : ℕ → Belonging
       belongs k = record { owner = Net net; component = None; piece = Some k }

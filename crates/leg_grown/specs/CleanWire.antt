@@ -1,6 +1,6 @@
 -- Wires whose metal is clean in a flat.
 use Rattle.std.specs.Prelude.{◌↔◌, ℕ, Contains}
-use Rattle.leg_geom.specs.Plane.{Spot, Sides, IsRect, HasPoint}
+use Rattle.leg_geom.specs.Plane.{Spot, Sides, HasPoint}
 use Rattle.leg_cells.specs.Records.{Contents}
 use Rattle.leg_block.specs.declared.fault.Fault.{Fault}
 use Rattle.leg_block.specs.declared.records.Wire.{Wire}
@@ -19,10 +19,10 @@ HasNoSpacingFault library flat = (fault : Fault) → ¬ Holds library flat fault
 abbrev pub IsRectOf : Outline → Sides → Type 0
 IsRectOf outline rect = (p : Spot) → HasPoint rect p ↔ HasPointOf outline p
 
--- Each piece of metal of the wire is clean as metal of this net: each rectangle with area that has exactly its points.
+-- Each piece of metal of the wire is clean as metal of this net: the rectangle that has exactly its points.
 abbrev pub IsCleanWire : Contents → DesignContents → FlatSaid → ℕ → Wire → Type 0
 IsCleanWire library design flat net wire =
-    (metal : OnLayer) (rect : Sides) → Contains (wire_outlines design wire) metal → IsRect rect → IsRectOf metal.outline rect
+    (metal : OnLayer) (rect : Sides) → Contains (wire_outlines design wire) metal → IsRectOf metal.outline rect
     → IsClean library flat net metal.layer rect
 
 -- a rectangle that is clean and has every point of the outline

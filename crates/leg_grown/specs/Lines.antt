@@ -1,6 +1,6 @@
--- Lines of metal over several points, and the lines from each of these points to the next.
-use Rattle.std.specs.Prelude.{◌≡◌, ◌⊎◌, ℤ, List, [], ◌∷◌}
-use Rattle.leg_geom.specs.Plane.{Spot}
+-- Lines of metal over several points, the lines from each of these points to the next, and squares at their ends.
+use Rattle.std.specs.Prelude.{◌≡◌, ◌⊎◌, ℤ, pos, ◌-ℤ◌, List, [], ◌∷◌}
+use Rattle.leg_geom.specs.Plane.{Spot, Sides}
 use Rattle.leg_flat.specs.Outline.{Outline}
 use Rattle.leg_flat.specs.Outline.Outline.{Line}
 
@@ -26,3 +26,7 @@ AreInLine from spots = EachStep (λ a b. a.y ≡ b.y) from spots ⊎ EachStep (�
 -- a line of this width that reaches equally far beyond both its ends
 abbrev pub line : ℤ → ℤ → Spot → Spot → Outline
 line width reach from to = Line from to width reach reach
+
+-- the square about the point 0 0 that reaches this far to each side
+abbrev pub square : ℤ → Sides
+square reach = record { x1 = pos 0 -ℤ reach; y1 = pos 0 -ℤ reach; x2 = reach; y2 = reach }

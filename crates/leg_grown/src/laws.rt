@@ -1,10 +1,11 @@
 //! Laws of flats and designs that grow by wires. Each function does nothing: its contract is the law.
 
-ghost use Rattle.std.specs.Prelude.{◌≡◌, ◌≢◌, ◌++◌, ◌∷◌, [], ◌≤ℤ◌, ℕ, ℤ, pos, List, All, Contains};
+ghost use Rattle.std.specs.Prelude.{◌≡◌, ◌≢◌, ◌⊎◌, ◌++◌, ◌+ℤ◌, ◌∷◌, [], ◌≤ℤ◌, ℕ, ℤ, pos, List, All, Contains};
 ghost use Rattle.leg_geom.specs.Plane.{Spot, Sides, HasPoint};
+ghost use Rattle.leg_cells.specs.Scale.{IsEven};
 ghost use Rattle.leg_cells.specs.Records.{Contents};
 ghost use Rattle.leg_block.specs.declared.records.Wire.{Wire};
-ghost use Rattle.leg_block.specs.declared.records.Wire.TheVariants.{Segment};
+ghost use Rattle.leg_block.specs.declared.records.Wire.TheVariants.{Segment, Patch};
 ghost use Rattle.leg_block.specs.Records.{DesignContents};
 ghost use Rattle.leg_flat.specs.Metal.{OnLayer, wire_outlines};
 ghost use Rattle.leg_flat.specs.Flat.{FlatSaid};
@@ -12,7 +13,7 @@ ghost use Rattle.leg_flat.specs.MoreWires.{HasOneMoreWire};
 ghost use Rattle.leg_wire.specs.Clean.{IsClean};
 ghost use Rattle.leg_grown.specs.Growth.{AddedWire, Grows, of_net, HasGrown};
 ghost use Rattle.leg_grown.specs.CleanWire.{HasNoSpacingFault, IsRectOf, IsCleanWire, HasCleanRect, LiesInClean};
-ghost use Rattle.leg_grown.specs.Lines.{EachStep, last_spot, AreInLine, line};
+ghost use Rattle.leg_grown.specs.Lines.{EachStep, last_spot, AreInLine, line, square};
 
 /// A flat without shorts and without shapes too near one another stays so when a net gets a wire whose metal is clean in it.
 pub fn clean_wire_stays_clean()
@@ -50,15 +51,29 @@ pub fn run_of_clean_steps_is_clean()
         → IsCleanWire library design flat net (Segment layer from (last_spot from spots) width reach reach) }
 {}
 
+/// The same where each step is a clean wire of its own, of an even width.
+pub fn run_of_clean_wires_is_clean()
+    ensures { (library : Contents) (design : DesignContents) (flat : FlatSaid) (net layer : ℕ) (width reach : ℤ) (from : Spot) (spots : List Spot)
+        → IsEven width → pos 0 ≤ℤ reach → AreInLine from spots → from ≢ last_spot from spots → EachStep (λ a b. a ≢ b) from spots
+        → EachStep (λ a b. IsCleanWire library design flat net (Segment layer a b width reach reach)) from spots
+        → IsCleanWire library design flat net (Segment layer from (last_spot from spots) width reach reach) }
+{}
+
+/// The squares of a wire's width about its two ends are clean if the wire is, which reaches past both by half its width.
+pub fn ends_of_clean_wire_are_clean()
+    ensures { (library : Contents) (design : DesignContents) (flat : FlatSaid) (net layer : ℕ) (reach : ℤ) (a b : Spot)
+        → a ≢ b → (a.y ≡ b.y) ⊎ (a.x ≡ b.x) → IsCleanWire library design flat net (Segment layer a b (reach +ℤ reach) reach reach)
+        → IsCleanWire library design flat net (Patch layer a (square reach)) × IsCleanWire library design flat net (Patch layer b (square reach)) }
+{}
+
 /// What a flat has that grew by wires.
 pub fn growth()
     ensures { (design : DesignContents) (added : List AddedWire) (before after : FlatSaid)
         → Grows design added before after → HasGrown design added before after }
 {}
 
-/// A flat that grew by wires and then gets one more has grown by all of these.
+/// A flat that grew by wires and then by others has grown by all of these.
 pub fn growth_goes_on()
-    ensures { (design : DesignContents) (added : List AddedWire) (one : AddedWire) (before between after : FlatSaid)
-        → Grows design added before between → HasOneMoreWire design one.net one.wire between after
-        → Grows design (added ++ one ∷ []) before after }
+    ensures { (design : DesignContents) (first then : List AddedWire) (before between after : FlatSaid)
+        → Grows design first before between → Grows design then between after → Grows design (first ++ then) before after }
 {}
