@@ -54,7 +54,7 @@ fixed_back design lists m fixed =
     subst (λ metal. Contains metal m) (rw (same_components design lists 0 design.components, same_design_pins design lists 0 design.pins) refl) fixed
 
 -- metal of some net
-abbrev IsOfSomeNet : Metal → Type 0
+abbrev pub IsOfSomeNet : Metal → Type 0
 IsOfSomeNet m = (n : ℕ) × (m.belongs.owner ≡ Net n)
 
 nothing_in : {X : Type 0} (x : X) → Contains [] x → ⊥

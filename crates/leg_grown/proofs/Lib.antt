@@ -13,3 +13,11 @@ mod WiresClean
 -- The design that gets the wires
 mod SameNets
 mod FixedMetal
+mod Moves
+mod JoinedMoved
+mod SameShapes
+mod NetMetal
+mod NetWires
+mod FlatPieces
+mod PieceMoves
+mod Likes

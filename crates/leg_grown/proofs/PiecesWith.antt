@@ -17,7 +17,7 @@ pub length_of_pieces : (terminals : List Terminal) (wires : ℕ) → length (pie
 length_of_pieces terminals wires =
     omega (arith, length-append (map Term terminals) (numbered wires), length-map terminals Term, length-map-range_with_len Wire 0 wires)
 
-counted : (n k : ℕ) → k < n → slice_get (range_with_len 0 n) k ≡ Some k
+pub counted : (n k : ℕ) → k < n → slice_get (range_with_len 0 n) k ≡ Some k
 counted n k less =
     slice_get-get_or (range_with_len 0 n) k 0 (omega (arith, length-range_with_len 0 n, less))
     ∙ ap Some (get_or-range_with_len 0 n k 0 less ∙ zero-add k)
@@ -47,12 +47,12 @@ pub record IsWireAt (terminals : List Terminal) (wires k : ℕ) (piece : Piece) 
   pub place : k ≡ length terminals + j
   pub less : j < wires
 
-mapped_at : {X Y : Type 0} (f : X → Y) (xs : List X) (k : ℕ) (y : Y) → slice_get (map f xs) k ≡ Some y → (x : X) × (slice_get xs k ≡ Some x) × (y ≡ f x)
+pub mapped_at : {X Y : Type 0} (f : X → Y) (xs : List X) (k : ℕ) (y : Y) → slice_get (map f xs) k ≡ Some y → (x : X) × (slice_get xs k ≡ Some x) × (y ≡ f x)
 mapped_at f [] k y at = absurd (none-some y at)
 mapped_at f (x ∷ xs) zero y at = (x, refl, sym (same_Some (f x) y at))
 mapped_at f (x ∷ xs) (suc k) y at = mapped_at f xs k y at
 
-numbered_is : (n k j : ℕ) → slice_get (range_with_len 0 n) k ≡ Some j → (k < n) × (j ≡ k)
+pub numbered_is : (n k j : ℕ) → slice_get (range_with_len 0 n) k ≡ Some j → (k < n) × (j ≡ k)
 numbered_is n k j at =
     let less : k < n = omega (arith, slice_get_within (range_with_len 0 n) k j at, length-range_with_len 0 n) in
     (less, same_Some j k (sym at ∙ counted n k less))
