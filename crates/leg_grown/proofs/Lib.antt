@@ -21,3 +21,4 @@ mod NetWires
 mod FlatPieces
 mod PieceMoves
 mod Likes
+mod Opens
