@@ -22,3 +22,5 @@ mod FlatPieces
 mod PieceMoves
 mod Likes
 mod Opens
+mod Placement
+mod Legal

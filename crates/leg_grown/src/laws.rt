@@ -1,12 +1,15 @@
 //! Laws of flats and designs that grow by wires. Each function does nothing: its contract is the law.
 
-ghost use Rattle.std.specs.Prelude.{◌≡◌, ◌≢◌, ◌⊎◌, ◌++◌, ◌+ℤ◌, ◌∷◌, [], ◌≤ℤ◌, ℕ, ℤ, pos, List, All, Contains};
+ghost use Rattle.std.specs.Prelude.{◌≡◌, ◌≢◌, ◌↔◌, ◌<◌, ◌+◌, ◌⊎◌, ◌++◌, ◌+ℤ◌, ◌∷◌, [], ◌≤ℤ◌, ℕ, ℤ, pos, List, All, Contains, length};
 ghost use Rattle.leg_geom.specs.Plane.{Spot, Sides, HasPoint};
 ghost use Rattle.leg_cells.specs.Scale.{IsEven};
 ghost use Rattle.leg_cells.specs.Records.{Contents};
+ghost use Rattle.leg_block.specs.declared.fault.Fault.{Fault};
 ghost use Rattle.leg_block.specs.declared.records.Wire.{Wire};
 ghost use Rattle.leg_block.specs.declared.records.Wire.TheVariants.{Segment, Patch};
 ghost use Rattle.leg_block.specs.Records.{DesignContents};
+ghost use Rattle.leg_place.specs.Faults as place;
+ghost use Rattle.leg_flat.specs.Nets.{terminals_of, regular_entry, entry_wires};
 ghost use Rattle.leg_flat.specs.Metal.{OnLayer, wire_outlines};
 ghost use Rattle.leg_flat.specs.Flat.{FlatSaid};
 ghost use Rattle.leg_flat.specs.MoreWires.{HasOneMoreWire};
@@ -14,6 +17,11 @@ ghost use Rattle.leg_wire.specs.Clean.{IsClean};
 ghost use Rattle.leg_grown.specs.Growth.{AddedWire, Grows, of_net, HasGrown};
 ghost use Rattle.leg_grown.specs.CleanWire.{HasNoSpacingFault, IsRectOf, IsCleanWire, HasCleanRect, LiesInClean};
 ghost use Rattle.leg_grown.specs.Lines.{EachStep, last_spot, AreInLine, line, square};
+ghost use Rattle.leg_grown.specs.Finished.{finished, IsFinishedFrom};
+ghost use Rattle.leg_grown.specs.Violations.{HasShort, HasTooNear, IsOpenNet, IsLegal};
+
+use leg_flat::laws::{metal_has_its_piece, piece_has_its_metal};
+use leg_wire::laws::{joined_both_ways, joined_onward};
 
 /// A flat without shorts and without shapes too near one another stays so when a net gets a wire whose metal is clean in it.
 pub fn clean_wire_stays_clean()
@@ -77,3 +85,69 @@ pub fn growth_goes_on()
     ensures { (design : DesignContents) (first then : List AddedWire) (before between after : FlatSaid)
         → Grows design first before between → Grows design then between after → Grows design (first ++ then) before after }
 {}
+
+/// Where a flat grew by wires and its design got the same wires, the flat of that design has a short just where the grown
+/// one has.
+pub fn shorts_stay()
+    ensures { (library : Contents) (design : DesignContents) (added : List AddedWire) (grown : FlatSaid) (lists : List (List Wire)) (end : FlatSaid)
+        → IsFinishedFrom design added grown lists end → HasShort library grown ↔ HasShort library end }
+{
+    metal_has_its_piece();
+    piece_has_its_metal();
+}
+
+/// It has shapes too near one another just where the grown one has.
+pub fn shapes_stay_too_near()
+    ensures { (library : Contents) (design : DesignContents) (added : List AddedWire) (grown : FlatSaid) (lists : List (List Wire)) (end : FlatSaid)
+        → IsFinishedFrom design added grown lists end → HasTooNear library grown ↔ HasTooNear library end }
+{
+    metal_has_its_piece();
+    piece_has_its_metal();
+}
+
+/// A net is not open in it just where it isn't in the grown one. Pieces have other numbers there: wires that were added to a
+/// net stand before those of its entry of `SPECIALNETS`.
+pub fn nets_stay_joined()
+    ensures { (design : DesignContents) (added : List AddedWire) (grown : FlatSaid) (lists : List (List Wire)) (end : FlatSaid)
+        → IsFinishedFrom design added grown lists end → (n : ℕ) → n < length design.nets
+        → (¬ IsOpenNet design grown n) ↔ (¬ IsOpenNet (finished design lists) end n) }
+{
+    metal_has_its_piece();
+    piece_has_its_metal();
+    joined_both_ways();
+    joined_onward();
+}
+
+/// A net that has a terminal, or had a wire in its entry of `NETS`, is open in it just where it is in the grown one: its
+/// first piece is the same.
+pub fn open_nets_stay_open()
+    ensures { (design : DesignContents) (added : List AddedWire) (grown : FlatSaid) (lists : List (List Wire)) (end : FlatSaid)
+        → IsFinishedFrom design added grown lists end → (n : ℕ) → n < length design.nets
+        → 0 < length (terminals_of design n) + length (entry_wires (regular_entry design n))
+        → IsOpenNet design grown n ↔ IsOpenNet (finished design lists) end n }
+{
+    metal_has_its_piece();
+    piece_has_its_metal();
+    joined_both_ways();
+    joined_onward();
+}
+
+/// Wires change nothing about where components stand.
+pub fn placement_stays()
+    ensures { (library : Contents) (design : DesignContents) (lists : List (List Wire)) (fault : Fault)
+        → place.Holds library design fault ↔ place.Holds library (finished design lists) fault }
+{}
+
+/// A design that got the wires that its flat grew by is legal if its components stand well and the grown flat has no short,
+/// no shapes too near one another and no open net.
+pub fn finished_design_is_legal()
+    ensures { (library : Contents) (design : DesignContents) (added : List AddedWire) (grown : FlatSaid) (lists : List (List Wire)) (end : FlatSaid)
+        → IsFinishedFrom design added grown lists end
+        → ((fault : Fault) → ¬ place.Holds library design fault) → HasNoSpacingFault library grown → ((n : ℕ) → ¬ IsOpenNet design grown n)
+        → IsLegal library (finished design lists) end }
+{
+    metal_has_its_piece();
+    piece_has_its_metal();
+    joined_both_ways();
+    joined_onward();
+}
