@@ -23,6 +23,7 @@ mod NetWires
 mod FlatPieces
 mod PieceMoves
 mod Likes
+mod MetalCount
 -- What is legal
 mod Opens
 mod Placement

@@ -11,8 +11,8 @@ ghost use Rattle.leg_block.specs.declared.records.Wire.TheVariants.{Segment, Pat
 ghost use Rattle.leg_block.specs.Records.{DesignContents};
 ghost use Rattle.leg_place.specs.Faults as place;
 ghost use Rattle.leg_flat.specs.Nets.{terminals_of, regular_entry, entry_wires};
-ghost use Rattle.leg_flat.specs.Metal.{OnLayer, wire_outlines};
-ghost use Rattle.leg_flat.specs.Flat.{FlatSaid};
+ghost use Rattle.leg_flat.specs.Metal.{OnLayer, wire_outlines, metal_of};
+ghost use Rattle.leg_flat.specs.Flat.{FlatSaid, IsFlatOf};
 ghost use Rattle.leg_flat.specs.MoreWires.{HasOneMoreWire};
 ghost use Rattle.leg_wire.specs.Clean.{IsClean};
 ghost use Rattle.leg_wire.specs.NetShapes.{AreNumbersOf};
@@ -112,6 +112,13 @@ pub fn more_wires_by_net()
     ensures { (count : ℕ) (added : List AddedWire) (lists : List (List Wire)) (net : ℕ) (before wires : List Wire)
         → AreByNet count added lists → net < count → slice_get lists net ≡ Some before
         → AreByNet count (added ++ of_net net wires) (slice_set lists net (before ++ wires)) }
+{}
+
+/// A design that got the wires that its flat grew by has as many shapes as the grown flat.
+pub fn shapes_stay_as_many()
+    ensures { (design : DesignContents) (flat grown : FlatSaid) (added : List AddedWire) (lists : List (List Wire))
+        → IsFlatOf design flat → Grows design added flat grown → AreByNet (length design.nets) added lists
+        → length (metal_of (finished design lists)) ≡ length grown.shapes }
 {}
 
 /// Where a flat grew by wires and its design got the same wires, the flat of that design has a short just where the grown
