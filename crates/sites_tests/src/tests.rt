@@ -1,4 +1,6 @@
-//! The stretches and the keys at values.
+//! The stretches, the keys and the best position at values.
+
+mod best;
 
 use leg_block::Row;
 use leg_geom::{Orient, Point};
