@@ -1,7 +1,7 @@
 -- An index that grows, and whose last rectangles are grouped.
-use Rattle.std.proofs.Common.{◌≡◌, ℕ, zero, suc, ◌+◌, ◌-◌, ◌^◌, ◌≤◌, ◌<◌, List, [], ◌∷◌, ◌++◌, length, take, drop, get_or, Some, slice_get, All, AllPairs, Contains, inl, inr, refl, sym, ap, subst, ◌∙◌, arith, length-append, take-append-drop}
+use Rattle.std.proofs.Common.{◌≡◌, ℕ, zero, suc, ◌-◌, ◌^◌, ◌≤◌, ◌<◌, List, [], ◌∷◌, ◌++◌, length, take, drop, get_or, Some, slice_get, All, AllPairs, Contains, inl, inr, refl, sym, ap, subst, ◌∙◌, arith, length-append, take-append-drop}
 use Rattle.std.proofs.lemmas.Bool.{cases_lt}
-use Rattle.std.proofs.lemmas.List.{take-append-le, take-take, take_all, length-take-le, get_or-take, get_or_default}
+use Rattle.std.proofs.lemmas.List.{take-append-le, take-take, take_all, length-take-le, get_or-take}
 use Rattle.std.proofs.lemmas.List.Concat.{flat_map-append}
 use Rattle.std.proofs.lemmas.List.Elements.{All-nil, All-cons, All-append, All-weaker, All-from_get_or, Contains-append_left, Contains-append_right}
 use Rattle.leg_geom.specs.Plane.{Sides, IsRect}
@@ -11,9 +11,9 @@ use Rattle.leg_sweep.specs.declared.node.Content.{Content}
 use Rattle.leg_sweep.specs.declared.node.Content.TheVariants.{Group, Rect}
 use Rattle.leg_sweep.specs.declared.node.Node.{Node}
 use Rattle.leg_sweep.specs.Steps.Bounds.{sides_of, IsWithin}
-use Rattle.leg_sweep.specs.Steps.Nodes.{number_in, numbers_of, IsForest, IsRightAt, IsRight, AreNodesFrom}
+use Rattle.leg_sweep.specs.Steps.Nodes.{number_in, numbers_of, IsRightAt, IsRight, AreNodesFrom}
 use Rattle.leg_sweep.specs.Steps.Index.{IsCut, IsIndex}
-use Rattle.leg_sweep.proofs.Lists.{AllPairs-append, AllPairs-nil, Contains-here}
+use Rattle.leg_sweep.proofs.Lists.{AllPairs-append}
 use Rattle.leg_sweep.proofs.NearNodes.{forest_append}
 
 -- an element keeps its place where others come behind

@@ -1,19 +1,19 @@
 -- How the nodes of an index are put together.
-use Rattle.std.proofs.Common.{◌≡◌, ℕ, zero, suc, ◌+◌, ◌-◌, ◌≤◌, ◌<◌, ◌≤ℤ◌, List, [], ◌∷◌, ◌++◌, length, take, drop, map, slice_set, Some, slice_get, All, Contains, refl, sym, ap, ◌∙◌, arith, length-append, append_assoc}
+use Rattle.std.proofs.Common.{◌≡◌, ℕ, ◌+◌, ◌-◌, ◌≤◌, ◌<◌, List, [], ◌∷◌, ◌++◌, length, drop, map, Some, slice_get, All, Contains, refl, sym, ap, ◌∙◌, arith, length-append, append_assoc}
 use Rattle.std.specs.List.{range_with_len}
 use Rattle.std.specs.Prelude.{IsPermutation}
 use Rattle.std.proofs.lemmas.Int.{ints}
 use Rattle.std.proofs.lemmas.List.{append-nil, drop_at, set_at, map-id, length-map, get_or-map}
 use Rattle.std.proofs.lemmas.List.Concat.{flat_map-append}
-use Rattle.std.proofs.lemmas.List.Elements.{All-nil, All-cons, All-append, All-take, All-weaker, All-map}
+use Rattle.std.proofs.lemmas.List.Elements.{All-nil, All-cons, All-append, All-take, All-weaker}
 use Rattle.std.proofs.lemmas.List.FromFn.{map-range_with_len_more, length-range_with_len, get_or-range_with_len}
-use Rattle.std.proofs.lemmas.List.Sorted.{IsPermutation-map, Contains-permutation, All-permutation}
+use Rattle.std.proofs.lemmas.List.Sorted.{IsPermutation-map, Contains-permutation}
 use Rattle.leg_geom.specs.Plane.{Sides, IsRect}
 use Rattle.leg_sweep.specs.declared.bounds.Bounds.{Bounds}
-use Rattle.leg_sweep.specs.declared.node.Content.TheVariants.{Group, Rect}
+use Rattle.leg_sweep.specs.declared.node.Content.TheVariants.{Rect}
 use Rattle.leg_sweep.specs.declared.node.Node.{Node}
 use Rattle.leg_sweep.specs.Steps.Bounds.{sides_of, IsWithin}
-use Rattle.leg_sweep.specs.Steps.Nodes.{members_of, number_in, numbers_of, IsForest, IsRight, AreNodesFrom, IsGrouped, AreGrouped}
+use Rattle.leg_sweep.specs.Steps.Nodes.{members_of, number_in, IsRight, AreNodesFrom, IsGrouped, AreGrouped}
 use Rattle.leg_sweep.proofs.NearNodes.{forest_append}
 
 -- sides lie within themselves

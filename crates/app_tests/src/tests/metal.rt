@@ -139,7 +139,7 @@ fn is_clean(
 ) -> Result<bool, Fail> {
     let design = read_def(alloc, library, def)?;
     let flat = flatten(alloc, design.library(), &design)?;
-    let rects = flat.shapes().iter().map(|shape| shape.rect).collect(alloc)?;
+    let rects: Vec<Rect> = flat.shapes().iter().map(|shape| shape.rect).collect(alloc)?;
     let index = BinIndex::build(alloc, &rects)?;
     let answer = clean(design.library(), &flat, net, 0, rect);
     if clean_indexed(design.library(), &flat, &index, net, 0, rect) == answer {

@@ -1,5 +1,5 @@
 -- What holds inside an index of rectangles.
-use Rattle.std.specs.Prelude.{◌≡◌, ℕ, ◌<◌, ◌≤◌, ◌^◌, List, length, take, All, AllPairs}
+use Rattle.std.specs.Prelude.{◌<◌, ◌≤◌, ◌^◌, List, length, take, All, AllPairs}
 use Rattle.leg_geom.specs.Plane.{Sides}
 use Rattle.leg_sweep.specs.declared.node.Node.{Node}
 use Rattle.leg_sweep.specs.declared.bin_index.Cut.{Cut}

@@ -1,5 +1,5 @@
 -- Nodes of an index in a list: a group stands before its members.
-use Rattle.std.specs.Prelude.{◌≡◌, ℕ, ◌+◌, ◌-◌, ◌≤◌, ◌<◌, List, [], ◌∷◌, ◌++◌, length, take, drop, slice_set, slice_get, Some, All, Contains, if◌then◌else◌}
+use Rattle.std.specs.Prelude.{◌≡◌, ℕ, ◌+◌, ◌-◌, ◌≤◌, ◌<◌, List, [], ◌∷◌, ◌++◌, length, take, slice_set, slice_get, Some, All, Contains, if◌then◌else◌}
 use Rattle.std.specs.List.{flat_map}
 use Rattle.leg_geom.specs.Plane.{Sides, IsRect}
 use Rattle.leg_sweep.specs.declared.bounds.Bounds.{Bounds}

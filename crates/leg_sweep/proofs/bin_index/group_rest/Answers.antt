@@ -1,6 +1,5 @@
-use Rattle.std.proofs.Common.{◌≡◌, ℕ, ◌≤◌, ◌++◌, ◌∷◌, ◌-◌, ◌∙◌, [], take, length, arith, rules}
+use Rattle.std.proofs.Common.{◌≡◌, ℕ, ◌++◌, ◌∷◌, [], take, length, rules}
 use Rattle.leg_sweep.specs.declared.bin_index.Cut.{Cut}
-use Rattle.leg_sweep.specs.Steps.Nodes.{AreNodesFrom}
 use Rattle.leg_sweep.proofs.IndexCuts.{index_grouped}
 use Rattle.leg_sweep.proofs.bin_index.group_rest.Goals as goal
 

@@ -1,4 +1,4 @@
-use Rattle.std.proofs.Common.{◌≡◌, ℕ, ◌++◌, ◌∷◌, [], take, drop, map, length, refl, sym, ap, ◌∙◌, append_assoc, take-append-drop, arith, rules}
+use Rattle.std.proofs.Common.{◌≡◌, ℕ, ◌++◌, ◌∷◌, [], drop, map, length, arith, rules}
 use Rattle.std.proofs.lemmas.List.{take_at, map-append}
 use Rattle.leg_sweep.specs.Steps.Nodes.{AreGrouped}
 use Rattle.leg_sweep.proofs.NodeGroups.{grouped_both, grouped_closed, members_within}

@@ -1,5 +1,4 @@
-use Rattle.std.proofs.Common.{◌≡◌, ℕ, ◌<◌, map, length, All, rules}
-use Rattle.std.specs.List.{range_with_len}
+use Rattle.std.proofs.Common.{ℕ, ◌<◌, length}
 use Rattle.std.proofs.lemmas.List.Sorted.{All-permutation}
 use Rattle.leg_sweep.proofs.NodeGroups.{nodes_from, keys_below}
 use Rattle.leg_sweep.proofs.groups.grouped.Goals as goal

@@ -1,6 +1,5 @@
 -- One more number.
-use Rattle.std.proofs.Common.{◌≡◌, ℕ, ◌+◌, ◌-◌, ◌++◌, ◌∷◌, [], map, refl, arith, rules}
-use Rattle.std.specs.List.{range_with_len}
+use Rattle.std.proofs.Common.{◌≡◌, ℕ, ◌+◌, ◌-◌, ◌++◌, ◌∷◌, [], refl, arith, rules}
 use Rattle.std.proofs.lemmas.List.{map-append}
 use Rattle.leg_sweep.proofs.NodeGroups.{range_more}
 use Rattle.leg_sweep.proofs.groups.keys_from.Goals as goal

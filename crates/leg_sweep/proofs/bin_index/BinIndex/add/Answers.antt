@@ -1,4 +1,4 @@
-use Rattle.std.proofs.Common.{◌≡◌, ℕ, ◌<◌, ◌-◌, ◌^◌, ◌++◌, ◌∷◌, [], ◌∙◌, length, ap, arith, rules}
+use Rattle.std.proofs.Common.{◌≡◌, ◌<◌, ◌-◌, ◌^◌, ◌++◌, ◌∷◌, [], length, rules}
 use Rattle.leg_sweep.specs.declared.node.Content.TheVariants.{Rect}
 use Rattle.leg_sweep.proofs.IndexCuts.{index_grown}
 use Rattle.leg_sweep.proofs.bin_index.BinIndex.add.Goals as goal
