@@ -1,14 +1,15 @@
 -- Nets are open in the flat of the design that got the wires just where they are in the grown flat.
-use Rattle.std.proofs.Common.{◌≡◌, ℕ, ◌+◌, ◌<◌, List, ◌++◌, length, Some, slice_get, inl, sym, ap, subst, ◌∙◌, refl, arith}
+use Rattle.std.proofs.Common.{◌≡◌, ℕ, ◌+◌, ◌<◌, Bool, true, false, List, ◌++◌, length, get_or, Some, slice_get, ◌⊎◌, inl, inr, sym, ap, subst, ◌∙◌, refl, arith}
+use Rattle.std.proofs.lemmas.Bool.{false≢true}
 use Rattle.std.proofs.lemmas.List.{length-append}
-use Rattle.std.proofs.lemmas.Option.{same_Some}
+use Rattle.std.proofs.lemmas.Option.{same_Some, slice_get-get_or}
 use Rattle.leg_geom.specs.Plane.{Spot}
 use Rattle.leg_block.specs.declared.records.Wire.{Wire}
 use Rattle.leg_block.specs.Records.{DesignContents}
 use Rattle.leg_flat.specs.declared.piece.Piece.{Piece}
 use Rattle.leg_flat.specs.Nets.{terminals_of, wires_of, regular_entry, special_entry, entry_wires}
 use Rattle.leg_flat.specs.Flat.{FlatSaid, pieces_with}
-use Rattle.leg_wire.specs.Touch.{piece_count, LiesIn, Touch, AreJoined}
+use Rattle.leg_wire.specs.Touch.{piece_count, LiesIn, Touch, AreJoined, AreMarks}
 use Rattle.leg_grown.specs.Growth.{AddedWire, wires_added}
 use Rattle.leg_grown.specs.Finished.{finished, IsFinishedFrom}
 use Rattle.leg_grown.specs.Violations.{IsOpenNet}
@@ -184,6 +185,50 @@ module _ (metal_has : MetalHasItsPiece) (piece_has : PieceHasItsMetal) (back : J
       joined piece.0 (target_within t r s a k piece.0 piece.1) (λ to_piece.
       joined first.0 (target_within t r s a 0 first.0 first.1) (λ to_first.
       is_open.open_piece (joined_before 0 k first.0 piece.0 first.1 piece.1 (onward end n first.0 0 piece.0 (back end n 0 first.0 to_first) to_piece))))
+
+  -- where marks tell which pieces are joined, a net with an open piece has one in the other flat
+  module _ (marks : List Bool) (marked : AreMarks (AreJoined grown n 0) (piece_count grown n) marks) where
+    told : (g : ℕ) → g < t + r + s + a → AreJoined grown n 0 g ⊎ (¬ AreJoined grown n 0 g)
+    told g less = by (get_or marks g false) (slice_get-get_or marks g false (omega (arith, marked.count, grown_count, less))) where
+      by : (mark : Bool) → slice_get marks g ≡ Some mark → AreJoined grown n 0 g ⊎ (¬ AreJoined grown n 0 g)
+      by true there = inl ((marked.each g true there).0 refl)
+      by false there = inr (λ joined. false≢true ((marked.each g false there).1 joined))
+
+    pub marked_then : IsOpenNet design grown n → IsOpenNet done end n
+    marked_then (k, is_open) =
+        let within : k < t + r + s + a = omega (arith, grown_count, is_open.piece) in
+        by (some_target t r s a k within) (some_target t r s a 0 (omega (arith, within))) (some_source t r s a 0 (omega (arith, within)))
+      where
+        at_end : (d : ℕ) → d < t + r + s + a → ¬ AreJoined end n 0 d → IsOpenNet done end n
+        at_end d less apart = (d, record { net = omega (arith, entry, same_count design lists); piece = omega (arith, end_count, less); open_piece = apart })
+
+        by : (d : ℕ) × To k d → (f : ℕ) × To 0 f → (z : ℕ) × To z 0 → IsOpenNet done end n
+        by (d, to_d) (f, to_f) (z, from_z) = elim (told z (source_within t r s a z 0 from_z)) [
+          | inl same ↦
+              at_end d (target_within t r s a k d to_d)
+              (λ joined. is_open.open_piece (onward grown n 0 z k same (joined_before z k 0 d from_z to_d joined)))
+          | inr apart ↦
+              at_end f (target_within t r s a 0 f to_f)
+              (λ joined. apart (back grown n z 0 (joined_before z 0 0 f from_z to_f joined)))
+        ]
+
+    pub marked_before : IsOpenNet done end n → IsOpenNet design grown n
+    marked_before (k, is_open) =
+        let within : k < t + r + s + a = omega (arith, end_count, is_open.piece) in
+        by (some_source t r s a k within) (some_source t r s a 0 (omega (arith, within)))
+      where
+        at_grown : (g : ℕ) → g < t + r + s + a → ¬ AreJoined grown n 0 g → IsOpenNet design grown n
+        at_grown g less apart = (g, record { net = entry; piece = omega (arith, grown_count, less); open_piece = apart })
+
+        by : (g : ℕ) × To g k → (z : ℕ) × To z 0 → IsOpenNet design grown n
+        by (g, from_g) (z, from_z) =
+            which (told g (source_within t r s a g k from_g)) (told z (source_within t r s a z 0 from_z))
+          where
+            which : AreJoined grown n 0 g ⊎ (¬ AreJoined grown n 0 g) → AreJoined grown n 0 z ⊎ (¬ AreJoined grown n 0 z) → IsOpenNet design grown n
+            which (inr apart) other = at_grown g (source_within t r s a g k from_g) apart
+            which (inl to_g) (inr apart) = at_grown z (source_within t r s a z 0 from_z) apart
+            which (inl to_g) (inl to_z) =
+                absurd (is_open.open_piece (joined_then z g 0 k from_z from_g (onward grown n z 0 g (back grown n 0 z to_z) to_g)))
 
   -- where the first piece is the same, a piece that is open is open in the other flat
   module _ (first_stays : 0 < t + r) where

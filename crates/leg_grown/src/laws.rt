@@ -1,6 +1,6 @@
 //! Laws of flats and designs that grow by wires. Each function does nothing: its contract is the law.
 
-ghost use Rattle.std.specs.Prelude.{◌≡◌, ◌≢◌, ◌↔◌, ◌<◌, ◌+◌, ◌⊎◌, ◌++◌, ◌-◌, ◌+ℤ◌, ◌∷◌, [], ◌≤ℤ◌, ℕ, ℤ, pos, List, All, Contains, length, replicate, Some, slice_get, slice_set};
+ghost use Rattle.std.specs.Prelude.{◌≡◌, ◌≢◌, ◌↔◌, ◌<◌, ◌+◌, ◌⊎◌, ◌++◌, ◌-◌, ◌+ℤ◌, ◌∷◌, [], ◌≤ℤ◌, ℕ, ℤ, Bool, pos, List, All, Contains, length, replicate, Some, slice_get, slice_set};
 ghost use Rattle.std.specs.List.{range_with_len};
 ghost use Rattle.leg_geom.specs.Plane.{Spot, Sides, HasPoint};
 ghost use Rattle.leg_cells.specs.Scale.{IsEven};
@@ -16,6 +16,7 @@ ghost use Rattle.leg_flat.specs.Flat.{FlatSaid, IsFlatOf};
 ghost use Rattle.leg_flat.specs.MoreWires.{HasOneMoreWire};
 ghost use Rattle.leg_wire.specs.Clean.{IsClean};
 ghost use Rattle.leg_wire.specs.NetShapes.{AreNumbersOf};
+ghost use Rattle.leg_wire.specs.Touch.{piece_count, AreJoined, AreMarks};
 ghost use Rattle.leg_grown.specs.Growth.{AddedWire, Grows, of_net, HasGrown};
 ghost use Rattle.leg_grown.specs.CleanWire.{HasNoSpacingFault, IsRectOf, IsCleanWire, HasCleanRect, LiesInClean};
 ghost use Rattle.leg_grown.specs.Lines.{EachStep, last_spot, AreInLine, line, square};
@@ -159,6 +160,19 @@ pub fn open_nets_stay_open()
     ensures { (design : DesignContents) (added : List AddedWire) (grown : FlatSaid) (lists : List (List Wire)) (end : FlatSaid)
         → IsFinishedFrom design added grown lists end → (n : ℕ) → n < length design.nets
         → 0 < length (terminals_of design n) + length (entry_wires (regular_entry design n))
+        → IsOpenNet design grown n ↔ IsOpenNet (finished design lists) end n }
+{
+    metal_has_its_piece();
+    piece_has_its_metal();
+    joined_both_ways();
+    joined_onward();
+}
+
+/// So is any net of which marks tell, as `joined` finds them, which pieces are joined to the first one.
+pub fn marked_nets_stay_open()
+    ensures { (design : DesignContents) (added : List AddedWire) (grown : FlatSaid) (lists : List (List Wire)) (end : FlatSaid)
+        → IsFinishedFrom design added grown lists end → (n : ℕ) → n < length design.nets
+        → (marks : List Bool) → AreMarks (AreJoined grown n 0) (piece_count grown n) marks
         → IsOpenNet design grown n ↔ IsOpenNet (finished design lists) end n }
 {
     metal_has_its_piece();
