@@ -4,7 +4,8 @@ use Rattle.std.proofs.lemmas.Bool.{cases_lt, cases_eq, false≢true}
 use Rattle.std.proofs.lemmas.List.Sums.{count_by-le-length}
 use Rattle.leg_walk.specs.declared.mark.Mark.{Mark}
 use Rattle.leg_walk.specs.declared.mark.Mark.TheVariants.{Unseen, Shut, Reached}
-use Rattle.leg_walk.specs.Steps.Marks.{is_unseen, AreUnseen, IsMark, IsAt}
+use Rattle.leg_walk.specs.Marks.{AreUnseen}
+use Rattle.leg_walk.specs.Steps.Marks.{is_unseen, IsMark, IsAt}
 use Rattle.leg_walk.specs.Steps.Spread.{IsNew, IsSpread}
 use Rattle.leg_walk.specs.Steps.Search.{IsUnderway, IsNearest, IsFound}
 use Rattle.leg_walk.proofs.Marks.{unseen_no_mark}

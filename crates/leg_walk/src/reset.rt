@@ -1,7 +1,8 @@
 //! All nodes unseen, and unseen again.
 
 ghost use Rattle.std.specs.Prelude.{◌≡◌, [], length, IfOk};
-ghost use Rattle.leg_walk.specs.Steps.Marks.{AreUnseen, IsNoted};
+ghost use Rattle.leg_walk.specs.Marks.{AreUnseen};
+ghost use Rattle.leg_walk.specs.Steps.Marks.{IsNoted};
 
 use crate::mark::Mark;
 use std::alloc::{AllocError, Allocator};
