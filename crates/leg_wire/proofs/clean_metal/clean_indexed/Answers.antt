@@ -4,7 +4,6 @@ use Rattle.std.proofs.lemmas.Bool.{false≢true}
 use Rattle.std.proofs.lemmas.List.{append-nil}
 use Rattle.std.proofs.lemmas.List.Elements.{All-push}
 use Rattle.std.proofs.lemmas.Option.{slice_get_read}
-use Rattle.leg_flat.specs.declared.shape.Shape.{Shape}
 use Rattle.leg_sweep.specs.Near.{AreNear}
 use Rattle.leg_wire.specs.Clean.{net_metal}
 use Rattle.leg_wire.specs.Steps.LayerSpacing.{spacing_at}
