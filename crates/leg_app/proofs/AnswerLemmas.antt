@@ -4,7 +4,7 @@ use Rattle.std.proofs.lemmas.Fmt.{decimal_digit}
 use Rattle.std.proofs.lemmas.Bool.{false≢true}
 use Rattle.leg_app.specs.declared.command.Command.{Command}
 use Rattle.leg_app.specs.declared.status.Status.{Status}
-use Rattle.leg_app.specs.declared.status.Status.TheVariants.{Success, Violations, Refused, Memory}
+use Rattle.leg_app.specs.declared.status.Status.TheVariants.{Success, Violations, Refused, Unsolved, Memory}
 use Rattle.leg_app.specs.declared.text_fault.TextFault.{TextFault}
 use Rattle.leg_app.specs.declared.text_fault.TextFault.TheVariants as faults
 use Rattle.leg_app.specs.Refusal.{Refuses}
@@ -50,6 +50,7 @@ listed_answer command lefs def library design flat violations Success text say s
 listed_answer command lefs def library design flat violations Violations text say shown list listed =
     record { library = library; design = design; flat = flat; violations = violations; say = say; shown = shown; list = list; is = listed }
 listed_answer command lefs def library design flat violations Refused text say shown list listed = absurd listed
+listed_answer command lefs def library design flat violations Unsolved text say shown list listed = absurd listed
 listed_answer command lefs def library design flat violations Memory text say shown list listed = absurd listed
 
 -- the line of a stream in which no LEF ends

@@ -7,7 +7,7 @@ use Rattle.leg_lex.specs.declared.limits.TheConstants.{TEXT_LIMIT}
 use Rattle.leg_lex.specs.declared.read_fault.FaultKind.TheVariants as kinds
 use Rattle.leg_app.specs.declared.command.Command.TheVariants.{Check}
 use Rattle.leg_app.specs.declared.status.Status.{Status}
-use Rattle.leg_app.specs.declared.status.Status.TheVariants.{Success, Violations, Refused, Memory}
+use Rattle.leg_app.specs.declared.status.Status.TheVariants.{Success, Violations, Refused, Unsolved, Memory}
 use Rattle.leg_app.specs.Say.{SayNothing}
 use Rattle.leg_app.specs.Stream.{end_library}
 use Rattle.leg_app.specs.Lines.{no_library_text}
@@ -89,7 +89,9 @@ too_long lef def (inr long) library design say = omega (arith, long, say.said.fi
 -- what is answered to texts that say nothing is answered to all such texts
 answer_to_nothing : (lefs : List (List ℕ)) (def other : List ℕ) (status : Status) (text : List ℕ) → SayNothing lefs def → SayNothing lefs other → IsAnswer Check lefs def status text → IsAnswer Check lefs other status text
 answer_to_nothing lefs def other Success text none none_too (inl lists) = absurd (none lists.library lists.design lists.say)
-answer_to_nothing lefs def other Success text none none_too (inr told) = absurd (none told.library told.design told.say)
+answer_to_nothing lefs def other Success text none none_too (inr (inl told)) = absurd (none told.library told.design told.say)
+answer_to_nothing lefs def other Success text none none_too (inr (inr printed)) = absurd (none printed.library printed.design printed.say)
+answer_to_nothing lefs def other Unsolved text none none_too told = absurd (none told.library told.design told.say)
 answer_to_nothing lefs def other Violations text none none_too answer = absurd (none answer.library answer.design answer.say)
 answer_to_nothing lefs def other Memory text none none_too answer = answer
 answer_to_nothing lefs def other Refused text none none_too (inl refusal) = inl (record { nothing = none_too; reason = refusal.reason })

@@ -14,9 +14,10 @@ use Rattle.leg_design.specs.Header.{units_in}
 use Rattle.leg_design.specs.Form.{design_in}
 use Rattle.leg_app.specs.declared.command.Command.{Command}
 use Rattle.leg_app.specs.declared.status.Status.{Status}
-use Rattle.leg_app.specs.declared.status.Status.TheVariants.{Success, Violations, Refused, Memory}
+use Rattle.leg_app.specs.declared.status.Status.TheVariants.{Success, Violations, Refused, Unsolved, Memory}
 use Rattle.leg_app.specs.Say.{SayDesign}
-use Rattle.leg_app.specs.Answer.{ListsViolations, IsAnswer}
+use Rattle.leg_app.specs.Legalised.{PrintsLegalised, TellsUnsolved}
+use Rattle.leg_app.specs.Answer.{ListsViolations, TellsWirelength, IsAnswer}
 
 -- a limit beyond that of texts
 module _ (limit : ℕ) (beyond : TEXT_LIMIT < limit) where
@@ -83,9 +84,8 @@ module _ (limit : ℕ) (beyond : TEXT_LIMIT < limit) where
       is = lists.is;
     }
 
-    pub cut_answers : (command : Command) (status : Status) (text : List ℕ) → IsAnswer command (map (take limit) lefs) (take limit def) status text → IsAnswer command lefs def status text
-    cut_answers command Success text (inl lists) = inl (cut_lists command Success text lists)
-    cut_answers command Success text (inr told) = inr (record {
+    cut_measures : (command : Command) (text : List ℕ) → TellsWirelength command (map (take limit) lefs) (take limit def) text → TellsWirelength command lefs def text
+    cut_measures command text told = record {
       measures = told.measures;
       library = told.library;
       design = told.design;
@@ -93,7 +93,39 @@ module _ (limit : ℕ) (beyond : TEXT_LIMIT < limit) where
       say = cut_designs told.library told.design told.say;
       measured = told.measured;
       is = told.is;
-    })
+    }
+
+    cut_legalises : (command : Command) (text : List ℕ) → PrintsLegalised command (map (take limit) lefs) (take limit def) text → PrintsLegalised command lefs def text
+    cut_legalises command text printed = record {
+      legalises = printed.legalises;
+      library = printed.library;
+      design = printed.design;
+      say = cut_designs printed.library printed.design printed.say;
+      legalised = printed.legalised;
+      legal = printed.legal;
+      same = printed.same;
+      run = printed.run;
+      distances = printed.distances;
+      total = printed.total;
+      greatest = printed.greatest;
+      moves = printed.moves;
+      is = printed.is;
+    }
+
+    cut_unsolved : (command : Command) (text : List ℕ) → TellsUnsolved command (map (take limit) lefs) (take limit def) text → TellsUnsolved command lefs def text
+    cut_unsolved command text told = record {
+      legalises = told.legalises;
+      library = told.library;
+      design = told.design;
+      say = cut_designs told.library told.design told.say;
+      reason = told.reason;
+    }
+
+    pub cut_answers : (command : Command) (status : Status) (text : List ℕ) → IsAnswer command (map (take limit) lefs) (take limit def) status text → IsAnswer command lefs def status text
+    cut_answers command Success text (inl lists) = inl (cut_lists command Success text lists)
+    cut_answers command Success text (inr (inl told)) = inr (inl (cut_measures command text told))
+    cut_answers command Success text (inr (inr printed)) = inr (inr (cut_legalises command text printed))
+    cut_answers command Unsolved text told = cut_unsolved command text told
     cut_answers command Violations text answer = cut_lists command Violations text answer
     cut_answers command Memory text answer = answer
     cut_answers command Refused text (inl refusal) = inl (record {

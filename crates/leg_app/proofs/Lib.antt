@@ -4,6 +4,7 @@ mod SplitLemmas
 -- What is answered
 mod KindsJoined
 mod AnswerLemmas
+mod MovesTold
 mod OneAnswer
 mod CutTexts
 mod CutStreams

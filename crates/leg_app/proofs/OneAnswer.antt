@@ -19,9 +19,9 @@ use Rattle.leg_flat.proofs.OneFlat.{one_flat}
 use Rattle.leg_print.specs.Wirelength.{IsWirelength}
 use Rattle.leg_print.proofs.OneWirelength.{one_wirelength}
 use Rattle.leg_app.specs.declared.command.Command.{Command}
-use Rattle.leg_app.specs.declared.command.Command.TheVariants.{PlaceCheck, Check, Measure}
+use Rattle.leg_app.specs.declared.command.Command.TheVariants.{PlaceCheck, Check, Measure, Legalise}
 use Rattle.leg_app.specs.declared.status.Status.{Status}
-use Rattle.leg_app.specs.declared.status.Status.TheVariants.{Success, Violations, Refused, Memory}
+use Rattle.leg_app.specs.declared.status.Status.TheVariants.{Success, Violations, Refused, Unsolved, Memory}
 use Rattle.leg_app.specs.Say.{SayLibraryFor, SayDesign}
 use Rattle.leg_app.specs.Violations.{IsViolation, IsJudgedBy, AreAllViolations, AreViolationsOf}
 use Rattle.leg_app.specs.Lines.{wirelength_text}
@@ -99,6 +99,7 @@ one_shown PlaceCheck design (Some f) g p q = absurd p
 one_shown Check design None g p q = absurd p
 one_shown Check design (Some f) None p q = absurd q
 one_shown Measure design f g p q = absurd p
+one_shown Legalise design f g p q = absurd p
 one_shown Check design (Some f) (Some g) p q = (let same : f ≡ g = one_flat design f g p.is_flat q.is_flat in cc)
 
 -- one status and one text go with violations
@@ -108,10 +109,13 @@ one_listing design flat violations Violations Violations text words p q = (refl,
 one_listing design flat violations Success Violations text words p q = absurd (q.0 p.0)
 one_listing design flat violations Violations Success text words p q = absurd (p.0 q.0)
 one_listing design flat violations Success Refused text words p q = absurd q
+one_listing design flat violations Success Unsolved text words p q = absurd q
 one_listing design flat violations Success Memory text words p q = absurd q
 one_listing design flat violations Violations Refused text words p q = absurd q
+one_listing design flat violations Violations Unsolved text words p q = absurd q
 one_listing design flat violations Violations Memory text words p q = absurd q
 one_listing design flat violations Refused other text words p q = absurd p
+one_listing design flat violations Unsolved other text words p q = absurd p
 one_listing design flat violations Memory other text words p q = absurd p
 
 module _ (command : Command) (lefs : List (List ℕ)) (def : List ℕ) (one : SayOneDesign lefs def) where
@@ -158,21 +162,29 @@ module _ (command : Command) (lefs : List (List ℕ)) (def : List ℕ) (one : Sa
   measured_not_refused text words p (inl refusal) = refusal.nothing p.library p.design p.say
   measured_not_refused text words p (inr much) = (let both : ◌≡◌ {A = Command} Check Measure = sym much.flattens ∙ p.measures in cc)
 
-  pub one_answer : (status other : Status) (text words : List ℕ) → IsAnswer command lefs def status text → IsAnswer command lefs def other words
-      → status ≢ Refused → status ≢ Memory → other ≢ Memory → (status ≡ other) × (text ≡ words)
-  one_answer Refused other text words p q judged told told_too = absurd (judged refl)
-  one_answer Memory other text words p q judged told told_too = absurd (told refl)
-  one_answer Success Success text words (inl p) (inl q) judged told told_too = one_judgement Success Success text words p q
-  one_answer Success Success text words (inl p) (inr q) judged told told_too = absurd (lists_nothing Success text words p q)
-  one_answer Success Success text words (inr p) (inl q) judged told told_too = absurd (lists_nothing Success words text q p)
-  one_answer Success Success text words (inr p) (inr q) judged told told_too = (refl, one_measure text words p q)
-  one_answer Success Violations text words (inl p) q judged told told_too = one_judgement Success Violations text words p q
-  one_answer Success Violations text words (inr p) q judged told told_too = absurd (lists_nothing Violations words text q p)
-  one_answer Violations Success text words p (inl q) judged told told_too = one_judgement Violations Success text words p q
-  one_answer Violations Success text words p (inr q) judged told told_too = absurd (lists_nothing Violations text words p q)
-  one_answer Violations Violations text words p q judged told told_too = one_judgement Violations Violations text words p q
-  one_answer Success Refused text words (inl p) q judged told told_too = absurd (judged_not_refused Success text words p q)
-  one_answer Success Refused text words (inr p) q judged told told_too = absurd (measured_not_refused text words p q)
-  one_answer Violations Refused text words p q judged told told_too = absurd (judged_not_refused Violations text words p q)
-  one_answer Success Memory text words p q judged told told_too = absurd (told_too refl)
-  one_answer Violations Memory text words p q judged told told_too = absurd (told_too refl)
+  -- of a command that doesn't legalise
+  module _ (judges : command ≢ Legalise) where
+    pub one_answer : (status other : Status) (text words : List ℕ) → IsAnswer command lefs def status text → IsAnswer command lefs def other words
+        → status ≢ Refused → status ≢ Memory → other ≢ Memory → (status ≡ other) × (text ≡ words)
+    one_answer Refused other text words p q judged told told_too = absurd (judged refl)
+    one_answer Memory other text words p q judged told told_too = absurd (told refl)
+    one_answer Unsolved other text words p q judged told told_too = absurd (judges p.legalises)
+    one_answer Success other text words (inr (inr p)) q judged told told_too = absurd (judges p.legalises)
+    one_answer Success Unsolved text words p q judged told told_too = absurd (judges q.legalises)
+    one_answer Violations Unsolved text words p q judged told told_too = absurd (judges q.legalises)
+    one_answer Success Success text words p (inr (inr q)) judged told told_too = absurd (judges q.legalises)
+    one_answer Violations Success text words p (inr (inr q)) judged told told_too = absurd (judges q.legalises)
+    one_answer Success Success text words (inl p) (inl q) judged told told_too = one_judgement Success Success text words p q
+    one_answer Success Success text words (inl p) (inr (inl q)) judged told told_too = absurd (lists_nothing Success text words p q)
+    one_answer Success Success text words (inr (inl p)) (inl q) judged told told_too = absurd (lists_nothing Success words text q p)
+    one_answer Success Success text words (inr (inl p)) (inr (inl q)) judged told told_too = (refl, one_measure text words p q)
+    one_answer Success Violations text words (inl p) q judged told told_too = one_judgement Success Violations text words p q
+    one_answer Success Violations text words (inr (inl p)) q judged told told_too = absurd (lists_nothing Violations words text q p)
+    one_answer Violations Success text words p (inl q) judged told told_too = one_judgement Violations Success text words p q
+    one_answer Violations Success text words p (inr (inl q)) judged told told_too = absurd (lists_nothing Violations text words p q)
+    one_answer Violations Violations text words p q judged told told_too = one_judgement Violations Violations text words p q
+    one_answer Success Refused text words (inl p) q judged told told_too = absurd (judged_not_refused Success text words p q)
+    one_answer Success Refused text words (inr (inl p)) q judged told told_too = absurd (measured_not_refused text words p q)
+    one_answer Violations Refused text words p q judged told told_too = absurd (judged_not_refused Violations text words p q)
+    one_answer Success Memory text words p q judged told told_too = absurd (told_too refl)
+    one_answer Violations Memory text words p q judged told told_too = absurd (told_too refl)

@@ -6,9 +6,9 @@ use Rattle.leg_lex.specs.declared.read_fault.FaultKind.TheVariants as kinds
 use Rattle.leg_cells.specs.declared.scale_fault.ScaleKind.{ScaleKind}
 use Rattle.leg_cells.specs.declared.scale_fault.ScaleKind.TheVariants as scale
 use Rattle.leg_app.specs.declared.command.Command.{Command}
-use Rattle.leg_app.specs.declared.command.Command.TheVariants.{PlaceCheck, Check, Measure}
+use Rattle.leg_app.specs.declared.command.Command.TheVariants.{PlaceCheck, Check, Measure, Legalise}
 use Rattle.leg_app.specs.declared.status.Status.{Status}
-use Rattle.leg_app.specs.declared.status.Status.TheVariants.{Success, Violations, Refused, Memory}
+use Rattle.leg_app.specs.declared.status.Status.TheVariants.{Success, Violations, Refused, Unsolved, Memory}
 use Rattle.leg_cells.specs.Records.{Contents}
 use Rattle.leg_block.specs.Records.{DesignContents}
 use Rattle.leg_block.specs.declared.fault.Fault.{Fault}
@@ -20,26 +20,31 @@ use Rattle.leg_app.specs.Say.{SayDesign, SayNothing, SayTooMany}
 use Rattle.leg_app.specs.Violations.{IsViolation, IsJudgedBy}
 use Rattle.leg_app.specs.Stream.{HasEndLibrary, IsSplit}
 use Rattle.leg_app.specs.Lines.{listing_text, legal_text, wirelength_text, memory_text, no_library_text, refused_text, scale_text, too_many_text}
+use Rattle.leg_app.specs.Legalised.{PrintsLegalised, TellsUnsolved}
 
--- the violations that the command lists: those of where components stand, or all; `measure` lists none
+-- the violations that the command lists: those of where components stand, or all; `measure` and `legalise` list none
 abbrev pub Lists : Command → Contents → DesignContents → Fault → Type 0
 Lists PlaceCheck library design fault = Holds library design fault
 Lists Check library design fault = IsViolation library design fault
 Lists Measure library design fault = ⊥
+Lists Legalise library design fault = ⊥
 
--- the flat that is judged, and whose shapes and pieces the lines name: none, or the design's own; `measure` judges nothing
+-- the flat that is judged, and whose shapes and pieces the lines name: none, or the design's own; `measure` and `legalise`
+-- show none
 abbrev pub IsShown : Command → DesignContents → Option FlatSaid → Type 0
 IsShown PlaceCheck design None = Unit {0}
 IsShown PlaceCheck design (Some flat) = ⊥
 IsShown Check design None = ⊥
 IsShown Check design (Some flat) = IsJudgedBy design flat
 IsShown Measure design flat = ⊥
+IsShown Legalise design flat = ⊥
 
 -- the status and the text for these violations: `legal` where there are none, and else a line for each and their number
 abbrev pub IsListing : DesignContents → Option FlatSaid → List Fault → Status → List ℕ → Type 0
 IsListing design flat violations Success text = (violations ≡ []) × (text ≡ legal_text)
 IsListing design flat violations Violations text = (violations ≢ []) × (text ≡ listing_text design flat violations)
 IsListing design flat violations Refused text = ⊥
+IsListing design flat violations Unsolved text = ⊥
 IsListing design flat violations Memory text = ⊥
 
 -- the texts say a design, and the status and the text list its violations
@@ -89,9 +94,10 @@ pub record TellsTooMany (command : Command) (lefs : List (List ℕ)) (def text :
 -- The text and the status are an answer of the command to these texts.
 abbrev pub IsAnswer : Command → List (List ℕ) → List ℕ → Status → List ℕ → Type 0
 IsAnswer command lefs def Success text =
-    ListsViolations command lefs def Success text ⊎ TellsWirelength command lefs def text
+    ListsViolations command lefs def Success text ⊎ (TellsWirelength command lefs def text ⊎ PrintsLegalised command lefs def text)
 IsAnswer command lefs def Violations text = ListsViolations command lefs def Violations text
 IsAnswer command lefs def Refused text = TellsRefusal lefs def text ⊎ TellsTooMany command lefs def text
+IsAnswer command lefs def Unsolved text = TellsUnsolved command lefs def text
 IsAnswer command lefs def Memory text = text ≡ memory_text
 
 -- A writer took a whole answer of this status: what it holds, where it shows its bytes, grew by the text.
@@ -135,4 +141,5 @@ abbrev pub exit_code : Status → ℕ
 exit_code Success = 0
 exit_code Violations = 1
 exit_code Refused = 2
+exit_code Unsolved = 3
 exit_code Memory = 4

@@ -2,7 +2,9 @@ pub mod Say
 pub mod Violations
 pub mod Refusal
 pub mod Lines
+pub mod LegaliseLines
 pub mod Stream
+pub mod Legalised
 pub mod Answer
 pub mod Line
 pub mod End

@@ -4,14 +4,15 @@ use Rattle.std.specs.Str.{bytes_eq}
 use Rattle.leg_app.specs.declared.command.Command.{Command}
 use Rattle.leg_app.specs.declared.line.Asked.{Asked}
 use Rattle.leg_app.specs.declared.line.Asked.TheVariants.{Stream, Files}
-use Rattle.leg_app.specs.declared.command.Command.TheVariants.{PlaceCheck, Check, Measure}
+use Rattle.leg_app.specs.declared.command.Command.TheVariants.{PlaceCheck, Check, Measure, Legalise}
 
 -- the command of exactly this name
 abbrev pub command_named : List ℕ → Option Command
 command_named name =
     if bytes_eq name (codes "check") then Some Check
     else (if bytes_eq name (codes "place-check") then Some PlaceCheck
-    else (if bytes_eq name (codes "measure") then Some Measure else None))
+    else (if bytes_eq name (codes "measure") then Some Measure
+    else (if bytes_eq name (codes "legalise") then Some Legalise else None)))
 
 -- a command's name, a DEF, and one LEF or more
 abbrev pub line_of : List (List ℕ) → Option (Command × List ℕ × List (List ℕ))

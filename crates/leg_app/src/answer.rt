@@ -10,6 +10,7 @@ ghost use Rattle.leg_app.specs.Answer.{IsListing};
 
 use crate::check::check_design;
 use crate::command::Command;
+use crate::legalise_answer::legalise_answer;
 use crate::lines::{listing_text, refused_text, scale_text, wirelength_text};
 use crate::status::Status;
 use crate::text_fault::TextFault;
@@ -58,7 +59,7 @@ fn library_answer<A: Allocator + Copy>(
         SaysJust lefs def.entry library.now → IsAnswer command lefs def.entry answer.status answer.text.items) }
 {
     match def.design(alloc, library) {
-        Ok(design) => design_answer(alloc, command, &design),
+        Ok(design) => design_answer(alloc, command, design),
         Err(fault) => refusal(alloc, command, &TextFault::Read(behind_lefs(count, fault))),
     }
 }
@@ -67,16 +68,17 @@ fn library_answer<A: Allocator + Copy>(
 fn design_answer<A: Allocator + Copy>(
     alloc: A,
     command: Command,
-    design: &Design<'_, A>,
+    design: Design<'_, A>,
 ) -> Result<Answer<A>, AllocError>
     ensures { IfOk result (λ answer. (lefs : List (List ℕ)) (def : List ℕ) →
-        SayDesign lefs def design.now.library design.now →
+        SayDesign lefs def design.entry.library design.entry →
         IsAnswer command lefs def answer.status answer.text.items) }
 {
     match command {
-        Command::Check => whole_answer(alloc, design),
-        Command::PlaceCheck => placement_answer(alloc, design),
-        Command::Measure => measure_answer(alloc, design),
+        Command::Check => whole_answer(alloc, &design),
+        Command::PlaceCheck => placement_answer(alloc, &design),
+        Command::Measure => measure_answer(alloc, &design),
+        Command::Legalise => legalise_answer(alloc, design),
     }
 }
 

@@ -9,4 +9,6 @@ pub enum Command {
     PlaceCheck,
     /// How long the nets are at least: the half-perimeter wirelength.
     Measure,
+    /// The block with each movable component at its best free position.
+    Legalise,
 }

@@ -6,6 +6,8 @@ mod check;
 mod command;
 mod end;
 pub mod laws;
+mod legalise_answer;
+mod legalise_lines;
 mod limits;
 mod line;
 mod lines;

@@ -64,6 +64,8 @@ fn command_named(name: &str) -> Option<Command>
         Some(Command::PlaceCheck)
     } else if name == "measure" {
         Some(Command::Measure)
+    } else if name == "legalise" {
+        Some(Command::Legalise)
     } else {
         None
     }

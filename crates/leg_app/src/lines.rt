@@ -1,6 +1,7 @@
 //! The lines that commands print.
 
 ghost use Rattle.std.specs.Prelude.{◌≡◌, ◌++◌, IfOk, OnOk, option_map, decimal};
+ghost use Rattle.std.specs.Fmt.{signed_decimal};
 ghost use Rattle.leg_app.specs.Lines.{kind_name, listing_text, refused_text, scale_kind_name, scale_text, wirelength_text};
 
 use itoa::Buffer;
@@ -35,8 +36,7 @@ pub(crate) fn wirelength_text<A: Allocator + Copy>(
     ensures { IfOk result (λ text. text.items ≡ wirelength_text length) }
 {
     let mut text = Vec::from_slice(alloc, b"hpwl ")?;
-    let mut buffer = Buffer::new();
-    text.extend_from_slice(buffer.format(length).as_bytes())?;
+    push_length(&mut text, length)?;
     text.extend_from_slice(b"\n")?;
     Ok(text)
 }
@@ -73,7 +73,14 @@ pub(crate) fn scale_text<A: Allocator + Copy>(
     Ok(text)
 }
 
-fn push_number<A: Allocator>(text: &mut Vec<u8, A>, number: u64) -> Result<(), AllocError>
+pub(crate) fn push_length<A: Allocator>(text: &mut Vec<u8, A>, length: i64) -> Result<(), AllocError>
+    ensures { OnOk result (text.new.items ≡ text.old.items ++ signed_decimal length) }
+{
+    let mut buffer = Buffer::new();
+    text.extend_from_slice(buffer.format(length).as_bytes())
+}
+
+pub(crate) fn push_number<A: Allocator>(text: &mut Vec<u8, A>, number: u64) -> Result<(), AllocError>
     ensures { OnOk result (text.new.items ≡ text.old.items ++ decimal number) }
 {
     let mut buffer = Buffer::new();

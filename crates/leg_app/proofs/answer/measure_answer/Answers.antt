@@ -1,4 +1,4 @@
-use Rattle.std.proofs.Common.{inr, refl, w64, SFits, rules}
+use Rattle.std.proofs.Common.{inl, inr, refl, w64, SFits, rules}
 use Rattle.std.proofs.lemmas.Int.{to_z-of_z}
 use Rattle.leg_app.proofs.answer.measure_answer.Goals as goal
 
@@ -6,7 +6,7 @@ pub returns : goal.returns
 returns g c lefs def say =
     let length = c.hpwl-length.result in
     let fits : SFits w64 length = search rules in
-    inr (record {
+    inr (inl (record {
       measures = refl;
       library = c.args.design.now.library;
       design = c.args.design.now;
@@ -14,4 +14,4 @@ returns g c lefs def say =
       say = say;
       measured = c.hpwl-length.ensures.is;
       is = rw (to_z-of_z w64 length fits) at c.in_ok-text.ensures;
-    })
+    }))
