@@ -1,0 +1,8 @@
+//! The legaliser: it gives each movable component a place on the sites of a row, in the die and clear of all others.
+#![tactic(auto)]
+
+mod fault;
+mod moves;
+
+pub use fault::LegalFault;
+pub use moves::Moves;
