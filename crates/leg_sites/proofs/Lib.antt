@@ -1,0 +1,9 @@
+-- Sites by their edges
+mod SiteEdges
+mod SharedCells
+mod SiteCells
+-- What the proofs of other crates cite: which sites are met, free sites and clear boxes
+pub mod MetSites
+pub mod KnownSites
+pub mod ClearBoxes
+pub mod MacroBoxes

@@ -1,0 +1,4 @@
+pub mod Stretches
+pub mod RowSites
+pub mod Known
+pub mod Steps
