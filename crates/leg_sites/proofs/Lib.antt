@@ -7,3 +7,15 @@ pub mod MetSites
 pub mod KnownSites
 pub mod ClearBoxes
 pub mod MacroBoxes
+-- Free sites of one row
+mod OneStretch
+mod FirstFits
+mod LastFits
+mod Valley
+mod NearerSide
+mod NearestSites
+-- Sites taken away
+mod JoinedStretches
+mod CutPoints
+mod ListSplit
+mod TakenSites

@@ -19,6 +19,11 @@ pub record AreStretches (free : List Stretch) : Type 0 where
   pub long : All (λ s. s.from < s.end) free
   pub apart : AllPairs (λ s t. s.end < t.from) free
 
+-- the sites from one number up to another are free, and no others
+pub record AreSitesBetween (from end : ℕ) (free : List Stretch) : Type 0 where
+  pub are : AreStretches free
+  pub sites : (k : ℕ) → IsFreeSite free k ↔ ((from ≤ k) × (k < end))
+
 -- the sites that are free once those from one number up to another are taken
 pub record IsWithout (free : List Stretch) (from end : ℕ) (rest : List Stretch) : Type 0 where
   pub are : AreStretches rest
