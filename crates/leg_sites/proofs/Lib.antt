@@ -19,3 +19,9 @@ mod JoinedStretches
 mod CutPoints
 mod ListSplit
 mod TakenSites
+-- Rows
+mod Mirrors
+mod KeysSorted
+mod RowsAround
+mod RowCandidates
+mod BestSoFar

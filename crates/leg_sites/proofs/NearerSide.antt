@@ -1,7 +1,7 @@
 -- The nearest is the last one up to the lowest place of a valley, or the first one from there on.
-use Rattle.std.proofs.Common.{◌≡◌, ℕ, ◌<◌, ◌≤◌, Option, None, Some, inl, inr, arith}
+use Rattle.std.proofs.Common.{ℕ, ◌<◌, ◌≤◌, inl, inr, arith}
 use Rattle.std.proofs.lemmas.Bool.{cases_lt, cases_eq}
-use Rattle.leg_sites.specs.Steps.Nearest.{IsFirst, IsLast, IsValley, IsLeastOf, IsNearest}
+use Rattle.leg_sites.specs.Steps.Nearest.{IsValley, IsLeastOf}
 
 -- the last up to the middle, and the first from there on
 pub record IsLeft (middle : ℕ) (P : ℕ → Type 0) (left : ℕ) : Type 0 where

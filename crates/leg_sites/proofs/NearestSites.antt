@@ -1,10 +1,10 @@
 -- Free sites of a row whose nearest ones are sought.
-use Rattle.std.proofs.Common.{◌≡◌, ℕ, ◌+◌, ◌≤◌, ◌<◌, List, Option, None, Some, inl, inr, arith}
+use Rattle.std.proofs.Common.{ℕ, List, Option, None, Some, inl, inr, arith}
 use Rattle.std.proofs.lemmas.Bool.{cases_lt}
 use Rattle.leg_sites.specs.declared.stretch.Stretch.{Stretch}
 use Rattle.leg_sites.specs.Stretches.{AreFreeSites}
 use Rattle.leg_sites.specs.Steps.Nearest.{FitsFrom, FitsUpTo, IsFirst, IsLast, IsValley, IsNearest}
-use Rattle.leg_sites.proofs.NearerSide.{IsLeft, IsRight, left_alone, right_alone}
+use Rattle.leg_sites.proofs.NearerSide.{IsLeft, IsRight, right_alone}
 
 module _ (free : List Stretch) (many middle : ℕ) where
   -- what the two questions answer

@@ -1,5 +1,5 @@
 -- What is free once sites are taken away.
-use Rattle.std.proofs.Common.{◌≡◌, ◌⊎◌, ℕ, true, ◌+◌, ◌-◌, ◌<◌, ◌≤◌, List, [], ◌∷◌, ◌++◌, Some, slice_get, length, get_or, take, drop, All, AllPairs, inl, inr, refl, sym, ap, ◌∙◌, arith}
+use Rattle.std.proofs.Common.{◌≡◌, ◌⊎◌, ℕ, true, ◌+◌, ◌-◌, ◌<◌, ◌≤◌, List, [], ◌∷◌, ◌++◌, Some, slice_get, take, drop, All, AllPairs, inl, inr, refl, sym, ap, ◌∙◌, arith}
 use Rattle.std.specs.Prelude.{nat_lt}
 use Rattle.std.proofs.lemmas.Bool.{cases_lt, cases_order}
 use Rattle.std.proofs.lemmas.List.Elements.{All-append, All-take, All-drop}
@@ -7,7 +7,7 @@ use Rattle.std.proofs.lemmas.Option.{same_Some}
 use Rattle.leg_sites.specs.declared.stretch.Stretch.{Stretch}
 use Rattle.leg_sites.specs.Stretches.{IsFreeSite, AreStretches, IsWithout}
 use Rattle.leg_sites.specs.Steps.TakeSites.{IsCutAt, if_any, with_rests}
-use Rattle.leg_sites.proofs.OneStretch.{apart_at, long_at}
+use Rattle.leg_sites.proofs.OneStretch.{apart_at}
 use Rattle.leg_sites.proofs.JoinedStretches.{pairs_append, FreeIn, from_free_in, to_free_in, free_append_cases, free_append_left, free_append_right, at_from_take, take_has, at_from_drop, drop_has, all_take, all_drop, pairs_take, pairs_drop, all_if_any, pairs_if_any, free_in_any, any_has}
 
 -- no sites are taken, or none that were free

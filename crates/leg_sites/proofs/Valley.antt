@@ -1,10 +1,10 @@
 -- How far the sites of a row are from a point: the distance falls up to one site, and rises from it on.
-use Rattle.std.proofs.Common.{◌≡◌, ℕ, ◌+◌, ◌-◌, ◌*◌, ◌/◌, ◌%◌, ◌<◌, ◌≤◌, ℤ, pos, ◌+ℤ◌, ◌-ℤ◌, ◌*ℤ◌, ◌≤ℤ◌, unsigned_abs, inl, inr, sym, ap, ◌∙◌, arith}
+use Rattle.std.proofs.Common.{◌≡◌, ℕ, ◌+◌, ◌-◌, ◌*◌, ◌/◌, ◌%◌, ◌<◌, ◌≤◌, pos, ◌+ℤ◌, ◌*ℤ◌, ◌≤ℤ◌, unsigned_abs, inl, inr, ap, ◌∙◌, arith}
 use Rattle.std.proofs.Math.IntN.{pos-*ℤ-pos}
-use Rattle.std.proofs.lemmas.Bool.{cases_lt, cases_eq}
+use Rattle.std.proofs.lemmas.Bool.{cases_eq}
 use Rattle.std.proofs.lemmas.Int.{ints}
 use Rattle.leg_sites.specs.declared.nearest.Pitch.{Pitch}
-use Rattle.leg_sites.specs.Steps.Nearest.{site_x, x_away, IsValley}
+use Rattle.leg_sites.specs.Steps.Nearest.{x_away, IsValley}
 
 pub step_up : (j k n : ℕ) → j < k → j * n + n ≤ k * n
 step_up j k n order = grind arith

@@ -1,6 +1,7 @@
 //! The free sites of one row that are nearest to a component's start.
 
-ghost use Rattle.std.specs.Prelude.{◌≡◌, ℕ, ◌+◌, ◌<◌, ◌≤◌, ◌*ℤ◌, ◌+ℤ◌, pos, All};
+ghost use Rattle.std.specs.Prelude.{◌≡◌, ℕ, ◌+◌, ◌*◌, ◌<◌, ◌≤◌, ◌*ℤ◌, ◌+ℤ◌, pos, All};
+ghost use Rattle.leg_geom.specs.declared.limits.TheConstants.{COORDINATE_LIMIT};
 ghost use Rattle.leg_geom.specs.Plane.{IsCoordinate};
 ghost use Rattle.leg_sites.specs.Stretches.{AreFreeSites, AreStretches};
 ghost use Rattle.leg_sites.specs.Steps.Nearest.{IsPitch, BeginWithin, FitsFrom, FitsUpTo, IsFirst, IsLast, IsValley, IsNearest, site_x, x_away};
@@ -64,7 +65,8 @@ fn lowest(pitch: &Pitch) -> u64
 pub(crate) fn x_away(pitch: &Pitch, site: u64) -> u64
     requires pitch { IsPitch pitch.now }
     requires within { IsCoordinate (site_x pitch.now site) }
-    ensures { result ≡ x_away pitch.now site }
+    ensures is { result ≡ x_away pitch.now site }
+    ensures within { result ≤ 2 * COORDINATE_LIMIT }
 {
     let x = pitch.left + (site * pitch.width.unsigned_abs()) as i64;
     x.abs_diff(pitch.start)

@@ -1,5 +1,5 @@
 -- The free sites of one row that are nearest to a component's start.
-use Rattle.std.specs.Prelude.{◌≡◌, ℕ, pos, ◌+◌, ◌<◌, ◌≤◌, ℤ, ◌≤ℤ◌, ◌+ℤ◌, ◌*ℤ◌, List, Option, None, Some}
+use Rattle.std.specs.Prelude.{ℕ, pos, ◌<◌, ◌≤◌, ℤ, ◌≤ℤ◌, ◌+ℤ◌, ◌*ℤ◌, List, Option, None, Some}
 use Rattle.leg_geom.specs.Gap.{apart}
 use Rattle.leg_geom.specs.Plane.{IsCoordinate}
 use Rattle.leg_sites.specs.declared.stretch.Stretch.{Stretch}

@@ -1,5 +1,4 @@
 -- Whatever fits lies in a stretch that is still to come.
-use Rattle.std.proofs.Common.{◌≤◌}
 use Rattle.leg_sites.proofs.LastFits.{IsPassedDown}
 use Rattle.leg_sites.proofs.nearest.last_upto.Given as goal
 

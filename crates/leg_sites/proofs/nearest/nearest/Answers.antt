@@ -1,7 +1,6 @@
 use Rattle.std.proofs.Common.{◌≤◌, ◌<◌, arith}
-use Rattle.leg_sites.specs.Stretches.{AreFreeSites}
 use Rattle.leg_sites.specs.Steps.Nearest.{x_away}
-use Rattle.leg_sites.proofs.NearerSide.{left_nearer, right_nearer, left_alone, right_alone}
+use Rattle.leg_sites.proofs.NearerSide.{left_nearer, right_nearer, left_alone}
 use Rattle.leg_sites.proofs.NearestSites.{right_if_any, left_from_last, right_from_first}
 use Rattle.leg_sites.proofs.nearest.nearest.Goals as goal
 

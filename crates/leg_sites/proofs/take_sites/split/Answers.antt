@@ -1,5 +1,5 @@
 -- The left part is written where the whole was, and the right one put in after it.
-use Rattle.std.proofs.Common.{◌<◌, length, arith, rules}
+use Rattle.std.proofs.Common.{◌<◌, length, rules}
 use Rattle.leg_sites.proofs.ListSplit.{split_is}
 use Rattle.leg_sites.proofs.take_sites.split.Goals as goal
 

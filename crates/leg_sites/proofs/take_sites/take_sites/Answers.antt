@@ -1,10 +1,9 @@
 -- What stays of the first and the last stretch that are met comes in the place of those that are.
-use Rattle.std.proofs.Common.{◌≡◌, ◌+◌, ◌-◌, ◌<◌, true, length, Some, slice_get, refl, sym, ◌∙◌, arith, rules}
-use Rattle.std.specs.Prelude.{nat_lt, OnOk}
+use Rattle.std.proofs.Common.{◌≡◌, ◌+◌, ◌-◌, ◌<◌, true, length, Some, slice_get, refl, sym, ◌∙◌, arith}
+use Rattle.std.specs.Prelude.{nat_lt}
 use Rattle.std.proofs.lemmas.Option.{slice_get_read}
 use Rattle.std.proofs.lemmas.Result.{on_ok_weaker}
-use Rattle.leg_sites.specs.Stretches.{IsWithout}
-use Rattle.leg_sites.specs.Steps.TakeSites.{IsCutAt, with_rests}
+use Rattle.leg_sites.specs.Steps.TakeSites.{IsCutAt}
 use Rattle.leg_sites.proofs.TakenSites.{without_unmet, without_met, without_both}
 use Rattle.leg_sites.proofs.take_sites.take_sites.Goals as goal
 
