@@ -25,3 +25,4 @@ mod KeysSorted
 mod RowsAround
 mod RowCandidates
 mod BestSoFar
+pub mod MacroPlaces

@@ -36,13 +36,31 @@ module _ (left x width : ℤ) (d n : ℕ) (is : width ≡ pos n) (some : 0 < n) 
   -- what begins or ends to the left of x does so within the distance
   begins_within : (k : ℕ) → IsBeyond left x d → k * n < d ↔ ((left +ℤ pos k *ℤ width) <ℤ x)
   begins_within k far =
-      by_lt_z left x (λ (h : left <ℤ x). let at : x ≡ left +ℤ pos d = far.right h in (λ before. rw (edge_is width n is k) (omega (arith, ints, before, at)), λ before. let here = rw (edge_is width n is k) at before in omega (arith, ints, here, at)))
-      (λ (h : x ≤ℤ left). let at : d ≡ 0 = far.not h in (λ before. absurd (omega (arith, before, at)), λ before. let here = rw (edge_is width n is k) at before in absurd (omega (arith, ints, here, h))))
+      by_lt_z left x
+      (λ (h : left <ℤ x).
+      let at : x ≡ left +ℤ pos d = far.right h in (
+        λ before. rw (edge_is width n is k) (omega (arith, ints, before, at)),
+        λ before. let here = rw (edge_is width n is k) at before in omega (arith, ints, here, at),
+      ))
+      (λ (h : x ≤ℤ left).
+      let at : d ≡ 0 = far.none h in (
+        λ before. absurd (omega (arith, before, at)),
+        λ before. let here = rw (edge_is width n is k) at before in absurd (omega (arith, ints, here, h)),
+      ))
 
   ends_within : (k : ℕ) → IsBeyond left x d → (k + 1) * n ≤ d ↔ ((left +ℤ pos (k + 1) *ℤ width) ≤ℤ x)
   ends_within k far =
-      by_lt_z left x (λ (h : left <ℤ x). let at : x ≡ left +ℤ pos d = far.right h in (λ by. rw (edge_is width n is (k + 1)) (omega (arith, ints, by, at)), λ by. let here = rw (edge_is width n is (k + 1)) at by in omega (arith, ints, here, at)))
-      (λ (h : x ≤ℤ left). let at : d ≡ 0 = far.not h in (λ by. absurd (omega (arith, by, at, product_more k n, some)), λ by. let here = rw (edge_is width n is (k + 1)) at by in absurd (omega (arith, ints, here, h, product_more k n, some))))
+      by_lt_z left x
+      (λ (h : left <ℤ x).
+      let at : x ≡ left +ℤ pos d = far.right h in (
+        λ by. rw (edge_is width n is (k + 1)) (omega (arith, ints, by, at)),
+        λ by. let here = rw (edge_is width n is (k + 1)) at by in omega (arith, ints, here, at),
+      ))
+      (λ (h : x ≤ℤ left).
+      let at : d ≡ 0 = far.none h in (
+        λ by. absurd (omega (arith, by, at, product_more k n, some)),
+        λ by. let here = rw (edge_is width n is (k + 1)) at by in absurd (omega (arith, ints, here, h, product_more k n, some)),
+      ))
 
   -- so many sites begin to the left of x
   pub sites_begin : IsBeyond left x d → (k : ℕ) → k < div_ceil d n ↔ ((left +ℤ pos k *ℤ width) <ℤ x)
