@@ -14,7 +14,7 @@ use Rattle.leg_place.specs.Faults.{IsUnplaced, IsOutside, Holds}
 use Rattle.leg_place.specs.Faults.Holds.{unplaced, outside, off_site, overlap}
 use Rattle.leg_place.specs.Sites.{IsOffSite}
 use Rattle.leg_legal.specs.Movable.{IsMovable}
-use Rattle.leg_legal.specs.Positions.{Position}
+use Rattle.leg_sites.specs.declared.candidate.Candidate.{Candidate}
 use Rattle.leg_legal.specs.Free.{IsSettled, IsFree}
 use Rattle.leg_legal.specs.Run.{placed_at, moved_to}
 use Rattle.leg_legal.proofs.Elements.{contains_at}
@@ -38,7 +38,7 @@ pub record NoneSettled (design : DesignContents) (done : List ℕ) : Type 0 wher
 -- one more component takes a free position
 module _ (now : DesignContents) (sound : HasSoundRows now) (done : List ℕ) (c : ℕ) (component : Component) (place : Place)
     (at : slice_get now.components c ≡ Some component) (movable : IsMovable now c)
-    (position : Position) (turned : ℕ) (free : IsFree now done c position place turned) (before : NoneSettled now done) where
+    (position : Candidate) (free : IsFree now done c position place) (before : NoneSettled now done) where
   abbrev after : DesignContents
   after = moved_to now c component place
 
@@ -72,7 +72,7 @@ module _ (now : DesignContents) (sound : HasSoundRows now) (done : List ℕ) (c 
       let same_master : h.master ≡ free.stands.master = same_Some h.master free.stands.master (sym told ∙ is_master) in
       let same_number : h.number ≡ free.stands.row.site = same_Some h.number free.stands.row.site (sym (rw same_master at h.site) ∙ free.stands.same) in
       h.none free.stands.row (contains_at now.rows position.row free.stands.row free.stands.is_row)
-      (rw (same_master, same_number, same_place) (stands_on_row now sound c position place turned free.stands))
+      (rw (same_master, same_number, same_place) (stands_on_row now sound c position place free.stands))
 
   -- no other settled component shares a cell with it
   alone_here : (d : ℕ) (box other : Sides) → (d ≡ c → ⊥) → IsSettled after more d → StandsIn now.library after c box → StandsIn now.library after d other → ShareCell other box → ⊥

@@ -1,10 +1,15 @@
 -- Boxes, rows and lists
 mod Elements
-mod UprightBox
 mod OnRow
 -- The theorem of the run
+mod MovableOrNot
 mod MovedTo
 mod AmongSettled
 mod SoFar
 mod TheOrder
 mod TheRun
+-- The order of taking
+mod TurnsSorted
+-- Causes of refusal
+mod StayingFaults
+mod Misfits

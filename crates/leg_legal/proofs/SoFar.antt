@@ -120,5 +120,5 @@ none_settled before done now sound staying none are =
 none_settled before _ _ sound staying (one {done = done} {now = now} {c = c} {component = component} {place = place} run at takes) are =
     let so : IsSoFar before done now = so_far before done now run (earlier_movable before done c are) in
     settled_more now (so.sound sound) done c component place at (so.movable c (last_movable before done c are))
-    takes.position takes.turned takes.free
+    takes.position takes.free
     (none_settled before done now sound staying run (earlier_movable before done c are))

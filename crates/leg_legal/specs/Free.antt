@@ -1,13 +1,13 @@
 -- Which positions of a component are free, and which of them is the best (own rules).
-use Rattle.std.specs.Prelude.{◌≡◌, ◌⊎◌, ℕ, List, Contains, Some, slice_get}
-use Rattle.leg_geom.specs.Plane.{Spot, Sides, HasCell, ShareCell}
+use Rattle.std.specs.Prelude.{◌⊎◌, ℕ, List, Contains}
+use Rattle.leg_geom.specs.Plane.{Sides}
 use Rattle.leg_geom.specs.declared.place.Place.{Place}
 use Rattle.leg_block.specs.Records.{DesignContents}
-use Rattle.leg_block.specs.declared.records.Component.{Component}
 use Rattle.leg_place.specs.Box.{StandsIn, placed_box}
+use Rattle.leg_sites.specs.declared.candidate.Candidate.{Candidate}
+use Rattle.leg_sites.specs.Known.{IsClear}
+use Rattle.leg_sites.specs.BestPosition.{IsNoWorse}
 use Rattle.leg_legal.specs.Movable.{IsMovable}
-use Rattle.leg_legal.specs.Start.{start_of, distance}
-use Rattle.leg_legal.specs.Positions.{Position, Choice, IsNoWorse}
 use Rattle.leg_legal.specs.Standing.{StandsAt}
 
 -- Component d stands where it will stand: it stays, or its turn has come. One that waits for its turn is in nobody's way.
@@ -20,27 +20,14 @@ pub record IsTaken (design : DesignContents) (done : List ℕ) (box : Sides) : T
   pub settled : IsSettled design done d
   pub stands : StandsIn design.library design d box
 
--- the box lies in the die, and shares no cell with one that is taken
-pub record IsClear (design : DesignContents) (done : List ℕ) (box : Sides) : Type 0 where
-  pub inside : (cell : Spot) → HasCell box cell → HasCell design.die cell
-  pub alone : (other : Sides) → IsTaken design done other → ¬ ShareCell other box
-
--- with this place component c stands at the position, and its box is clear
-pub record IsFree (design : DesignContents) (done : List ℕ) (c : ℕ) (position : Position) (place : Place) (turned : ℕ) : Type 0 where
-  pub stands : StandsAt design c position place turned
-  pub clear : IsClear design done (placed_box stands.master.size place)
-
--- by what a position at a place is compared for a component with this start
-abbrev pub choice : Spot → Position → Place → ℕ → Choice
-choice start position place turned =
-    record { distance = distance start place.at; turned = turned; row = position.row; first = position.first }
+-- With this place component c stands at the position, and its box is clear: it lies in the die, and shares no cell with
+-- one that is taken.
+pub record IsFree (design : DesignContents) (done : List ℕ) (c : ℕ) (position : Candidate) (place : Place) : Type 0 where
+  pub stands : StandsAt design c position place
+  pub clear : IsClear design.die (IsTaken design done) (placed_box stands.master.size place)
 
 -- the place is that of a free position of component c, and no free one is better
 pub record TakesBest (design : DesignContents) (done : List ℕ) (c : ℕ) (place : Place) : Type 0 where
-  pub component : Component
-  pub there : slice_get design.components c ≡ Some component
-  pub position : Position
-  pub turned : ℕ
-  pub free : IsFree design done c position place turned
-  pub best : (other : Position) (at : Place) (flag : ℕ) → IsFree design done c other at flag
-      → IsNoWorse (choice (start_of design.die component.place) position place turned) (choice (start_of design.die component.place) other at flag)
+  pub position : Candidate
+  pub free : IsFree design done c position place
+  pub best : (other : Candidate) (at : Place) → IsFree design done c other at → IsNoWorse position other

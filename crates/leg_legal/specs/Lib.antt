@@ -1,6 +1,5 @@
 pub mod Movable
 pub mod Start
-pub mod Positions
 pub mod Standing
 pub mod Free
 pub mod Turns
@@ -8,3 +7,4 @@ pub mod Run
 pub mod SameButForPlaces
 pub mod Moves
 pub mod Refusals
+pub mod Steps

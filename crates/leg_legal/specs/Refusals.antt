@@ -2,7 +2,7 @@
 use Rattle.std.specs.Prelude.{◌≡◌, ◌≢◌, ℕ, pos, ◌≤◌, ◌++◌, ◌∷◌, List, [], ◌*ℤ◌, Contains, Some, slice_get}
 use Rattle.leg_geom.specs.declared.place.Place.{Place}
 use Rattle.leg_cells.specs.declared.records.Site.{Site}
-use Rattle.leg_cells.specs.Records.{MasterSaid}
+use Rattle.leg_cells.specs.Measure.{Lengths}
 use Rattle.leg_block.specs.Records.{DesignContents}
 use Rattle.leg_block.specs.declared.fault.Fault.{Fault}
 use Rattle.leg_block.specs.declared.fault.Fault.TheVariants.{Unplaced, Outside, OffSite, Overlap, Short, TooNear, OpenNet}
@@ -12,7 +12,7 @@ use Rattle.leg_place.specs.Faults.{Holds}
 use Rattle.leg_legal.specs.declared.fault.LegalFault.{LegalFault}
 use Rattle.leg_legal.specs.declared.fault.LegalFault.TheVariants.{FixedIllegal, NoSite, NoRoom, Memory}
 use Rattle.leg_legal.specs.Movable.{IsMovable}
-use Rattle.leg_legal.specs.Positions.{Position}
+use Rattle.leg_sites.specs.declared.candidate.Candidate.{Candidate}
 use Rattle.leg_legal.specs.Free.{IsFree}
 use Rattle.leg_legal.specs.Turns.{IsOrderOfTaking}
 use Rattle.leg_legal.specs.Run.{Run, IsLegallyPlaced}
@@ -36,19 +36,19 @@ pub record HoldsOfStaying (design : DesignContents) (fault : Fault) : Type 0 whe
 abbrev pub NoneStaying : DesignContents → Type 0
 NoneStaying design = (fault : Fault) → ¬ HoldsOfStaying design fault
 
--- A macro of the site of this number can stand on no row: it is not as high as the site, it is not as wide as a number of
+-- A macro of this size, of the site of this number, can stand on no row: it is not as high as the site, it is not as wide as a number of
 -- them, or no row has that site.
-pub data IsMisfit (design : DesignContents) (master : MasterSaid) (number : ℕ) : Type 0 where
+pub data IsMisfit (design : DesignContents) (size : Lengths) (number : ℕ) : Type 0 where
   height : (site : Site) → slice_get design.library.sites number ≡ Some site
-      → master.size.height ≢ site.size.height → IsMisfit design master number
+      → size.height ≢ site.size.height → IsMisfit design size number
   width : (site : Site) → slice_get design.library.sites number ≡ Some site
-      → ((many : ℕ) → master.size.width ≢ pos many *ℤ site.size.width) → IsMisfit design master number
-  no_row : ((row : Row) → Contains design.rows row → row.site ≢ number) → IsMisfit design master number
+      → ((many : ℕ) → size.width ≢ pos many *ℤ site.size.width) → IsMisfit design size number
+  no_row : ((row : Row) → Contains design.rows row → row.site ≢ number) → IsMisfit design size number
 
 -- component c is movable, and its macro can stand on no row
 pub record IsUnsuited (design : DesignContents) (c : ℕ) : Type 0 where
   pub movable : IsMovable design c
-  pub misfit : IsMisfit design movable.master movable.number
+  pub misfit : IsMisfit design movable.master.size movable.number
 
 -- the one of lowest number
 pub record IsLeastUnsuited (design : DesignContents) (c : ℕ) : Type 0 where
@@ -68,7 +68,7 @@ pub record IsStuck (before : DesignContents) (c : ℕ) : Type 0 where
   pub is_order : IsOrderOfTaking before (done ++ c ∷ rest)
   pub now : DesignContents
   pub run : Run before done now
-  pub full : (position : Position) (place : Place) (turned : ℕ) → ¬ IsFree now done c position place turned
+  pub full : (position : Candidate) (place : Place) → ¬ IsFree now done c position place
 
 -- the first cause of refusal that holds, but for want of memory
 abbrev pub IsRefusal : {A : Type 0} → DesignContents → LegalFault A → Type 0

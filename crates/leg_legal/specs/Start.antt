@@ -17,7 +17,7 @@ distance p q = apart p.x q.x + apart p.y q.y
 -- how far a component is from its start when it has this place, or stays without one
 abbrev pub distance_to : Spot → Option Place → ℕ
 distance_to start None = 0
-distance_to start (Some place) = distance start place.at
+distance_to start (Some place) = distance place.at start
 
 -- how far a component has moved, by what it was and what it is
 abbrev pub moved_by : Sides → Component → Component → ℕ

@@ -2,7 +2,11 @@
 #![tactic(auto)]
 
 mod fault;
+mod movable;
 mod moves;
+mod staying;
+mod turns;
+mod unsuited;
 
 pub use fault::LegalFault;
 pub use moves::Moves;
