@@ -13,3 +13,7 @@ mod TurnsSorted
 -- Causes of refusal
 mod StayingFaults
 mod Misfits
+-- Places that are taken
+mod PlacedAll
+mod MovedDistances
+mod Totals

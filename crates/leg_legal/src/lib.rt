@@ -1,10 +1,12 @@
 //! The legaliser: it gives each movable component a place on the sites of a row, in the die and clear of all others.
 #![tactic(auto)]
 
+mod distances;
 mod fault;
 mod movable;
 mod moves;
 mod staying;
+mod taken;
 mod turns;
 mod unsuited;
 
