@@ -1,5 +1,5 @@
 -- How far components move that take places.
-use Rattle.std.proofs.Common.{◌≡◌, ℕ, ◌+◌, ◌<◌, ◌≤◌, ℤ, pos, ◌+ℤ◌, ◌≤ℤ◌, unsigned_abs, List, [], ◌∷◌, length, set, get_or, Option, None, Some, slice_get, All, refl, sym, ap, subst, ◌∙◌, inl, inr, arith}
+use Rattle.std.proofs.Common.{◌≡◌, ℕ, ◌<◌, ℤ, pos, List, length, set, get_or, Option, None, Some, slice_get, refl, sym, ap, ◌∙◌, inl, inr, arith}
 use Rattle.std.proofs.Math.ListN.{replicate}
 use Rattle.std.proofs.lemmas.Bool.{cases_eq}
 use Rattle.std.proofs.lemmas.Int.{ints}
@@ -38,13 +38,13 @@ pub none_moved : (design : DesignContents) (each : List ℤ) → each ≡ replic
 none_moved design each is = rw is (record {
   count = length-replicate (length design.components) (pos 0);
   distances = λ c old new at_old at_new.
-    let same : new ≡ old = same_Some new old (sym at_new ∙ at_old) in
-    let stays : moved_by design.die old new ≡ 0 = rw same (at_start design.die old.place) in
-    rw stays (in_replicate (length design.components) c (pos 0) (slice_get_within design.components c old at_old));
+      let same : new ≡ old = same_Some new old (sym at_new ∙ at_old) in
+      let stays : moved_by design.die old new ≡ 0 = rw same (at_start design.die old.place) in
+      rw stays (in_replicate (length design.components) c (pos 0) (slice_get_within design.components c old at_old));
   within = λ k d below.
-    let n : ℕ = length design.components in
-    let zero_there : get_or (replicate n (pos 0)) k d ≡ pos 0 = get_or-replicate n k (pos 0) d (omega (arith, length-replicate n (pos 0))) in
-    rw zero_there (record { least = omega (arith, ints); most = omega (arith, ints) });
+      let n : ℕ = length design.components in
+      let zero_there : get_or (replicate n (pos 0)) k d ≡ pos 0 = get_or-replicate n k (pos 0) d (omega (arith, length-replicate n (pos 0))) in
+      rw zero_there (record { least = omega (arith, ints); most = omega (arith, ints) });
 })
 
 -- one more component takes its place
@@ -78,10 +78,10 @@ module _ (before now : DesignContents) (each : List ℤ) (taken : Taken) (compon
   moved = record {
     count = length-set each taken.number z ∙ known.count;
     distances = λ c old new at_old at_new.
-      elim (cases_eq c taken.number) [
-        | inl same ↦ rw same (distance_here old new (rw same at at_old) (rw same at at_new))
-        | inr apart ↦ distance_elsewhere c old new apart at_old at_new
-      ];
+        elim (cases_eq c taken.number) [
+          | inl same ↦ rw same (distance_here old new (rw same at at_old) (rw same at at_new))
+          | inr apart ↦ distance_elsewhere c old new apart at_old at_new
+        ];
     within = All-set IsDistance each taken.number z within known.within;
   }
 

@@ -80,7 +80,7 @@ fn total_of(distances: &[i64]) -> i64
 fn greatest_of(distances: &[i64]) -> i64
     ensures { result ≡ greatest_of distances.now }
 {
-    let mut greatest = 0;
+    let mut greatest: i64 = 0;
     for distance in distances {
         greatest = greatest.max(*distance);
     }
