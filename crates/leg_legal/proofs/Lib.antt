@@ -10,6 +10,8 @@ mod TheOrder
 mod TheRun
 -- The order of taking
 mod TurnsSorted
+-- What is read
+mod PartsRead
 -- Causes of refusal
 mod StayingFaults
 mod Misfits

@@ -68,4 +68,3 @@ module _ (design : DesignContents) (c : ℕ) where
 
   pub movable_or_not : IsMovable design c ⊎ (IsMovable design c → ⊥)
   movable_or_not = movable_at (slice_get design.components c) refl
-

@@ -1,8 +1,9 @@
 -- Of a list of violations those that concern only components that stay.
-use Rattle.std.proofs.Common.{◌≡◌, ◌⊎◌, ◌↔◌, ℕ, Bool, true, false, IsTrue, cond, List, [], ◌∷◌, All, Contains, refl, sym, ap, ◌∙◌, inl, inr}
+use Rattle.std.proofs.Common.{◌≡◌, ◌⊎◌, ◌↔◌, ℕ, ◌+◌, ◌<◌, Bool, true, false, IsTrue, cond, List, [], ◌∷◌, ◌++◌, length, take, get_or, All, Contains, refl, sym, ap, ◌∙◌, inl, inr}
 use Rattle.std.specs.List.{filter}
 use Rattle.std.proofs.lemmas.Bool.{false≢true}
-use Rattle.std.proofs.lemmas.List.Elements.{All-filter, filter_passes}
+use Rattle.std.proofs.lemmas.List.{append-nil}
+use Rattle.std.proofs.lemmas.List.Elements.{All-filter, filter_passes, filter_more}
 use Rattle.std.proofs.lemmas.List.Kept.{AllPairs-filter}
 use Rattle.leg_sweep.proofs.Lists.{Contains-nil, Contains-here, Contains-there, Contains-cons_cases}
 use Rattle.leg_block.specs.Records.{DesignContents}
@@ -36,7 +37,7 @@ module _ (design : DesignContents) where
   stays_or_not : (c : ℕ) → (IsMovable design c → ⊥) ⊎ ((IsMovable design c → ⊥) → ⊥)
   stays_or_not c = elim (movable_or_not design c) [ inl m ↦ inr (λ stays. stays m) | inr stays ↦ inl stays ]
 
-  concerns_or_not : (fault : Fault) → ConcernsStaying design fault ⊎ (ConcernsStaying design fault → ⊥)
+  pub concerns_or_not : (fault : Fault) → ConcernsStaying design fault ⊎ (ConcernsStaying design fault → ⊥)
   concerns_or_not (Unplaced c) = stays_or_not c
   concerns_or_not (Outside c) = stays_or_not c
   concerns_or_not (OffSite c) = stays_or_not c
@@ -49,7 +50,7 @@ module _ (design : DesignContents) where
   concerns_or_not (TooNear a b) = inr (λ h. h)
   concerns_or_not (OpenNet n k) = inr (λ h. h)
 
-  test_of : (fault : Fault) → ConcernsStaying design fault ⊎ (ConcernsStaying design fault → ⊥) → Bool
+  unfoldable pub test_of : (fault : Fault) → ConcernsStaying design fault ⊎ (ConcernsStaying design fault → ⊥) → Bool
   test_of fault (inl h) = true
   test_of fault (inr h) = false
 
@@ -88,3 +89,21 @@ module _ (design : DesignContents) where
             };
         all = λ fault held. Contains-filter concerns faults fault (list.all fault held.holds) (to_test fault (concerns_or_not fault) held.staying);
       })
+
+  -- what the test keeps of one more violation
+  module _ (faults staying : List Fault) (i : ℕ) (fault : Fault) (within : i < length faults) (is : fault ≡ get_or faults i fault)
+      (so : staying ≡ filter concerns (take i faults)) where
+    kept_next : filter concerns (take (i + 1) faults) ≡ filter concerns (take i faults) ++ cond (concerns fault) (fault ∷ []) []
+    kept_next = let grown = filter_more concerns faults i fault within in rw (← is) at grown
+
+    pub staying_more : ConcernsStaying design fault → staying ++ fault ∷ [] ≡ filter concerns (take (i + 1) faults)
+    staying_more held =
+        let passes : concerns fault ≡ true = to_test fault (concerns_or_not fault) held in
+        let kept : cond (concerns fault) (fault ∷ []) [] ≡ fault ∷ [] = rw passes refl in
+        ap (λ ys. ys ++ fault ∷ []) so ∙ ap (λ ys. filter concerns (take i faults) ++ ys) (sym kept) ∙ sym kept_next
+
+    pub staying_skip : (ConcernsStaying design fault → ⊥) → staying ≡ filter concerns (take (i + 1) faults)
+    staying_skip never =
+        let fails : false ≡ concerns fault = same_test fault false (λ t. absurd (false≢true t), λ h. absurd (never h)) in
+        let kept : cond (concerns fault) (fault ∷ []) [] ≡ [] = rw (← fails) refl in
+        so ∙ sym (append-nil (filter concerns (take i faults))) ∙ ap (λ ys. filter concerns (take i faults) ++ ys) (sym kept) ∙ sym kept_next

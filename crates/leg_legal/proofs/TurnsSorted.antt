@@ -1,5 +1,5 @@
 -- The keys of movable components, and those once they are sorted.
-use Rattle.std.proofs.Common.{◌≡◌, ℕ, ◌+◌, ◌<◌, pos, ◌-ℤ◌, ◌≤ℤ◌, Bool, false, List, [], ◌∷◌, ◌++◌, map, length, get_or, eqb, All, AllPairs, Contains, Some, slice_get, Ordering, IsPermutation, IsSorted, inl, inr, refl, sym, ap, ◌∙◌, arith}
+use Rattle.std.proofs.Common.{◌≡◌, ℕ, ℤ, ◌+◌, ◌<◌, pos, ◌-ℤ◌, ◌≤ℤ◌, Bool, false, List, [], ◌∷◌, ◌++◌, map, length, get_or, eqb, All, AllPairs, Contains, Some, slice_get, Ordering, IsPermutation, IsSorted, inl, inr, refl, sym, ap, ◌∙◌, arith}
 use Rattle.std.specs.Ordering.{is_lt, nat_cmp, int_cmp, ordering_then}
 use Rattle.std.specs.Cmp.{IsTotalOrder}
 use Rattle.std.specs.List.{IsDistinct}
@@ -15,6 +15,8 @@ use Rattle.std.proofs.lemmas.Map.Keys.{IsDistinct-from_apart, apart_from_distinc
 use Rattle.std.proofs.lemmas.Option.{same_Some, slice_get_within}
 use Rattle.leg_sweep.proofs.Lists.{Contains-map, AllPairs-map_where}
 use Rattle.leg_block.specs.Records.{DesignContents}
+use Rattle.leg_cells.specs.Records.{MasterSaid}
+use Rattle.leg_block.specs.declared.records.Component.{Component}
 use Rattle.leg_legal.specs.declared.turns.TurnKey.{TurnKey}
 use Rattle.leg_legal.specs.Movable.{IsMovable}
 use Rattle.leg_legal.specs.Start.{start_of}
@@ -71,6 +73,18 @@ module _ (design : DesignContents) where
     has_d = has_turn b is_b;
     earlier = earlier_from_below a b is_a is_b below;
   }
+
+  -- the key of a component, by what is read of it
+  pub key_of_movable : (c : ℕ) (m : IsMovable design c) (component : Component) (master : MasterSaid) (narrow x : ℤ) → slice_get design.components c ≡ Some component → slice_get design.library.masters component.master ≡ Some master → narrow ≡ pos 0 -ℤ master.size.width → x ≡ (start_of design.die component.place).x → IsKeyOf design (record { narrow = narrow; x = x; number = c })
+  key_of_movable c m component master narrow x there is_master narrow_is x_is =
+      let one : component ≡ m.component = same_Some component m.component (sym there ∙ m.there) in
+      let told : slice_get design.library.masters m.component.master ≡ Some master = rw one at is_master in
+      let same : master ≡ m.master = same_Some master m.master (sym told ∙ m.is_master) in
+      record {
+        movable = m;
+        narrow = narrow_is ∙ ap (λ (y : MasterSaid). pos 0 -ℤ y.size.width) same;
+        x = x_is ∙ ap (λ (y : Component). (start_of design.die y.place).x) one;
+      }
 
   pub keys_none : AreKeysBelow design 0 []
   keys_none = record {

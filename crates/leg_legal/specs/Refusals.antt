@@ -36,19 +36,26 @@ pub record HoldsOfStaying (design : DesignContents) (fault : Fault) : Type 0 whe
 abbrev pub NoneStaying : DesignContents → Type 0
 NoneStaying design = (fault : Fault) → ¬ HoldsOfStaying design fault
 
--- A macro of this size, of the site of this number, can stand on no row: it is not as high as the site, it is not as wide as a number of
--- them, or no row has that site.
-pub data IsMisfit (design : DesignContents) (size : Lengths) (number : ℕ) : Type 0 where
-  height : (site : Site) → slice_get design.library.sites number ≡ Some site
-      → size.height ≢ site.size.height → IsMisfit design size number
-  width : (site : Site) → slice_get design.library.sites number ≡ Some site
-      → ((many : ℕ) → size.width ≢ pos many *ℤ site.size.width) → IsMisfit design size number
-  no_row : ((row : Row) → Contains design.rows row → row.site ≢ number) → IsMisfit design size number
+-- a macro of this size is as high as a site of that size, and as wide as a number of them
+pub record FitsSites (site size : Lengths) : Type 0 where
+  pub high : size.height ≡ site.height
+  pub many : ℕ
+  pub wide : size.width ≡ pos many *ℤ site.width
 
--- component c is movable, and its macro can stand on no row
+-- a macro of this size, of the site of this number, can stand on a row: it fits the site, and a row has that site
+pub record HasRowFor (design : DesignContents) (size : Lengths) (number : ℕ) : Type 0 where
+  pub site : Site
+  pub is_site : slice_get design.library.sites number ≡ Some site
+  pub fits : FitsSites site.size size
+  pub row : Row
+  pub has : Contains design.rows row
+  pub same : row.site ≡ number
+
+-- Component c is movable, and can stand on no row: its macro is not as high as its site, it is not as wide as a number of
+-- them, or no row has that site.
 pub record IsUnsuited (design : DesignContents) (c : ℕ) : Type 0 where
   pub movable : IsMovable design c
-  pub misfit : IsMisfit design movable.master.size movable.number
+  pub misfit : ¬ HasRowFor design movable.master.size movable.number
 
 -- the one of lowest number
 pub record IsLeastUnsuited (design : DesignContents) (c : ℕ) : Type 0 where

@@ -1,4 +1,5 @@
 -- What the code knows on its way. No meaning of a public call speaks of it.
 pub mod TurnKeys
+pub mod HasRow
 pub mod PlacedAll
 pub mod Distances

@@ -29,5 +29,6 @@ pub(crate) fn is_movable<A: Allocator + Copy>(design: &Design<'_, A>, number: us
     if !may_move(component.status) {
         return false;
     }
-    design.library().masters()[component.master].site.is_some()
+    let master = &design.library().masters()[component.master];
+    master.site.is_some()
 }

@@ -1,13 +1,13 @@
 //! Which violations concern only components that stay.
 
-ghost use Rattle.std.specs.Prelude.{◌↔◌, IsTrue};
+ghost use Rattle.std.specs.Prelude.{◌↔◌, IsTrue, IfOk};
 ghost use Rattle.leg_block.specs.Violation.{IsListOf};
 ghost use Rattle.leg_place.specs.Faults.{Holds};
 ghost use Rattle.leg_legal.specs.Refusals.{ConcernsStaying, HoldsOfStaying};
 
 use crate::movable::is_movable;
 use leg_block::{Design, Fault};
-use std::alloc::Allocator;
+use std::alloc::{AllocError, Allocator};
 
 /// Whether a violation of where components stand concerns only components that stay.
 fn concerns_staying<A: Allocator + Copy>(design: &Design<'_, A>, fault: &Fault) -> bool
@@ -26,13 +26,21 @@ fn concerns_staying<A: Allocator + Copy>(design: &Design<'_, A>, fault: &Fault) 
     }
 }
 
-/// Keeps those violations of all of where components stand that concern only components that stay.
-pub(crate) fn keep_staying<A: Allocator + Copy>(
+/// Of all violations of where components stand, those that concern only components that stay.
+pub(crate) fn staying_faults<A: Allocator + Copy>(
+    alloc: A,
     design: &Design<'_, A>,
-    faults: &mut Vec<Fault, A>,
-)
-    requires { IsListOf (Holds design.now.library design.now) faults.old.items }
-    ensures { IsListOf (HoldsOfStaying design.now) faults.new.items }
+    faults: &[Fault],
+) -> Result<Vec<Fault, A>, AllocError>
+    requires { IsListOf (Holds design.now.library design.now) faults.now }
+    ensures { IfOk result (λ staying. IsListOf (HoldsOfStaying design.now) staying.items) }
 {
-    faults.retain(|fault| concerns_staying(design, fault));
+    let mut staying = Vec::new(alloc);
+    for i in 0..faults.len() {
+        let fault = faults[i];
+        if concerns_staying(design, &fault) {
+            staying.push(fault)?;
+        }
+    }
+    Ok(staying)
 }

@@ -1,12 +1,13 @@
 //! The order in which movable components are taken.
 
-ghost use Rattle.std.specs.Prelude.{◌≡◌, length, IfOk};
+ghost use Rattle.std.specs.Prelude.{◌≡◌, pos, ◌-ℤ◌, length, IfOk};
 ghost use Rattle.leg_legal.specs.Movable.{IsMovable};
 ghost use Rattle.leg_legal.specs.Start.{start_of};
 ghost use Rattle.leg_legal.specs.Steps.TurnKeys.{IsKeyOf, AreKeysBelow, AreInOrder};
 
 use crate::movable::is_movable;
 use leg_block::Design;
+use leg_cells::Extent;
 use leg_geom::{Place, Point};
 use std::alloc::{AllocError, Allocator};
 
@@ -31,6 +32,17 @@ pub(crate) fn start_of<A: Allocator + Copy>(design: &Design<'_, A>, place: &Opti
     }
 }
 
+/// The key of a component of this number whose macro is of this size, with this start.
+fn key_of(size: &Extent, start: &Point, number: u32) -> TurnKey
+    ensures { result ≡ record { narrow = pos 0 -ℤ size.now.width; x = start.now.x; number = number } }
+{
+    TurnKey {
+        narrow: 0 - size.width(),
+        x: start.x(),
+        number,
+    }
+}
+
 /// The key of a movable component.
 fn turn_key<A: Allocator + Copy>(design: &Design<'_, A>, number: usize) -> TurnKey
     requires { IsMovable design.now number }
@@ -38,12 +50,12 @@ fn turn_key<A: Allocator + Copy>(design: &Design<'_, A>, number: usize) -> TurnK
     ensures number { result.number ≡ number }
 {
     let component = &design.components()[number];
-    let width = design.library().masters()[component.master].size.width();
-    TurnKey {
-        narrow: 0 - width,
-        x: start_of(design, &component.place).x(),
-        number: number as u32,
-    }
+    let master = &design.library().masters()[component.master];
+    key_of(
+        &master.size,
+        &start_of(design, &component.place),
+        number as u32,
+    )
 }
 
 /// The keys of all movable components, in file order.

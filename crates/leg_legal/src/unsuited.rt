@@ -1,27 +1,48 @@
 //! Movable components whose macro can stand on no row.
 
 ghost use Rattle.std.specs.Prelude.{◌↔◌, IsTrue, MatchOption};
-ghost use Rattle.leg_legal.specs.Refusals.{IsMisfit, IsUnsuited, IsLeastUnsuited, AreSuited};
+ghost use Rattle.leg_legal.specs.Steps.HasRow.{HasRow};
+ghost use Rattle.leg_legal.specs.Refusals.{FitsSites, HasRowFor, IsUnsuited, IsLeastUnsuited, AreSuited};
 
 use crate::movable::is_movable;
-use leg_block::Design;
+use leg_block::{Design, Row};
 use leg_cells::Extent;
 use std::alloc::Allocator;
 
-/// Whether a macro of this size, of the site of this number, can stand on no row.
-fn is_misfit<A: Allocator + Copy>(design: &Design<'_, A>, size: &Extent, number: usize) -> bool
-    ensures { IsTrue result ↔ IsMisfit design.now size.now number }
+/// Whether a macro of this size is as high as a site, and as wide as a number of them.
+fn fits_sites(site: &Extent, size: &Extent) -> bool
+    ensures { IsTrue result ↔ FitsSites site.now size.now }
 {
-    let Some(site) = design.library().sites().get(number) else {
-        return true;
-    };
-    if size.height() != site.size.height() {
-        return true;
+    if size.height() != site.height() {
+        return false;
     }
-    if size.width().unsigned_abs() % site.size.width().unsigned_abs() != 0 {
-        return true;
+    size.width().unsigned_abs() % site.width().unsigned_abs() == 0
+}
+
+/// Whether a row has the site of this number.
+fn has_row(rows: &[Row<'_>], number: usize) -> bool
+    ensures { IsTrue result ↔ HasRow rows.now number }
+{
+    for i in 0..rows.len() {
+        if rows[i].site == number {
+            return true;
+        }
     }
-    !design.rows().iter().any(|row| row.site == number)
+    false
+}
+
+/// Whether a macro of this size, of the site of this number, can stand on a row.
+fn has_row_for<A: Allocator + Copy>(design: &Design<'_, A>, size: &Extent, number: usize) -> bool
+    ensures { IsTrue result ↔ HasRowFor design.now size.now number }
+{
+    if number >= design.library().sites().len() {
+        return false;
+    }
+    let site = &design.library().sites()[number];
+    if !fits_sites(&site.size, size) {
+        return false;
+    }
+    has_row(design.rows(), number)
 }
 
 /// Whether the component is movable, and its macro can stand on no row.
@@ -34,7 +55,7 @@ fn is_unsuited<A: Allocator + Copy>(design: &Design<'_, A>, number: usize) -> bo
     let component = &design.components()[number];
     let master = &design.library().masters()[component.master];
     match master.site {
-        Some(site) => is_misfit(design, &master.size, site),
+        Some(site) => !has_row_for(design, &master.size, site),
         None => false,
     }
 }

@@ -1,12 +1,3 @@
--- Sites by their edges
-mod SiteEdges
-mod SharedCells
-mod SiteCells
--- What the proofs of other crates cite: which sites are met, free sites and clear boxes
-pub mod MetSites
-pub mod KnownSites
-pub mod ClearBoxes
-pub mod MacroBoxes
 -- Free sites of one row
 mod OneStretch
 mod FirstFits
@@ -25,4 +16,13 @@ mod KeysSorted
 mod RowsAround
 mod RowCandidates
 mod BestSoFar
+-- Sites by their edges
+mod SiteEdges
+mod SharedCells
+mod SiteCells
+-- What the proofs of other crates cite: which sites are met, free sites and clear boxes
+pub mod MetSites
+pub mod KnownSites
+pub mod ClearBoxes
+pub mod MacroBoxes
 pub mod MacroPlaces
