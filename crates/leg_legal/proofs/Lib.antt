@@ -19,3 +19,5 @@ mod Misfits
 mod PlacedAll
 mod MovedDistances
 mod Totals
+-- The best place of a component
+mod BestSeat

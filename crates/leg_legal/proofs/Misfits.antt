@@ -97,12 +97,12 @@ has_site design c component master there is_master m none =
 -- whether a component is unsuited, by its macro
 module _ (design : DesignContents) (c : ℕ) (component : Component) (master : MasterSaid) (number : ℕ)
     (there : slice_get design.components c ≡ Some component) (is_master : slice_get design.library.masters component.master ≡ Some master) (site : master.site ≡ Some number) where
-  told : (m : IsMovable design c) → m.master ≡ master
+  pub told : (m : IsMovable design c) → m.master ≡ master
   told m =
       let one : m.component ≡ component = same_Some m.component component (sym m.there ∙ there) in
       same_Some m.master master (sym (rw one at m.is_master) ∙ is_master)
 
-  numbered : (m : IsMovable design c) → m.number ≡ number
+  pub numbered : (m : IsMovable design c) → m.number ≡ number
   numbered m =
       let alike : m.master ≡ master = told m in
       same_Some m.number number (sym (rw alike at m.site) ∙ site)

@@ -3,3 +3,4 @@ pub mod TurnKeys
 pub mod HasRow
 pub mod PlacedAll
 pub mod Distances
+pub mod Seats

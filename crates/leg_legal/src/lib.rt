@@ -5,6 +5,7 @@ mod distances;
 mod fault;
 mod movable;
 mod moves;
+mod seats;
 mod staying;
 mod taken;
 mod turns;
