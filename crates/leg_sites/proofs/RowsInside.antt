@@ -1,7 +1,8 @@
 -- Rows with nothing in the way: their sites in the die, and their tallest site.
-use Rattle.std.proofs.Common.{◌≡◌, ◌⊎◌, ℕ, ◌+◌, ◌<◌, ℤ, pos, ◌≤ℤ◌, List, [], ◌∷◌, ◌++◌, Some, Contains, slice_get, length, get_or, refl, sym, ap, ◌∙◌, inl, inr, absurd, arith, length-append}
+use Rattle.std.proofs.Common.{◌≡◌, ◌⊎◌, ℕ, ◌+◌, ◌-◌, ◌<◌, ℤ, pos, ◌≤ℤ◌, List, [], ◌∷◌, ◌++◌, Some, Contains, slice_get, length, get_or, refl, sym, ap, ◌∙◌, inl, inr, arith, length-append}
+use Rattle.std.specs.Int.{int_max}
 use Rattle.std.proofs.lemmas.Bool.{cases_lt}
-use Rattle.std.proofs.lemmas.Int.{ints}
+use Rattle.std.proofs.lemmas.Int.{ints, clamps}
 use Rattle.std.proofs.lemmas.List.{get_or_append_left, get_or-append_right}
 use Rattle.std.proofs.lemmas.Option.{same_Some, slice_get-get_or, slice_get_within, get_or_from_slice_get}
 use Rattle.leg_lex.specs.Number.{IsNumber}
@@ -20,7 +21,7 @@ use Rattle.leg_sites.proofs.KnownSites.{known_at_first, known_same}
 use Rattle.leg_sites.proofs.RowsTaken.{same_row}
 
 no_box : (box : Sides) → ¬ Contains [] box
-no_box box (place, (below, is)) = absurd (omega (arith, below))
+no_box box (place, below, is) = absurd (omega (arith, below))
 
 -- a row begins with its sites in the die
 pub known_of_none : (row : Row) (size : Lengths) (die : Sides) (sites : Stretch) (free : List Stretch) → AreSitesInside row size die sites → AreSitesBetween sites.from sites.end free → IsKnown row size die (Contains []) free
@@ -42,10 +43,11 @@ module _ {X : Type 0} where
             inr (last, sym read ∙ get_or-append_right xs (x ∷ []) (length xs) i y refl late ∙ ap (λ (n : ℕ). get_or (x ∷ []) n y) none)
       ]
 
-module _ (design : DesignContents) where
-  pub none_inside_yet : AreInside design 0 []
-  none_inside_yet = record { count = refl; each = λ number row site list there at. let below = slice_get_within [] number list at in absurd (omega (arith, below)) }
+-- the greater one of two numbers is one
+pub max_is_number : (a b most : ℤ) → most ≡ int_max a b → IsNumber a → IsNumber b → IsNumber most
+max_is_number a b most is a_within b_within = omega (arith, ints, clamps, is, a_within, b_within)
 
+module _ (design : DesignContents) where
   pub one_more_inside : (i : ℕ) (row : Row) (site : Site) (lists : List (List Stretch)) (list : List Stretch) → IsRowAt design i row site → IsKnown row site.size design.die (Contains []) list → AreInside design i lists → AreInside design (i + 1) (lists ++ list ∷ [])
   one_more_inside i row site lists list at known so_far = record {
     count = length-append lists (list ∷ []) ∙ ap (λ (n : ℕ). n + 1) so_far.count;

@@ -1,12 +1,13 @@
 -- Lists of free sites, one for each row, once a rectangle is taken from those that it may meet.
-use Rattle.std.proofs.Common.{◌≡◌, ◌≢◌, ◌↔◌, ◌⊎◌, ℕ, ◌+◌, ◌-◌, ◌<◌, ◌≤◌, ℤ, ◌≤ℤ◌, ◌+ℤ◌, List, [], ◌∷◌, ◌++◌, Some, Contains, slice_get, length, get_or, set, take, drop, refl, sym, ap, ◌∙◌, inl, inr, arith, length-set, get_or-set_other, get_or-take, get_or-drop, length-drop}
+use Rattle.std.proofs.Common.{◌≡◌, ◌≢◌, ◌↔◌, ◌⊎◌, ℕ, ◌+◌, ◌-◌, ◌<◌, ◌≤◌, ℤ, pos, ◌≤ℤ◌, ◌<ℤ◌, ◌+ℤ◌, ◌-ℤ◌, List, [], ◌∷◌, ◌++◌, Some, Result, Ok, Err, OnOk, All, Contains, slice_get, length, get_or, set, take, drop, refl, sym, ap, ◌∙◌, inl, inr, arith, length-set, get_or-set_other, get_or-take, get_or-drop, length-drop}
 use Rattle.std.proofs.lemmas.Bool.{cases_lt, cases_eq}
 use Rattle.std.proofs.lemmas.Int.{ints}
 use Rattle.std.proofs.lemmas.Grind.{get_or-set_at}
 use Rattle.std.proofs.lemmas.List.{length-take-le}
 use Rattle.std.proofs.lemmas.Option.{same_Some, slice_get-get_or, slice_get_within, get_or_from_slice_get, slice_get_read}
-use Rattle.std.proofs.lemmas.List.Elements.{Contains-append_left, Contains-append_right, Contains-append_cases}
+use Rattle.std.proofs.lemmas.List.Elements.{All-take, All-drop, Contains-append_left, Contains-append_right, Contains-append_cases}
 use Rattle.leg_geom.specs.Plane.{Sides, ShareCell}
+use Rattle.leg_cells.specs.Measure.{Lengths}
 use Rattle.leg_cells.specs.declared.records.Site.{Site}
 use Rattle.leg_block.specs.declared.records.Row.{Row}
 use Rattle.leg_block.specs.Records.{DesignContents}
@@ -15,10 +16,11 @@ use Rattle.leg_sites.specs.declared.stretch.Stretch.{Stretch}
 use Rattle.leg_sites.specs.declared.row_keys.RowKey.{RowKey}
 use Rattle.leg_sites.specs.Stretches.{IsFreeSite, IsWithout}
 use Rattle.leg_sites.specs.RowSites.{AreSitesMet}
-use Rattle.leg_sites.specs.RowOrder.{IsKeyOf}
+use Rattle.leg_sites.specs.RowOrder.{IsKeyOf, IsRowOrder}
 use Rattle.leg_sites.specs.Known.{IsClear}
 use Rattle.leg_sites.specs.FreeRows.{RowLists, IsRowAt, AreRowsOf, AreKnown}
-use Rattle.leg_sites.specs.Steps.FreeRows.{LosesMet, AreTakenUpTo, AreTaken, AreNear}
+use Rattle.leg_sites.specs.Steps.RowsSeen.{IsSplitAt}
+use Rattle.leg_sites.specs.Steps.FreeRows.{LosesMet, IsTakenAt, AreTakenUpTo, AreTaken, AreNear}
 use Rattle.leg_sites.proofs.KnownSites.{outside, beside}
 use Rattle.leg_sites.proofs.MetSites.{unmet_along_y}
 
@@ -36,6 +38,9 @@ module _ {X : Type 0} where
       let below : j < length (set xs i y) = slice_get_within (set xs i y) j b at in
       let within : j < length xs = omega (arith, below, all) in
       slice_get-get_or xs j b within ∙ ap Some (sym (get_or-set_other xs i j y b differ) ∙ get_or_from_slice_get (set xs i y) j b b at)
+
+  pub of_all : (P : X → Type 0) (xs : List X) (i : ℕ) (x : X) → All P xs → slice_get xs i ≡ Some x → P x
+  of_all P xs i x each at = let is : get_or xs i x ≡ x = get_or_from_slice_get xs i x x at in rw is at (each i x (slice_get_within xs i x at))
 
 -- a number has one row, and that one site
 pub same_row : (design : DesignContents) (number : ℕ) (row other : Row) (site its : Site) → IsRowAt design number row site → IsRowAt design number other its → (other ≡ row) × (its ≡ site)
@@ -66,13 +71,6 @@ module _ (design : DesignContents) (rect : Sides) (number : ℕ) where
   )
 
 module _ (design : DesignContents) (rect : Sides) (keys : List RowKey) (old : List (List Stretch)) where
-  pub none_taken : AreTakenUpTo design rect keys 0 old old
-  none_taken = record {
-    count = refl;
-    each = λ number a b at now. inr (same_Some b a (sym now ∙ at));
-    these = λ j key a b early there at now. absurd (omega (arith, early));
-  }
-
   module _ (i : ℕ) (key : RowKey) (lists : List (List Stretch)) (list taken : List Stretch) (there : slice_get keys i ≡ Some key) (known : slice_get lists key.row ≡ Some list) (loses : LosesMet design rect key.row list taken) (so_far : AreTakenUpTo design rect keys i old lists) where
     here : (number : ℕ) (a b : List Stretch) → number ≡ key.row → slice_get old number ≡ Some a → slice_get (set lists key.row taken) number ≡ Some b → LosesMet design rect number a b
     here number a b same at now =
@@ -103,6 +101,24 @@ module _ (design : DesignContents) (rect : Sides) (keys : List RowKey) (old : Li
       ];
     }
 
+  -- one more row has lost them
+  pub one_more_at : (i : ℕ) (key : RowKey) (row : Row) (site : Site) (lists new : List (List Stretch)) → slice_get keys i ≡ Some key → IsRowAt design key.row row site → IsTakenAt row site.size rect key.row lists new → AreTakenUpTo design rect keys i old lists → AreTakenUpTo design rect keys (i + 1) old new
+  one_more_at i key row site lists new there at took so_far =
+      let loses = loses_from_take design rect key.row row site at took.list took.rest took.sites took.met took.without in
+      rw took.set (one_more_taken i key lists took.list took.rest there took.there loses so_far)
+
+-- what is taken from one list
+pub taken_at : {T E : Type 0} (row : Row) (size : Lengths) (rect : Sides) (number : ℕ) (lists : List (List Stretch)) (list rest : List Stretch) (sites : Stretch) (r : Result T E) → slice_get lists number ≡ Some list → AreSitesMet row size rect sites → OnOk r (IsWithout list sites.from sites.end rest) → OnOk r (IsTakenAt row size rect number lists (set lists number rest))
+taken_at row size rect number lists list rest sites (Ok x) there met without =
+    record { sites = sites; met = met; list = list; there = there; rest = rest; without = without; set = refl }
+taken_at row size rect number lists list rest sites (Err e) there met without = tt
+
+-- the keys between two places are keys of rows
+pub keys_between : (rows : List Row) (order : List RowKey) (first many : ℕ) → IsRowOrder rows order → All (IsKeyOf rows) (take many (drop first order))
+keys_between rows order first many is =
+    let all : All (IsKeyOf rows) order = λ i d below. let key = get_or order i d in (is.keys key).0 (i, below, get_or_from_slice_get order i key key (slice_get-get_or order i d below)) in
+    All-take (IsKeyOf rows) many (drop first order) (All-drop (IsKeyOf rows) first order all)
+
 -- the key at a place between two others is one of those between them
 key_between : (order : List RowKey) (first end place : ℕ) (key : RowKey) → end ≤ length order → first ≤ place → place < end → slice_get order place ≡ Some key → slice_get (take (end - first) (drop first order)) (place - first) ≡ Some key
 key_between order first end place key within from below at =
@@ -115,6 +131,27 @@ key_between order first end place key within from below at =
     get_or-take (end - first) (drop first order) (place - first) key early ∙ get_or-drop first order (place - first) key ∙ ap (λ (n : ℕ). get_or order n key) there ∙ read in
     slice_get_read (take (end - first) (drop first order)) _ (place - first) key refl (omega (arith, all, early)) (sym is)
 
+abbrev pub nowhere : RowKey
+nowhere = record { y = pos 0; row = 0 }
+
+-- no row ends above the rectangle's bottom whose place in the order is below the first one
+pub near_from_splits : (rect : Sides) (tallest : ℤ) (order : List RowKey) (first end : ℕ) → IsSplitAt order (rect.y1 -ℤ tallest) first first → IsSplitAt order rect.y2 end end → pos 0 ≤ℤ tallest → rect.y1 <ℤ rect.y2 → AreNear rect tallest order first end
+near_from_splits rect tallest order first end low high least proper = record {
+  in_order = elim (cases_lt end first) [
+    | inl before ↦
+        let all = low.within in
+        let key : RowKey = get_or order end nowhere in
+        let at : slice_get order end ≡ Some key = slice_get-get_or order end nowhere (omega (arith, before, all)) in
+        let below = low.lower end key before at in
+        let above = high.upper end key (omega arith) at in
+        absurd (omega (arith, ints, below, above, least, proper))
+    | inr after ↦ after
+  ];
+  within = high.within;
+  below = λ k key early at. let below = low.lower k key early at in omega (arith, ints, below);
+  above = λ k key late at. high.upper k key late at;
+}
+
 module _ (design : DesignContents) (rect : Sides) (free : RowLists) (rows : AreRowsOf design free) where
   -- a row is one of those near the rectangle, or meets it nowhere
   unmet_beside : (number : ℕ) (row : Row) (site : Site) (first end place : ℕ) (key : RowKey) → AreNear rect free.tallest free.order first end → IsRowAt design number row site → key.y ≡ row.at.y → slice_get free.order place ≡ Some key → (place < first) ⊎ (end ≤ place) → (k : ℕ) → ¬ ShareCell rect (site_box row site.size k)
@@ -125,7 +162,7 @@ module _ (design : DesignContents) (rect : Sides) (free : RowLists) (rows : AreR
         | inr behind ↦ let above = near.above place key behind at in inr (omega (arith, ints, above, level))
       ])
 
-  pub all_taken : (first end : ℕ) (new : List (List Stretch)) → AreNear rect free.tallest free.order first end → AreTakenUpTo design rect (take (end - first) (drop first free.order)) (end - first) free.lists new → AreTaken design rect free.lists new
+  pub all_taken : (first end : ℕ) (new : List (List Stretch)) → AreNear rect free.tallest free.order first end → AreTakenUpTo design rect (take (end - first) (drop first free.order)) (length (take (end - first) (drop first free.order))) free.lists new → AreTaken design rect free.lists new
   all_taken first end new near taken = record {
     count = taken.count;
     each = λ number a b before now row site there.
@@ -143,13 +180,15 @@ module _ (design : DesignContents) (rect : Sides) (free : RowLists) (rows : AreR
           | inr from ↦
               elim (cases_lt place end) [
                 | inr behind ↦ kept (inr behind)
-                | inl below ↦ taken.these (place - first) key a b (omega (arith, from, below)) (key_between free.order first end place key near.within from below at) before now row site there
+                | inl below ↦
+                    let early = key_between free.order first end place key near.within from below at in
+                    taken.these (place - first) key a b (slice_get_within (take (end - first) (drop first free.order)) (place - first) key early) early before now row site there
               ]
         ];
   }
 
 only_box : (rect other : Sides) → Contains (rect ∷ []) other → other ≡ rect
-only_box rect other (place, (below, is)) =
+only_box rect other (place, below, is) =
     let first : place ≡ 0 = omega (arith, below) in
     sym (rw first at is)
 
@@ -171,7 +210,7 @@ module _ (design : DesignContents) (rect : Sides) (boxes : List Sides) (old new 
   }
 
   clear_of_rect : (box : Sides) → IsClear design.die (Contains (boxes ++ rect ∷ [])) box → ¬ ShareCell rect box
-  clear_of_rect box clear = clear.alone rect (Contains-append_right boxes (rect ∷ []) rect (0, (omega arith, refl)))
+  clear_of_rect box clear = clear.alone rect (Contains-append_right boxes (rect ∷ []) rect (0, omega arith, refl))
 
   pub known_once_taken : AreRowsOf design new → AreKnown design (boxes ++ rect ∷ []) new
   known_once_taken rows = record {
@@ -182,8 +221,7 @@ module _ (design : DesignContents) (rect : Sides) (boxes : List Sides) (old new 
         let was : List Stretch = get_or old.lists number list in
         let before : slice_get old.lists number ≡ Some was = slice_get-get_or old.lists number list (omega (arith, below, count)) in
         let loses = taken.each number was list before at row site there k in
-        let knew = known.each number row site was there before k in
-        (
+        let knew = known.each number row site was there before k in (
           λ free.
               let both = loses.0 free in
               let clear = knew.0 both.0 in
@@ -191,3 +229,12 @@ module _ (design : DesignContents) (rect : Sides) (boxes : List Sides) (old new 
           λ clear. loses.1 (knew.1 (clear.0, clear_of_these (site_box row site.size k) clear.1), clear_of_rect (site_box row site.size k) clear.1),
         );
   }
+
+-- A box is taken from the lists that a struct has, which stands for these rows.
+pub box_taken : {T E : Type 0} (r : Result T E) (design : DesignContents) (rect : Sides) (old free : RowLists) (new : List (List Stretch)) (first end : ℕ) → free ≡ old → AreRowsOf design old → AreNear rect free.tallest free.order first end → OnOk r (AreTakenUpTo design rect (take (end - first) (drop first free.order)) (length (take (end - first) (drop first free.order))) free.lists new) → OnOk r ((boxes : List Sides) → AreKnown design boxes old → AreKnown design (boxes ++ rect ∷ []) (record { lists = new; order = free.order; tallest = free.tallest }))
+box_taken (Ok x) design rect old free new first end same rows near up = λ boxes known.
+    let own : AreRowsOf design free = rw same rows in
+    let knew : AreKnown design boxes free = rw same known in
+    let taken = all_taken design rect free own first end new near up in
+    known_once_taken design rect boxes free (record { lists = new; order = free.order; tallest = free.tallest }) knew taken (record { lists = taken.count ∙ own.lists; order = own.order; tallest = own.tallest })
+box_taken (Err e) design rect old free new first end same rows near up = tt

@@ -65,12 +65,8 @@ impl<A: Allocator + Copy> FreeRows<A> {
         requires { AreRowsOf design.now self.old }
         ensures { OnOk result ((boxes : List Sides) → AreKnown design.now boxes self.old → AreKnown design.now (boxes ++ rect.now ∷ []) self.new) }
     {
-        let (first, end) = near(self.order.as_slice(), self.tallest, rect);
-        take_from_rows(
-            self.lists.as_mut_slice(),
-            &self.order.as_slice()[first..end],
-            design,
-            rect,
-        )
+        let order = self.order.as_slice();
+        let (first, end) = near(order, self.tallest, rect);
+        take_from_rows(self.lists.as_mut_slice(), &order[first..end], design, rect)
     }
 }

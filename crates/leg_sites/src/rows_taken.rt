@@ -1,15 +1,16 @@
 //! How the sites that a rectangle meets are taken from rows.
 
-ghost use Rattle.std.specs.Prelude.{◌≡◌, pos, ◌≤ℤ◌, length, All, AllPairs, OnOk};
+ghost use Rattle.std.specs.Prelude.{◌≡◌, pos, ◌≤ℤ◌, ◌<◌, length, All, AllPairs, OnOk};
 ghost use Rattle.leg_lex.specs.Number.{IsNumber};
 ghost use Rattle.leg_sites.specs.RowOrder.{IsBefore, IsKeyOf};
 ghost use Rattle.leg_sites.specs.Steps.RowsSeen.{IsSplitAt};
-ghost use Rattle.leg_sites.specs.Steps.FreeRows.{AreNear, AreTakenUpTo};
+ghost use Rattle.leg_sites.specs.Steps.FreeRows.{AreNear, AreTakenUpTo, IsTakenAt};
 
 use crate::free_sites::FreeSites;
 use crate::row_keys::RowKey;
 use crate::row_sites::sites_met;
-use leg_block::Design;
+use leg_block::{Design, Row};
+use leg_cells::Extent;
 use leg_geom::Rect;
 use std::alloc::{AllocError, Allocator};
 
@@ -47,8 +48,22 @@ pub(crate) fn take_from_rows<A: Allocator + Copy>(
     for key in keys {
         let row = &design.rows()[key.row];
         let size = &design.library().sites()[row.site].size;
-        let met = sites_met(row, size, rect);
-        lists[key.row].take(met.from, met.end)?;
+        take_from_row(lists, key.row, row, size, rect)?;
     }
     Ok(())
+}
+
+/// Takes the sites that share a cell with the rectangle away from those of one row, which are of this size.
+fn take_from_row<A: Allocator>(
+    lists: &mut [FreeSites<A>],
+    number: usize,
+    row: &Row<'_>,
+    size: &Extent,
+    rect: &Rect,
+) -> Result<(), AllocError>
+    requires { number < length lists.old }
+    ensures { OnOk result (IsTakenAt row.now size.now rect.now number lists.old lists.new) }
+{
+    let met = sites_met(row, size, rect);
+    lists[number].take(met.from, met.end)
 }

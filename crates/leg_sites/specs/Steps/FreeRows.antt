@@ -1,13 +1,15 @@
 -- Rows of which the lists of free sites are made, or lose the sites that a rectangle meets.
-use Rattle.std.specs.Prelude.{◌≡◌, ◌↔◌, ◌⊎◌, ℕ, ◌<◌, ◌≤◌, ℤ, ◌≤ℤ◌, ◌+ℤ◌, List, [], length, Some, slice_get, Contains}
+use Rattle.std.specs.Prelude.{◌≡◌, ◌↔◌, ◌⊎◌, ℕ, ◌<◌, ◌≤◌, ℤ, ◌≤ℤ◌, ◌+ℤ◌, List, [], length, Some, slice_get, slice_set, Contains}
 use Rattle.leg_geom.specs.Plane.{Sides, ShareCell}
+use Rattle.leg_cells.specs.Measure.{Lengths}
 use Rattle.leg_cells.specs.declared.records.Site.{Site}
 use Rattle.leg_block.specs.declared.records.Row.{Row}
 use Rattle.leg_block.specs.Records.{DesignContents}
 use Rattle.leg_place.specs.Sites.{site_box}
 use Rattle.leg_sites.specs.declared.stretch.Stretch.{Stretch}
 use Rattle.leg_sites.specs.declared.row_keys.RowKey.{RowKey}
-use Rattle.leg_sites.specs.Stretches.{IsFreeSite}
+use Rattle.leg_sites.specs.Stretches.{IsFreeSite, IsWithout}
+use Rattle.leg_sites.specs.RowSites.{AreSitesMet}
 use Rattle.leg_sites.specs.Known.{IsKnown}
 use Rattle.leg_sites.specs.FreeRows.{IsRowAt}
 
@@ -20,6 +22,16 @@ pub record AreInside (design : DesignContents) (end : ℕ) (lists : List (List S
 abbrev pub LosesMet : DesignContents → Sides → ℕ → List Stretch → List Stretch → Type 0
 LosesMet design rect number old new =
     (row : Row) (site : Site) → IsRowAt design number row site → (k : ℕ) → IsFreeSite new k ↔ (IsFreeSite old k × ¬ ShareCell rect (site_box row site.size k))
+
+-- the list at this number has lost the sites of its row that the rectangle meets
+pub record IsTakenAt (row : Row) (size : Lengths) (rect : Sides) (number : ℕ) (old new : List (List Stretch)) : Type 0 where
+  pub sites : Stretch
+  pub met : AreSitesMet row size rect sites
+  pub list : List Stretch
+  pub there : slice_get old number ≡ Some list
+  pub rest : List Stretch
+  pub without : IsWithout list sites.from sites.end rest
+  pub set : new ≡ slice_set old number rest
 
 -- a list has lost what the rectangle meets, or is as it was; those of the first keys have lost it
 pub record AreTakenUpTo (design : DesignContents) (rect : Sides) (keys : List RowKey) (end : ℕ) (old new : List (List Stretch)) : Type 0 where
