@@ -4,10 +4,10 @@ use Rattle.std.specs.Int.{int_max}
 use Rattle.std.proofs.lemmas.Bool.{cases_lt}
 use Rattle.std.proofs.lemmas.Int.{ints, clamps}
 use Rattle.std.proofs.lemmas.List.{get_or_append_left, get_or-append_right}
-use Rattle.std.proofs.lemmas.Option.{same_Some, slice_get-get_or, slice_get_within, get_or_from_slice_get}
+use Rattle.std.proofs.lemmas.Option.{slice_get-get_or, slice_get_within, get_or_from_slice_get}
 use Rattle.leg_lex.specs.Number.{IsNumber}
 use Rattle.leg_geom.specs.Plane.{Sides}
-use Rattle.leg_cells.specs.Measure.{Lengths, IsExtent}
+use Rattle.leg_cells.specs.Measure.{Lengths}
 use Rattle.leg_cells.specs.declared.records.Site.{Site}
 use Rattle.leg_block.specs.declared.records.Row.{Row}
 use Rattle.leg_block.specs.Records.{DesignContents}

@@ -1,5 +1,5 @@
 -- Lists of free sites, one for each row, once a rectangle is taken from those that it may meet.
-use Rattle.std.proofs.Common.{◌≡◌, ◌≢◌, ◌↔◌, ◌⊎◌, ℕ, ◌+◌, ◌-◌, ◌<◌, ◌≤◌, ℤ, pos, ◌≤ℤ◌, ◌<ℤ◌, ◌+ℤ◌, ◌-ℤ◌, List, [], ◌∷◌, ◌++◌, Some, Result, Ok, Err, OnOk, All, Contains, slice_get, length, get_or, set, take, drop, refl, sym, ap, ◌∙◌, inl, inr, arith, length-set, get_or-set_other, get_or-take, get_or-drop, length-drop}
+use Rattle.std.proofs.Common.{◌≡◌, ◌≢◌, ◌↔◌, ◌⊎◌, ℕ, ◌+◌, ◌-◌, ◌<◌, ◌≤◌, ℤ, pos, ◌≤ℤ◌, ◌<ℤ◌, ◌-ℤ◌, List, [], ◌∷◌, ◌++◌, Some, Result, Ok, Err, OnOk, All, Contains, slice_get, length, get_or, set, take, drop, refl, sym, ap, ◌∙◌, inl, inr, arith, length-set, get_or-set_other, get_or-take, get_or-drop, length-drop}
 use Rattle.std.proofs.lemmas.Bool.{cases_lt, cases_eq}
 use Rattle.std.proofs.lemmas.Int.{ints}
 use Rattle.std.proofs.lemmas.Grind.{get_or-set_at}
