@@ -18,7 +18,7 @@ mod site_edges;
 mod stretch;
 mod take_sites;
 
-pub use candidate::{Candidate, Wanted};
+pub use candidate::{Candidate, Wanted, fits};
 pub use free_rows::FreeRows;
 pub use free_sites::FreeSites;
 pub use row_keys::{RowKey, row_order};
