@@ -15,7 +15,7 @@ use Rattle.leg_cells.specs.Measure.{Lengths, HasArea, IsExtent}
 use Rattle.leg_cells.specs.Records.{MasterSaid}
 use Rattle.leg_block.specs.Records.{DesignContents}
 use Rattle.leg_block.specs.Rows.{is_upright}
-use Rattle.leg_block.specs.WellFormedParts.{IsRow}
+use Rattle.leg_block.specs.WellFormedParts.{IsPosition, IsRow}
 use Rattle.leg_block.specs.WellFormed.{IsWellFormed}
 use Rattle.leg_block.specs.declared.records.Row.{Row}
 use Rattle.leg_block.specs.declared.records.Component.{Component}
@@ -179,6 +179,15 @@ module _ (design : DesignContents) (proper : IsWellFormed design) (c : ℕ) (wan
     just_where first place at upright =
         free_just_where_macro_clear row asks.site.size asks.master.size wanted.many asks.area.area asks.has_area.area asks.wide asks.high
         design.die (Contains boxes) list list_known first place at upright
+
+  -- where the first of some sites of the row begins is a point that a DEF may have
+  pub position_of : (number : ℕ) (row : Row) (there : slice_get design.rows number ≡ Some row) (same : row.site ≡ wanted.site) (list : List Stretch) (listed : slice_get free.lists number ≡ Some list) (first : ℕ) → AreFreeSites list wanted.many first → (place : Place) → place.at ≡ record { x = row.at.x +ℤ pos first *ℤ wanted.site_width; y = row.at.y } → IsPosition place.at
+  position_of number row there same list listed first sites place at =
+      let row_is : IsRow design.library row = all_at (IsRow design.library) design.rows number row proper.rows there in
+      rw at (record {
+        x = site_within number row there same list listed first (sites first (omega arith) (omega (arith, some_many)));
+        y = row_is.at.y;
+      })
 
   -- a candidate is a free position
   module _ (k : Candidate) (is : IsCandidate design.rows free.lists wanted k) (place : Place)

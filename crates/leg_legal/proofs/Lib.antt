@@ -21,3 +21,6 @@ mod MovedDistances
 mod Totals
 -- The best place of a component
 mod BestSeat
+-- The loop over the components
+mod UnderWay
+mod Chosen

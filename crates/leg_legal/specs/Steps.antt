@@ -4,3 +4,5 @@ pub mod HasRow
 pub mod PlacedAll
 pub mod Distances
 pub mod Seats
+pub mod Taking
+pub mod Chosen

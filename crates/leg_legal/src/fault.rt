@@ -1,8 +1,11 @@
 //! Why a design isn't legalised.
 
+ghost use Rattle.std.specs.Prelude.{◌≡◌};
+ghost use Rattle.leg_legal.specs.declared.fault.LegalFault.TheVariants.{Memory};
+
 use leg_block::Fault;
 use leg_cells::Items;
-use std::alloc::Allocator;
+use std::alloc::{AllocError, AllocFailed, Allocator};
 
 /// The cause for which a design isn't legalised (own rules). Of several, the first in this order is told, but for memory.
 #[derive(Drop)]
@@ -16,4 +19,20 @@ pub enum LegalFault<A: Allocator> {
     NoRoom(u32),
     /// Memory was refused.
     Memory,
+}
+
+impl<A: Allocator> From<AllocError> for LegalFault<A> {
+    ghost from_gives = { λ _ e. e ≡ Memory };
+
+    fn from(_e: AllocError) -> LegalFault<A> {
+        LegalFault::Memory
+    }
+}
+
+impl<T: Drop, A: Allocator> From<AllocFailed<T>> for LegalFault<A> {
+    ghost from_gives = { λ _ e. e ≡ Memory };
+
+    fn from(_e: AllocFailed<T>) -> LegalFault<A> {
+        LegalFault::Memory
+    }
 }

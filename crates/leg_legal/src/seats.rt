@@ -1,9 +1,10 @@
 //! The best place of a component where some boxes stand in the way.
 
-ghost use Rattle.std.specs.Prelude.{◌≡◌, ℕ, pos, ◌/◌, ◌≤ℤ◌, ◌+ℤ◌, ◌*ℤ◌, List, unsigned_abs};
+ghost use Rattle.std.specs.Prelude.{◌≡◌, ℕ, pos, ◌/◌, ◌≤ℤ◌, ◌+ℤ◌, ◌*ℤ◌, List, unsigned_abs, IfSome};
 ghost use Rattle.leg_lex.specs.Number.{IsNumber};
 ghost use Rattle.leg_geom.specs.Plane.{Sides};
 ghost use Rattle.leg_cells.specs.Measure.{IsExtent};
+ghost use Rattle.leg_block.specs.WellFormedParts.{IsPosition};
 ghost use Rattle.leg_sites.specs.FreeRows.{AreKnown};
 ghost use Rattle.leg_legal.specs.Movable.{IsMovable};
 ghost use Rattle.leg_legal.specs.Standing.{orient_of, Takes};
@@ -111,7 +112,8 @@ pub(crate) fn best_place<A: Allocator + Copy>(
     wanted: &Wanted,
 ) -> Option<Place>
     requires { AreToBeAsked design.now free.now wanted.now }
-    ensures { (c : ℕ) (boxes : List Sides) → IsWantedOf design.now c wanted.now → AreKnown design.now boxes free.now → IsBestPlace design.now boxes c result }
+    ensures best { (c : ℕ) (boxes : List Sides) → IsWantedOf design.now c wanted.now → AreKnown design.now boxes free.now → IsBestPlace design.now boxes c result }
+    ensures position { IfSome result (λ place. IsPosition place.at) }
 {
     match best_position(design.rows(), free.order(), free.lists(), wanted) {
         Some(found) => {
