@@ -49,8 +49,8 @@ same_many j k n some same =
         | inr both ↦ omega arith
       ]
     ] where
-    step : (a b n : ℕ) → a < b → (a + 1) * n ≤ b * n
-    step a b n below = mul-le-mul_right n (omega arith)
+      step : (a b n : ℕ) → a < b → (a + 1) * n ≤ b * n
+      step a b n below = mul-le-mul_right n (omega arith)
 
 -- What a macro fits that isn't known not to fit
 module _ (site size : Lengths) (area : HasArea site) (has_area : HasArea size) where

@@ -1,5 +1,5 @@
 -- What the places that are chosen make of a design, and the causes of refusal.
-use Rattle.std.proofs.Common.{◌≡◌, ◌≢◌, ℕ, List, [], ◌∷◌, All, Contains, refl, inl, inr, sym, ap, ◌∙◌}
+use Rattle.std.proofs.Common.{◌≡◌, ◌≢◌, ℕ, List, [], ◌∷◌, All, Contains, length, refl, inl, inr, arith}
 use Rattle.std.proofs.lemmas.List.Elements.{All-head, All-nil}
 use Rattle.leg_sweep.proofs.Lists.{Contains-nil}
 use Rattle.leg_cells.specs.Sound.{IsSound}
@@ -21,6 +21,11 @@ use Rattle.leg_legal.specs.Steps.Taking.{AreAllTaken, IsStuckAt, IsTakingFault}
 use Rattle.leg_legal.specs.Steps.Chosen.{AreRun, IsBlocked, IsRunFault, AreChosen}
 use Rattle.leg_legal.proofs.OnRow.{HasSoundRows}
 use Rattle.leg_legal.proofs.TheRun.{run_legal, run_same, legal_same}
+
+-- a list without elements
+pub none_there : {X : Type 0} (xs : List X) → length xs ≡ 0 → xs ≡ []
+none_there [] is = refl
+none_there (x ∷ xs) is = absurd (omega (arith, is))
 
 module _ (design : DesignContents) where
   -- a design without violations is legally placed
@@ -67,13 +72,17 @@ module _ {A : Type 0} (design : DesignContents) where
   pub refusal_of : (fault : LegalFault A) → NoneStaying design → AreSuited design → (IsLegallyPlaced design → ⊥) → IsRunFault design fault → IsRefusal design fault
   refusal_of (FixedIllegal faults) staying suited illegal f = absurd f
   refusal_of (NoSite c) staying suited illegal f = absurd f
-  refusal_of (NoRoom c) staying suited illegal f = (staying, suited, record {
-    illegal = illegal;
-    done = f.stuck.done;
-    rest = f.stuck.rest;
-    is_order = rw f.stuck.is at f.is_order;
-    now = f.stuck.now;
-    run = f.stuck.run;
-    full = f.stuck.full;
-  })
+  refusal_of (NoRoom c) staying suited illegal f = (
+    staying,
+    suited,
+    record {
+      illegal = illegal;
+      done = f.stuck.done;
+      rest = f.stuck.rest;
+      is_order = rw f.stuck.is at f.is_order;
+      now = f.stuck.now;
+      run = f.stuck.run;
+      full = f.stuck.full;
+    },
+  )
   refusal_of Memory staying suited illegal f = tt

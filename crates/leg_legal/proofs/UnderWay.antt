@@ -17,6 +17,8 @@ use Rattle.leg_place.specs.Box.{box_of, placed_box, StandsIn}
 use Rattle.leg_sites.specs.declared.candidate.Candidate.{Candidate}
 use Rattle.leg_sites.specs.Known.{IsClear}
 use Rattle.leg_sites.specs.FreeRows.{RowLists, AreKnown}
+use Rattle.leg_legal.specs.declared.fault.LegalFault.{LegalFault}
+use Rattle.leg_legal.specs.declared.fault.LegalFault.TheVariants.{FixedIllegal, NoSite, NoRoom, Memory}
 use Rattle.leg_legal.specs.declared.taken.Taken.{Taken}
 use Rattle.leg_legal.specs.declared.turns.TurnKey.{TurnKey}
 use Rattle.leg_legal.specs.Movable.{IsMovable}
@@ -28,7 +30,7 @@ use Rattle.leg_legal.specs.Run.Run.{none, one}
 use Rattle.leg_legal.specs.Steps.PlacedAll.{CanTake, placed_all}
 use Rattle.leg_legal.specs.Steps.Seats.{IsFreeOf, IsBestAmong}
 use Rattle.leg_legal.specs.Steps.TurnKeys.{IsKeyOf, numbers, AreInOrder}
-use Rattle.leg_legal.specs.Steps.Taking.{IsStayingIn, IsStayingBelow, KnowStaying, KnowTaken, IsSeated, HasNoSeat, IsUnderWay, AreAllTaken, IsStuckAt}
+use Rattle.leg_legal.specs.Steps.Taking.{IsStayingIn, IsStayingBelow, KnowStaying, KnowTaken, IsSeated, HasNoSeat, IsSeatFault, IsTakingFault, IsUnderWay, AreAllTaken, IsStuckAt}
 use Rattle.leg_legal.proofs.MovedTo.{here, elsewhere, box_here, movable_before, taken_before}
 use Rattle.leg_legal.proofs.SoFar.{AreMovable, IsSoFar, so_far, earlier_movable, last_movable, last_fresh}
 use Rattle.leg_legal.proofs.TheOrder.{order_movable}
@@ -326,6 +328,12 @@ module _ (design : DesignContents) (keys : List TurnKey) (order : AreInOrder des
       run = u.run;
       full = full_now design (take i (numbers keys)) (placed_all design taken) u.run key.number (are_movable i key within is) free u.known none_free;
     }
+
+    pub taking_fault_of : {A : Type 0} (fault : LegalFault A) → IsSeatFault design u.known.boxes key.number fault → IsTakingFault design (numbers keys) fault
+    taking_fault_of (FixedIllegal faults) f = absurd f
+    taking_fault_of (NoSite d) f = absurd f
+    taking_fault_of (NoRoom d) f = rw f.0 (stuck_at f.1)
+    taking_fault_of Memory f = tt
 
   pub all_taken : (i : ℕ) (taken : List Taken) (free : RowLists) → length keys ≤ i → IsUnderWay design keys i taken free → AreAllTaken design keys taken
   all_taken i taken free last u = record {

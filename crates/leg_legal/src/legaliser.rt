@@ -78,7 +78,7 @@ fn chosen_places<A: Allocator + Copy>(
 {
     known_sound(design);
     let faults = place_faults(alloc, library, design)?;
-    if faults.is_empty() {
+    if faults.as_slice().is_empty() {
         return Ok(Vec::new(alloc));
     }
     places_of(alloc, design, faults.as_slice())
@@ -98,7 +98,7 @@ fn places_of<A: Allocator + Copy>(
     ensures refused { IfErr result (IsRefusal design.now) }
 {
     let staying = staying_faults(alloc, design, faults)?;
-    if !staying.is_empty() {
+    if !staying.as_slice().is_empty() {
         return Err(LegalFault::FixedIllegal(Items::from_vec(staying)));
     }
     match least_unsuited(design) {

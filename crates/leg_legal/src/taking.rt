@@ -110,7 +110,10 @@ pub(crate) fn take_in_turn<A: Allocator + Copy>(
     let mut taken = Vec::with_capacity(alloc, keys.len())?;
     for i in 0..keys.len() {
         let number = keys[i].number;
-        let place = seat(design, free, number)?;
+        let place = match seat(design, free, number) {
+            Ok(place) => place,
+            Err(fault) => return Err(fault),
+        };
         taken.push(Taken { number, place })?;
     }
     Ok(taken)
