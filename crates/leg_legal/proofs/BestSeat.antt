@@ -1,12 +1,12 @@
 -- The positions that the lists of free sites show are the free positions.
-use Rattle.std.proofs.Common.{◌≡◌, ◌⊎◌, ◌↔◌, ℕ, zero, suc, ℤ, pos, ◌+◌, ◌-◌, ◌*◌, ◌/◌, ◌%◌, ◌<◌, ◌≤◌, ◌+ℤ◌, ◌*ℤ◌, ◌≤ℤ◌, ◌<ℤ◌, Bool, true, false, IsTrue, if◌then◌else◌, unwrap_or, List, [], length, get_or, Contains, Option, None, Some, slice_get, unsigned_abs, inl, inr, refl, sym, ap, ◌∙◌, arith}
+use Rattle.std.proofs.Common.{◌≡◌, ◌↔◌, ℕ, pos, ◌+◌, ◌*◌, ◌/◌, ◌%◌, ◌<◌, ◌≤◌, ◌+ℤ◌, ◌*ℤ◌, ◌≤ℤ◌, ◌<ℤ◌, IsTrue, List, [], length, get_or, Contains, None, Some, slice_get, unsigned_abs, inl, inr, refl, sym, ap, ◌∙◌, arith}
 use Rattle.std.proofs.Math.IntN.{pos-*ℤ-pos}
 use Rattle.std.proofs.Math.Nat.{mul-le-mul_right, mod-eq-sub-div-mul, div-mul-le_self}
-use Rattle.std.proofs.lemmas.Bool.{cases_lt, cases_eq, false≢true}
+use Rattle.std.proofs.lemmas.Bool.{cases_lt, cases_eq}
 use Rattle.std.proofs.lemmas.Int.{ints, by_lt_z}
-use Rattle.std.proofs.lemmas.Option.{same_Some, none-some, slice_get-get_or, slice_get_within}
+use Rattle.std.proofs.lemmas.Option.{same_Some, slice_get-get_or, slice_get_within}
 use Rattle.leg_lex.specs.Number.{IsNumber}
-use Rattle.leg_geom.specs.Plane.{Spot, Sides, IsCoordinate}
+use Rattle.leg_geom.specs.Plane.{Sides}
 use Rattle.leg_geom.specs.Gap.{apart}
 use Rattle.leg_geom.specs.declared.orient.Orient.{Orient}
 use Rattle.leg_geom.specs.declared.place.Place.{Place}
@@ -20,21 +20,20 @@ use Rattle.leg_block.specs.WellFormed.{IsWellFormed}
 use Rattle.leg_block.specs.declared.records.Row.{Row}
 use Rattle.leg_block.specs.declared.records.Component.{Component}
 use Rattle.leg_place.specs.Box.{placed_box}
-use Rattle.leg_place.specs.Sites.{Fits, site_box}
 use Rattle.leg_sites.specs.declared.stretch.Stretch.{Stretch}
 use Rattle.leg_sites.specs.declared.candidate.Candidate.{Candidate}
 use Rattle.leg_sites.specs.declared.candidate.Wanted.{Wanted}
 use Rattle.leg_sites.specs.Stretches.{IsFreeSite, AreFreeSites}
 use Rattle.leg_sites.specs.Known.{IsClear, IsKnown}
-use Rattle.leg_sites.specs.FreeRows.{RowLists, IsRowAt, AreKnown}
-use Rattle.leg_sites.specs.BestPosition.{IsTurned, AreReady, IsCandidate, IsBestOf, IsNoWorse}
+use Rattle.leg_sites.specs.FreeRows.{RowLists, AreKnown}
+use Rattle.leg_sites.specs.BestPosition.{IsTurned, AreReady, IsCandidate, IsNoWorse}
 use Rattle.leg_sites.proofs.MacroBoxes.{fitting_upright}
 use Rattle.leg_sites.proofs.MacroPlaces.{free_just_where_macro_clear}
 use Rattle.leg_legal.specs.Movable.{IsMovable}
 use Rattle.leg_legal.specs.Start.{start_of, distance}
-use Rattle.leg_legal.specs.Standing.{orient_of, Takes, StandsAt}
+use Rattle.leg_legal.specs.Standing.{orient_of, Takes}
 use Rattle.leg_legal.specs.Refusals.{FitsSites, HasRowFor, IsUnsuited}
-use Rattle.leg_legal.specs.Steps.Seats.{IsWantedOf, IsFreeOf, IsBestAmong, IsBestPlace, AreToBeAsked}
+use Rattle.leg_legal.specs.Steps.Seats.{IsWantedOf, IsFreeOf, IsBestPlace}
 use Rattle.leg_legal.proofs.Elements.{all_at}
 use Rattle.leg_legal.proofs.OnRow.{takes_fits}
 use Rattle.leg_legal.proofs.Misfits.{fits_from_rest, rest_from_fits, told, numbered, no_row_beyond, no_row_unfit}

@@ -1,5 +1,5 @@
 -- What the places that are chosen make of a design, and the causes of refusal.
-use Rattle.std.proofs.Common.{◌≡◌, ◌≢◌, ℕ, List, [], ◌∷◌, All, Contains, length, refl, inl, inr, arith}
+use Rattle.std.proofs.Common.{◌≡◌, ◌≢◌, List, [], ◌∷◌, length, refl, inl, inr, arith}
 use Rattle.std.proofs.lemmas.List.Elements.{All-head, All-nil}
 use Rattle.leg_sweep.proofs.Lists.{Contains-nil}
 use Rattle.leg_cells.specs.Sound.{IsSound}
@@ -12,13 +12,12 @@ use Rattle.leg_legal.specs.declared.fault.LegalFault.{LegalFault}
 use Rattle.leg_legal.specs.declared.fault.LegalFault.TheVariants.{FixedIllegal, NoSite, NoRoom, Memory}
 use Rattle.leg_legal.specs.declared.taken.Taken.{Taken}
 use Rattle.leg_legal.specs.declared.turns.TurnKey.{TurnKey}
-use Rattle.leg_legal.specs.Run.{IsLegallyPlaced, IsLegalised}
-use Rattle.leg_legal.specs.Refusals.{HoldsOfStaying, NoneStaying, AreSuited, IsStuck, IsRefusal}
-use Rattle.leg_legal.specs.Turns.{IsOrderOfTaking}
+use Rattle.leg_legal.specs.Run.{IsLegallyPlaced}
+use Rattle.leg_legal.specs.Refusals.{HoldsOfStaying, NoneStaying, AreSuited, IsRefusal}
 use Rattle.leg_legal.specs.Steps.PlacedAll.{CanTake, placed_all}
 use Rattle.leg_legal.specs.Steps.TurnKeys.{numbers, AreInOrder}
-use Rattle.leg_legal.specs.Steps.Taking.{AreAllTaken, IsStuckAt, IsTakingFault}
-use Rattle.leg_legal.specs.Steps.Chosen.{AreRun, IsBlocked, IsRunFault, AreChosen}
+use Rattle.leg_legal.specs.Steps.Taking.{AreAllTaken, IsTakingFault}
+use Rattle.leg_legal.specs.Steps.Chosen.{AreRun, IsRunFault, AreChosen}
 use Rattle.leg_legal.proofs.OnRow.{HasSoundRows}
 use Rattle.leg_legal.proofs.TheRun.{run_legal, run_same, legal_same}
 

@@ -1,5 +1,5 @@
 -- Whether a macro can stand on some row, and which movable component is the first that can't.
-use Rattle.std.proofs.Common.{◌≡◌, ◌↔◌, ℕ, ◌+◌, ◌*◌, ◌/◌, ◌%◌, ◌<◌, ◌≤◌, pos, ◌*ℤ◌, Bool, true, false, not, eqb, IsTrue, Some, None, slice_get, length, List, get_or, unsigned_abs, Contains, refl, sym, ap, ◌∙◌, inl, inr, arith}
+use Rattle.std.proofs.Common.{◌≡◌, ◌↔◌, ℕ, ◌+◌, ◌*◌, ◌/◌, ◌%◌, ◌<◌, ◌≤◌, pos, ◌*ℤ◌, Bool, true, false, not, eqb, IsTrue, Some, None, slice_get, length, List, get_or, unsigned_abs, refl, sym, ap, ◌∙◌, inl, inr, arith}
 use Rattle.std.proofs.Math.IntN.{pos-*ℤ-pos}
 use Rattle.std.proofs.Math.Nat.{mul-mod_left, mod-eq-sub-div-mul, div-mul-le_self}
 use Rattle.std.proofs.lemmas.Bool.{false≢true, cases_lt, eqb-true, eq-eqb}

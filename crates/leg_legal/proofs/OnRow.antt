@@ -1,5 +1,5 @@
 -- A component that stands at a position stands on the sites of its row.
-use Rattle.std.proofs.Common.{◌≡◌, ℕ, pos, ◌+◌, ◌*◌, ◌≤◌, ◌*ℤ◌, Bool, Option, None, Some, List, All, slice_get, IsTrue, unsigned_abs, inl, inr, refl, arith}
+use Rattle.std.proofs.Common.{◌≡◌, ℕ, pos, ◌*◌, ◌≤◌, ◌*ℤ◌, Bool, Option, None, Some, All, unsigned_abs, inl, inr, refl, arith}
 use Rattle.std.proofs.Math.IntN.{pos-*ℤ-pos}
 use Rattle.std.proofs.Math.Nat.{mul-le-mul_left}
 use Rattle.std.proofs.lemmas.Int.{ints}
@@ -7,9 +7,7 @@ use Rattle.leg_geom.specs.declared.orient.Orient.{Orient}
 use Rattle.leg_geom.specs.declared.place.Place.{Place}
 use Rattle.leg_cells.specs.Measure.{Lengths, HasArea, IsExtent}
 use Rattle.leg_block.specs.Records.{DesignContents}
-use Rattle.leg_block.specs.Rows.{is_upright}
 use Rattle.leg_block.specs.WellFormedParts.{IsRow}
-use Rattle.leg_block.specs.declared.records.Row.{Row}
 use Rattle.leg_place.specs.Sites.{Fits, IsOnRow}
 use Rattle.leg_sites.specs.declared.candidate.Candidate.{Candidate}
 use Rattle.leg_sites.proofs.MacroBoxes.{macro_on_sites, fitting_upright}

@@ -1,5 +1,5 @@
 -- What is read of a design: a component and its macro.
-use Rattle.std.proofs.Common.{◌≡◌, ℕ, ◌<◌, List, Some, slice_get, length, get_or, refl, sym, ap, ◌∙◌}
+use Rattle.std.proofs.Common.{◌≡◌, ℕ, ◌<◌, List, Some, slice_get, length, get_or, refl}
 use Rattle.std.proofs.lemmas.Option.{slice_get_read}
 use Rattle.leg_cells.specs.Records.{MasterSaid}
 use Rattle.leg_block.specs.Records.{DesignContents}

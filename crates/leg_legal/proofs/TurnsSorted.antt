@@ -1,5 +1,5 @@
 -- The keys of movable components, and those once they are sorted.
-use Rattle.std.proofs.Common.{◌≡◌, ℕ, ℤ, ◌+◌, ◌<◌, pos, ◌-ℤ◌, ◌≤ℤ◌, Bool, false, List, [], ◌∷◌, ◌++◌, map, length, get_or, eqb, All, AllPairs, Contains, Some, slice_get, Ordering, IsPermutation, IsSorted, inl, inr, refl, sym, ap, ◌∙◌, arith}
+use Rattle.std.proofs.Common.{◌≡◌, ℕ, ℤ, ◌+◌, ◌<◌, pos, ◌-ℤ◌, ◌≤ℤ◌, Bool, false, List, [], ◌∷◌, ◌++◌, length, get_or, eqb, All, AllPairs, Some, slice_get, Ordering, IsPermutation, IsSorted, inl, inr, refl, sym, ap, ◌∙◌, arith}
 use Rattle.std.specs.Ordering.{is_lt, nat_cmp, int_cmp, ordering_then}
 use Rattle.std.specs.Cmp.{IsTotalOrder}
 use Rattle.std.specs.List.{IsDistinct}
@@ -8,7 +8,7 @@ use Rattle.std.proofs.lemmas.Bool.Decides.{nat_tests}
 use Rattle.std.proofs.lemmas.Cmp.{nat_eq_equiv, nat_cmp_total, int_cmp_total, on_total, then_total}
 use Rattle.std.proofs.lemmas.Int.{ints}
 use Rattle.std.proofs.lemmas.List.{map-append}
-use Rattle.std.proofs.lemmas.List.Elements.{All-nil, All-push, All-map, All-weaker, All-contains, Contains-append_left, Contains-push}
+use Rattle.std.proofs.lemmas.List.Elements.{All-nil, All-push, All-map, All-weaker, Contains-append_left, Contains-push}
 use Rattle.std.proofs.lemmas.List.Quantifiers.{all_pairs_push}
 use Rattle.std.proofs.lemmas.List.Sorted.{ranks_by, sorted_far, All-permutation, Contains-permutation, IsPermutation-map}
 use Rattle.std.proofs.lemmas.Map.Keys.{IsDistinct-from_apart, apart_from_distinct, IsDistinct-IsPermutation}
@@ -20,7 +20,7 @@ use Rattle.leg_block.specs.declared.records.Component.{Component}
 use Rattle.leg_legal.specs.declared.turns.TurnKey.{TurnKey}
 use Rattle.leg_legal.specs.Movable.{IsMovable}
 use Rattle.leg_legal.specs.Start.{start_of}
-use Rattle.leg_legal.specs.Turns.{Turn, HasTurn, IsEarlier, IsTakenBefore, IsOrderOfTaking}
+use Rattle.leg_legal.specs.Turns.{Turn, HasTurn, IsEarlier, IsTakenBefore}
 use Rattle.leg_legal.specs.Steps.TurnKeys.{IsKeyOf, numbers, AreKeysBelow, AreInOrder}
 
 abbrev pub key_cmp : TurnKey → TurnKey → Ordering

@@ -1,11 +1,10 @@
 -- How the boxes that are taken away go with the components that have taken their places.
-use Rattle.std.proofs.Common.{◌≡◌, ◌≢◌, ◌⊎◌, ◌↔◌, ℕ, ◌+◌, ◌<◌, ◌≤◌, List, [], ◌∷◌, ◌++◌, take, drop, length, map, get_or, All, AllPairs, Contains, None, Some, slice_get, refl, sym, ap, subst, append_assoc, ◌∙◌, inl, inr, arith}
+use Rattle.std.proofs.Common.{◌≡◌, ◌≢◌, ◌↔◌, ℕ, ◌+◌, ◌<◌, ◌≤◌, List, [], ◌∷◌, ◌++◌, take, drop, length, get_or, AllPairs, Contains, Some, slice_get, refl, sym, ap, subst, append_assoc, ◌∙◌, inl, inr, arith}
 use Rattle.std.proofs.Math.ListN.{get_or-map}
-use Rattle.std.proofs.Math.Seq.{drop-cons}
 use Rattle.std.proofs.lemmas.Bool.{cases_lt, cases_eq}
-use Rattle.std.proofs.lemmas.List.{take_more, take_all, take-append-drop, length-map, length-append, get_or_append_left, get_or_default}
+use Rattle.std.proofs.lemmas.List.{take_more, take_all, take-append-drop, length-map, length-append, get_or_append_left}
 use Rattle.std.proofs.lemmas.List.Elements.{All-take, All-push, All-nil, Contains-push, Contains-push_cases, Contains-append_left}
-use Rattle.std.proofs.lemmas.Option.{same_Some, none-some, slice_get_within}
+use Rattle.std.proofs.lemmas.Option.{same_Some, slice_get_within}
 use Rattle.leg_sweep.proofs.Lists.{Contains-nil}
 use Rattle.leg_geom.specs.Plane.{Sides}
 use Rattle.leg_geom.specs.declared.place.Place.{Place}
@@ -15,20 +14,17 @@ use Rattle.leg_block.specs.WellFormedParts.{IsPosition}
 use Rattle.leg_block.specs.declared.records.Component.{Component}
 use Rattle.leg_place.specs.Box.{box_of, placed_box, StandsIn}
 use Rattle.leg_sites.specs.declared.candidate.Candidate.{Candidate}
-use Rattle.leg_sites.specs.Known.{IsClear}
 use Rattle.leg_sites.specs.FreeRows.{RowLists, AreKnown}
 use Rattle.leg_legal.specs.declared.fault.LegalFault.{LegalFault}
 use Rattle.leg_legal.specs.declared.fault.LegalFault.TheVariants.{FixedIllegal, NoSite, NoRoom, Memory}
 use Rattle.leg_legal.specs.declared.taken.Taken.{Taken}
 use Rattle.leg_legal.specs.declared.turns.TurnKey.{TurnKey}
 use Rattle.leg_legal.specs.Movable.{IsMovable}
-use Rattle.leg_legal.specs.Standing.{StandsAt}
 use Rattle.leg_legal.specs.Free.{IsSettled, IsTaken, IsFree, TakesBest}
-use Rattle.leg_legal.specs.Turns.{IsOrderOfTaking}
 use Rattle.leg_legal.specs.Run.{placed_at, moved_to, Run}
 use Rattle.leg_legal.specs.Run.Run.{none, one}
 use Rattle.leg_legal.specs.Steps.PlacedAll.{CanTake, placed_all}
-use Rattle.leg_legal.specs.Steps.Seats.{IsFreeOf, IsBestAmong}
+use Rattle.leg_legal.specs.Steps.Seats.{IsFreeOf}
 use Rattle.leg_legal.specs.Steps.TurnKeys.{IsKeyOf, numbers, AreInOrder}
 use Rattle.leg_legal.specs.Steps.Taking.{IsStayingIn, IsStayingBelow, KnowStaying, KnowTaken, IsSeated, HasNoSeat, IsSeatFault, IsTakingFault, IsUnderWay, AreAllTaken, IsStuckAt}
 use Rattle.leg_legal.proofs.MovedTo.{here, elsewhere, box_here, movable_before, taken_before}

@@ -1,13 +1,11 @@
 -- The best candidate is that of the best place.
-use Rattle.std.proofs.Common.{◌≡◌, ◌+◌, ◌<◌, length, pos, ◌+ℤ◌, ◌*ℤ◌, ◌<ℤ◌, slice_get, Some, refl, sym, ap, subst, ◌∙◌, arith}
-use Rattle.std.proofs.lemmas.Int.{ints}
+use Rattle.std.proofs.Common.{◌≡◌, ◌<◌, length, pos, ◌+ℤ◌, ◌*ℤ◌, slice_get, Some, refl, sym, ap, subst, ◌∙◌, arith}
 use Rattle.std.proofs.lemmas.Option.{slice_get_within, slice_get_read, same_Some}
 use Rattle.leg_lex.specs.Number.{IsNumber}
 use Rattle.leg_block.specs.declared.records.Row.{Row}
 use Rattle.leg_sites.specs.declared.candidate.Candidate.{Candidate}
-use Rattle.leg_sites.specs.BestPosition.{IsCandidate, IsBestOf, IsNoWorse}
+use Rattle.leg_sites.specs.BestPosition.{IsCandidate, IsNoWorse}
 use Rattle.leg_legal.specs.Standing.{Takes}
-use Rattle.leg_legal.specs.Steps.Seats.{IsWantedOf}
 use Rattle.leg_legal.proofs.BestSeat.{ready, some_many, site_within, position_of, none_best, best_is}
 use Rattle.leg_legal.proofs.seats.best_place.Goals as goal
 

@@ -1,9 +1,6 @@
 -- What the component, its macro and its site say.
-use Rattle.std.proofs.Common.{◌≡◌, ◌<◌, ◌/◌, length, slice_get, get_or, Some, unsigned_abs, refl, sym, ap, ◌∙◌}
+use Rattle.std.proofs.Common.{◌≡◌, ◌<◌, ◌/◌, length, slice_get, Some, unsigned_abs, refl, sym, ap, ◌∙◌}
 use Rattle.std.proofs.lemmas.Option.{slice_get_within, slice_get_read}
-use Rattle.leg_cells.specs.declared.records.Site.{Site}
-use Rattle.leg_sites.specs.declared.candidate.Wanted.{Wanted}
-use Rattle.leg_legal.specs.Start.{start_of}
 use Rattle.leg_legal.specs.Standing.{orient_of}
 use Rattle.leg_legal.proofs.PartsRead.{component_read, master_read}
 use Rattle.leg_legal.proofs.BestSeat.{site_inside, wanted_is}

@@ -3,7 +3,6 @@ use Rattle.std.proofs.Common.{◌≡◌, ◌<◌, length, slice_get, None, Some,
 use Rattle.std.proofs.lemmas.Bool.{false≢true}
 use Rattle.std.proofs.lemmas.Option.{same_Some, none-some}
 use Rattle.std.proofs.lemmas.Result.{on_ok_weaker}
-use Rattle.leg_block.specs.declared.records.Component.{Component}
 use Rattle.leg_place.specs.Box.{box_of}
 use Rattle.leg_legal.proofs.PartsRead.{component_read}
 use Rattle.leg_legal.proofs.UnderWay.{staying_skip, staying_more}

@@ -1,5 +1,5 @@
 -- One more component has its place, or none is free for it.
-use Rattle.std.proofs.Common.{◌≡◌, ◌<◌, ◌≤◌, pos, length, get_or, arith}
+use Rattle.std.proofs.Common.{◌≡◌, ◌<◌, pos, length, get_or, arith}
 use Rattle.std.proofs.lemmas.List.{get_or_default}
 use Rattle.leg_legal.specs.declared.turns.TurnKey.{TurnKey}
 use Rattle.leg_legal.proofs.UnderWay.{begin_taking, next_taken, taking_fault_of, all_taken}
