@@ -4,7 +4,6 @@ mod Cells
 mod Boxes
 -- Sites of rows
 mod Mirrors
-mod OnSites
 mod SpanOrder
 mod KeptSpans
 mod CoveredSpans
@@ -16,3 +15,4 @@ mod Listing
 mod Overlaps
 -- What the proofs of other crates cite
 pub mod PlaceFaults
+pub mod OnSites

@@ -20,7 +20,7 @@ pub(crate) struct PlacedBox {
 }
 
 /// The box of a component of a macro of this size that has this place.
-pub(crate) fn placed_size(place: &Place, size: &Extent) -> Rect
+pub fn placed_size(place: &Place, size: &Extent) -> Rect
     requires { IsPosition place.now.at }
     ensures is { result ≡ placed_box size.now place.now }
     ensures proper { IsRect result }
@@ -31,7 +31,7 @@ pub(crate) fn placed_size(place: &Place, size: &Extent) -> Rect
 }
 
 /// The box of the component, where it has a place.
-pub(crate) fn box_of<A: Allocator + Copy>(
+pub fn box_of<A: Allocator + Copy>(
     library: &Library<'_, A>,
     component: &Component<'_>,
 ) -> Option<Rect>

@@ -13,12 +13,12 @@ use Rattle.leg_sites.specs.RowSites.{IsAmong, HasAllCells, AreSitesMet, AreSites
 use Rattle.leg_sites.specs.Known.{IsClear, IsKnown, NoneTaken, TakenAnd}
 
 -- a site before the stretch or behind it is none of it
-outside : (sites : Stretch) (k : ℕ) → (k < sites.from) ⊎ (sites.end ≤ k) → ¬ IsAmong sites k
+pub outside : (sites : Stretch) (k : ℕ) → (k < sites.from) ⊎ (sites.end ≤ k) → ¬ IsAmong sites k
 outside sites k (inl before) among = absurd (omega (arith, before, among.above))
 outside sites k (inr behind) among = absurd (omega (arith, behind, among.below))
 
 -- a stretch has the site, or it lies before or behind
-beside : (sites : Stretch) (k : ℕ) → ¬ IsAmong sites k → (k < sites.from) ⊎ (sites.end ≤ k)
+pub beside : (sites : Stretch) (k : ℕ) → ¬ IsAmong sites k → (k < sites.from) ⊎ (sites.end ≤ k)
 beside sites k never =
     elim (cases_lt k sites.from) [
       | inl before ↦ inl before

@@ -23,6 +23,8 @@ mod SiteCells
 -- What the proofs of other crates cite: which sites are met, free sites and clear boxes
 pub mod MetSites
 pub mod KnownSites
+mod RowsTaken
+mod RowsInside
 pub mod ClearBoxes
 pub mod MacroBoxes
 pub mod MacroPlaces

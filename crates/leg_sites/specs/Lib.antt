@@ -3,4 +3,5 @@ pub mod RowOrder
 pub mod BestPosition
 pub mod RowSites
 pub mod Known
+pub mod FreeRows
 pub mod Steps

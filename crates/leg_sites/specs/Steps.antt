@@ -4,3 +4,4 @@ pub mod TakeSites
 pub mod RowKeys
 pub mod RowsSeen
 pub mod SiteEdges
+pub mod FreeRows

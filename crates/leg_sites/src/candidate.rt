@@ -36,8 +36,9 @@ pub struct Candidate {
     pub first: u64,
 }
 
-/// Whether an orientation fits a row of this orientation.
-fn fits(row: Orient, orient: Orient, y_symmetric: bool) -> bool
+/// Whether an orientation fits a row of this orientation: it is the row's, or for a macro with Y symmetry that mirrored on
+/// the y axis.
+pub fn fits(row: Orient, orient: Orient, y_symmetric: bool) -> bool
     ensures { IsTrue result ↔ Fits row y_symmetric orient }
 {
     orient == row || y_symmetric && orient == row.mirror_y()

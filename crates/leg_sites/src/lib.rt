@@ -1,20 +1,25 @@
 //! The free sites of rows, and the best free position of a component.
 //!
-//! `FreeSites` keeps the free sites of one row, from which `take` takes those of a component away. `best_position` finds
-//! the free position that is nearest to a component's start, over the rows in the order of `row_order`.
+//! `FreeSites` keeps the free sites of one row, from which `take` takes those of a component away, and `FreeRows` those
+//! of all rows of a design. `best_position` finds the free position that is nearest to a component's start, over the rows
+//! in the order of `row_order`.
 #![tactic(auto)]
 
 mod candidate;
+mod free_rows;
 mod free_sites;
 mod nearest;
 mod row_keys;
 mod row_search;
 mod row_sites;
+mod rows_inside;
+mod rows_taken;
 mod site_edges;
 mod stretch;
 mod take_sites;
 
-pub use candidate::{Candidate, Wanted};
+pub use candidate::{Candidate, Wanted, fits};
+pub use free_rows::FreeRows;
 pub use free_sites::FreeSites;
 pub use row_keys::{RowKey, row_order};
 pub use row_search::best_position;

@@ -1,0 +1,140 @@
+-- What is settled breaks no rule among itself, and goes on so.
+use Rattle.std.proofs.Common.{◌≡◌, ℕ, List, [], ◌∷◌, ◌++◌, Some, slice_get, sym, ◌∙◌, inl, inr, arith}
+use Rattle.std.proofs.lemmas.Bool.{cases_eq}
+use Rattle.std.proofs.lemmas.Option.{same_Some, none-some}
+use Rattle.leg_geom.specs.Plane.{Sides, ShareCell}
+use Rattle.leg_geom.specs.declared.place.Place.{Place}
+use Rattle.leg_geom.proofs.Gaps.{ShareCell-symmetric}
+use Rattle.leg_block.specs.Records.{DesignContents}
+use Rattle.leg_block.specs.declared.fault.Fault.{Fault}
+use Rattle.leg_block.specs.declared.fault.Fault.TheVariants.{Unplaced, Outside, OffSite, Overlap, Short, TooNear, OpenNet}
+use Rattle.leg_block.specs.declared.records.Component.{Component}
+use Rattle.leg_place.specs.Box.{placed_box, StandsIn}
+use Rattle.leg_place.specs.Faults.{IsUnplaced, IsOutside, Holds}
+use Rattle.leg_place.specs.Faults.Holds.{unplaced, outside, off_site, overlap}
+use Rattle.leg_place.specs.Sites.{IsOffSite}
+use Rattle.leg_legal.specs.Movable.{IsMovable}
+use Rattle.leg_sites.specs.declared.candidate.Candidate.{Candidate}
+use Rattle.leg_legal.specs.Free.{IsSettled, IsFree}
+use Rattle.leg_legal.specs.Run.{placed_at, moved_to}
+use Rattle.leg_legal.proofs.Elements.{contains_at}
+use Rattle.leg_legal.proofs.MovedTo.{elsewhere, is_here, box_here, box_elsewhere, settled_before, taken_before}
+use Rattle.leg_legal.proofs.OnRow.{HasSoundRows, stands_on_row}
+
+-- a violation concerns only components that are settled
+abbrev pub ConcernsSettled : DesignContents → List ℕ → Fault → Type 0
+ConcernsSettled design done (Unplaced c) = IsSettled design done c
+ConcernsSettled design done (Outside c) = IsSettled design done c
+ConcernsSettled design done (OffSite c) = IsSettled design done c
+ConcernsSettled design done (Overlap a b) = IsSettled design done a × IsSettled design done b
+ConcernsSettled design done (Short a b) = ⊥
+ConcernsSettled design done (TooNear a b) = ⊥
+ConcernsSettled design done (OpenNet n k) = ⊥
+
+-- no violation holds among them
+pub record NoneSettled (design : DesignContents) (done : List ℕ) : Type 0 where
+  pub none : (fault : Fault) → Holds design.library design fault → ConcernsSettled design done fault → ⊥
+
+-- one more component takes a free position
+module _ (now : DesignContents) (sound : HasSoundRows now) (done : List ℕ) (c : ℕ) (component : Component) (place : Place)
+    (at : slice_get now.components c ≡ Some component) (movable : IsMovable now c)
+    (position : Candidate) (free : IsFree now done c position place) (before : NoneSettled now done) where
+  abbrev after : DesignContents
+  after = moved_to now c component place
+
+  abbrev more : List ℕ
+  more = done ++ c ∷ []
+
+  same_component : free.stands.component ≡ component
+  same_component = same_Some free.stands.component component (sym free.stands.there ∙ at)
+
+  is_master : slice_get now.library.masters component.master ≡ Some free.stands.master
+  is_master = rw same_component at free.stands.is_master
+
+  -- it has a place
+  placed_here : IsUnplaced after c → ⊥
+  placed_here h =
+      let is : h.component ≡ placed_at component place = is_here now c component place at h.component h.there in
+      none-some place (sym (rw is at h.unplaced))
+
+  -- it lies in the die
+  inside_here : IsOutside now.library after c → ⊥
+  inside_here h =
+      let is : h.box ≡ placed_box free.stands.master.size place = box_here now c component place at free.stands.master h.box is_master h.stands in
+      h.outside (free.clear.inside h.cell (rw is at h.inside))
+
+  -- it stands on sites
+  on_site_here : IsOffSite now.library after c → ⊥
+  on_site_here h =
+      let is : h.component ≡ placed_at component place = is_here now c component place at h.component h.there in
+      let same_place : h.place ≡ place = same_Some h.place place (sym (rw is at h.placed)) in
+      let told : slice_get now.library.masters component.master ≡ Some h.master = rw is at h.is_master in
+      let same_master : h.master ≡ free.stands.master = same_Some h.master free.stands.master (sym told ∙ is_master) in
+      let same_number : h.number ≡ free.stands.row.site = same_Some h.number free.stands.row.site (sym (rw same_master at h.site) ∙ free.stands.same) in
+      h.none free.stands.row (contains_at now.rows position.row free.stands.row free.stands.is_row)
+      (rw (same_master, same_number, same_place) (stands_on_row now sound c position place free.stands))
+
+  -- no other settled component shares a cell with it
+  alone_here : (d : ℕ) (box other : Sides) → (d ≡ c → ⊥) → IsSettled after more d → StandsIn now.library after c box → StandsIn now.library after d other → ShareCell other box → ⊥
+  alone_here d box other apart settled stands_c stands_d shared =
+      let is : box ≡ placed_box free.stands.master.size place = box_here now c component place at free.stands.master box is_master stands_c in
+      free.clear.alone other (taken_before now c component place at movable done d other apart settled stands_d) (rw is at shared)
+
+  none_after : (fault : Fault) → Holds now.library after fault → ConcernsSettled after more fault → ⊥
+  none_after v (unplaced {c = d} h) settled =
+      elim (cases_eq d c) [
+        | inl same ↦ placed_here (rw same at h)
+        | inr apart ↦
+            before.none (Unplaced d)
+            (unplaced (record { component = h.component; there = sym (elsewhere now c component place at d apart) ∙ h.there; unplaced = h.unplaced }))
+            (settled_before now c component place at movable done d apart settled)
+      ]
+  none_after v (outside {c = d} h) settled =
+      elim (cases_eq d c) [
+        | inl same ↦ inside_here (rw same at h)
+        | inr apart ↦
+            before.none (Outside d)
+            (outside (record { box = h.box; stands = box_elsewhere now c component place at d h.box apart h.stands; cell = h.cell; inside = h.inside; outside = h.outside }))
+            (settled_before now c component place at movable done d apart settled)
+      ]
+  none_after v (off_site {c = d} h) settled =
+      elim (cases_eq d c) [
+        | inl same ↦ on_site_here (rw same at h)
+        | inr apart ↦
+            before.none (OffSite d)
+            (off_site (record {
+              component = h.component;
+              there = sym (elsewhere now c component place at d apart) ∙ h.there;
+              place = h.place;
+              placed = h.placed;
+              master = h.master;
+              is_master = h.is_master;
+              number = h.number;
+              site = h.site;
+              none = h.none;
+            }))
+            (settled_before now c component place at movable done d apart settled)
+      ]
+  none_after v (overlap {a = a} {b = b} h) settled =
+      elim (cases_eq a c) [
+        | inl a_is ↦
+            alone_here b h.box_a h.box_b (λ b_is. omega (arith, h.in_order)) settled.1 (rw a_is at h.stands_a) h.stands_b
+            (ShareCell-symmetric h.box_a h.box_b h.shared)
+        | inr a_apart ↦ elim (cases_eq b c) [
+          | inl b_is ↦ alone_here a h.box_b h.box_a a_apart settled.0 (rw b_is at h.stands_b) h.stands_a h.shared
+          | inr b_apart ↦
+              before.none (Overlap a b)
+              (overlap (record {
+                in_order = h.in_order;
+                box_a = h.box_a;
+                box_b = h.box_b;
+                stands_a = box_elsewhere now c component place at a h.box_a a_apart h.stands_a;
+                stands_b = box_elsewhere now c component place at b h.box_b b_apart h.stands_b;
+                shared = h.shared;
+              }))
+              (settled_before now c component place at movable done a a_apart settled.0, settled_before now c component place at movable done b b_apart settled.1)
+        ]
+      ]
+
+  pub settled_more : NoneSettled (moved_to now c component place) (done ++ c ∷ [])
+  settled_more = record { none = none_after }

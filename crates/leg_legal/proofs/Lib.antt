@@ -1,0 +1,26 @@
+-- Boxes, rows and lists
+mod Elements
+mod OnRow
+-- The theorem of the run
+mod MovableOrNot
+mod MovedTo
+mod AmongSettled
+mod SoFar
+mod TheOrder
+mod TheRun
+-- The order of taking
+mod TurnsSorted
+-- What is read
+mod PartsRead
+-- Causes of refusal
+mod StayingFaults
+mod Misfits
+-- Places that are taken
+mod PlacedAll
+mod MovedDistances
+mod Totals
+-- The best place of a component
+mod BestSeat
+-- The loop over the components
+mod UnderWay
+mod Chosen

@@ -1,0 +1,98 @@
+-- The theorem of the run: what comes of it is legally placed, and the same but for places.
+use Rattle.std.proofs.Common.{◌≡◌, ℕ, List, Option, None, Some, refl, sym, ◌∙◌, inl, inr}
+use Rattle.std.proofs.lemmas.List.Elements.{All-contains}
+use Rattle.std.proofs.lemmas.Option.{same_Some}
+use Rattle.leg_geom.specs.declared.place.Place.{Place}
+use Rattle.leg_block.specs.Records.{DesignContents}
+use Rattle.leg_block.specs.WellFormedParts.{IsPlaced, IsComponent}
+use Rattle.leg_block.specs.WellFormed.{IsWellFormed}
+use Rattle.leg_block.specs.declared.fault.Fault.{Fault}
+use Rattle.leg_block.specs.declared.fault.Fault.TheVariants.{Unplaced}
+use Rattle.leg_block.specs.declared.records.Status.{Status}
+use Rattle.leg_block.specs.declared.records.Status.TheVariants as status
+use Rattle.leg_block.specs.declared.records.Component.{Component}
+use Rattle.leg_place.specs.Faults.{Holds}
+use Rattle.leg_place.specs.Faults.Holds.{unplaced, outside, off_site, overlap}
+use Rattle.leg_legal.specs.Movable.{MayMove, IsMovable}
+use Rattle.leg_legal.specs.Free.{IsSettled}
+use Rattle.leg_legal.specs.Turns.{IsOrderOfTaking}
+use Rattle.leg_legal.specs.Run.{Run, IsLegallyPlaced, IsLegalised}
+use Rattle.leg_legal.specs.SameButForPlaces.{IsPlacedAnew, IsSameButForPlaces}
+use Rattle.leg_legal.specs.Refusals.{NoneStaying}
+use Rattle.leg_legal.proofs.Elements.{all_at}
+use Rattle.leg_legal.proofs.MovableOrNot.{movable_or_not}
+use Rattle.leg_legal.proofs.OnRow.{HasSoundRows}
+use Rattle.leg_legal.proofs.AmongSettled.{ConcernsSettled}
+use Rattle.leg_legal.proofs.SoFar.{IsSoFar, so_far, none_settled}
+use Rattle.leg_legal.proofs.TheOrder.{order_movable}
+
+module _ (before after : DesignContents) (order : List ℕ) (is_order : IsOrderOfTaking before order) (run : Run before order after) where
+  abbrev so : IsSoFar before order after
+  so = so_far before order after run (order_movable before order is_order)
+
+  -- at the end of the run all is settled
+  all_settled : (c : ℕ) → IsSettled after order c
+  all_settled c =
+      elim (movable_or_not after c) [
+        | inl m ↦ inr (is_order.all c (so.movable_back c m))
+        | inr stays ↦ inl stays
+      ]
+
+  all_concerned : (fault : Fault) → Holds after.library after fault → ConcernsSettled after order fault
+  all_concerned v (unplaced {c = c} h) = all_settled c
+  all_concerned v (outside {c = c} h) = all_settled c
+  all_concerned v (off_site {c = c} h) = all_settled c
+  all_concerned v (overlap {a = a} {b = b} h) = (all_settled a, all_settled b)
+
+  -- where no violation holds among what stays, the end of the run is legally placed
+  pub run_legal : HasSoundRows before → NoneStaying before → IsLegallyPlaced after
+  run_legal sound staying fault holds =
+      (none_settled before order after sound staying run (order_movable before order is_order)).none fault holds (all_concerned fault holds)
+
+  -- and the same but for places
+  pub run_same : IsSameButForPlaces before after
+  run_same = record {
+    rest = so.rest;
+    count = so.count;
+    stays = λ c stays. so.waiting c (λ has. stays (All-contains (IsMovable before) order c is_order.each has));
+    moves = λ c old new m was is. so.moved c old new (is_order.all c m) was is;
+  }
+
+-- a component that may move and has a place is PLACED there
+is_placed : (component : Component) (status : Status) (place : Option Place) → component.status ≡ status → component.place ≡ place → MayMove status → IsPlaced status place → (place ≡ None → ⊥) → IsPlacedAnew component component
+is_placed component status.Unplaced None s p may placed some = absurd (some refl)
+is_placed component status.Unplaced (Some place) s p may placed some = absurd placed
+is_placed component status.Placed None s p may placed some = absurd placed
+is_placed component status.Placed (Some place) s p may placed some = record { place = place; is = λ i. record component { status = s i; place = p i } }
+is_placed component status.Fixed place s p may placed some = absurd may
+is_placed component status.Cover place s p may placed some = absurd may
+
+-- a legally placed design is the same as itself: its movable components are PLACED
+pub legal_same : (design : DesignContents) → IsWellFormed design → IsLegallyPlaced design → IsSameButForPlaces design design
+legal_same design proper legal = record {
+  rest = refl;
+  count = refl;
+  stays = λ c stays. refl;
+  moves = λ c old new m was is.
+      let same : new ≡ old = same_Some new old (sym is ∙ was) in
+      let movable_is : m.component ≡ old = same_Some m.component old (sym m.there ∙ was) in
+      let part : IsComponent design.library old = all_at (IsComponent design.library) design.components c old proper.components.each was in
+      let anew : IsPlacedAnew old old =
+      is_placed old old.status old.place refl refl (rw movable_is at m.status) part.placed
+      (λ none. legal (Unplaced c) (unplaced (record { component = old; there = was; unplaced = none }))) in
+      rw same anew;
+}
+
+-- what the legaliser does gives a legally placed design, and the same but for places
+module _ (before after : DesignContents) (done : IsLegalised before after) where
+  pub legalised_legal : HasSoundRows before → NoneStaying before → IsLegallyPlaced after
+  legalised_legal sound staying = elim done [
+    | inl legal ↦ rw legal.1 legal.0
+    | inr anew ↦ run_legal before after anew.1.order anew.1.is_order anew.1.run sound staying
+  ]
+
+  pub legalised_same : IsWellFormed before → IsSameButForPlaces before after
+  legalised_same proper = elim done [
+    | inl legal ↦ rw legal.1 (legal_same before proper legal.0)
+    | inr anew ↦ run_same before after anew.1.order anew.1.is_order anew.1.run
+  ]

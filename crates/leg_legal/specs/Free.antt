@@ -1,0 +1,33 @@
+-- Which positions of a component are free, and which of them is the best (own rules).
+use Rattle.std.specs.Prelude.{◌⊎◌, ℕ, List, Contains}
+use Rattle.leg_geom.specs.Plane.{Sides}
+use Rattle.leg_geom.specs.declared.place.Place.{Place}
+use Rattle.leg_block.specs.Records.{DesignContents}
+use Rattle.leg_place.specs.Box.{StandsIn, placed_box}
+use Rattle.leg_sites.specs.declared.candidate.Candidate.{Candidate}
+use Rattle.leg_sites.specs.Known.{IsClear}
+use Rattle.leg_sites.specs.BestPosition.{IsNoWorse}
+use Rattle.leg_legal.specs.Movable.{IsMovable}
+use Rattle.leg_legal.specs.Standing.{StandsAt}
+
+-- Component d stands where it will stand: it stays, or its turn has come. One that waits for its turn is in nobody's way.
+abbrev pub IsSettled : DesignContents → List ℕ → ℕ → Type 0
+IsSettled design done d = (¬ IsMovable design d) ⊎ Contains done d
+
+-- a component stands in this box and will stay there
+pub record IsTaken (design : DesignContents) (done : List ℕ) (box : Sides) : Type 0 where
+  pub d : ℕ
+  pub settled : IsSettled design done d
+  pub stands : StandsIn design.library design d box
+
+-- With this place component c stands at the position, and its box is clear: it lies in the die, and shares no cell with
+-- one that is taken.
+pub record IsFree (design : DesignContents) (done : List ℕ) (c : ℕ) (position : Candidate) (place : Place) : Type 0 where
+  pub stands : StandsAt design c position place
+  pub clear : IsClear design.die (IsTaken design done) (placed_box stands.master.size place)
+
+-- the place is that of a free position of component c, and no free one is better
+pub record TakesBest (design : DesignContents) (done : List ℕ) (c : ℕ) (place : Place) : Type 0 where
+  pub position : Candidate
+  pub free : IsFree design done c position place
+  pub best : (other : Candidate) (at : Place) → IsFree design done c other at → IsNoWorse position other

@@ -1,0 +1,10 @@
+pub mod Movable
+pub mod Start
+pub mod Standing
+pub mod Free
+pub mod Turns
+pub mod Run
+pub mod SameButForPlaces
+pub mod Moves
+pub mod Refusals
+pub mod Steps

@@ -1,0 +1,42 @@
+-- What the legaliser does (own rule): one component after the other takes its best free position.
+use Rattle.std.specs.Prelude.{◌≡◌, ◌⊎◌, ℕ, List, [], ◌∷◌, ◌++◌, Some, slice_get, slice_set}
+use Rattle.leg_geom.specs.declared.place.Place.{Place}
+use Rattle.leg_block.specs.Records.{DesignContents}
+use Rattle.leg_block.specs.declared.fault.Fault.{Fault}
+use Rattle.leg_block.specs.declared.records.Status.TheVariants.{Placed}
+use Rattle.leg_block.specs.declared.records.Component.{Component}
+use Rattle.leg_place.specs.Faults.{Holds}
+use Rattle.leg_legal.specs.Free.{TakesBest}
+use Rattle.leg_legal.specs.Turns.{IsOrderOfTaking}
+
+-- the component is PLACED there
+abbrev pub placed_at : Component → Place → Component
+placed_at component place = record component { status = Placed; place = Some place }
+
+-- the design in which component c, which was this one, is PLACED there
+abbrev pub moved_to : DesignContents → ℕ → Component → Place → DesignContents
+moved_to design c component place = record design { components = slice_set design.components c (placed_at component place) }
+
+-- From the first design the components of the list have taken their places, one after the other, and the second design
+-- is what has come of it.
+pub data Run (before : DesignContents) : List ℕ → DesignContents → Type 0 where
+  none : Run before [] before
+  one : {done : List ℕ} {now : DesignContents} {c : ℕ} {component : Component} {place : Place}
+      → Run before done now
+      → slice_get now.components c ≡ Some component
+      → TakesBest now done c place
+      → Run before (done ++ c ∷ []) (moved_to now c component place)
+
+-- no violation holds of where components stand
+abbrev pub IsLegallyPlaced : DesignContents → Type 0
+IsLegallyPlaced design = (fault : Fault) → ¬ Holds design.library design fault
+
+-- all movable components have taken their places, in their order
+pub record IsRunOfAll (before after : DesignContents) : Type 0 where
+  pub order : List ℕ
+  pub is_order : IsOrderOfTaking before order
+  pub run : Run before order after
+
+-- a legally placed design stays as it is, and in any other all movable components are placed anew
+abbrev pub IsLegalised : DesignContents → DesignContents → Type 0
+IsLegalised before after = (IsLegallyPlaced before × (after ≡ before)) ⊎ ((¬ IsLegallyPlaced before) × IsRunOfAll before after)

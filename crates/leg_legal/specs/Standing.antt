@@ -1,0 +1,45 @@
+-- How a component stands on sites of a row (LEF/DEF 5.8, "Rows", "Site"; the orientation that it takes is an own rule).
+use Rattle.std.specs.Prelude.{◌≡◌, ◌↔◌, ◌⊎◌, ℕ, pos, Bool, IsTrue, ◌+◌, ◌≤◌, ◌≤ℤ◌, ◌+ℤ◌, ◌*ℤ◌, Option, None, Some, slice_get, option_map}
+use Rattle.leg_geom.specs.declared.orient.Orient.{Orient}
+use Rattle.leg_geom.specs.declared.place.Place.{Place}
+use Rattle.leg_cells.specs.declared.records.Site.{Site}
+use Rattle.leg_cells.specs.Records.{MasterSaid}
+use Rattle.leg_block.specs.Records.{DesignContents}
+use Rattle.leg_block.specs.declared.records.Component.{Component}
+use Rattle.leg_block.specs.declared.records.Row.{Row}
+use Rattle.leg_place.specs.Sites.{Fits}
+use Rattle.leg_sites.specs.declared.candidate.Candidate.{Candidate}
+use Rattle.leg_sites.specs.BestPosition.{IsTurned}
+use Rattle.leg_legal.specs.Start.{start_of, distance}
+
+-- the orientation that a component has
+abbrev pub orient_of : Option Place → Option Orient
+orient_of place = option_map (λ at. at.orient) place
+
+-- an orientation is kept where it fits the row, and else becomes the row's; a component without one takes the row's
+abbrev pub Takes : Orient → Bool → Option Orient → Orient → Type 0
+Takes row y_symmetric None orient = orient ≡ row
+Takes row y_symmetric (Some old) orient = (Fits row y_symmetric old × (orient ≡ old)) ⊎ ((¬ Fits row y_symmetric old) × (orient ≡ row))
+
+-- With this place component c stands on consecutive sites of a row of its macro's site, all of which the row has: on so
+-- many as its macro is wide, from the first one of the position on. The position also tells how far it then is from its
+-- start, and whether it is turned: whether its orientation has changed.
+pub record StandsAt (design : DesignContents) (c : ℕ) (position : Candidate) (place : Place) : Type 0 where
+  pub component : Component
+  pub there : slice_get design.components c ≡ Some component
+  pub master : MasterSaid
+  pub is_master : slice_get design.library.masters component.master ≡ Some master
+  pub row : Row
+  pub is_row : slice_get design.rows position.row ≡ Some row
+  pub same : master.site ≡ Some row.site
+  pub site : Site
+  pub is_site : slice_get design.library.sites row.site ≡ Some site
+  pub high : master.size.height ≡ site.size.height
+  pub many : ℕ
+  pub some : 1 ≤ many
+  pub wide : master.size.width ≡ pos many *ℤ site.size.width
+  pub within : pos (position.first + many) ≤ℤ row.count
+  pub at : place.at ≡ record { x = row.at.x +ℤ pos position.first *ℤ site.size.width; y = row.at.y }
+  pub takes : Takes row.orient master.y_symmetric (orient_of component.place) place.orient
+  pub distance : position.distance ≡ distance place.at (start_of design.die component.place)
+  pub turned : IsTrue position.turned ↔ IsTurned row.orient master.y_symmetric (orient_of component.place)

@@ -1,0 +1,20 @@
+//! The legaliser: it gives each movable component a place on the sites of a row, in the die and clear of all others.
+//!
+//! What `legalise` gives is legally placed, and the same as before but for the places of movable components.
+#![tactic(auto)]
+
+mod distances;
+mod fault;
+mod legaliser;
+mod movable;
+mod moves;
+mod seats;
+mod staying;
+mod taken;
+mod taking;
+mod turns;
+mod unsuited;
+
+pub use fault::LegalFault;
+pub use legaliser::legalise;
+pub use moves::Moves;

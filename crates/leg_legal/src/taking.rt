@@ -1,0 +1,120 @@
+//! The loop over the components that take their places.
+
+ghost use Rattle.std.specs.Prelude.{◌≡◌, ◌+◌, ◌<◌, [], List, length, IfOk, IfErr, OnOk, slice_get, Some};
+ghost use Rattle.leg_geom.specs.Plane.{Sides};
+ghost use Rattle.leg_cells.specs.Records.{MasterSaid};
+ghost use Rattle.leg_block.specs.WellFormedParts.{IsPosition};
+ghost use Rattle.leg_block.specs.declared.records.Component.{Component};
+ghost use Rattle.leg_place.specs.Box.{placed_box};
+ghost use Rattle.leg_sites.specs.FreeRows.{AreKnown};
+ghost use Rattle.leg_legal.specs.Movable.{IsMovable};
+ghost use Rattle.leg_legal.specs.Refusals.{IsUnsuited, AreSuited};
+ghost use Rattle.leg_legal.specs.Steps.TurnKeys.{AreInOrder, numbers};
+ghost use Rattle.leg_legal.specs.Steps.Taking.{KnowStaying, KnowTaken, IsSeated, IsSeatFault, AreAllTaken, IsTakingFault};
+
+use crate::fault::LegalFault;
+use crate::movable::is_movable;
+use crate::seats::{best_place, wanted_of};
+use crate::taken::Taken;
+use crate::turns::TurnKey;
+use leg_block::Design;
+use leg_geom::{Place, Rect};
+use leg_place::{box_of, placed_size};
+use leg_sites::FreeRows;
+use std::alloc::{AllocError, Allocator};
+
+/// Takes the box of the component away, if it stays and has a place.
+fn take_if_staying<A: Allocator + Copy>(
+    design: &Design<'_, A>,
+    free: &mut FreeRows<A>,
+    number: usize,
+) -> Result<(), AllocError>
+    requires there { number < length design.now.components }
+    requires known { KnowStaying design.now number free.old }
+    ensures { OnOk result (KnowStaying design.now (number + 1) free.new) }
+{
+    if is_movable(design, number) {
+        return Ok(());
+    }
+    match box_of(design.library(), &design.components()[number]) {
+        Some(rect) => free.take_box(design, &rect),
+        None => Ok(()),
+    }
+}
+
+/// Takes the boxes of all components away that stay and have a place.
+pub(crate) fn take_staying<A: Allocator + Copy>(
+    design: &Design<'_, A>,
+    free: &mut FreeRows<A>,
+) -> Result<(), AllocError>
+    requires { AreKnown design.now [] free.old }
+    ensures { OnOk result (KnowTaken design.now design.now [] free.new) }
+{
+    for i in 0..design.components().len() {
+        take_if_staying(design, free, i)?;
+    }
+    Ok(())
+}
+
+/// The box of a movable component at this place.
+fn box_at<A: Allocator + Copy>(design: &Design<'_, A>, number: usize, place: &Place) -> Rect
+    requires movable { IsMovable design.now number }
+    requires position { IsPosition place.now.at }
+    ensures { (component : Component) (master : MasterSaid) → slice_get design.now.components number ≡ Some component
+        → slice_get design.now.library.masters component.master ≡ Some master → result ≡ placed_box master.size place.now }
+{
+    let component = &design.components()[number];
+    let master = &design.library().masters()[component.master];
+    placed_size(place, &master.size)
+}
+
+/// The best place of a movable component. Its box is taken away.
+fn seat<A: Allocator + Copy>(
+    design: &Design<'_, A>,
+    free: &mut FreeRows<A>,
+    number: u32,
+) -> Result<Place, LegalFault<A>>
+    requires movable { IsMovable design.now number }
+    requires suited { ¬ IsUnsuited design.now number }
+    requires known { (boxes : List Sides) × AreKnown design.now boxes free.old }
+    ensures seated { IfOk result (λ place. (boxes : List Sides) → AreKnown design.now boxes free.old → IsSeated design.now boxes number place free.new) }
+    ensures position { IfOk result (λ place. IsPosition place.at) }
+    ensures refused { IfErr result (λ fault. (boxes : List Sides) → AreKnown design.now boxes free.old → IsSeatFault design.now boxes number fault) }
+{
+    let wanted = wanted_of(design, number as usize);
+    match best_place(design, free, &wanted) {
+        Some(place) => {
+            let rect = box_at(design, number as usize, &place);
+            match free.take_box(design, &rect) {
+                Ok(()) => Ok(place),
+                Err(_refusal) => Err(LegalFault::Memory),
+            }
+        }
+        None => Err(LegalFault::NoRoom(number)),
+    }
+}
+
+/// The places that the components of the keys take, in turn.
+pub(crate) fn take_in_turn<A: Allocator + Copy>(
+    alloc: A,
+    design: &Design<'_, A>,
+    free: &mut FreeRows<A>,
+    keys: &[TurnKey],
+) -> Result<Vec<Taken, A>, LegalFault<A>>
+    requires order { AreInOrder design.now keys.now }
+    requires suited { AreSuited design.now }
+    requires known { KnowTaken design.now design.now [] free.old }
+    ensures taken { IfOk result (λ taken. AreAllTaken design.now keys.now taken.items) }
+    ensures refused { IfErr result (IsTakingFault design.now (numbers keys.now)) }
+{
+    let mut taken = Vec::with_capacity(alloc, keys.len())?;
+    for i in 0..keys.len() {
+        let number = keys[i].number;
+        let place = match seat(design, free, number) {
+            Ok(place) => place,
+            Err(fault) => return Err(fault),
+        };
+        taken.push(Taken { number, place })?;
+    }
+    Ok(taken)
+}
