@@ -6,3 +6,6 @@ pub mod Within
 pub mod TrackLines
 pub mod Service
 pub mod GridValues
+pub mod Pushed
+pub mod Marked
+pub mod Sizes
