@@ -9,3 +9,10 @@ pub mod GridValues
 pub mod Pushed
 pub mod Marked
 pub mod Sizes
+pub mod JoinsPair
+pub mod RoutingLayers
+pub mod FirstVia
+pub mod ViaSteps
+pub mod GridMade
+pub mod GridSlots
+pub mod NextWalks

@@ -1,6 +1,7 @@
 -- Walks over numbers, and over the nodes that have them.
 use Rattle.std.proofs.Common.{◌≡◌, ℕ, ◌≤◌, List, [], ◌∷◌, length, refl, sym, ◌∙◌, ap, subst, arith}
 use Rattle.std.specs.List.{AllZip}
+use Rattle.leg_grid.specs.Numbered.{IsOneOf, IsStepOf}
 use Rattle.leg_walk.specs.Walk.{Walk, here, on, IsShortest, NoWalk}
 
 long_zip : {A B : Type 0} (R : A → B → Type 0) (xs : List A) (ys : List B) → AllZip R xs ys → length xs ≡ length ys
@@ -8,18 +9,6 @@ long_zip R [] [] all = refl
 long_zip R [] (y ∷ ys) all = absurd all
 long_zip R (x ∷ xs) [] all = absurd all
 long_zip R (x ∷ xs) (y ∷ ys) all = omega (arith, long_zip R xs ys all.1)
-
-pub record IsOneOf {Node : Type 0} (Number : ℕ → Node → Type 0) (P : Node → Type 0) (n : ℕ) : Type 0 where
-  pub node : Node
-  pub is : Number n node
-  pub holds : P node
-
-pub record IsStepOf {Node : Type 0} (Number : ℕ → Node → Type 0) (Step : Node → Node → Type 0) (m n : ℕ) : Type 0 where
-  pub a : Node
-  pub b : Node
-  pub a_is : Number m a
-  pub b_is : Number n b
-  pub step : Step a b
 
 module _ {Node : Type 0} (Number : ℕ → Node → Type 0) (unique : (n : ℕ) (a b : Node) → Number n a → Number n b → a ≡ b) (Open : Node → Type 0) (Step : Node → Node → Type 0) where
   abbrev OpenAt : ℕ → Type 0

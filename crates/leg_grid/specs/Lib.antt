@@ -10,4 +10,6 @@ pub mod MoreWires
 pub mod Run
 pub mod GridSize
 pub mod Refusals
+pub mod Grid
+pub mod Numbered
 pub mod Steps

@@ -2,3 +2,4 @@
 pub mod Lines
 pub mod LayerList
 pub mod TrackMarks
+pub mod Joining

@@ -2,14 +2,19 @@
 #![tactic(auto)]
 
 mod fault;
+mod grid;
+pub mod laws;
 mod layers;
 mod limits;
 mod lines;
 mod node;
 mod size;
+mod slot;
+mod through;
 mod track_marks;
 
 pub use fault::GridFault;
+pub use grid::Grid;
 pub use layers::RoutingLayer;
 pub use limits::GRID_LIMIT;
 pub use node::Node;

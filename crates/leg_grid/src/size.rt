@@ -1,6 +1,6 @@
 //! How large a grid is.
 
-ghost use Rattle.std.specs.Prelude.{◌≡◌, ◌≤◌, ◌<◌, ◌*◌, ◌↔◌, IsTrue, SomeIff, All};
+ghost use Rattle.std.specs.Prelude.{◌≤◌, ◌<◌, ◌*◌, ◌↔◌, IsTrue, SomeIff};
 ghost use Rattle.leg_grid.specs.declared.limits.TheConstants.{GRID_LIMIT};
 ghost use Rattle.leg_grid.specs.GridSize.{track_count};
 
@@ -36,5 +36,15 @@ pub(crate) fn slots_of(layers: usize, rows: usize, columns: usize) -> Option<u32
         Some((layers * rows * columns) as u32)
     } else {
         None
+    }
+}
+
+/// Whether these are no more slots than there may be.
+pub(crate) fn fits(layers: usize, rows: usize, columns: usize) -> bool
+    ensures { IsTrue result ↔ (layers * rows * columns ≤ GRID_LIMIT) }
+{
+    match slots_of(layers, rows, columns) {
+        Some(_slots) => true,
+        None => false,
     }
 }

@@ -1,0 +1,25 @@
+//! What follows from the definitions alone, as functions whose contracts say it.
+
+ghost use Rattle.std.specs.Prelude.{◌≡◌, ℕ, List};
+ghost use Rattle.std.specs.List.{AllZip};
+ghost use Rattle.leg_flat.specs.Flat.{FlatSaid};
+ghost use Rattle.leg_grid.specs.declared.node.Node.{Node};
+ghost use Rattle.leg_grid.specs.Nodes.{IsNode};
+ghost use Rattle.leg_grid.specs.Run.{IsNextWalk, HasNoWalk};
+ghost use Rattle.leg_grid.specs.Grid.{GridSaid, IsGrid, IsNumberOf};
+ghost use Rattle.leg_grid.specs.Numbered.{IsNextWalkAt, HasNoWalkAt};
+
+/// Each node of the grid has a number, no two have one, and none has two.
+#[tactic(auto, using(crate::proofs::GridSlots::one_node, crate::proofs::GridSlots::one_number, crate::proofs::GridSlots::numbered))]
+pub fn nodes_have_numbers()
+    ensures some { (grid : GridSaid) (node : Node) → IsGrid grid → IsNode grid.design node → (n : ℕ) × IsNumberOf grid n node }
+    ensures apart { (grid : GridSaid) (n : ℕ) (a b : Node) → IsGrid grid → IsNumberOf grid n a → IsNumberOf grid n b → a ≡ b }
+    ensures once { (grid : GridSaid) (m n : ℕ) (node : Node) → IsGrid grid → IsNumberOf grid m node → IsNumberOf grid n node → m ≡ n }
+{}
+
+/// A shortest open walk that is told by numbers is one of nodes; where no numbers are those of an open walk, there is none.
+#[tactic(auto, using(crate::proofs::NextWalks::next_walk, crate::proofs::NextWalks::no_next_walk))]
+pub fn numbers_walk_as_nodes()
+    ensures shortest { (grid : GridSaid) (flat : FlatSaid) (net : ℕ) (numbers : List ℕ) → IsGrid grid → IsNextWalkAt grid flat net numbers → (nodes : List Node) × AllZip (IsNumberOf grid) numbers nodes × IsNextWalk grid.design flat net nodes }
+    ensures none { (grid : GridSaid) (flat : FlatSaid) (net : ℕ) → IsGrid grid → HasNoWalkAt grid flat net → HasNoWalk grid.design flat net }
+{}
