@@ -15,7 +15,8 @@ use Rattle.leg_grid.specs.declared.layers.RoutingLayer.{RoutingLayer}
 use Rattle.leg_grid.specs.declared.node.Node.{Node}
 use Rattle.leg_grid.specs.Tracks.{Runs, HasTrack, IsGridX, IsGridY}
 use Rattle.leg_grid.specs.Nodes.{IsUpright, IsLevel, IsNode}
-use Rattle.leg_grid.specs.Grid.{GridSaid, IsGrid, IsSlot, LiesAt, IsNumberOf}
+use Rattle.leg_grid.specs.Grid.{GridSaid, IsGrid, IsSlot, LiesAt, IsNumberOf, axis_of, values_of}
+use Rattle.leg_grid.specs.Steps.TrackMarks.{AreTrackMarks}
 use Rattle.leg_grid.proofs.Slots.{one_rest}
 
 same_node : (a b : Node) → a.layer ≡ b.layer → a.at.x ≡ b.at.x → a.at.y ≡ b.at.y → a ≡ b
@@ -44,17 +45,26 @@ one_direction library n d e v w runs also =
     let same : runs.layer ≡ also.layer = same_Some runs.layer also.layer (sym runs.there ∙ also.there) in
     same_routing d e v w (sym runs.routes ∙ ap (λ (l : Layer). l.kind) same ∙ also.routes)
 
+-- the node of a slot lies there
+pub lies_at : (grid : GridSaid) (n k j i : ℕ) (node : Node) → IsSlot grid n k j i → IsNumberOf grid n node → LiesAt grid k j i node
+lies_at grid n k j i node slot number =
+    let lines = one_rest (length grid.xs) (k * length grid.ys + j) (number.k * length grid.ys + number.j) i number.i slot.column number.slot.column (sym slot.is ∙ number.slot.is) in
+    let rows = one_rest (length grid.ys) k number.k j number.j slot.row number.slot.row lines.0 in
+    rw (rows.0, rows.1, lines.1) number.lies
+
+-- in a slot lies one node
+pub the_node : (grid : GridSaid) (n : ℕ) (a b : Node) → IsNumberOf grid n a → IsNumberOf grid n b → a ≡ b
+the_node grid n a b at_a at_b =
+    let lies = lies_at grid n at_a.k at_a.j at_a.i b at_a.slot at_b in
+    let layers : at_a.lies.layer ≡ lies.layer = same_Some _ _ (sym at_a.lies.there ∙ lies.there) in
+    same_node a b
+    (at_a.lies.on ∙ ap (λ (l : RoutingLayer). l.number) layers ∙ sym lies.on)
+    (same_Some _ _ (sym at_a.lies.x ∙ lies.x))
+    (same_Some _ _ (sym at_a.lies.y ∙ lies.y))
+
 module _ (grid : GridSaid) (is_grid : IsGrid grid) where
-  -- in a slot lies one node
   pub one_node : (n : ℕ) (a b : Node) → IsNumberOf grid n a → IsNumberOf grid n b → a ≡ b
-  one_node n a b at_a at_b =
-      let lines = one_rest (length grid.xs) (at_a.k * length grid.ys + at_a.j) (at_b.k * length grid.ys + at_b.j) at_a.i at_b.i at_a.slot.column at_b.slot.column (sym at_a.slot.is ∙ at_b.slot.is) in
-      let rows = one_rest (length grid.ys) at_a.k at_b.k at_a.j at_b.j at_a.slot.row at_b.slot.row lines.0 in
-      let layers : at_a.lies.layer ≡ at_b.lies.layer = same_Some _ _ (sym at_a.lies.there ∙ ap (slice_get grid.layers) rows.0 ∙ at_b.lies.there) in
-      same_node a b
-      (at_a.lies.on ∙ ap (λ (l : RoutingLayer). l.number) layers ∙ sym at_b.lies.on)
-      (same_Some _ _ (sym at_a.lies.x ∙ ap (slice_get grid.xs) lines.1 ∙ at_b.lies.x))
-      (same_Some _ _ (sym at_a.lies.y ∙ ap (slice_get grid.ys) rows.1 ∙ at_b.lies.y))
+  one_node = the_node grid
 
   -- a node lies in one slot
   pub one_number : (m n : ℕ) (a : Node) → IsNumberOf grid m a → IsNumberOf grid n a → m ≡ n
@@ -90,3 +100,71 @@ module _ (grid : GridSaid) (is_grid : IsGrid grid) where
   pub numbered : (a : Node) → IsNode grid.design a → (n : ℕ) × IsNumberOf grid n a
   numbered a (inl upright) = slot_of a Vertical upright.width upright.vertical (record { number = a.layer; width = upright.width; vertical = upright.vertical; track = upright.track }) upright.y
   numbered a (inr level) = slot_of a Horizontal level.width level.horizontal level.x (record { number = a.layer; width = level.width; horizontal = level.horizontal; track = level.track })
+
+  -- the layer of such a slot
+  pub runs_there : (k : ℕ) (layer : RoutingLayer) → slice_get grid.layers k ≡ Some layer → Runs grid.design.library layer.number layer.direction layer.width
+  runs_there k layer there = rw (get_or_from_slice_get grid.layers k layer layer there) at (is_grid.layers_are.each k layer (slice_get_within grid.layers k layer there))
+
+  x_is : (i : ℕ) (x : ℤ) → slice_get grid.xs i ≡ Some x → IsGridX grid.design x
+  x_is i x there = rw (get_or_from_slice_get grid.xs i x x there) at (is_grid.xs_are.each i x (slice_get_within grid.xs i x there))
+
+  y_is : (j : ℕ) (y : ℤ) → slice_get grid.ys j ≡ Some y → IsGridY grid.design y
+  y_is j y there = rw (get_or_from_slice_get grid.ys j y y there) at (is_grid.ys_are.each j y (slice_get_within grid.ys j y there))
+
+  -- the marks of a layer's tracks, along the axis of its direction
+  marks_there : (k : ℕ) (layer : RoutingLayer) (marks : List Bool) (direction : Direction) → slice_get grid.layers k ≡ Some layer → slice_get grid.tracks k ≡ Some marks → layer.direction ≡ direction
+      → AreTrackMarks grid.design layer.number (axis_of direction) (values_of grid.xs grid.ys direction) marks
+  marks_there k layer marks direction there at_k way = rw way at (is_grid.tracks_are.each k layer marks there at_k)
+
+  pub column_within : (k i : ℕ) (layer : RoutingLayer) (marks : List Bool) → slice_get grid.layers k ≡ Some layer → slice_get grid.tracks k ≡ Some marks → layer.direction ≡ Vertical → i < length grid.xs → i < length marks
+  column_within k i layer marks there at_k way within = let count = (marks_there k layer marks Vertical there at_k way).count in omega (arith, count, within)
+
+  pub row_within : (k j : ℕ) (layer : RoutingLayer) (marks : List Bool) → slice_get grid.layers k ≡ Some layer → slice_get grid.tracks k ≡ Some marks → layer.direction ≡ Horizontal → j < length grid.ys → j < length marks
+  row_within k j layer marks there at_k way within = let count = (marks_there k layer marks Horizontal there at_k way).count in omega (arith, count, within)
+
+  module _ (k j i : ℕ) (layer : RoutingLayer) (marks : List Bool) (mark : Bool) (node : Node) (there : slice_get grid.layers k ≡ Some layer) (at_k : slice_get grid.tracks k ≡ Some marks) (lies : LiesAt grid k j i node) where
+    on : node.layer ≡ layer.number
+    on = lies.on ∙ ap (λ (l : RoutingLayer). l.number) (same_Some lies.layer layer (sym lies.there ∙ there))
+
+    runs_at : Runs grid.design.library node.layer layer.direction layer.width
+    runs_at = rw on (runs_there k layer there)
+
+    -- on a vertical layer, by its column
+    pub upright_by_mark : layer.direction ≡ Vertical → slice_get marks i ≡ Some mark → (mark ≡ true) ↔ IsNode grid.design node
+    upright_by_mark way is = (
+      λ set. inl (record {
+        width = layer.width;
+        vertical = rw way at runs_at;
+        track = rw on (tracks.0 (is ∙ ap Some set));
+        y = y_is j node.at.y lies.y;
+      }),
+      elim [
+        | inl upright ↦ same_Some mark true (sym is ∙ tracks.1 (rw on at upright.track))
+        | inr level ↦ absurd (other (one_direction grid.design.library node.layer Horizontal layer.direction level.width layer.width level.horizontal runs_at ∙ way))
+      ],
+    ) where
+      tracks : (slice_get marks i ≡ Some true) ↔ HasTrack grid.design layer.number X node.at.x
+      tracks = (marks_there k layer marks Vertical there at_k way).each i node.at.x lies.x
+
+      other : Horizontal ≡ Vertical → ⊥
+      other same = cc
+
+    -- on a horizontal one, by its row
+    pub level_by_mark : layer.direction ≡ Horizontal → slice_get marks j ≡ Some mark → (mark ≡ true) ↔ IsNode grid.design node
+    level_by_mark way is = (
+      λ set. inr (record {
+        width = layer.width;
+        horizontal = rw way at runs_at;
+        track = rw on (tracks.0 (is ∙ ap Some set));
+        x = x_is i node.at.x lies.x;
+      }),
+      elim [
+        | inl upright ↦ absurd (other (one_direction grid.design.library node.layer Vertical layer.direction upright.width layer.width upright.vertical runs_at ∙ way))
+        | inr level ↦ same_Some mark true (sym is ∙ tracks.1 (rw on at level.track))
+      ],
+    ) where
+      tracks : (slice_get marks j ≡ Some true) ↔ HasTrack grid.design layer.number Y node.at.y
+      tracks = (marks_there k layer marks Horizontal there at_k way).each j node.at.y lies.y
+
+      other : Vertical ≡ Horizontal → ⊥
+      other same = cc

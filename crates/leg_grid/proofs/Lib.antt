@@ -16,3 +16,5 @@ pub mod ViaSteps
 pub mod GridMade
 pub mod GridSlots
 pub mod NextWalks
+pub mod Squares
+pub mod OpenNodes

@@ -3,3 +3,4 @@ pub mod Lines
 pub mod LayerList
 pub mod TrackMarks
 pub mod Joining
+pub mod Squares

@@ -1,11 +1,17 @@
 //! The grid of a design.
 
-ghost use Rattle.std.specs.Prelude.{◌≡◌, ◌<◌, Some, All, length, slice_get, IfOk, IfErr, OnOk};
+ghost use Rattle.std.specs.Prelude.{◌≡◌, ◌↔◌, ◌<◌, IsTrue, Bool, List, Some, All, length, slice_get, IfOk, IfErr, OnOk};
 ghost use Rattle.leg_lex.specs.Number.{IsNumber};
+ghost use Rattle.leg_cells.specs.declared.records.Direction.{Direction};
+ghost use Rattle.leg_cells.specs.Sound.{IsWidth, IsSound};
+ghost use Rattle.leg_block.specs.WellFormedParts.{IsPosition};
 ghost use Rattle.leg_grid.specs.declared.fault.GridFault.TheVariants.{TooLarge};
 ghost use Rattle.leg_grid.specs.declared.layers.RoutingLayer.{RoutingLayer};
+ghost use Rattle.leg_grid.specs.declared.node.Node.{Node};
+ghost use Rattle.leg_grid.specs.Nodes.{IsNode};
+ghost use Rattle.leg_grid.specs.Tracks.{Runs};
 ghost use Rattle.leg_grid.specs.GridSize.{IsGridTooLarge};
-ghost use Rattle.leg_grid.specs.Grid.{AreTracks, IsSlot, IsNumberOf, axis_of, values_of, slot_total};
+ghost use Rattle.leg_grid.specs.Grid.{AreTracks, IsGrid, IsSlot, LiesAt, IsNumberOf, axis_of, values_of, slot_total};
 ghost use Rattle.leg_grid.specs.Steps.TrackMarks.{AreTrackMarks};
 
 use crate::fault::GridFault;
@@ -102,7 +108,7 @@ fn all_track_marks<A: Allocator + Copy>(
 }
 
 /// The point of these coordinates.
-fn point_at(x: i64, y: i64) -> Point
+pub(crate) fn point_at(x: i64, y: i64) -> Point
     requires x { IsNumber x }
     requires y { IsNumber y }
     ensures { result ≡ record { x = x; y = y } }
@@ -147,7 +153,7 @@ impl<'g, 'a, A: Allocator + Copy> Grid<'g, 'a, A> {
     }
 
     /// The slot of this number.
-    fn slot(&self, number: u32) -> Slot
+    pub(crate) fn slot(&self, number: u32) -> Slot
         requires { number < slot_total self.now }
         ensures { IsSlot self.now number result.layer result.row result.column }
     {
@@ -174,15 +180,16 @@ impl<'g, 'a, A: Allocator + Copy> Grid<'g, 'a, A> {
     }
 
     /// Routing layer k.
-    fn layer_at(&self, k: usize) -> RoutingLayer
+    pub(crate) fn layer_at(&self, k: usize) -> RoutingLayer
         requires { k < length self.now.layers }
-        ensures { slice_get self.now.layers k ≡ Some result }
+        ensures is { slice_get self.now.layers k ≡ Some result }
+        ensures proper { IsGrid self.now }
     {
         self.layers[k]
     }
 
     /// The y value of this row.
-    fn y_at(&self, row: usize) -> i64
+    pub(crate) fn y_at(&self, row: usize) -> i64
         requires { row < length self.now.ys }
         ensures is { slice_get self.now.ys row ≡ Some result }
         ensures within { IsNumber result }
@@ -191,7 +198,7 @@ impl<'g, 'a, A: Allocator + Copy> Grid<'g, 'a, A> {
     }
 
     /// The x value of this column.
-    fn x_at(&self, column: usize) -> i64
+    pub(crate) fn x_at(&self, column: usize) -> i64
         requires { column < length self.now.xs }
         ensures is { slice_get self.now.xs column ≡ Some result }
         ensures within { IsNumber result }
@@ -199,10 +206,34 @@ impl<'g, 'a, A: Allocator + Copy> Grid<'g, 'a, A> {
         self.xs[column]
     }
 
+    /// Whether the marks of layer k have this place set.
+    fn has_mark(&self, k: usize, place: usize) -> bool
+        requires there { k < length self.now.tracks }
+        requires within { (marks : List Bool) → slice_get self.now.tracks k ≡ Some marks → place < length marks }
+        ensures { (marks : List Bool) → slice_get self.now.tracks k ≡ Some marks → slice_get marks place ≡ Some result }
+    {
+        let marks = self.tracks[k].as_slice();
+        marks[place]
+    }
+
+    /// Whether a node lies in the slot.
+    pub(crate) fn has_node(&self, slot: Slot) -> bool
+        requires layer { slot.layer < length self.now.layers }
+        requires row { slot.row < length self.now.ys }
+        requires column { slot.column < length self.now.xs }
+        ensures { (node : Node) → LiesAt self.now slot.layer slot.row slot.column node → (IsTrue result ↔ IsNode self.now.design node) }
+    {
+        match self.layer_at(slot.layer).direction {
+            Direction::Vertical => self.has_mark(slot.layer, slot.column),
+            Direction::Horizontal => self.has_mark(slot.layer, slot.row),
+        }
+    }
+
     /// The point of the slot of this number, on its layer.
     pub fn node(&self, number: u32) -> Node
         requires { number < slot_total self.now }
-        ensures { IsNumberOf self.now number result }
+        ensures is { IsNumberOf self.now number result }
+        ensures within { IsPosition result.at }
     {
         let slot = self.slot(number);
         let layer = self.layer_at(slot.layer);
@@ -213,4 +244,31 @@ impl<'g, 'a, A: Allocator + Copy> Grid<'g, 'a, A> {
             at: point_at(x, y),
         }
     }
+
+    /// Whether a node lies in the slot of this number.
+    pub fn holds_node(&self, number: u32) -> bool
+        requires { number < slot_total self.now }
+        ensures { (node : Node) → IsNumberOf self.now number node → (IsTrue result ↔ IsNode self.now.design node) }
+    {
+        self.has_node(self.slot(number))
+    }
+
+    /// The width of the wires on the layer of the slot of this number.
+    pub(crate) fn width_at(&self, number: u32) -> i64
+        requires { number < slot_total self.now }
+        ensures is { (node : Node) → IsNumberOf self.now number node → ((direction : Direction) × Runs self.now.design.library node.layer direction result) }
+        ensures proper { IsWidth result }
+    {
+        let slot = self.slot(number);
+        let layer = self.layer_at(slot.layer);
+        widths_are_sound(self.design);
+        layer.width
+    }
+}
+
+/// The layers of the design's library are sound.
+fn widths_are_sound<A: Allocator + Copy>(design: &Design<'_, A>)
+    ensures { IsSound design.now.library }
+{
+    let _layers = design.library().layers();
 }
