@@ -23,7 +23,7 @@ same_node : (a b : Node) → a.layer ≡ b.layer → a.at.x ≡ b.at.x → a.at.
 same_node a b layer x y = λ i. record { layer = layer i; at = record { x = x i; y = y i } }
 
 -- an element stands in one place of a list that is in order
-one_place : {T : Type 0} (R : T → T → Type 0) (list : List T) (i j : ℕ) (a b : T) → AllPairs R list → slice_get list i ≡ Some a → slice_get list j ≡ Some b → ¬ R a b → ¬ R b a → i ≡ j
+pub one_place : {T : Type 0} (R : T → T → Type 0) (list : List T) (i j : ℕ) (a b : T) → AllPairs R list → slice_get list i ≡ Some a → slice_get list j ≡ Some b → ¬ R a b → ¬ R b a → i ≡ j
 one_place {T} R list i j a b rising at_i at_j not_less not_more = by (order i j) where
   order : (i j : ℕ) → (i < j) ⊎ ((i ≡ j) ⊎ (j < i))
   order i j = grind arith
@@ -105,10 +105,10 @@ module _ (grid : GridSaid) (is_grid : IsGrid grid) where
   pub runs_there : (k : ℕ) (layer : RoutingLayer) → slice_get grid.layers k ≡ Some layer → Runs grid.design.library layer.number layer.direction layer.width
   runs_there k layer there = rw (get_or_from_slice_get grid.layers k layer layer there) at (is_grid.layers_are.each k layer (slice_get_within grid.layers k layer there))
 
-  x_is : (i : ℕ) (x : ℤ) → slice_get grid.xs i ≡ Some x → IsGridX grid.design x
+  pub x_is : (i : ℕ) (x : ℤ) → slice_get grid.xs i ≡ Some x → IsGridX grid.design x
   x_is i x there = rw (get_or_from_slice_get grid.xs i x x there) at (is_grid.xs_are.each i x (slice_get_within grid.xs i x there))
 
-  y_is : (j : ℕ) (y : ℤ) → slice_get grid.ys j ≡ Some y → IsGridY grid.design y
+  pub y_is : (j : ℕ) (y : ℤ) → slice_get grid.ys j ≡ Some y → IsGridY grid.design y
   y_is j y there = rw (get_or_from_slice_get grid.ys j y y there) at (is_grid.ys_are.each j y (slice_get_within grid.ys j y there))
 
   -- the marks of a layer's tracks, along the axis of its direction

@@ -18,3 +18,4 @@ pub mod GridSlots
 pub mod NextWalks
 pub mod Squares
 pub mod OpenNodes
+pub mod Beside

@@ -11,5 +11,6 @@ pub mod Run
 pub mod GridSize
 pub mod Refusals
 pub mod Grid
+pub mod Beside
 pub mod Numbered
 pub mod Steps

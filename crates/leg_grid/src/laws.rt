@@ -1,12 +1,16 @@
 //! What follows from the definitions alone, as functions whose contracts say it.
 
-ghost use Rattle.std.specs.Prelude.{◌≡◌, ℕ, List};
+ghost use Rattle.std.specs.Prelude.{◌≡◌, ◌↔◌, ℕ, List};
 ghost use Rattle.std.specs.List.{AllZip};
 ghost use Rattle.leg_flat.specs.Flat.{FlatSaid};
 ghost use Rattle.leg_grid.specs.declared.node.Node.{Node};
+ghost use Rattle.leg_walk.specs.declared.side.Side.{Side};
+ghost use Rattle.leg_grid.specs.declared.slot.Slot.{Slot};
 ghost use Rattle.leg_grid.specs.Nodes.{IsNode};
+ghost use Rattle.leg_grid.specs.Neighbours.{IsBeside};
+ghost use Rattle.leg_grid.specs.Beside.{IsSlotBeside};
 ghost use Rattle.leg_grid.specs.Run.{IsNextWalk, HasNoWalk};
-ghost use Rattle.leg_grid.specs.Grid.{GridSaid, IsGrid, IsNumberOf};
+ghost use Rattle.leg_grid.specs.Grid.{GridSaid, IsGrid, LiesAt, IsNumberOf};
 ghost use Rattle.leg_grid.specs.Numbered.{IsNextWalkAt, HasNoWalkAt};
 
 /// Each node of the grid has a number, no two have one, and none has two.
@@ -22,4 +26,10 @@ pub fn nodes_have_numbers()
 pub fn numbers_walk_as_nodes()
     ensures shortest { (grid : GridSaid) (flat : FlatSaid) (net : ℕ) (numbers : List ℕ) → IsGrid grid → IsNextWalkAt grid flat net numbers → (nodes : List Node) × AllZip (IsNumberOf grid) numbers nodes × IsNextWalk grid.design flat net nodes }
     ensures none { (grid : GridSaid) (flat : FlatSaid) (net : ℕ) → IsGrid grid → HasNoWalkAt grid flat net → HasNoWalk grid.design flat net }
+{}
+
+/// Slots in which nodes lie step to the slots beside them just as their nodes do.
+pub fn slots_step_as_nodes()
+    ensures { (grid : GridSaid) (side : Side) (s t : Slot) (a b : Node) → IsGrid grid → LiesAt grid s.layer s.row s.column a → LiesAt grid t.layer t.row t.column b
+        → IsNode grid.design a → IsNode grid.design b → (IsSlotBeside grid side s t ↔ IsBeside grid.design side a b) }
 {}

@@ -21,3 +21,4 @@ pub use layers::RoutingLayer;
 pub use limits::GRID_LIMIT;
 pub use node::Node;
 pub use open_node::is_open_node;
+pub use slot::Slot;
