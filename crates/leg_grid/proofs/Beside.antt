@@ -1,10 +1,9 @@
 -- Slots beside one another hold nodes beside one another.
-use Rattle.std.proofs.Common.{◌≡◌, ℕ, ◌+◌, ◌<◌, ◌≤◌, ◌⊎◌, ◌↔◌, inl, inr, true, false, true≢false, ℤ, ◌<ℤ◌, List, AllPairs, Contains, length, get_or, Option, None, Some, slice_get, refl, sym, ap, ◌∙◌, arith}
+use Rattle.std.proofs.Common.{◌≡◌, ℕ, ◌+◌, ◌<◌, ◌⊎◌, ◌↔◌, inl, inr, true≢false, ◌<ℤ◌, List, AllPairs, length, get_or, Option, None, Some, slice_get, sym, ap, ◌∙◌, arith}
 use Rattle.std.proofs.lemmas.Int.{ints}
 use Rattle.std.proofs.lemmas.Option.{same_Some, slice_get-get_or, slice_get_within, get_or_from_slice_get}
 use Rattle.std.proofs.lemmas.List.Elements.{All-contains}
 use Rattle.leg_geom.specs.Plane.{Spot}
-use Rattle.leg_cells.specs.declared.records.Direction.{Direction}
 use Rattle.leg_cells.specs.declared.records.Direction.TheVariants.{Horizontal, Vertical}
 use Rattle.leg_cells.specs.declared.joins.ViaPart.{ViaPart}
 use Rattle.leg_cells.specs.JoinLaw.{Joins}
@@ -19,7 +18,7 @@ use Rattle.leg_grid.specs.Tracks.{Runs, IsGridX, IsGridY}
 use Rattle.leg_grid.specs.Nodes.{IsNode}
 use Rattle.leg_grid.specs.Between.{IsVia}
 use Rattle.leg_grid.specs.Neighbours.{IsEast, IsNorth, IsOver, IsBeside}
-use Rattle.leg_grid.specs.Grid.{GridSaid, IsGrid, IsViaIfAny, LiesAt}
+use Rattle.leg_grid.specs.Grid.{GridSaid, IsGrid, LiesAt}
 use Rattle.leg_grid.specs.Beside.{IsEastOf, IsNorthOf, IsAboveOf, IsSlotBeside}
 use Rattle.leg_grid.proofs.NextValues.{later_is_more, none_between, next_is_behind}
 use Rattle.leg_grid.proofs.GridSlots.{one_place, one_direction, runs_there, x_is, y_is}

@@ -1,10 +1,10 @@
 -- The first via that joins two layers.
-use Rattle.std.proofs.Common.{◌≡◌, ℕ, ◌+◌, ◌<◌, ◌≤◌, ◌⊎◌, ◌↔◌, inl, inr, Bool, true, false, List, Contains, length, get_or, Option, None, Some, slice_get, refl, sym, ap, ◌∙◌, arith}
+use Rattle.std.proofs.Common.{◌≡◌, ℕ, ◌+◌, ◌<◌, ◌≤◌, ◌⊎◌, inl, inr, true, false, List, Contains, length, get_or, Option, None, Some, slice_get, refl, sym, ap, ◌∙◌, arith}
 use Rattle.std.proofs.lemmas.Option.{same_Some, slice_get-get_or, slice_get_within, slice_get_read}
 use Rattle.leg_cells.specs.Records.{Contents, ViaSaid}
-use Rattle.leg_grid.specs.Between.{JoinsLayers, JoinsByDefault, IsFirst, IsFirstOther, IsVia}
+use Rattle.leg_grid.specs.Between.{JoinsLayers, JoinsByDefault, IsFirst, IsVia}
 use Rattle.leg_grid.specs.Grid.{IsViaIfAny}
-use Rattle.leg_grid.specs.Steps.Joining.{Joins, IsFirstIfAny}
+use Rattle.leg_grid.specs.Steps.Joining.{IsFirstIfAny}
 
 pub via_read : (vias : List ViaSaid) (i : ℕ) (via : ViaSaid) → i < length vias → via ≡ get_or vias i via → slice_get vias i ≡ Some via
 via_read vias i via within is = slice_get_read vias (length vias) i via refl within is

@@ -1,10 +1,10 @@
 -- The parts of a grid.
-use Rattle.std.proofs.Common.{◌≡◌, ℕ, ◌+◌, ◌*◌, ◌<◌, ◌≤◌, ◌⊎◌, inl, inr, ℤ, Bool, List, [], ◌∷◌, ◌++◌, length, length-append, Some, slice_get, refl, sym, ap, ◌∙◌, arith}
+use Rattle.std.proofs.Common.{◌≡◌, ℕ, ◌+◌, ◌*◌, ◌<◌, ◌≤◌, inl, inr, ℤ, Bool, List, [], ◌∷◌, ◌++◌, length, length-append, Some, slice_get, refl, ap, ◌∙◌, arith}
 use Rattle.std.proofs.lemmas.Option.{slice_get_within}
 use Rattle.leg_block.specs.Records.{DesignContents}
 use Rattle.leg_grid.specs.declared.layers.RoutingLayer.{RoutingLayer}
 use Rattle.leg_grid.specs.Tracks.{IsGridX, IsGridY}
-use Rattle.leg_grid.specs.GridSize.{AreValues, track_count, routing_count, slot_count, IsGridTooLarge}
+use Rattle.leg_grid.specs.GridSize.{AreValues, track_count, slot_count, IsGridTooLarge}
 use Rattle.leg_grid.specs.Grid.{axis_of, values_of, AreTracks}
 use Rattle.leg_grid.specs.Steps.LayerList.{routing_from}
 use Rattle.leg_grid.specs.Steps.TrackMarks.{AreTrackMarks}

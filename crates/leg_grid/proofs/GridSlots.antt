@@ -1,20 +1,17 @@
 -- Nodes and the numbers of their slots.
-use Rattle.std.proofs.Common.{◌≡◌, ℕ, ◌+◌, ◌*◌, ◌<◌, ◌≤◌, ◌⊎◌, ◌↔◌, inl, inr, ℤ, ◌<ℤ◌, Bool, true, List, All, AllPairs, Contains, length, get_or, Some, slice_get, refl, sym, ap, ◌∙◌, arith}
+use Rattle.std.proofs.Common.{◌≡◌, ℕ, ◌+◌, ◌*◌, ◌<◌, ◌⊎◌, ◌↔◌, inl, inr, ℤ, ◌<ℤ◌, Bool, true, List, AllPairs, Contains, length, get_or, Some, slice_get, refl, sym, ap, ◌∙◌, arith}
 use Rattle.std.proofs.lemmas.Int.{ints}
 use Rattle.std.proofs.lemmas.Option.{same_Some, slice_get-get_or, slice_get_within, get_or_from_slice_get}
-use Rattle.std.proofs.lemmas.List.Elements.{All-contains}
 use Rattle.leg_cells.specs.declared.records.Direction.{Direction}
 use Rattle.leg_cells.specs.declared.records.Direction.TheVariants.{Horizontal, Vertical}
-use Rattle.leg_cells.specs.declared.records.LayerKind.{LayerKind}
-use Rattle.leg_cells.specs.declared.records.LayerKind.TheVariants.{Routing, Cut, Other}
+use Rattle.leg_cells.specs.declared.records.LayerKind.TheVariants.{Routing}
 use Rattle.leg_cells.specs.declared.records.Layer.{Layer}
 use Rattle.leg_cells.specs.Records.{Contents}
 use Rattle.leg_block.specs.declared.records.Axis.TheVariants.{X, Y}
-use Rattle.leg_block.specs.Records.{DesignContents}
 use Rattle.leg_grid.specs.declared.layers.RoutingLayer.{RoutingLayer}
 use Rattle.leg_grid.specs.declared.node.Node.{Node}
 use Rattle.leg_grid.specs.Tracks.{Runs, HasTrack, IsGridX, IsGridY}
-use Rattle.leg_grid.specs.Nodes.{IsUpright, IsLevel, IsNode}
+use Rattle.leg_grid.specs.Nodes.{IsNode}
 use Rattle.leg_grid.specs.Grid.{GridSaid, IsGrid, IsSlot, LiesAt, IsNumberOf, axis_of, values_of}
 use Rattle.leg_grid.specs.Steps.TrackMarks.{AreTrackMarks}
 use Rattle.leg_grid.proofs.Slots.{one_rest}

@@ -1,20 +1,18 @@
 -- The values of the grid are the lines of tracks.
-use Rattle.std.proofs.Common.{◌≡◌, ℕ, suc, zero, ◌+◌, ◌-◌, ◌*◌, ◌<◌, ◌≤◌, ◌↔◌, ℤ, pos, negsuc, ◌+ℤ◌, ◌-ℤ◌, ◌*ℤ◌, ◌≤ℤ◌, ◌<ℤ◌, unsigned_abs, List, All, AllPairs, Contains, length, get_or, refl, sym, arith}
+use Rattle.std.proofs.Common.{◌≡◌, ℕ, suc, zero, ◌*◌, ◌<◌, ◌≤◌, ◌↔◌, ℤ, pos, negsuc, ◌+ℤ◌, ◌-ℤ◌, ◌*ℤ◌, ◌≤ℤ◌, ◌<ℤ◌, List, All, AllPairs, Contains, arith}
 use Rattle.std.proofs.Math.Nat.{mul-le-mul_right}
 use Rattle.std.proofs.lemmas.Int.{ints}
 use Rattle.std.proofs.lemmas.List.Elements.{All-contains, Contains-get_or}
 use Rattle.leg_lex.specs.Number.{IsNumber}
-use Rattle.leg_cells.specs.declared.records.Direction.{Direction}
 use Rattle.leg_cells.specs.declared.records.Direction.TheVariants.{Horizontal, Vertical}
 use Rattle.leg_cells.specs.Records.{Contents}
-use Rattle.leg_block.specs.declared.records.Axis.{Axis}
 use Rattle.leg_block.specs.declared.records.Axis.TheVariants.{X, Y}
 use Rattle.leg_block.specs.Records.{TrackSaid, DesignContents}
 use Rattle.leg_block.specs.WellFormedParts.{IsTrack}
 use Rattle.leg_block.specs.WellFormed.{IsWellFormed}
-use Rattle.leg_grid.specs.Tracks.{IsLineOf, HasTrack, IsGridX, IsGridY}
+use Rattle.leg_grid.specs.Tracks.{IsLineOf, IsGridX, IsGridY}
 use Rattle.leg_grid.specs.GridSize.{AreValues}
-use Rattle.leg_grid.specs.Steps.Lines.{IsLineFor, IsLineAlong}
+use Rattle.leg_grid.specs.Steps.Lines.{IsLineAlong}
 
 module _ (design : DesignContents) (z : ℤ) where
   pub x_lines : IsLineAlong design.library design.tracks Vertical X z ↔ IsGridX design z

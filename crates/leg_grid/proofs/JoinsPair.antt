@@ -1,9 +1,7 @@
 -- A good via joins the two routing layers on which it has shapes.
-use Rattle.std.proofs.Common.{◌≡◌, ℕ, ◌+◌, ◌<◌, ◌≤◌, ◌⊎◌, ◌↔◌, inl, inr, Bool, true, false, not, ◌&&◌, true≢false, IsTrue, List, [], ◌∷◌, length, map, get_or, Option, None, Some, slice_get, refl, sym, ap, ◌∙◌, arith}
-use Rattle.std.specs.List.{All, Any}
-use Rattle.std.proofs.lemmas.Bool.Decides.{Decides-and}
+use Rattle.std.proofs.Common.{◌≡◌, ℕ, ◌<◌, ◌⊎◌, ◌↔◌, inl, inr, Bool, true, false, not, ◌&&◌, true≢false, IsTrue, List, [], ◌∷◌, length, get_or, Option, None, Some, slice_get, refl, sym, ap, ◌∙◌, arith}
+use Rattle.std.specs.List.{Any}
 use Rattle.std.proofs.lemmas.List.{get_or-map, get_or_default, length-map}
-use Rattle.std.proofs.lemmas.List.Elements.{All-contains}
 use Rattle.leg_cells.specs.declared.joins.LayerUse.{LayerUse}
 use Rattle.leg_cells.specs.declared.joins.LayerUse.TheVariants.{Wires, Cuts, Neither}
 use Rattle.leg_cells.specs.declared.joins.ViaPart.{ViaPart}

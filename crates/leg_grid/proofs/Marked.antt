@@ -1,9 +1,9 @@
 -- Where a layer has a track.
-use Rattle.std.proofs.Common.{◌≡◌, ℕ, ◌+◌, ◌*◌, ◌/◌, ◌%◌, ◌<◌, ◌≤◌, ◌⊎◌, ◌↔◌, inl, inr, ℤ, pos, negsuc, ◌+ℤ◌, ◌-ℤ◌, ◌*ℤ◌, ◌≤ℤ◌, ◌<ℤ◌, unsigned_abs, Bool, true, false, true≢false, List, [], ◌∷◌, ◌++◌, Contains, Some, slice_get, length, take, get_or, length-append, refl, sym, ap, ◌∙◌, arith}
+use Rattle.std.proofs.Common.{◌≡◌, ℕ, ◌+◌, ◌*◌, ◌/◌, ◌%◌, ◌<◌, ◌↔◌, inl, inr, ℤ, pos, ◌-ℤ◌, ◌*ℤ◌, unsigned_abs, Bool, true, List, [], ◌∷◌, ◌++◌, Contains, Some, slice_get, length, take, get_or, length-append, refl, sym, ap, ◌∙◌, arith}
 use Rattle.std.proofs.lemmas.Int.{ints}
 use Rattle.std.proofs.lemmas.List.{take_more}
 use Rattle.std.proofs.lemmas.List.Elements.{Contains-push_cases}
-use Rattle.std.proofs.Math.Nat.{mul-mod_left, mul-div_cancel_left, mul-le-mul_right}
+use Rattle.std.proofs.Math.Nat.{mul-mod_left}
 use Rattle.leg_block.specs.declared.records.Axis.{Axis}
 use Rattle.leg_block.specs.Records.{TrackSaid, DesignContents}
 use Rattle.leg_grid.specs.Tracks.{AreFor, IsLineOf, HasTrack}

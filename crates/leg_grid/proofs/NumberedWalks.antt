@@ -1,5 +1,5 @@
 -- Walks over numbers, and over the nodes that have them.
-use Rattle.std.proofs.Common.{◌≡◌, ℕ, ◌≤◌, List, [], ◌∷◌, length, refl, sym, ◌∙◌, ap, subst, arith}
+use Rattle.std.proofs.Common.{◌≡◌, ℕ, ◌≤◌, List, [], ◌∷◌, length, refl, arith}
 use Rattle.std.specs.List.{AllZip}
 use Rattle.leg_grid.specs.Numbered.{IsOneOf, IsStepOf}
 use Rattle.leg_walk.specs.Walk.{Walk, here, on, IsShortest, NoWalk}

@@ -1,14 +1,11 @@
 -- Nodes that are open, by the patches that they add.
-use Rattle.std.proofs.Common.{◌≡◌, ℕ, ℤ, Some, slice_get, get_or, refl, sym, ap, ◌∙◌, arith}
+use Rattle.std.proofs.Common.{◌≡◌, ℕ, ℤ, Some, slice_get, refl, sym, ap, ◌∙◌}
 use Rattle.std.proofs.lemmas.Option.{same_Some, slice_get_within, get_or_from_slice_get}
-use Rattle.leg_geom.specs.Plane.{Spot}
 use Rattle.leg_cells.specs.declared.records.Direction.{Direction}
-use Rattle.leg_cells.specs.declared.records.LayerKind.{LayerKind}
 use Rattle.leg_cells.specs.declared.records.LayerKind.TheVariants.{Routing}
 use Rattle.leg_cells.specs.declared.records.Layer.{Layer}
 use Rattle.leg_cells.specs.Sound.{IsSound, IsSoundLayer, IsWidth, HasWidth}
 use Rattle.leg_cells.specs.Records.{Contents}
-use Rattle.leg_block.specs.declared.records.Wire.{Wire}
 use Rattle.leg_block.specs.declared.records.Wire.TheVariants.{Patch}
 use Rattle.leg_block.specs.Records.{DesignContents}
 use Rattle.leg_flat.specs.Flat.{FlatSaid}
@@ -16,7 +13,7 @@ use Rattle.leg_grid.specs.declared.layers.RoutingLayer.{RoutingLayer}
 use Rattle.leg_grid.specs.declared.node.Node.{Node}
 use Rattle.leg_grid.specs.Tracks.{Runs}
 use Rattle.leg_grid.specs.Nodes.{IsNode}
-use Rattle.leg_grid.specs.Added.{square, NodeAdds}
+use Rattle.leg_grid.specs.Added.{square}
 use Rattle.leg_grid.specs.OpenMetal.{IsOpenWire, IsOpenNode}
 use Rattle.leg_grid.specs.Grid.{GridSaid, LiesAt, IsNumberOf}
 use Rattle.leg_grid.specs.Numbered.{IsOneOf}

@@ -1,6 +1,6 @@
 -- The elements of a list that has got one more.
-use Rattle.std.proofs.Common.{◌≡◌, ℕ, suc, zero, ◌+◌, ◌<◌, ◌≤◌, ◌⊎◌, inl, inr, List, [], ◌∷◌, ◌++◌, Some, None, slice_get, length, refl, sym, arith}
-use Rattle.std.proofs.lemmas.Option.{same_Some, none-some, slice_get_within}
+use Rattle.std.proofs.Common.{◌≡◌, ℕ, suc, zero, ◌<◌, ◌⊎◌, inl, inr, List, [], ◌∷◌, ◌++◌, Some, slice_get, length, refl, arith}
+use Rattle.std.proofs.lemmas.Option.{same_Some, none-some}
 
 -- an element of it is an old one, or the new one in the last place
 pub record IsOld {X : Type 0} (xs : List X) (j : ℕ) (y : X) : Type 0 where

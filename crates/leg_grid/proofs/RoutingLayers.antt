@@ -1,7 +1,7 @@
 -- The routing layers of a library, one after another.
-use Rattle.std.proofs.Common.{◌≡◌, ℕ, suc, zero, ◌+◌, ◌<◌, ◌≤◌, ◌⊎◌, inl, inr, ℤ, List, [], ◌∷◌, ◌++◌, length, length-append, count_by, is_some, All, AllPairs, Contains, Some, None, slice_get, get_or, if◌then◌else◌, refl, sym, ap, ◌∙◌, arith}
-use Rattle.std.proofs.lemmas.Option.{none-some, same_Some, slice_get-get_or, slice_get_within}
-use Rattle.std.proofs.lemmas.List.Elements.{Contains-get_or, Contains-append_left, Contains-append_right, Contains-append_cases, Contains-push}
+use Rattle.std.proofs.Common.{◌≡◌, ℕ, suc, zero, ◌+◌, ◌<◌, inl, inr, ℤ, List, [], ◌∷◌, ◌++◌, length, count_by, is_some, All, AllPairs, Contains, Some, slice_get, get_or, if◌then◌else◌, refl, sym, ◌∙◌, arith}
+use Rattle.std.proofs.lemmas.Option.{none-some, same_Some}
+use Rattle.std.proofs.lemmas.List.Elements.{Contains-get_or, Contains-append_left, Contains-append_right, Contains-append_cases}
 use Rattle.std.proofs.lemmas.List.Sums.{sum_by-cons}
 use Rattle.std.proofs.lemmas.List.Kept.{AllPairs-cons}
 use Rattle.leg_cells.specs.declared.records.Direction.{Direction}
@@ -11,8 +11,6 @@ use Rattle.leg_cells.specs.declared.records.Layer.{Layer}
 use Rattle.leg_cells.specs.Records.{Contents}
 use Rattle.leg_block.specs.Layers.{wire_width}
 use Rattle.leg_grid.specs.declared.layers.RoutingLayer.{RoutingLayer}
-use Rattle.leg_grid.specs.Tracks.{Runs}
-use Rattle.leg_grid.specs.GridSize.{routing_count}
 use Rattle.leg_grid.specs.Grid.{AreRoutingLayers}
 use Rattle.leg_grid.specs.Steps.LayerList.{routing_at, routing_from}
 

@@ -1,8 +1,8 @@
 -- Patches that are open.
-use Rattle.std.proofs.Common.{◌≡◌, ℕ, suc, zero, ◌+◌, ◌<◌, ◌≤◌, ◌↔◌, ℤ, pos, negsuc, ◌+ℤ◌, ◌-ℤ◌, ◌≤ℤ◌, ◌<ℤ◌, unsigned_abs, List, [], ◌∷◌, Contains, get_or, refl, sym, subst, ap, ◌∙◌, arith}
+use Rattle.std.proofs.Common.{◌≡◌, ℕ, suc, zero, ◌<◌, ◌≤◌, ◌↔◌, ℤ, pos, negsuc, ◌+ℤ◌, ◌≤ℤ◌, ◌<ℤ◌, unsigned_abs, [], ◌∷◌, get_or, refl, subst, arith}
 use Rattle.std.proofs.lemmas.Int.{ints}
-use Rattle.leg_geom.specs.Plane.{Spot, Sides, IsSpot, IsRect, HasPoint, SharePoint, halfway}
-use Rattle.leg_geom.specs.Orientation.{placed, moved, ComesFrom, StaysWithin}
+use Rattle.leg_geom.specs.Plane.{Spot, Sides, HasPoint}
+use Rattle.leg_geom.specs.Orientation.{placed, StaysWithin}
 use Rattle.leg_geom.specs.declared.orient.Orient.TheVariants.{N}
 use Rattle.leg_cells.specs.Sound.{IsWidth}
 use Rattle.leg_cells.specs.Records.{Contents}
@@ -12,12 +12,11 @@ use Rattle.leg_block.specs.WellFormedParts.{IsPosition}
 use Rattle.leg_flat.specs.declared.shape.Shape.{Shape}
 use Rattle.leg_flat.specs.Outline.{HasPointOf}
 use Rattle.leg_flat.specs.Outline.Outline.{Shifted}
-use Rattle.leg_flat.specs.Metal.{OnLayer, wire_outlines}
+use Rattle.leg_flat.specs.Metal.{OnLayer}
 use Rattle.leg_flat.specs.Flat.{FlatSaid}
 use Rattle.leg_wire.specs.Comparable.{AreComparable}
-use Rattle.leg_wire.specs.Spacing.{AreShort, AreTooNear}
 use Rattle.leg_wire.specs.Clean.{net_metal, IsClean}
-use Rattle.leg_grid.specs.Added.{half, square}
+use Rattle.leg_grid.specs.Added.{half}
 use Rattle.leg_grid.specs.OpenMetal.{IsOpenWire}
 use Rattle.leg_grid.specs.Steps.Squares.{IsSmall}
 

@@ -1,10 +1,8 @@
 -- The vias of a library's routing layers, one after another.
-use Rattle.std.proofs.Common.{◌≡◌, ℕ, ◌+◌, ◌<◌, ◌≤◌, ◌⊎◌, inl, inr, IsTrue, List, [], ◌∷◌, ◌++◌, All, AllPairs, length, length-append, get_or, map, Option, None, Some, slice_get, refl, sym, ap, ◌∙◌, arith}
+use Rattle.std.proofs.Common.{◌≡◌, ℕ, ◌+◌, ◌<◌, inl, inr, IsTrue, List, [], ◌∷◌, ◌++◌, length, length-append, get_or, Option, Some, slice_get, refl, arith}
 use Rattle.std.proofs.lemmas.List.{get_or_default}
-use Rattle.std.proofs.lemmas.List.Elements.{All-contains}
-use Rattle.std.proofs.lemmas.Option.{same_Some, slice_get-get_or, slice_get-map, slice_get_within, get_or_from_slice_get}
+use Rattle.std.proofs.lemmas.Option.{slice_get-map, slice_get_within}
 use Rattle.leg_cells.specs.declared.records.Direction.{Direction}
-use Rattle.leg_cells.specs.declared.records.LayerKind.TheVariants.{Routing}
 use Rattle.leg_cells.specs.declared.records.Layer.{Layer}
 use Rattle.leg_cells.specs.Joins.{is_routing}
 use Rattle.leg_cells.specs.GoodVia.{use_of, uses_of}

@@ -1,6 +1,6 @@
 -- The grid of a design as a table: its routing layers, its values along both axes, where layers have tracks, and the vias
 -- from each routing layer to the next. Slots, one for each layer and each pair of values, have numbers by layer, y and x.
-use Rattle.std.specs.Prelude.{◌≡◌, ℕ, ◌+◌, ◌*◌, ◌<◌, ◌≤◌, ℤ, Bool, List, length, All, AllPairs, Contains, Option, None, Some, MatchOption, slice_get}
+use Rattle.std.specs.Prelude.{◌≡◌, ℕ, ◌+◌, ◌*◌, ◌<◌, ◌≤◌, ℤ, Bool, List, length, All, AllPairs, Contains, Option, Some, MatchOption, slice_get}
 use Rattle.leg_lex.specs.Number.{IsNumber}
 use Rattle.leg_cells.specs.declared.records.Direction.{Direction}
 use Rattle.leg_cells.specs.declared.records.Direction.TheVariants.{Horizontal, Vertical}

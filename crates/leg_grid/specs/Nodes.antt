@@ -1,5 +1,5 @@
 -- The nodes of the grid (own rules).
-use Rattle.std.specs.Prelude.{ℕ, ◌⊎◌, ℤ}
+use Rattle.std.specs.Prelude.{◌⊎◌, ℤ}
 use Rattle.leg_cells.specs.declared.records.Direction.TheVariants.{Horizontal, Vertical}
 use Rattle.leg_block.specs.declared.records.Axis.TheVariants.{X, Y}
 use Rattle.leg_block.specs.Records.{DesignContents}

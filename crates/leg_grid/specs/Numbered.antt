@@ -2,7 +2,6 @@
 use Rattle.std.specs.Prelude.{ℕ, List}
 use Rattle.leg_flat.specs.Flat.{FlatSaid}
 use Rattle.leg_walk.specs.Walk.{IsShortest, NoWalk}
-use Rattle.leg_grid.specs.declared.node.Node.{Node}
 use Rattle.leg_grid.specs.OpenMetal.{IsOpenNode, IsOpenStep}
 use Rattle.leg_grid.specs.Meets.{MeetsJoined, MeetsRest}
 use Rattle.leg_grid.specs.Grid.{GridSaid, IsNumberOf}

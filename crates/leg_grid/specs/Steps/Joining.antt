@@ -1,5 +1,5 @@
 -- Which vias are looked for between two routing layers: default ones alone, or all.
-use Rattle.std.specs.Prelude.{ℕ, ◌<◌, Bool, true, false, IsTrue, Contains, Option, None, Some, MatchOption}
+use Rattle.std.specs.Prelude.{ℕ, ◌<◌, Bool, true, false, IsTrue, Contains, Option, MatchOption}
 use Rattle.leg_cells.specs.Joins.{is_routing}
 use Rattle.leg_cells.specs.GoodVia.{uses_of}
 use Rattle.leg_cells.specs.Records.{Contents, ViaSaid}

@@ -1,5 +1,4 @@
-use Rattle.std.proofs.Common.{◌≡◌, ◌++◌, ◌∷◌, [], ap, ◌∙◌, sym, arith}
-use Rattle.std.proofs.lemmas.Option.{same_Some}
+use Rattle.std.proofs.Common.{◌++◌, ◌∷◌, [], ap, ◌∙◌, arith}
 use Rattle.leg_grid.proofs.GridMade.{no_tables, one_table_more, all_tables}
 use Rattle.leg_grid.proofs.grid.all_track_marks.Goals as goal
 

@@ -1,4 +1,4 @@
-use Rattle.std.proofs.Common.{ℤ, FitsSigned, w64, rules, refl, ◌∙◌, ap, arith}
+use Rattle.std.proofs.Common.{FitsSigned, w64, rules, refl, ◌∙◌, arith}
 use Rattle.std.proofs.lemmas.Int.{to_z-of_z}
 use Rattle.leg_grid.proofs.TrackLines.{no_lines, one_line_more, all_lines}
 use Rattle.leg_grid.proofs.lines.add_lines.Goals as goal

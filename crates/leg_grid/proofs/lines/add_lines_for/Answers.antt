@@ -1,4 +1,4 @@
-use Rattle.std.proofs.Common.{inl, inr, ◌⊎◌}
+use Rattle.std.proofs.Common.{inl, inr}
 use Rattle.leg_grid.proofs.lines.add_lines_for.Goals as goal
 
 pub returns-in_ok-add_lines : goal.returns-in_ok-add_lines

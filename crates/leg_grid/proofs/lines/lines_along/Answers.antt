@@ -1,4 +1,4 @@
-use Rattle.std.proofs.Common.{◌≡◌, ◌≤◌, length, sym, take, arith}
+use Rattle.std.proofs.Common.{sym}
 use Rattle.std.proofs.lemmas.List.{take_all}
 use Rattle.leg_grid.proofs.TrackLines.{one_track_more}
 use Rattle.leg_grid.proofs.lines.lines_along.Goals as goal

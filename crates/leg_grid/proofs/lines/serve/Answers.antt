@@ -1,4 +1,4 @@
-use Rattle.std.proofs.Common.{◌≡◌, ◌<◌, length, slice_get, Some, true≢false, refl, sym, ◌∙◌, arith}
+use Rattle.std.proofs.Common.{◌≡◌, slice_get, Some, true≢false, refl, sym, ◌∙◌}
 use Rattle.leg_grid.proofs.Service.{layer_read, runs_not, serves, none_more, serves_none}
 use Rattle.leg_grid.proofs.lines.serve.Goals.{else-runs-via-then-runs+else-are_for, else-runs-via-else-runs}
 use Rattle.leg_grid.proofs.lines.serve.Goals as goal

@@ -1,4 +1,4 @@
-use Rattle.std.proofs.Common.{◌≡◌, Bool, true, false, true≢false, List, sym, ap, ◌∙◌}
+use Rattle.std.proofs.Common.{◌≡◌, true, false, true≢false, sym, ap, ◌∙◌}
 use Rattle.leg_cells.specs.Records.{ViaSaid}
 use Rattle.leg_grid.proofs.JoinsPair.{joins_by_shapes, low_shape, high_shape}
 use Rattle.leg_grid.proofs.through.joins.Goals as goal

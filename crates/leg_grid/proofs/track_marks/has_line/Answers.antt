@@ -1,4 +1,4 @@
-use Rattle.std.proofs.Common.{ℤ, FitsSigned, w64, pos, ◌≡◌, ◌-ℤ◌, ◌/◌, ◌%◌, refl, arith}
+use Rattle.std.proofs.Common.{FitsSigned, w64, pos, ◌≡◌, ◌-ℤ◌, ◌/◌, ◌%◌, refl, arith}
 use Rattle.std.proofs.lemmas.Int.{to_z-of_z}
 use Rattle.std.proofs.lemmas.Bool.Decides.{Decides-ltb, Decides-eqb}
 use Rattle.leg_grid.proofs.Marked.{line_by_division, lines_are_divisions}

@@ -1,4 +1,4 @@
-use Rattle.std.proofs.Common.{◌≡◌, ◌↔◌, IsTrue, FitsSigned, w64, Contains, take, true≢false, refl, sym, ◌∙◌, arith}
+use Rattle.std.proofs.Common.{◌↔◌, IsTrue, FitsSigned, w64, Contains, true≢false, refl, sym, ◌∙◌}
 use Rattle.std.proofs.lemmas.Int.{to_z-of_z}
 use Rattle.std.proofs.lemmas.List.{take_all}
 use Rattle.leg_grid.specs.Tracks.{IsLineOf}

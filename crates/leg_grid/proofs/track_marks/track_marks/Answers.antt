@@ -1,4 +1,4 @@
-use Rattle.std.proofs.Common.{◌≡◌, ◌↔◌, ℤ, pos, FitsSigned, w64, IsTrue, get_or, refl, arith}
+use Rattle.std.proofs.Common.{◌↔◌, ℤ, pos, FitsSigned, w64, IsTrue, get_or, arith}
 use Rattle.std.proofs.lemmas.Int.{ints, to_z-of_z}
 use Rattle.std.proofs.lemmas.List.{get_or_default}
 use Rattle.leg_grid.specs.Tracks.{HasTrack}

@@ -1,6 +1,5 @@
-use Rattle.std.proofs.Common.{◌≡◌, ◌*◌, ◌<◌, ◌≤◌, length, true≢false, rules, refl, sym, ap, ◌∙◌, arith}
+use Rattle.std.proofs.Common.{◌≡◌, ◌*◌, ◌≤◌, length, true≢false, rules, refl, sym, ap, ◌∙◌}
 use Rattle.leg_cells.specs.Records.{Contents}
-use Rattle.leg_grid.specs.GridSize.{track_count}
 use Rattle.leg_grid.specs.Grid.{AreTracks, AreViasFrom}
 use Rattle.leg_grid.specs.Steps.LayerList.{routing_from}
 use Rattle.leg_grid.proofs.GridValues.{xs_within, ys_within}

@@ -1,6 +1,6 @@
-use Rattle.std.proofs.Common.{FitsSigned, w64, ap, sym, ◌∙◌, arith}
+use Rattle.std.proofs.Common.{FitsSigned, w64, ap, arith}
 use Rattle.std.proofs.lemmas.Int.{ints, to_z-of_z}
-use Rattle.leg_cells.specs.Sound.{IsSound, IsWidth}
+use Rattle.leg_cells.specs.Sound.{IsSound}
 use Rattle.leg_grid.specs.Grid.{GridSaid}
 use Rattle.leg_grid.proofs.GridSlots.{lies_at, runs_there}
 use Rattle.leg_grid.proofs.OpenNodes.{width_is, runs_at_node}
