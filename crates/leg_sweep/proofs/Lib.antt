@@ -28,3 +28,7 @@ mod GridPlaces
 mod GridStretches
 -- The left edges in buckets
 mod Buckets
+-- The index of rectangles
+mod NearNodes
+mod NodeGroups
+mod IndexCuts

@@ -3,3 +3,6 @@ pub mod Sweep
 pub mod Bands
 pub mod Grid
 pub mod Buckets
+pub mod Bounds
+pub mod Nodes
+pub mod Index

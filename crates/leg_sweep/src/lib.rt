@@ -1,12 +1,18 @@
-//! Which pairs of rectangles meet, under a rule of the caller's own.
+//! Which pairs of rectangles meet, under a rule of the caller's own, and which rectangles lie near one.
 #![tactic(auto)]
 
 mod band;
 mod banded;
+mod bin_index;
+mod bounds;
+mod curve;
 mod few;
 mod grid;
+mod groups;
 pub mod laws;
 mod left_to_right;
+mod near;
+mod node;
 mod pair_list;
 mod rule;
 mod sink;
@@ -15,6 +21,8 @@ mod visit;
 mod waiting;
 
 pub use banded::{each_pair, pairs_in_bands};
+pub use bin_index::BinIndex;
+pub use near::Near;
 pub use pair_list::{Found, PairList, pairs, pairs_counted};
 pub use rule::{LayeredRule, PairRule};
 pub use sink::PairSink;

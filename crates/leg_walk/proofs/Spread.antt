@@ -1,14 +1,10 @@
 -- Marks that spread: one node, one step after another, and all sides.
-use Rattle.std.proofs.Common.{◌≡◌, zero, suc, ℕ, ◌+◌, ◌^◌, ◌<◌, ◌≤◌, Bool, true, false, List, [], ◌∷◌, ◌++◌, length, get_or, take, slice_set, slice_get, count_by, Contains, Some, ◌⊎◌, inl, inr, refl, sym, ap, ◌∙◌, subst, arith, length-append}
-use Rattle.std.proofs.lemmas.List.{take_more}
+use Rattle.std.proofs.Common.{◌≡◌, ℕ, ◌+◌, ◌^◌, ◌<◌, ◌≤◌, Bool, true, false, List, [], ◌∷◌, ◌++◌, length, slice_set, slice_get, Contains, Some, ◌⊎◌, ◌↔◌, inl, inr, refl, ◌∙◌, subst, arith, length-append}
 use Rattle.std.proofs.lemmas.List.Elements.{Contains-append_left, Contains-push, Contains-push_cases}
 use Rattle.std.proofs.Math.ListN.{length-set}
 use Rattle.leg_walk.specs.declared.mark.Mark.{Mark}
 use Rattle.leg_walk.specs.declared.mark.Mark.TheVariants.{Unseen, Shut, Reached}
-use Rattle.leg_walk.specs.declared.side.Side.{Side}
-use Rattle.leg_walk.specs.declared.side.Side.TheVariants.{West, East, South, North, Below, Above}
-use Rattle.leg_walk.specs.Walk.{IsStepTo, IsStep}
-use Rattle.leg_walk.specs.Steps.Marks.{is_unseen, IsMark, IsSeen, IsAt}
+use Rattle.leg_walk.specs.Steps.Marks.{is_unseen, IsSeen, IsAt}
 use Rattle.leg_walk.specs.Steps.Spread.{IsNew, IsSpread, IsEntered}
 use Rattle.leg_walk.proofs.Marks.{mark_here, mark_kept, mark_cases, one_fewer}
 
@@ -67,17 +63,17 @@ module _ (Open : ℕ → Type 0) (bound : ℕ → ℕ) (limit level : ℕ) where
   }
 
   -- The node that was tried is entered, or shut.
-  pub spread_entered : (Tried : ℕ → ℕ → Type 0) (from to : ℕ) (marks : List Mark) (next : List ℕ) (marks2 : List Mark) (next2 : List ℕ) (left : Bool)
-      → slice_get marks to ≡ Some Unseen → to < length marks → level ≤ limit → Tried from to → ((a b : ℕ) → Tried a b → b ≡ to)
-      → IsEntered Open to (Reached level from) marks next marks2 next2 → IsSpread Open Tried bound limit level marks next left marks2 next2 left
-  spread_entered Tried from to marks next marks2 next2 left unseen within low was_tried only (inl (closed, marks_is, next_is)) =
+  pub spread_entered : (Tried : ℕ → ℕ → Type 0) (from to : ℕ) (IsOpen : Type 0) (marks : List Mark) (next : List ℕ) (marks2 : List Mark) (next2 : List ℕ) (left : Bool)
+      → slice_get marks to ≡ Some Unseen → to < length marks → level ≤ limit → Tried from to → ((a b : ℕ) → Tried a b → b ≡ to) → (IsOpen ↔ Open to)
+      → IsEntered IsOpen to (Reached level from) marks next marks2 next2 → IsSpread Open Tried bound limit level marks next left marks2 next2 left
+  spread_entered Tried from to IsOpen marks next marks2 next2 left unseen within low was_tried only asked (inl (closed, marks_is, next_is)) =
       rw (marks_is, next_is)
-      (spread_marked Tried marks next next left to Shut unseen within refl closed only (λ a there. there) (λ a there. inl there) (omega arith))
-  spread_entered Tried from to marks next marks2 next2 left unseen within low was_tried only (inr (is_open, marks_is, next_is)) =
+      (spread_marked Tried marks next next left to Shut unseen within refl (λ is_open. closed (asked.1 is_open)) only (λ a there. there) (λ a there. inl there) (omega arith))
+  spread_entered Tried from to IsOpen marks next marks2 next2 left unseen within low was_tried only asked (inr (is_open, marks_is, next_is)) =
       let mark : Mark = Reached level from in
       let here = mark_here marks to mark within refl in
       rw (marks_is, next_is)
-      (spread_marked Tried marks next (next ++ to ∷ []) left to mark unseen within refl (refl, low, is_open, was_tried, Contains-push next to) only
+      (spread_marked Tried marks next (next ++ to ∷ []) left to mark unseen within refl (refl, low, asked.0 is_open, was_tried, Contains-push next to) only
       (λ a there. Contains-append_left next (to ∷ []) a there)
       (λ a there. elim (Contains-push_cases next to a there) [ inl old ↦ inl old | inr same ↦ inr (from, rw (← same) here) ])
       (omega (arith, length-append next (to ∷ []))))

@@ -1,13 +1,13 @@
 -- A search on its way: how it begins, its next level, and what it finds.
-use Rattle.std.proofs.Common.{◌≡◌, ℕ, ◌+◌, ◌<◌, ◌≤◌, Bool, true, false, List, [], length, count_by, Contains, None, ◌⊎◌, inl, inr, refl, sym, ◌∙◌, arith}
+use Rattle.std.proofs.Common.{◌≡◌, ℕ, ◌+◌, ◌<◌, ◌≤◌, Bool, false, List, [], length, Contains, None, inl, inr, sym, ◌∙◌, arith}
 use Rattle.std.proofs.lemmas.Bool.{cases_lt, cases_eq, false≢true}
 use Rattle.std.proofs.lemmas.List.Sums.{count_by-le-length}
 use Rattle.leg_walk.specs.declared.mark.Mark.{Mark}
 use Rattle.leg_walk.specs.declared.mark.Mark.TheVariants.{Unseen, Shut, Reached}
-use Rattle.leg_walk.specs.Walk.{Walk, NoWalk}
-use Rattle.leg_walk.specs.Steps.Marks.{is_unseen, AreUnseen, IsMark, IsSeen, IsAt}
+use Rattle.leg_walk.specs.Marks.{AreUnseen}
+use Rattle.leg_walk.specs.Steps.Marks.{is_unseen, IsMark, IsAt}
 use Rattle.leg_walk.specs.Steps.Spread.{IsNew, IsSpread}
-use Rattle.leg_walk.specs.Steps.Search.{IsLink, IsUnderway, IsNearest, IsFound}
+use Rattle.leg_walk.specs.Steps.Search.{IsUnderway, IsNearest, IsFound}
 use Rattle.leg_walk.proofs.Marks.{unseen_no_mark}
 use Rattle.leg_walk.proofs.Walks.{walk_open, bound_holds, end_reached, all_reached}
 

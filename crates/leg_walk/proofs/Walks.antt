@@ -1,5 +1,5 @@
 -- Walks and the steps that are left at least.
-use Rattle.std.proofs.Common.{◌≡◌, ℕ, ◌+◌, ◌<◌, ◌≤◌, Bool, true, List, [], ◌∷◌, length, arith}
+use Rattle.std.proofs.Common.{◌≡◌, ℕ, ◌+◌, ◌<◌, ◌≤◌, List, length, arith}
 use Rattle.leg_walk.specs.declared.mark.Mark.{Mark}
 use Rattle.leg_walk.specs.Walk.{Walk}
 use Rattle.leg_walk.specs.Walk.Walk.{here, on}

@@ -1,5 +1,5 @@
 -- The way back from an end is a shortest walk.
-use Rattle.std.proofs.Common.{◌≡◌, ℕ, ◌+◌, ◌-◌, ◌<◌, ◌≤◌, List, [], ◌∷◌, ◌++◌, length, reverse, ◌⊎◌, inl, inr, refl, arith}
+use Rattle.std.proofs.Common.{◌≡◌, ℕ, ◌+◌, ◌-◌, ◌<◌, List, [], ◌∷◌, ◌++◌, reverse, inl, inr, arith}
 use Rattle.std.proofs.lemmas.List.{reverse-append}
 use Rattle.leg_walk.specs.declared.mark.Mark.{Mark}
 use Rattle.leg_walk.specs.declared.mark.Mark.TheVariants.{Reached}

@@ -37,6 +37,17 @@ pub trait Graph {
         requires { node < size_of self.now }
         ensures { IsTrue result ↔ OpenNode self.now node };
 
+    /// Whether the neighbour is open, where the step to it is: a graph may know so without a look, as where each point of a
+    /// node is one of the step too.
+    fn is_open_beyond(&self, node: u32, side: Side, next: u32) -> bool
+        requires there { next < size_of self.now }
+        requires beside { IsBeside self.now side node next }
+        requires step { OpenStep self.now side node }
+        ensures { IsTrue result ↔ OpenNode self.now next }
+    {
+        self.is_open_node(next)
+    }
+
     /// How many steps are left at least from the node to an end.
     fn bound(&self, node: u32) -> u32
         requires { node < size_of self.now }

@@ -8,6 +8,7 @@ ghost use Rattle.leg_walk.specs.Steps.Spread.{IsSpread, IsEntered};
 use crate::graph::Graph;
 use crate::mark::Mark;
 use crate::side::Side;
+use crate::side::Side::{Above, Below, East, North, South, West};
 use std::alloc::{AllocError, Allocator};
 
 /// A level, and the limit of the search: a node is marked only where its level and the steps that are left at least come to
@@ -70,7 +71,8 @@ fn seed_one<G: Graph, A: Allocator>(
         level: level.number,
         from: start,
     };
-    enter(graph, start, mark, marks, next, touched)?;
+    let is_open = graph.is_open_node(start);
+    enter(start, is_open, mark, marks, next, touched)?;
     Ok(())
 }
 
@@ -94,66 +96,12 @@ pub(crate) fn one_level<G: Graph, A: Allocator>(
         marks.old next.old.items left_out.old marks.new next.new.items left_out.new) }
     ensures noted { IsNoted marks.new touched.new.items }
 {
-    follow(
-        graph,
-        front,
-        Side::East,
-        level,
-        marks,
-        next,
-        touched,
-        left_out,
-    )?;
-    follow(
-        graph,
-        front,
-        Side::West,
-        level,
-        marks,
-        next,
-        touched,
-        left_out,
-    )?;
-    follow(
-        graph,
-        front,
-        Side::North,
-        level,
-        marks,
-        next,
-        touched,
-        left_out,
-    )?;
-    follow(
-        graph,
-        front,
-        Side::South,
-        level,
-        marks,
-        next,
-        touched,
-        left_out,
-    )?;
-    follow(
-        graph,
-        front,
-        Side::Above,
-        level,
-        marks,
-        next,
-        touched,
-        left_out,
-    )?;
-    follow(
-        graph,
-        front,
-        Side::Below,
-        level,
-        marks,
-        next,
-        touched,
-        left_out,
-    )?;
+    follow(graph, front, East, level, marks, next, touched, left_out)?;
+    follow(graph, front, West, level, marks, next, touched, left_out)?;
+    follow(graph, front, North, level, marks, next, touched, left_out)?;
+    follow(graph, front, South, level, marks, next, touched, left_out)?;
+    follow(graph, front, Above, level, marks, next, touched, left_out)?;
+    follow(graph, front, Below, level, marks, next, touched, left_out)?;
     Ok(())
 }
 
@@ -219,7 +167,8 @@ fn follow_one<G: Graph, A: Allocator>(
         level: level.number,
         from: node,
     };
-    enter(graph, to, mark, marks, next, touched)?;
+    let is_open = graph.is_open_beyond(node, side, to);
+    enter(to, is_open, mark, marks, next, touched)?;
     Ok(())
 }
 
@@ -242,23 +191,22 @@ fn is_too_far<G: Graph>(graph: &G, node: u32, level: Level) -> bool
     u64::from(level.number) + u64::from(graph.bound(node)) > level.limit
 }
 
-/// Asks whether the node is open. Where it is, gives it the mark and puts it into `next`, and else shuts it.
-fn enter<G: Graph, A: Allocator>(
-    graph: &G,
+/// Where the node is open, gives it the mark and puts it into `next`, and else shuts it.
+fn enter<A: Allocator>(
     to: u32,
+    is_open: bool,
     mark: Mark,
     marks: &mut [Mark],
     next: &mut Vec<u32, A>,
     touched: &mut Vec<u32, A>,
 ) -> Result<(), AllocError>
-    requires count { length marks.old ≡ G.size_of graph.now }
-    requires within { to < G.size_of graph.now }
+    requires within { to < length marks.old }
     requires noted { IsNoted marks.old touched.old.items }
-    ensures entered { OnOk result (IsEntered (G.OpenNode graph.now) to mark marks.old next.old.items marks.new next.new.items) }
+    ensures entered { OnOk result (IsEntered (IsTrue is_open) to mark marks.old next.old.items marks.new next.new.items) }
     ensures noted { IsNoted marks.new touched.new.items }
 {
     touched.push(to)?;
-    if !graph.is_open_node(to) {
+    if !is_open {
         marks[to as usize] = Mark::Shut;
         return Ok(());
     }

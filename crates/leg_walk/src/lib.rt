@@ -13,5 +13,6 @@ mod side;
 
 pub use graph::Graph;
 pub use mark::Mark;
+pub use reset::unseen_marks;
 pub use rounds::shortest;
 pub use side::Side;

@@ -1,4 +1,4 @@
-//! What a search has noted of a node.
+//! What a search has noted of the nodes.
 
 /// What a search has noted of a node.
 #[derive(Clone, Copy)]

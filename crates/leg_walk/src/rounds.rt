@@ -3,7 +3,8 @@
 ghost use Rattle.std.specs.Prelude.{◌≡◌, ◌≤◌, ◌<◌, ◌^◌, [], true, false, length, All, Contains, IfOk, OnOk};
 ghost use Rattle.std.specs.Option.{option_map};
 ghost use Rattle.leg_walk.specs.Walk.{IsStep, IsAnswer};
-ghost use Rattle.leg_walk.specs.Steps.Marks.{AreUnseen, IsNoted};
+ghost use Rattle.leg_walk.specs.Marks.{AreUnseen};
+ghost use Rattle.leg_walk.specs.Steps.Marks.{IsNoted};
 ghost use Rattle.leg_walk.specs.Steps.Search.{IsRound};
 
 use crate::back::way_to;

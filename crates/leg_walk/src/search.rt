@@ -2,7 +2,8 @@
 
 ghost use Rattle.std.specs.Prelude.{◌≡◌, ◌≤◌, ◌<◌, ◌^◌, [], true, false, length, All, Contains, IfOk, OnOk};
 ghost use Rattle.leg_walk.specs.Walk.{IsStep};
-ghost use Rattle.leg_walk.specs.Steps.Marks.{AreUnseen, IsNoted};
+ghost use Rattle.leg_walk.specs.Marks.{AreUnseen};
+ghost use Rattle.leg_walk.specs.Steps.Marks.{IsNoted};
 ghost use Rattle.leg_walk.specs.Steps.Search.{IsFound};
 
 use crate::ends::least_end;

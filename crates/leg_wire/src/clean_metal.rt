@@ -1,6 +1,6 @@
 //! Where metal of a net may lie.
 
-ghost use Rattle.std.specs.Prelude.{◌≡◌, ◌↔◌, ◌<◌, ◌^◌, All, IsTrue};
+ghost use Rattle.std.specs.Prelude.{◌≡◌, ◌↔◌, ◌<◌, ◌^◌, map, All, IsTrue};
 ghost use Rattle.leg_cells.specs.Sound.{IsSoundLayer};
 ghost use Rattle.leg_wire.specs.Clean.{net_metal, IsClean};
 ghost use Rattle.leg_wire.specs.Steps.LayerSpacing.{spacing_at};
@@ -9,6 +9,7 @@ use crate::too_close::are_closer_than;
 use leg_cells::{Layer, Library};
 use leg_flat::{Flat, Owner, Shape};
 use leg_geom::Rect;
+use leg_sweep::BinIndex;
 use std::alloc::Allocator;
 
 /// The rectangle as metal of this net, as no piece of it and of no component.
@@ -51,6 +52,30 @@ pub fn clean<A: Allocator + Copy>(
     let metal = net_metal(net, layer, rect);
     for shape in flat.shapes() {
         if are_closer_than(spacing, &metal, shape) {
+            return false;
+        }
+    }
+    true
+}
+
+/// The same as `clean`, with an index of the rectangles of the flat's shapes, in their order. It looks at the shapes near the
+/// rectangle alone, and takes no memory.
+pub fn clean_indexed<A: Allocator + Copy>(
+    library: &Library<'_, A>,
+    flat: &Flat<A>,
+    index: &BinIndex<A>,
+    net: u32,
+    layer: usize,
+    rect: Rect,
+) -> bool
+    requires { index.now ≡ map (λ shape. shape.rect) flat.now.shapes }
+    ensures { IsTrue result ↔ IsClean library.now flat.now net layer rect }
+{
+    let spacing = spacing_at(library.layers(), layer);
+    let metal = net_metal(net, layer, rect);
+    let shapes = flat.shapes();
+    for number in index.near(&rect, spacing as u32) {
+        if are_closer_than(spacing, &metal, &shapes[number as usize]) {
             return false;
         }
     }

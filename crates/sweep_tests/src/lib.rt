@@ -1,4 +1,4 @@
-//! Which pairs meet, and how often a rule is asked: tests of `leg_sweep` by values.
+//! Which pairs meet, how often a rule is asked, and what lies near: tests of `leg_sweep` by values.
 #![tactic(auto)]
 
 #[cfg(test)]

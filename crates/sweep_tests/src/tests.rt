@@ -1,5 +1,6 @@
 //! The pairs at concrete rules, beside those of a loop over all pairs.
 
+mod index;
 mod rules;
 
 ghost use Rattle.std.specs.Prelude.{◌<◌, ◌^◌, length};

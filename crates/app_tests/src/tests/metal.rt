@@ -1,14 +1,15 @@
 //! Metal from its texts to its violations and their lines.
 
 use leg_app::check_texts;
-use leg_block::Fault;
+use leg_block::{Design, Fault};
 use leg_cells::Library;
 use leg_design::read_def;
-use leg_flat::flatten;
+use leg_flat::{Flat, Piece, flatten};
 use leg_geom::Rect;
 use leg_lib::read_lefs;
 use leg_print::print_faults;
-use leg_wire::{clean, joined, spacing_faults};
+use leg_sweep::BinIndex;
+use leg_wire::{clean, clean_indexed, joined, spacing_faults};
 use std::alloc::{AllocError, Global};
 use std::test::Fail;
 
@@ -127,7 +128,8 @@ END NETS
     Ok(())
 }
 
-// Whether metal of net `net` may lie there, on the first layer of the design that the text says.
+// Whether metal of net `net` may lie there, on the first layer of the design that the text says. It is asked of all shapes, and
+// by an index.
 fn is_clean(
     alloc: Global,
     library: &Library<'_, Global>,
@@ -137,7 +139,14 @@ fn is_clean(
 ) -> Result<bool, Fail> {
     let design = read_def(alloc, library, def)?;
     let flat = flatten(alloc, design.library(), &design)?;
-    Ok(clean(design.library(), &flat, net, 0, rect))
+    let rects: Vec<Rect> = flat.shapes().iter().map(|shape| shape.rect).collect(alloc)?;
+    let index = BinIndex::build(alloc, &rects)?;
+    let answer = clean(design.library(), &flat, net, 0, rect);
+    if clean_indexed(design.library(), &flat, &index, net, 0, rect) == answer {
+        Ok(answer)
+    } else {
+        Err(Fail::from("the index says otherwise"))
+    }
 }
 
 // The same beside one wire, of net 0, whose right edge is at 300.
@@ -159,5 +168,90 @@ fn metal_is_clean_from_the_spacing_on(rt: HostRuntime) -> Result<(), Fail> {
     assert!(rt; !is_clean_beside(rt.alloc(), 1, 399)?);
     assert!(rt; !is_clean_beside(rt.alloc(), 1, 200)?);
     assert!(rt; is_clean_beside(rt.alloc(), 0, 200)?);
+    Ok(())
+}
+
+fn inverters_text() -> &'static [u8] {
+    b"LAYER m1 TYPE ROUTING ; DIRECTION HORIZONTAL ; WIDTH 0.1 ; SPACING 0.1 ; END m1
+SITE core SIZE 0.2 BY 2.0 ; END core
+MACRO INV SIZE 0.4 BY 2.0 ; SITE core ;
+PIN A PORT LAYER m1 ; RECT 0.05 0.85 0.15 1.05 ; END END A
+PIN Y PORT LAYER m1 ; RECT 0.25 0.85 0.35 1.05 ; END END Y
+END INV
+END LIBRARY
+"
+}
+
+// Two inverters side by side, with a net between them that has this wiring.
+fn inverters_block(alloc: Global, wiring: &[u8]) -> Result<Vec<u8>, AllocError> {
+    let mut text = Vec::from_slice(
+        alloc,
+        b"DESIGN top ;
+UNITS DISTANCE MICRONS 1000 ;
+DIEAREA ( 0 0 ) ( 800 2000 ) ;
+COMPONENTS 2 ; - u1 INV + PLACED ( 0 0 ) N ; - u2 INV + PLACED ( 400 0 ) N ; END COMPONENTS
+NETS 1 ; - n1 ( u1 Y ) ( u2 A )",
+    )?;
+    text.extend_from_slice(wiring)?;
+    text.extend_from_slice(b" ; END NETS END DESIGN\n")?;
+    Ok(text)
+}
+
+#[test]
+fn metal_is_clean_between_pins(rt: HostRuntime) -> Result<(), Fail> {
+    let def = inverters_block(rt.alloc(), b"")?;
+    let library = read_lefs(rt.alloc(), &[inverters_text()])?.at(rt.alloc(), 1000)?;
+    let wire = Rect::new(250, 850, 550, 950).ok_or("no rectangle")?;
+    assert!(rt; is_clean(rt.alloc(), &library, &def, 0, wire)?);
+    let longer = Rect::new(249, 850, 550, 950).ok_or("no rectangle")?;
+    assert!(rt; !is_clean(rt.alloc(), &library, &def, 0, longer)?);
+    Ok(())
+}
+
+// The flat of the design, whose first net got its first wire once more.
+fn with_a_wire_twice(alloc: Global, design: &Design<'_, Global>) -> Result<Flat<Global>, Fail> {
+    let mut flat = flatten(alloc, design.library(), design)?;
+    let nets = design.nets();
+    if nets.is_empty() || flat.net_count() == 0 {
+        return Err(Fail::from("no net"));
+    }
+    let wires = nets[0].wires.as_slice();
+    if wires.is_empty() {
+        return Err(Fail::from("no wire"));
+    }
+    flat.add_wire(design.library(), design, 0, &wires[0])?;
+    Ok(flat)
+}
+
+// The same for the design that the text says.
+fn wire_twice(
+    alloc: Global,
+    library: &Library<'_, Global>,
+    def: &[u8],
+) -> Result<Flat<Global>, Fail> {
+    let design = read_def(alloc, library, def)?;
+    with_a_wire_twice(alloc, &design)
+}
+
+#[test]
+fn a_flat_gets_a_wire(rt: HostRuntime) -> Result<(), Fail> {
+    let def = inverters_block(rt.alloc(), b" + ROUTED m1 ( 300 900 ) ( 500 900 )")?;
+    let library = read_lefs(rt.alloc(), &[inverters_text()])?.at(rt.alloc(), 1000)?;
+    let flat = wire_twice(rt.alloc(), &library, &def)?;
+    let shapes = flat.shapes();
+    assert!(rt; shapes.len() == 6);
+    assert_eq!(rt;
+        shapes[5].rect,
+        Rect::new(250, 850, 550, 950).ok_or("no rectangle")?
+    );
+    assert_eq!(rt;
+        (shapes[4].rect, shapes[4].owner),
+        (shapes[5].rect, shapes[5].owner)
+    );
+    assert_eq!(rt; (shapes[4].piece, shapes[5].piece), (Some(2), Some(3)));
+    assert!(rt; flat.net_count() == 1);
+    let pieces = flat.pieces(0);
+    assert_eq!(rt; pieces.len(), 4);
+    assert_eq!(rt; (pieces[2], pieces[3]), (Piece::Wire(0), Piece::Wire(1)));
     Ok(())
 }

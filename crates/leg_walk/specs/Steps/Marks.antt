@@ -1,5 +1,5 @@
 -- The marks of nodes. A node goes by its number.
-use Rattle.std.specs.Prelude.{◌≡◌, ℕ, ◌<◌, Bool, true, false, List, length, Some, slice_get, All, Contains}
+use Rattle.std.specs.Prelude.{◌≡◌, ℕ, ◌<◌, Bool, true, false, List, length, Some, slice_get, Contains}
 use Rattle.leg_walk.specs.declared.mark.Mark.{Mark}
 use Rattle.leg_walk.specs.declared.mark.Mark.TheVariants.{Unseen, Shut, Reached}
 
@@ -7,10 +7,6 @@ abbrev pub is_unseen : Mark → Bool
 is_unseen Unseen = true
 is_unseen Shut = false
 is_unseen (Reached level from) = false
-
--- no node is marked
-abbrev pub AreUnseen : List Mark → Type 0
-AreUnseen marks = All (λ m. m ≡ Unseen) marks
 
 -- The node is marked so, and not unseen.
 pub record IsMark (marks : List Mark) (a : ℕ) (m : Mark) : Type 0 where

@@ -1,7 +1,7 @@
 -- A search on its way, with all nodes marked up to some level.
 use Rattle.std.specs.Prelude.{◌≡◌, ◌⊎◌, ℕ, ◌+◌, ◌<◌, ◌≤◌, Bool, true, false, List, length, count_by, Contains, Option, Some, None}
 use Rattle.leg_walk.specs.declared.mark.Mark.{Mark}
-use Rattle.leg_walk.specs.declared.mark.Mark.TheVariants.{Unseen, Shut, Reached}
+use Rattle.leg_walk.specs.declared.mark.Mark.TheVariants.{Shut, Reached}
 use Rattle.leg_walk.specs.Walk.{Walk, IsShortest, NoWalk}
 use Rattle.leg_walk.specs.Steps.Marks.{is_unseen, IsMark, IsAt}
 

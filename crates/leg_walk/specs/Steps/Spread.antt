@@ -24,6 +24,6 @@ pub record IsSpread (Open : ℕ → Type 0) (Tried : ℕ → ℕ → Type 0) (bo
   pub fewer : count_by is_unseen marks2 + length next2 ≤ count_by is_unseen marks + length next
 
 -- A node that was unseen got this mark where it is open, and is shut where it isn't.
-abbrev pub IsEntered : (ℕ → Type 0) → ℕ → Mark → List Mark → List ℕ → List Mark → List ℕ → Type 0
-IsEntered Open to mark marks next marks2 next2 =
-    ((Open to → ⊥) × (marks2 ≡ slice_set marks to Shut) × (next2 ≡ next)) ⊎ (Open to × (marks2 ≡ slice_set marks to mark) × (next2 ≡ next ++ to ∷ []))
+abbrev pub IsEntered : Type 0 → ℕ → Mark → List Mark → List ℕ → List Mark → List ℕ → Type 0
+IsEntered IsOpen to mark marks next marks2 next2 =
+    ((IsOpen → ⊥) × (marks2 ≡ slice_set marks to Shut) × (next2 ≡ next)) ⊎ (IsOpen × (marks2 ≡ slice_set marks to mark) × (next2 ≡ next ++ to ∷ []))

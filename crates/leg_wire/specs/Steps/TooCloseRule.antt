@@ -49,19 +49,22 @@ limit-within reach layers number = by (slice_get layers number) refl where
   by None is = rw is (omega arith)
   by (Some layer) is = rw is (omega arith)
 
--- and have both gaps within the spacing of their layer
-AreClose-near_limit : (layers : List Layer) (reach : ℕ) (a b : Shape) → AreClose layers reach a b → (x_gap a.rect b.rect ≤ limit_at layers reach a.layer) × (y_gap a.rect b.rect ≤ limit_at layers reach a.layer)
-AreClose-near_limit layers reach a b h =
+-- shapes closer than a distance have both gaps within it
+pub AreCloserThan-gaps : (distance : ℕ) (a b : Shape) → AreCloserThan distance a b → (x_gap a.rect b.rect ≤ distance) × (y_gap a.rect b.rect ≤ distance)
+AreCloserThan-gaps distance a b h =
     elim h.close [
       | inl s ↦ let gaps = SharePoint-gaps a.rect b.rect s in (omega (arith, gaps.0), omega (arith, gaps.1))
       | inr n ↦
-          let limit = limit_at layers reach a.layer in
           let x = apart n.p.x n.q.x in
           let y = apart n.p.y n.q.y in
-          let x_less : x < limit = less_from_squares x limit (y * y) n.near in
-          let y_less : y < limit = less_from_squares y limit (x * x) (omega (arith, n.near)) in
+          let x_less : x < distance = less_from_squares x distance (y * y) n.near in
+          let y_less : y < distance = less_from_squares y distance (x * x) (omega (arith, n.near)) in
           (omega (arith, x_less, x_gap-least a.rect b.rect n.p n.q n.in_a n.in_b), omega (arith, y_less, y_gap-least a.rect b.rect n.p n.q n.in_a n.in_b))
     ]
+
+-- and so have shapes that are too close, within the spacing of their layer
+AreClose-near_limit : (layers : List Layer) (reach : ℕ) (a b : Shape) → AreClose layers reach a b → (x_gap a.rect b.rect ≤ limit_at layers reach a.layer) × (y_gap a.rect b.rect ≤ limit_at layers reach a.layer)
+AreClose-near_limit layers reach a b h = AreCloserThan-gaps (limit_at layers reach a.layer) a b h
 
 -- which is within the reach
 pub AreClose-near : (layers : List Layer) (reach : ℕ) (a b : Shape) → AreClose layers reach a b → (x_gap a.rect b.rect ≤ reach) × (y_gap a.rect b.rect ≤ reach)

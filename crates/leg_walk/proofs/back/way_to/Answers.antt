@@ -1,8 +1,6 @@
-use Rattle.std.proofs.Common.{◌≡◌, ℕ, ◌+◌, ◌-◌, ◌<◌, ◌≤◌, List, [], ◌∷◌, ◌++◌, length, reverse, refl, ap, ◌∙◌, sym, arith}
+use Rattle.std.proofs.Common.{◌≡◌, ℕ, ◌+◌, ◌-◌, [], ◌∷◌, ◌++◌, length, refl, ap, arith}
 use Rattle.std.proofs.lemmas.List.{length_push, length-reverse}
-use Rattle.leg_walk.specs.Walk.Walk.{here, on}
-use Rattle.leg_walk.specs.Steps.Marks.{IsMark, IsAt}
-use Rattle.leg_walk.specs.Steps.Back.{IsReached, AreEntered, IsWay}
+use Rattle.leg_walk.specs.Walk.Walk.{here}
 use Rattle.leg_walk.proofs.WayBack.{back_more}
 use Rattle.leg_walk.proofs.back.way_to.Goals as goal
 

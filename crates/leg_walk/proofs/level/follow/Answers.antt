@@ -1,4 +1,4 @@
-use Rattle.std.proofs.Common.{◌≡◌, ℕ, ◌+◌, ◌<◌, ◌≤◌, length, take, Contains, arith}
+use Rattle.std.proofs.Common.{ℕ, arith}
 use Rattle.std.proofs.lemmas.List.{take_all}
 use Rattle.leg_walk.specs.Walk.{IsStepTo}
 use Rattle.leg_walk.proofs.Sides.{spread_more}

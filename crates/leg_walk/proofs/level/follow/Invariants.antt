@@ -1,5 +1,5 @@
 -- The steps from the nodes so far were tried.
-use Rattle.std.proofs.Common.{ℕ, ◌≡◌, length, take, Contains}
+use Rattle.std.proofs.Common.{take, Contains}
 use Rattle.leg_walk.specs.Walk.{IsStepTo}
 use Rattle.leg_walk.specs.Steps.Marks.{IsNoted}
 use Rattle.leg_walk.specs.Steps.Spread.{IsSpread}

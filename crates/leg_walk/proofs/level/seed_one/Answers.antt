@@ -1,4 +1,4 @@
-use Rattle.std.proofs.Common.{◌≡◌, ℕ, ◌+◌, ◌<◌, ◌≤◌, true, false, refl, arith}
+use Rattle.std.proofs.Common.{◌≡◌, ℕ, refl, arith}
 use Rattle.leg_walk.proofs.Spread.{spread_entered}
 use Rattle.leg_walk.proofs.level.seed_one.Goals as goal
 
@@ -8,5 +8,5 @@ returns-clause-spread g c =
     let here = c.args.graph.now in
     let start : ℕ = c.args.start in
     let near = c.is_too_far.ensures.near c.if-is_too_far.false in
-    spread_entered (graph.OpenNode here) (graph.bound_of here) c.args.level.limit c.args.level.number (λ (_ b : ℕ). b ≡ start) start start _ _ _ _ _
-    (c.is_unseen.ensures.unseen c.if-not-is_unseen.false) (omega (arith, c.requires.count)) (omega (arith, near)) refl (λ a b t. t) c.in_ok-enter.ensures.entered
+    spread_entered (graph.OpenNode here) (graph.bound_of here) c.args.level.limit c.args.level.number (λ (_ b : ℕ). b ≡ start) start start _ _ _ _ _ _
+    (c.is_unseen.ensures.unseen c.if-not-is_unseen.false) (omega (arith, c.requires.count)) (omega (arith, near)) refl (λ a b t. t) c.is_open_node-is_open.ensures c.in_ok-enter.ensures.entered

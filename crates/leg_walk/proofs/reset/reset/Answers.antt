@@ -1,9 +1,6 @@
-use Rattle.std.proofs.Common.{◌≡◌, ℕ, ◌+◌, ◌<◌, ◌≤◌, Bool, true, false, List, [], ◌∷◌, ◌++◌, length, get_or, slice_get, slice_set, Contains, Some, None, inl, inr, refl, sym, ◌∙◌, arith}
+use Rattle.std.proofs.Common.{◌≡◌, [], ◌∷◌, ◌++◌, arith}
 use Rattle.std.proofs.lemmas.List.{nil_from_length}
-use Rattle.std.proofs.lemmas.List.Elements.{Contains-push, Contains-push_cases, Contains-append_left}
-use Rattle.leg_walk.specs.declared.mark.Mark.{Mark}
-use Rattle.leg_walk.specs.declared.mark.Mark.TheVariants.{Unseen, Shut, Reached}
-use Rattle.leg_walk.specs.Steps.Marks.{AreUnseen, IsMark, IsNoted}
+use Rattle.std.proofs.lemmas.List.Elements.{Contains-push}
 use Rattle.leg_walk.proofs.Marks.{noted_pop, unseen_from_noted}
 use Rattle.leg_walk.proofs.reset.reset.Goals as goal
 

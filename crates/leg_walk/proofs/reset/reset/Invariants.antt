@@ -1,5 +1,4 @@
 -- Each node that still has a mark is noted.
-use Rattle.std.proofs.Common.{vec_len}
 use Rattle.leg_walk.specs.Steps.Marks.{IsNoted}
 use Rattle.leg_walk.proofs.reset.reset.Given as goal
 

@@ -1,6 +1,6 @@
 -- Between the rounds all nodes are unseen, and the limit grows by more each time.
 use Rattle.std.proofs.Common.{◌≡◌, ◌+◌, ◌-◌, ◌^◌, ◌<◌, ◌≤◌, []}
-use Rattle.leg_walk.specs.Steps.Marks.{AreUnseen}
+use Rattle.leg_walk.specs.Marks.{AreUnseen}
 use Rattle.leg_walk.proofs.rounds.shortest.Given as goal
 
 abbrev pub invariant-rounds : goal.invariant-rounds

@@ -1,12 +1,10 @@
-use Rattle.std.proofs.Common.{◌≡◌, ℕ, ◌+◌, ◌<◌, ◌≤◌, ◌^◌, true, false, List, [], length, get_or, Contains, inl, inr, refl, sym, ◌∙◌, arith}
+use Rattle.std.proofs.Common.{◌≡◌, ◌<◌, length, get_or, Contains, inl, inr, refl, arith}
 use Rattle.std.proofs.lemmas.Bool.{false≢true}
 use Rattle.std.proofs.lemmas.Bool.Decides.{nat_tests}
-use Rattle.std.proofs.lemmas.Grind.{common_steps}
 use Rattle.std.proofs.lemmas.List.Elements.{All-contains, Contains-get_or}
 use Rattle.std.proofs.lemmas.Option.{slice_get_within}
 use Rattle.leg_walk.specs.declared.mark.Mark.TheVariants.{Reached}
 use Rattle.leg_walk.specs.Walk.{IsStep}
-use Rattle.leg_walk.specs.Steps.Marks.{IsAt}
 use Rattle.leg_walk.proofs.Underway.{underway_begun, underway_more, nearest_found, none_found}
 use Rattle.leg_walk.proofs.search.nearest_end.Goals as goal
 

@@ -1,0 +1,56 @@
+-- A finished design is legal where the grown flat is.
+use Rattle.std.proofs.Common.{◌↔◌, ℕ, List, arith}
+use Rattle.leg_cells.specs.Records.{Contents}
+use Rattle.leg_block.specs.declared.fault.Fault.{Fault}
+use Rattle.leg_block.specs.declared.fault.Fault.TheVariants.{Short, TooNear}
+use Rattle.leg_block.specs.declared.records.Wire.{Wire}
+use Rattle.leg_block.specs.Records.{DesignContents}
+use Rattle.leg_place.specs.Faults as place
+use Rattle.leg_flat.specs.Flat.{FlatSaid}
+use Rattle.leg_wire.specs.Spacing.Holds.{short, too_near}
+use Rattle.leg_wire.specs.Open as joins
+use Rattle.leg_wire.specs.Open.Holds.{open_net}
+use Rattle.leg_grown.specs.Growth.{AddedWire}
+use Rattle.leg_grown.specs.CleanWire.{HasNoSpacingFault}
+use Rattle.leg_grown.specs.Finished.{finished, IsFinishedFrom}
+use Rattle.leg_grown.specs.Violations.{HasShort, HasTooNear, IsOpenNet, IsLegal}
+use Rattle.leg_grown.proofs.SameNets.{same_count}
+use Rattle.leg_grown.proofs.SameShapes.{alike_back, HaveLikes, short_there, near_there}
+use Rattle.leg_grown.proofs.NetMetal.{MetalHasItsPiece, PieceHasItsMetal}
+use Rattle.leg_grown.proofs.Likes.{goes_on, comes_back}
+use Rattle.leg_grown.proofs.Opens.{JoinedBothWays, JoinedOnward, none_then}
+use Rattle.leg_grown.proofs.Placement.{placement_before}
+
+-- no fault in a flat, none in one of whose shapes each has its like there
+no_fault_there : (library : Contents) (first second : FlatSaid) → HaveLikes second.shapes first.shapes → HasNoSpacingFault library first → HasNoSpacingFault library second
+no_fault_there library first second likes none fault (short {i = i} {j = j} pair) =
+    let has = short_there library second first likes (i, j, short pair) in none (Short has.0 has.1) has.2
+no_fault_there library first second likes none fault (too_near {i = i} {j = j} pair) =
+    let has = near_there library second first likes (i, j, too_near pair) in none (TooNear has.0 has.1) has.2
+
+module _ (metal_has : MetalHasItsPiece) (piece_has : PieceHasItsMetal) (library : Contents) (design : DesignContents) (added : List AddedWire) (grown : FlatSaid)
+    (lists : List (List Wire)) (end : FlatSaid) (from : IsFinishedFrom design added grown lists end) where
+  likes_then : HaveLikes grown.shapes end.shapes
+  likes_then s there = let goes = goes_on metal_has piece_has design added grown lists end from s there in (goes.0, goes.1, goes.2.alike)
+
+  likes_before : HaveLikes end.shapes grown.shapes
+  likes_before t there =
+      let comes = comes_back metal_has piece_has design added grown lists end from t there in
+      (comes.0, comes.1, alike_back comes.0 t comes.2.alike)
+
+  pub same_shorts : HasShort library grown ↔ HasShort library end
+  same_shorts = (short_there library grown end likes_then, short_there library end grown likes_before)
+
+  pub same_near : HasTooNear library grown ↔ HasTooNear library end
+  same_near = (near_there library grown end likes_then, near_there library end grown likes_before)
+
+  pub is_legal : JoinedBothWays → JoinedOnward → ((fault : Fault) → ¬ place.Holds library design fault) → HasNoSpacingFault library grown
+      → ((n : ℕ) → ¬ IsOpenNet design grown n) → IsLegal library (finished design lists) end
+  is_legal back onward places shapes nets = record {
+    places = λ fault holds. places fault (placement_before library design lists fault holds);
+    shapes = no_fault_there library grown end likes_before shapes;
+    nets = none_open;
+  } where
+    none_open : (fault : Fault) → ¬ joins.Holds (finished design lists) end fault
+    none_open fault (open_net {n = n} {k = k} h) =
+        none_then metal_has piece_has back onward design added grown lists end from n (omega (arith, h.net, same_count design lists)) (nets n) (k, h)

@@ -1,0 +1,30 @@
+-- Lists, and the pieces of nets
+mod Places
+mod PiecesWith
+-- Shapes that are clear of one another
+mod Clear
+mod Covered
+mod LinePoints
+mod LineRects
+mod RunClean
+-- A flat that grows
+mod Grown
+mod WiresClean
+mod GrownNumbers
+-- The design that gets the wires: what stays, and where pieces of nets go
+mod ByNet
+mod SameNets
+mod FixedMetal
+mod Moves
+mod JoinedMoved
+mod SameShapes
+mod NetMetal
+mod NetWires
+mod FlatPieces
+mod PieceMoves
+mod Likes
+mod MetalCount
+-- What is legal
+mod Opens
+mod Placement
+mod Legal

@@ -1,0 +1,67 @@
+-- Wires change nothing about where components stand.
+use Rattle.std.proofs.Common.{ℕ, List}
+use Rattle.leg_cells.specs.Records.{Contents}
+use Rattle.leg_block.specs.declared.fault.Fault.{Fault}
+use Rattle.leg_block.specs.declared.records.Wire.{Wire}
+use Rattle.leg_block.specs.Records.{DesignContents}
+use Rattle.leg_geom.specs.Plane.{Sides}
+use Rattle.leg_place.specs.Box.{StandsIn}
+use Rattle.leg_place.specs.Faults.{Holds}
+use Rattle.leg_place.specs.Faults.Holds.{unplaced, outside, off_site, overlap}
+use Rattle.leg_grown.specs.Finished.{finished}
+
+module _ (library : Contents) (design : DesignContents) (lists : List (List Wire)) where
+  abbrev done : DesignContents
+  done = finished design lists
+
+  stands_then : (c : ℕ) (box : Sides) → StandsIn library design c box → StandsIn library done c box
+  stands_then c box h = record { component = h.component; there = h.there; placed = h.placed }
+
+  stands_before : (c : ℕ) (box : Sides) → StandsIn library done c box → StandsIn library design c box
+  stands_before c box h = record { component = h.component; there = h.there; placed = h.placed }
+
+  pub placement_then : (fault : Fault) → Holds library design fault → Holds library done fault
+  placement_then fault (unplaced h) = unplaced (record { component = h.component; there = h.there; unplaced = h.unplaced })
+  placement_then fault (outside {c = c} h) = outside (record { box = h.box; stands = stands_then c h.box h.stands; cell = h.cell; inside = h.inside; outside = h.outside })
+  placement_then fault (off_site h) = off_site (record {
+    component = h.component;
+    there = h.there;
+    place = h.place;
+    placed = h.placed;
+    master = h.master;
+    is_master = h.is_master;
+    number = h.number;
+    site = h.site;
+    none = h.none;
+  })
+  placement_then fault (overlap {a = a} {b = b} h) = overlap (record {
+    in_order = h.in_order;
+    box_a = h.box_a;
+    box_b = h.box_b;
+    stands_a = stands_then a h.box_a h.stands_a;
+    stands_b = stands_then b h.box_b h.stands_b;
+    shared = h.shared;
+  })
+
+  pub placement_before : (fault : Fault) → Holds library done fault → Holds library design fault
+  placement_before fault (unplaced h) = unplaced (record { component = h.component; there = h.there; unplaced = h.unplaced })
+  placement_before fault (outside {c = c} h) = outside (record { box = h.box; stands = stands_before c h.box h.stands; cell = h.cell; inside = h.inside; outside = h.outside })
+  placement_before fault (off_site h) = off_site (record {
+    component = h.component;
+    there = h.there;
+    place = h.place;
+    placed = h.placed;
+    master = h.master;
+    is_master = h.is_master;
+    number = h.number;
+    site = h.site;
+    none = h.none;
+  })
+  placement_before fault (overlap {a = a} {b = b} h) = overlap (record {
+    in_order = h.in_order;
+    box_a = h.box_a;
+    box_b = h.box_b;
+    stands_a = stands_before a h.box_a h.stands_a;
+    stands_b = stands_before b h.box_b h.stands_b;
+    shared = h.shared;
+  })

@@ -1,0 +1,202 @@
+//! Laws of flats and designs that grow by wires. Each function does nothing: its contract is the law.
+
+ghost use Rattle.std.specs.Prelude.{◌≡◌, ◌≢◌, ◌↔◌, ◌<◌, ◌+◌, ◌⊎◌, ◌++◌, ◌-◌, ◌+ℤ◌, ◌∷◌, [], ◌≤ℤ◌, ℕ, ℤ, Bool, pos, List, All, Contains, length, replicate, Some, slice_get, slice_set};
+ghost use Rattle.std.specs.List.{range_with_len};
+ghost use Rattle.leg_geom.specs.Plane.{Spot, Sides, HasPoint};
+ghost use Rattle.leg_cells.specs.Scale.{IsEven};
+ghost use Rattle.leg_cells.specs.Records.{Contents};
+ghost use Rattle.leg_block.specs.declared.fault.Fault.{Fault};
+ghost use Rattle.leg_block.specs.declared.records.Wire.{Wire};
+ghost use Rattle.leg_block.specs.declared.records.Wire.TheVariants.{Segment, Patch};
+ghost use Rattle.leg_block.specs.Records.{DesignContents};
+ghost use Rattle.leg_place.specs.Faults as place;
+ghost use Rattle.leg_flat.specs.Nets.{terminals_of, regular_entry, entry_wires};
+ghost use Rattle.leg_flat.specs.Metal.{OnLayer, wire_outlines, metal_of};
+ghost use Rattle.leg_flat.specs.Flat.{FlatSaid, IsFlatOf};
+ghost use Rattle.leg_flat.specs.MoreWires.{HasOneMoreWire};
+ghost use Rattle.leg_wire.specs.Clean.{IsClean};
+ghost use Rattle.leg_wire.specs.NetShapes.{AreNumbersOf};
+ghost use Rattle.leg_wire.specs.Touch.{piece_count, AreJoined, AreMarks};
+ghost use Rattle.leg_grown.specs.Growth.{AddedWire, Grows, of_net, HasGrown};
+ghost use Rattle.leg_grown.specs.CleanWire.{HasNoSpacingFault, IsRectOf, IsCleanWire, HasCleanRect, LiesInClean};
+ghost use Rattle.leg_grown.specs.Lines.{EachStep, last_spot, AreInLine, line, square};
+ghost use Rattle.leg_grown.specs.Finished.{finished, AreByNet, IsFinishedFrom};
+ghost use Rattle.leg_grown.specs.Violations.{HasShort, HasTooNear, IsOpenNet, IsLegal};
+
+use leg_flat::laws::{metal_has_its_piece, piece_has_its_metal};
+use leg_wire::laws::{joined_both_ways, joined_onward};
+
+/// A flat without shorts and without shapes too near one another stays so when a net gets a wire whose metal is clean in it.
+pub fn clean_wire_stays_clean()
+    ensures { (library : Contents) (design : DesignContents) (net : ℕ) (wire : Wire) (old new : FlatSaid)
+        → HasNoSpacingFault library old → IsCleanWire library design old net wire → HasOneMoreWire design net wire old new
+        → HasNoSpacingFault library new }
+{}
+
+/// So it does when a net gets several wires, of each of which the metal is clean in the flat before all of them.
+pub fn clean_wires_stay_clean()
+    ensures { (library : Contents) (design : DesignContents) (net : ℕ) (wires : List Wire) (old new : FlatSaid)
+        → HasNoSpacingFault library old → All (IsCleanWire library design old net) wires → Grows design (of_net net wires) old new
+        → HasNoSpacingFault library new }
+{}
+
+/// A rectangle is clean if each of its points lies in a clean one on the same layer.
+pub fn covered_is_clean()
+    ensures { (library : Contents) (flat : FlatSaid) (net layer : ℕ) (rect : Sides)
+        → ((p : Spot) → HasPoint rect p → LiesInClean library flat net layer p) → IsClean library flat net layer rect }
+{}
+
+/// A wire is clean if for each of its pieces of metal some clean rectangle has all its points.
+pub fn covered_wire_is_clean()
+    ensures { (library : Contents) (design : DesignContents) (flat : FlatSaid) (net : ℕ) (wire : Wire)
+        → ((metal : OnLayer) → Contains (wire_outlines design wire) metal → HasCleanRect library flat net metal.layer metal.outline)
+        → IsCleanWire library design flat net wire }
+{}
+
+/// A wire that runs straight over several points is clean if the metal from each point to the next is. All of it is on one
+/// layer, of one width, and reaches equally far beyond its ends.
+pub fn run_of_clean_steps_is_clean()
+    ensures { (library : Contents) (design : DesignContents) (flat : FlatSaid) (net layer : ℕ) (width reach : ℤ) (from : Spot) (spots : List Spot)
+        → pos 0 ≤ℤ reach → AreInLine from spots → from ≢ last_spot from spots
+        → EachStep (λ a b. HasCleanRect library flat net layer (line width reach a b)) from spots
+        → IsCleanWire library design flat net (Segment layer from (last_spot from spots) width reach reach) }
+{}
+
+/// The same where each step is a clean wire of its own, of an even width.
+pub fn run_of_clean_wires_is_clean()
+    ensures { (library : Contents) (design : DesignContents) (flat : FlatSaid) (net layer : ℕ) (width reach : ℤ) (from : Spot) (spots : List Spot)
+        → IsEven width → pos 0 ≤ℤ reach → AreInLine from spots → from ≢ last_spot from spots → EachStep (λ a b. a ≢ b) from spots
+        → EachStep (λ a b. IsCleanWire library design flat net (Segment layer a b width reach reach)) from spots
+        → IsCleanWire library design flat net (Segment layer from (last_spot from spots) width reach reach) }
+{}
+
+/// The squares of a wire's width about its two ends are clean if the wire is, which reaches past both by half its width.
+pub fn ends_of_clean_wire_are_clean()
+    ensures { (library : Contents) (design : DesignContents) (flat : FlatSaid) (net layer : ℕ) (reach : ℤ) (a b : Spot)
+        → a ≢ b → (a.y ≡ b.y) ⊎ (a.x ≡ b.x) → IsCleanWire library design flat net (Segment layer a b (reach +ℤ reach) reach reach)
+        → IsCleanWire library design flat net (Patch layer a (square reach)) × IsCleanWire library design flat net (Patch layer b (square reach)) }
+{}
+
+/// What a flat has that grew by wires.
+pub fn growth()
+    ensures { (design : DesignContents) (added : List AddedWire) (before after : FlatSaid)
+        → Grows design added before after → HasGrown design added before after }
+{}
+
+/// A flat that grew by wires and then by others has grown by all of these.
+pub fn growth_goes_on()
+    ensures { (design : DesignContents) (first then : List AddedWire) (before between after : FlatSaid)
+        → Grows design first before between → Grows design then between after → Grows design (first ++ then) before after }
+{}
+
+/// When a net gets wires, the numbers of its shapes are those that it had and then those of all new shapes.
+pub fn own_numbers_grow()
+    ensures { (design : DesignContents) (net : ℕ) (wires : List Wire) (before after : FlatSaid) (numbers : List ℕ)
+        → Grows design (of_net net wires) before after → AreNumbersOf before.shapes net numbers
+        → AreNumbersOf after.shapes net (numbers ++ range_with_len (length before.shapes) (length after.shapes - length before.shapes)) }
+{}
+
+/// The numbers of another net's shapes stay.
+pub fn other_numbers_stay()
+    ensures { (design : DesignContents) (net other : ℕ) (wires : List Wire) (before after : FlatSaid) (numbers : List ℕ)
+        → Grows design (of_net net wires) before after → other ≢ net → AreNumbersOf before.shapes other numbers
+        → AreNumbersOf after.shapes other numbers }
+{}
+
+/// Empty lists, one for each of the first so many nets, have the wires of these nets where none was added yet.
+pub fn no_wires_by_net()
+    ensures { (count : ℕ) → AreByNet count [] (replicate count []) }
+{}
+
+/// Lists that have the added wires net by net have them still when a net gets wires and its list gets the same at its end.
+pub fn more_wires_by_net()
+    ensures { (count : ℕ) (added : List AddedWire) (lists : List (List Wire)) (net : ℕ) (before wires : List Wire)
+        → AreByNet count added lists → net < count → slice_get lists net ≡ Some before
+        → AreByNet count (added ++ of_net net wires) (slice_set lists net (before ++ wires)) }
+{}
+
+/// A design that got the wires that its flat grew by has as many shapes as the grown flat.
+pub fn shapes_stay_as_many()
+    ensures { (design : DesignContents) (flat grown : FlatSaid) (added : List AddedWire) (lists : List (List Wire))
+        → IsFlatOf design flat → Grows design added flat grown → AreByNet (length design.nets) added lists
+        → length (metal_of (finished design lists)) ≡ length grown.shapes }
+{}
+
+/// Where a flat grew by wires and its design got the same wires, the flat of that design has a short just where the grown
+/// one has.
+pub fn shorts_stay()
+    ensures { (library : Contents) (design : DesignContents) (added : List AddedWire) (grown : FlatSaid) (lists : List (List Wire)) (end : FlatSaid)
+        → IsFinishedFrom design added grown lists end → HasShort library grown ↔ HasShort library end }
+{
+    metal_has_its_piece();
+    piece_has_its_metal();
+}
+
+/// It has shapes too near one another just where the grown one has.
+pub fn shapes_stay_too_near()
+    ensures { (library : Contents) (design : DesignContents) (added : List AddedWire) (grown : FlatSaid) (lists : List (List Wire)) (end : FlatSaid)
+        → IsFinishedFrom design added grown lists end → HasTooNear library grown ↔ HasTooNear library end }
+{
+    metal_has_its_piece();
+    piece_has_its_metal();
+}
+
+/// A net is not open in it just where it isn't in the grown one. Pieces have other numbers there: wires that were added to a
+/// net stand before those of its entry of `SPECIALNETS`.
+pub fn nets_stay_joined()
+    ensures { (design : DesignContents) (added : List AddedWire) (grown : FlatSaid) (lists : List (List Wire)) (end : FlatSaid)
+        → IsFinishedFrom design added grown lists end → (n : ℕ) → n < length design.nets
+        → (¬ IsOpenNet design grown n) ↔ (¬ IsOpenNet (finished design lists) end n) }
+{
+    metal_has_its_piece();
+    piece_has_its_metal();
+    joined_both_ways();
+    joined_onward();
+}
+
+/// A net that has a terminal, or had a wire in its entry of `NETS`, is open in it just where it is in the grown one: its
+/// first piece is the same.
+pub fn open_nets_stay_open()
+    ensures { (design : DesignContents) (added : List AddedWire) (grown : FlatSaid) (lists : List (List Wire)) (end : FlatSaid)
+        → IsFinishedFrom design added grown lists end → (n : ℕ) → n < length design.nets
+        → 0 < length (terminals_of design n) + length (entry_wires (regular_entry design n))
+        → IsOpenNet design grown n ↔ IsOpenNet (finished design lists) end n }
+{
+    metal_has_its_piece();
+    piece_has_its_metal();
+    joined_both_ways();
+    joined_onward();
+}
+
+/// So is any net of which marks tell, as `joined` finds them, which pieces are joined to the first one.
+pub fn marked_nets_stay_open()
+    ensures { (design : DesignContents) (added : List AddedWire) (grown : FlatSaid) (lists : List (List Wire)) (end : FlatSaid)
+        → IsFinishedFrom design added grown lists end → (n : ℕ) → n < length design.nets
+        → (marks : List Bool) → AreMarks (AreJoined grown n 0) (piece_count grown n) marks
+        → IsOpenNet design grown n ↔ IsOpenNet (finished design lists) end n }
+{
+    metal_has_its_piece();
+    piece_has_its_metal();
+    joined_both_ways();
+    joined_onward();
+}
+
+/// Wires change nothing about where components stand.
+pub fn placement_stays()
+    ensures { (library : Contents) (design : DesignContents) (lists : List (List Wire)) (fault : Fault)
+        → place.Holds library design fault ↔ place.Holds library (finished design lists) fault }
+{}
+
+/// A design that got the wires that its flat grew by is legal if its components stand well and the grown flat has no short,
+/// no shapes too near one another and no open net.
+pub fn finished_design_is_legal()
+    ensures { (library : Contents) (design : DesignContents) (added : List AddedWire) (grown : FlatSaid) (lists : List (List Wire)) (end : FlatSaid)
+        → IsFinishedFrom design added grown lists end
+        → ((fault : Fault) → ¬ place.Holds library design fault) → HasNoSpacingFault library grown → ((n : ℕ) → ¬ IsOpenNet design grown n)
+        → IsLegal library (finished design lists) end }
+{
+    metal_has_its_piece();
+    piece_has_its_metal();
+    joined_both_ways();
+    joined_onward();
+}

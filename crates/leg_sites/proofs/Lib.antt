@@ -1,0 +1,28 @@
+-- Free sites of one row
+mod OneStretch
+mod FirstFits
+mod LastFits
+mod Valley
+mod NearerSide
+mod NearestSites
+-- Sites taken away
+mod JoinedStretches
+mod CutPoints
+mod ListSplit
+mod TakenSites
+-- Rows
+mod Mirrors
+mod KeysSorted
+mod RowsAround
+mod RowCandidates
+mod BestSoFar
+-- Sites by their edges
+mod SiteEdges
+mod SharedCells
+mod SiteCells
+-- What the proofs of other crates cite: which sites are met, free sites and clear boxes
+pub mod MetSites
+pub mod KnownSites
+pub mod ClearBoxes
+pub mod MacroBoxes
+pub mod MacroPlaces

@@ -1,0 +1,6 @@
+use Rattle.leg_sites.proofs.KeysSorted.{order_from_sort}
+use Rattle.leg_sites.proofs.row_keys.row_order.Goals as goal
+
+pub returns : goal.returns
+returns g c =
+    order_from_sort c.args.rows.now c.in_ok-keys.keys.items c.sort_unstable.new.self.items c.in_ok-keys.ensures c.sort_unstable.ensures.permutation c.sort_unstable.ensures.sorted

@@ -1,0 +1,55 @@
+-- The best free position of a component (own rule).
+use Rattle.std.specs.Prelude.{◌≡◌, ◌↔◌, ◌⊎◌, ℕ, pos, Bool, IsTrue, ◌+◌, ◌≤◌, ◌≤ℤ◌, ◌+ℤ◌, ◌*ℤ◌, List, length, Option, None, Some, slice_get}
+use Rattle.leg_geom.specs.Gap.{apart}
+use Rattle.leg_geom.specs.Plane.{IsCoordinate}
+use Rattle.leg_geom.specs.declared.orient.Orient.{Orient}
+use Rattle.leg_block.specs.declared.records.Row.{Row}
+use Rattle.leg_place.specs.Sites.{Fits}
+use Rattle.leg_sites.specs.declared.stretch.Stretch.{Stretch}
+use Rattle.leg_sites.specs.declared.candidate.Wanted.{Wanted}
+use Rattle.leg_sites.specs.declared.candidate.Candidate.{Candidate}
+use Rattle.leg_sites.specs.Stretches.{IsFreeSite, AreFreeSites}
+
+-- a component of this orientation gets another one in a row: its own doesn't fit. One that has none gets the row's.
+abbrev pub IsTurned : Orient → Bool → Option Orient → Type 0
+IsTurned row y_symmetric None = ⊥
+IsTurned row y_symmetric (Some old) = ¬ Fits row y_symmetric old
+
+-- There is a list of free sites for each row. The component takes a site at least, sites have a width, and where a free
+-- site of a row of its site begins is within the limit of coordinates.
+pub record AreReady (rows : List Row) (free : List (List Stretch)) (wanted : Wanted) : Type 0 where
+  pub lists : length free ≡ length rows
+  pub some : 1 ≤ wanted.many
+  pub wide : pos 1 ≤ℤ wanted.site_width
+  pub within : (number : ℕ) (row : Row) (stretches : List Stretch) → slice_get rows number ≡ Some row → row.site ≡ wanted.site → slice_get free number ≡ Some stretches → (k : ℕ) → IsFreeSite stretches k → IsCoordinate (row.at.x +ℤ pos k *ℤ wanted.site_width)
+
+-- The component may stand there: the row is one of its site, and the sites from the first on are free. Its distance is
+-- measured along both axes, from its start to the lower left corner of the first site.
+pub record IsCandidate (rows : List Row) (free : List (List Stretch)) (wanted : Wanted) (c : Candidate) : Type 0 where
+  pub row : Row
+  pub there : slice_get rows c.row ≡ Some row
+  pub same : row.site ≡ wanted.site
+  pub stretches : List Stretch
+  pub known : slice_get free c.row ≡ Some stretches
+  pub sites : AreFreeSites stretches wanted.many c.first
+  pub distance : c.distance ≡ apart (row.at.x +ℤ pos c.first *ℤ wanted.site_width) wanted.start.x + apart row.at.y wanted.start.y
+  pub turned : IsTrue c.turned ↔ IsTurned row.orient wanted.y_symmetric wanted.orient
+
+-- a position is nearer than another, or as near and better in this order: not turned, of a row of a lower number, and
+-- further to the left; or it is just as good
+pub record IsNoWorse (c d : Candidate) : Type 0 where
+  pub distance : c.distance ≤ d.distance
+  pub turned : c.distance ≡ d.distance → IsTrue c.turned → IsTrue d.turned
+  pub row : c.distance ≡ d.distance → c.turned ≡ d.turned → c.row ≤ d.row
+  pub first : c.distance ≡ d.distance → c.turned ≡ d.turned → c.row ≡ d.row → c.first ≤ d.first
+
+-- the best of the positions with a property, or that there is none
+abbrev pub IsBestOf : (Candidate → Type 0) → Option Candidate → Type 0
+IsBestOf P None = (d : Candidate) → ¬ P d
+IsBestOf P (Some c) = P c × ((d : Candidate) → P d → IsNoWorse c d)
+
+-- the better one of two positions, where there are any
+abbrev pub IsBetterOf : Option Candidate → Option Candidate → Option Candidate → Type 0
+IsBetterOf None b r = r ≡ b
+IsBetterOf (Some c) None r = r ≡ Some c
+IsBetterOf (Some c) (Some d) r = ((r ≡ Some c) × IsNoWorse c d) ⊎ ((r ≡ Some d) × IsNoWorse d c)

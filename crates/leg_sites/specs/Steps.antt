@@ -1,0 +1,6 @@
+-- What the code knows on its way. No meaning of a public call speaks of it.
+pub mod Nearest
+pub mod TakeSites
+pub mod RowKeys
+pub mod RowsSeen
+pub mod SiteEdges

@@ -1,0 +1,12 @@
+-- The keys of rows that a walk over them has made.
+use Rattle.std.specs.Prelude.{◌≡◌, ℕ, ◌<◌, List, Some, slice_get, All, AllPairs, Contains}
+use Rattle.leg_block.specs.declared.records.Row.{Row}
+use Rattle.leg_sites.specs.declared.row_keys.RowKey.{RowKey}
+use Rattle.leg_sites.specs.RowOrder.{IsKeyOf}
+
+-- the keys of the rows whose numbers are below end, in file order
+pub record AreKeysBelow (rows : List Row) (end : ℕ) (keys : List RowKey) : Type 0 where
+  pub each : All (IsKeyOf rows) keys
+  pub below : All (λ key. key.row < end) keys
+  pub all : (number : ℕ) (row : Row) → number < end → slice_get rows number ≡ Some row → Contains keys (record { y = row.at.y; row = number })
+  pub rising : AllPairs (λ a b. a.row < b.row) keys

@@ -1,0 +1,13 @@
+-- What is left gives what all nodes give.
+use Rattle.std.proofs.Common.{◌≡◌, length}
+use Rattle.leg_sweep.specs.Steps.Nodes.{near_numbers, IsForest}
+use Rattle.leg_sweep.proofs.near.first_near.Given as goal
+
+abbrev pub invariant-loop-node : goal.invariant-loop-node
+invariant-loop-node l = record {
+  same : near_numbers l.window l.nodes ≡ near_numbers l.window l.left;
+  forest : IsForest l.left;
+}
+
+abbrev pub decreases-loop-node : goal.decreases-loop-node
+decreases-loop-node l = length l.left

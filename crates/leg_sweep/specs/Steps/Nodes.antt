@@ -1,0 +1,65 @@
+-- Nodes of an index in a list: a group stands before its members.
+use Rattle.std.specs.Prelude.{◌≡◌, ℕ, ◌+◌, ◌-◌, ◌≤◌, ◌<◌, List, [], ◌∷◌, ◌++◌, length, take, slice_set, slice_get, Some, All, Contains, if◌then◌else◌}
+use Rattle.std.specs.List.{flat_map}
+use Rattle.leg_geom.specs.Plane.{Sides, IsRect}
+use Rattle.leg_sweep.specs.declared.bounds.Bounds.{Bounds}
+use Rattle.leg_sweep.specs.declared.bounds.Window.{Window}
+use Rattle.leg_sweep.specs.declared.node.Content.{Content}
+use Rattle.leg_sweep.specs.declared.node.Content.TheVariants.{Group, Rect}
+use Rattle.leg_sweep.specs.declared.node.Node.{Node}
+use Rattle.leg_sweep.specs.Steps.Bounds.{sides_of, meets, IsWithin}
+
+-- how many of the nodes after it are a node's members
+abbrev pub members_of : Content → ℕ
+members_of (Group members) = members
+members_of (Rect number) = 0
+
+-- the number of a node's rectangle, if it has one
+abbrev pub number_in : Content → List ℕ
+number_in (Group members) = []
+number_in (Rect number) = number ∷ []
+
+-- the numbers of the nodes' rectangles
+abbrev pub numbers_of : List Node → List ℕ
+numbers_of nodes = flat_map (λ node. number_in node.content) nodes
+
+-- the numbers of those that reach into the window
+abbrev pub near_numbers : Window → List Node → List ℕ
+near_numbers w nodes = flat_map (λ node. if meets w node.bounds then number_in node.content else []) nodes
+
+-- Each node's members are among the nodes after it, and lie within its bounds.
+abbrev pub IsForest : List Node → Type 0
+IsForest [] = Unit {0}
+IsForest (node ∷ rest) = (members_of node.content ≤ length rest) × All (λ member. IsWithin member.bounds node.bounds) (take (members_of node.content) rest) × IsForest rest
+
+-- a node of a rectangle has its sides
+abbrev pub IsRightAt : List Sides → Bounds → Content → Type 0
+IsRightAt rects bounds (Group members) = Unit {0}
+IsRightAt rects bounds (Rect number) = (slice_get rects number ≡ Some (sides_of bounds)) × IsRect (sides_of bounds)
+
+abbrev pub IsRight : List Sides → Node → Type 0
+IsRight rects node = IsRightAt rects node.bounds node.content
+
+-- nodes of the rectangles from this number on
+pub record AreNodesFrom (rects : List Sides) (first : ℕ) (nodes : List Node) : Type 0 where
+  pub forest : IsForest nodes
+  pub right : All (IsRight rects) nodes
+  pub all : (number : ℕ) → first ≤ number → number < length rects → Contains (numbers_of nodes) number
+
+-- The node at this place is now one for a group of all that follow it.
+pub record IsGrouped (bounds : Bounds) (at : ℕ) (before after : List Node) : Type 0 where
+  pub node : Node
+  pub is : after ≡ slice_set before at node
+  pub around : node.bounds ≡ bounds
+  pub members : members_of node.content ≤ length before - (at + 1)
+  pub group : number_in node.content ≡ []
+  pub right : (rects : List Sides) → IsRight rects node
+
+-- Behind the nodes that were there are now those of the rectangles with these numbers, all within the bounds.
+pub record AreGrouped (rects : List Sides) (numbers : List ℕ) (bounds : Bounds) (before after : List Node) : Type 0 where
+  pub nodes : List Node
+  pub are : after ≡ before ++ nodes
+  pub forest : IsForest nodes
+  pub right : All (IsRight rects) nodes
+  pub within : All (λ node. IsWithin node.bounds bounds) nodes
+  pub named : numbers_of nodes ≡ numbers

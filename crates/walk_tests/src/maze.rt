@@ -1,0 +1,234 @@
+//! A maze: a grid of layers with walls, which counts what it is asked.
+
+ghost use Rattle.std.specs.Prelude.{◌≡◌, ◌<◌, true, length};
+ghost use Rattle.walk_tests.specs.Maze.{next_of, opens_to, place_at, IsNext};
+
+use leg_walk::{Graph, Side};
+use std::alloc::{AllocError, Allocator};
+use std::cell::Cell;
+
+/// A place of a maze: its neighbours, whether it is open, whether the steps to the west and to the east are, and how many
+/// steps are left at least.
+#[derive(Clone, Copy)]
+pub struct Place {
+    pub west: Option<u32>,
+    pub east: Option<u32>,
+    pub south: Option<u32>,
+    pub north: Option<u32>,
+    pub below: Option<u32>,
+    pub above: Option<u32>,
+    pub is_open: bool,
+    pub opens_west: bool,
+    pub opens_east: bool,
+    pub left: u32,
+}
+
+impl Place {
+    fn next(&self, side: Side) -> Option<u32>
+        ensures { result ≡ next_of self.now side }
+    {
+        match side {
+            Side::West => self.west,
+            Side::East => self.east,
+            Side::South => self.south,
+            Side::North => self.north,
+            Side::Below => self.below,
+            Side::Above => self.above,
+        }
+    }
+
+    fn opens(&self, side: Side) -> bool
+        ensures { result ≡ opens_to self.now side }
+    {
+        match side {
+            Side::West => self.opens_west,
+            Side::East => self.opens_east,
+            Side::South | Side::North | Side::Below | Side::Above => true,
+        }
+    }
+}
+
+/// How large a maze is.
+#[derive(Clone, Copy)]
+pub struct Size {
+    pub width: u32,
+    pub height: u32,
+    pub layers: u32,
+    /// Whether all steps of a layer go along one axis: along x on the lowest layer, along y on the next, and so on.
+    pub one_way: bool,
+}
+
+/// What a maze was asked.
+#[derive(Clone, Copy)]
+pub struct Questions {
+    /// How often whether a step is open.
+    pub steps: u64,
+    /// How often whether a place is.
+    pub nodes: u64,
+    /// How often the same at most.
+    pub most: u32,
+}
+
+/// A maze of places, numbered along x, then along y, and then upwards.
+#[derive(Drop)]
+pub struct Maze<A: Allocator> {
+    pub places: Vec<Place, A>,
+    /// How often it was asked of each place whether the step to each side is open, and whether it is itself.
+    asked: Vec<Cell<u32>, A>,
+}
+
+impl<A: Allocator + Copy> Maze<A> {
+    /// A maze without walls. So many steps are left at least from each place to the goal: along x, y and the layers.
+    pub fn new(alloc: A, size: Size, goal: (u32, u32, u32)) -> Result<Maze<A>, AllocError> {
+        let mut places = Vec::new(alloc);
+        let mut asked = Vec::new(alloc);
+        let mut number = 0u32;
+        for layer in 0..size.layers {
+            for y in 0..size.height {
+                for x in 0..size.width {
+                    places.push(open_place(size, number, (x, y, layer), goal))?;
+                    for _ in 0..QUESTIONS {
+                        asked.push(Cell::new(0))?;
+                    }
+                    number = number.wrapping_add(1);
+                }
+            }
+        }
+        Ok(Maze { places, asked })
+    }
+
+    /// Closes the place.
+    pub fn close(&mut self, node: usize) {
+        if node < self.places.len() {
+            self.places[node].is_open = false;
+        }
+    }
+
+    /// Closes the step to the east of the place, and the step back.
+    pub fn close_east(&mut self, node: usize) {
+        if node < self.places.len() && node + 1 < self.places.len() {
+            self.places[node].opens_east = false;
+            self.places[node + 1].opens_west = false;
+        }
+    }
+
+    /// Forgets how many steps are left.
+    pub fn forget_goal(&mut self) {
+        for place in &mut self.places {
+            place.left = 0;
+        }
+    }
+
+    /// What it was asked.
+    pub fn questions(&self) -> Questions {
+        let mut told = Questions {
+            steps: 0,
+            nodes: 0,
+            most: 0,
+        };
+        for (i, times) in self.asked.iter().enumerate() {
+            let times = times.get();
+            if i % QUESTIONS == QUESTIONS - 1 {
+                told.nodes = told.nodes.wrapping_add(u64::from(times));
+            } else {
+                told.steps = told.steps.wrapping_add(u64::from(times));
+            }
+            told.most = told.most.max(times);
+        }
+        told
+    }
+
+    /// Counts a question.
+    fn count(&self, node: u32, question: usize) {
+        let place = (node as usize)
+            .wrapping_mul(QUESTIONS)
+            .wrapping_add(question);
+        if let Some(times) = self.asked.get(place) {
+            times.set(times.get().wrapping_add(1));
+        }
+    }
+}
+
+/// How many questions are counted of each place: one for each side, and one of itself.
+const QUESTIONS: usize = 7;
+
+/// An open place.
+fn open_place(
+    size: Size,
+    number: u32,
+    (x, y, layer): (u32, u32, u32),
+    goal: (u32, u32, u32),
+) -> Place {
+    let area = size.width.wrapping_mul(size.height);
+    let along_x = !size.one_way || layer % 2 == 0;
+    let along_y = !size.one_way || layer % 2 == 1;
+    let far = x.abs_diff(goal.0).wrapping_add(y.abs_diff(goal.1));
+    Place {
+        west: (along_x && x > 0).then_some(number.wrapping_sub(1)),
+        east: (along_x && x.wrapping_add(1) < size.width).then_some(number.wrapping_add(1)),
+        south: (along_y && y > 0).then_some(number.wrapping_sub(size.width)),
+        north: (along_y && y.wrapping_add(1) < size.height).then_some(number.wrapping_add(
+            size.width,
+        )),
+        below: (layer > 0).then_some(number.wrapping_sub(area)),
+        above: (layer.wrapping_add(1) < size.layers).then_some(number.wrapping_add(area)),
+        is_open: true,
+        opens_west: true,
+        opens_east: true,
+        left: far.wrapping_add(layer.abs_diff(goal.2)),
+    }
+}
+
+/// The number of a side.
+fn number_of(side: Side) -> usize {
+    match side {
+        Side::West => 0,
+        Side::East => 1,
+        Side::South => 2,
+        Side::North => 3,
+        Side::Below => 4,
+        Side::Above => 5,
+    }
+}
+
+impl<A: Allocator + Copy> Graph for Maze<A> {
+    ghost use Rattle.walk_tests.specs.Maze.{opens_to, place_at, IsNext};
+
+    ghost size_of = { λ m. length m.places.items };
+
+    ghost IsBeside = { λ m side a b. IsNext m.places.items side a b };
+
+    ghost OpenNode = { λ m a. (place_at m.places.items a).is_open ≡ true };
+
+    ghost OpenStep = { λ m side a. opens_to (place_at m.places.items a) side ≡ true };
+
+    ghost bound_of = { λ m a. (place_at m.places.items a).left };
+
+    fn beside(&self, node: u32, side: Side) -> Option<u32> {
+        let place = &self.places[node as usize];
+        let to = place.next(side)?;
+        if (to as usize) < self.places.len()
+            && u64::from(place.left) <= u64::from(self.places[to as usize].left) + 1
+        {
+            Some(to)
+        } else {
+            None
+        }
+    }
+
+    fn is_open_step(&self, node: u32, side: Side) -> bool {
+        self.count(node, number_of(side));
+        self.places[node as usize].opens(side)
+    }
+
+    fn is_open_node(&self, node: u32) -> bool {
+        self.count(node, QUESTIONS - 1);
+        self.places[node as usize].is_open
+    }
+
+    fn bound(&self, node: u32) -> u32 {
+        self.places[node as usize].left
+    }
+
+    ghost one_nearer = { λ m side a b beside. beside.2 };
+}
