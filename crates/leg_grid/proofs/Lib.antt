@@ -19,3 +19,4 @@ pub mod NextWalks
 pub mod Squares
 pub mod OpenNodes
 pub mod Beside
+pub mod StepsAt

@@ -2,6 +2,8 @@
 use Rattle.std.specs.Prelude.{ℕ, List}
 use Rattle.leg_flat.specs.Flat.{FlatSaid}
 use Rattle.leg_walk.specs.Walk.{IsShortest, NoWalk}
+use Rattle.leg_walk.specs.declared.side.Side.{Side}
+use Rattle.leg_grid.specs.Neighbours.{IsBeside}
 use Rattle.leg_grid.specs.OpenMetal.{IsOpenNode, IsOpenStep}
 use Rattle.leg_grid.specs.Meets.{MeetsJoined, MeetsRest}
 use Rattle.leg_grid.specs.Grid.{GridSaid, IsNumberOf}
@@ -31,3 +33,7 @@ abbrev pub HasNoWalkAt : GridSaid → FlatSaid → ℕ → Type 0
 HasNoWalkAt grid flat net =
     NoWalk (IsOneOf (IsNumberOf grid) (IsOpenNode grid.design flat net)) (IsStepOf (IsNumberOf grid) (IsOpenStep grid.design flat net))
     (IsOneOf (IsNumberOf grid) (MeetsJoined flat net)) (IsOneOf (IsNumberOf grid) (MeetsRest flat net))
+
+-- the node of the number n lies on this side of the node of the number m
+abbrev pub IsBesideAt : GridSaid → Side → ℕ → ℕ → Type 0
+IsBesideAt grid side m n = IsStepOf (IsNumberOf grid) (IsBeside grid.design side) m n

@@ -4,3 +4,4 @@ pub mod LayerList
 pub mod TrackMarks
 pub mod Joining
 pub mod Squares
+pub mod SlotSides

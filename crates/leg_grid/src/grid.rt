@@ -155,7 +155,8 @@ impl<'g, 'a, A: Allocator + Copy> Grid<'g, 'a, A> {
     /// The slot of this number.
     pub(crate) fn slot(&self, number: u32) -> Slot
         requires { number < slot_total self.now }
-        ensures { IsSlot self.now number result.layer result.row result.column }
+        ensures is { IsSlot self.now number result.layer result.row result.column }
+        ensures proper { IsGrid self.now }
     {
         let columns = self.xs.len();
         let rows = self.ys.len();
@@ -168,8 +169,29 @@ impl<'g, 'a, A: Allocator + Copy> Grid<'g, 'a, A> {
         }
     }
 
+    /// How many columns of slots there are, one for each x value.
+    pub(crate) fn columns(&self) -> usize
+        ensures { result ≡ length self.now.xs }
+    {
+        self.xs.len()
+    }
+
+    /// How many rows of slots there are, one for each y value.
+    pub(crate) fn rows(&self) -> usize
+        ensures { result ≡ length self.now.ys }
+    {
+        self.ys.len()
+    }
+
+    /// How many routing layers there are.
+    pub(crate) fn layer_count(&self) -> usize
+        ensures { result ≡ length self.now.layers }
+    {
+        self.layers.len()
+    }
+
     /// The number of the slot.
-    fn number_at(&self, slot: Slot) -> u32
+    pub(crate) fn number_at(&self, slot: Slot) -> u32
         requires layer { slot.layer < length self.now.layers }
         requires row { slot.row < length self.now.ys }
         requires column { slot.column < length self.now.xs }
@@ -186,6 +208,15 @@ impl<'g, 'a, A: Allocator + Copy> Grid<'g, 'a, A> {
         ensures proper { IsGrid self.now }
     {
         self.layers[k]
+    }
+
+    /// The via from routing layer k to the next one above, by its number.
+    pub(crate) fn via_at(&self, k: usize) -> Option<usize>
+        requires { k < length self.now.layers }
+        ensures is { slice_get self.now.vias k ≡ Some result }
+        ensures proper { IsGrid self.now }
+    {
+        self.vias[k]
     }
 
     /// The y value of this row.

@@ -7,6 +7,7 @@ pub mod laws;
 mod layers;
 mod limits;
 mod lines;
+mod neighbour;
 mod node;
 mod open_node;
 mod patch;

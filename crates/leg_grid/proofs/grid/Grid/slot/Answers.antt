@@ -3,8 +3,8 @@ use Rattle.leg_grid.specs.Grid.{GridSaid}
 use Rattle.leg_grid.proofs.Slots.{by_division}
 use Rattle.leg_grid.proofs.grid.Grid.slot.Goals as goal
 
-pub returns : goal.returns
-returns g c =
+pub returns-clause-is : goal.returns-clause-is
+returns-clause-is g c =
     let columns : c.len-columns.result ≡ length c.self.inside.xs.items = search rules in
     let rows : c.len-rows.result ≡ length c.self.inside.ys.items = search rules in
     let columns : c.len-columns.result ≡ length c.args.self.now.xs = columns ∙ ap (λ (s : GridSaid). length s.xs) c.self.view_is in
