@@ -46,12 +46,12 @@ behind layers i j a b rising at_i at_j less = by (order i j) where
   by (inr (inr after)) = absurd (let more = later layers j i b a rising at_j at_i after in omega (arith, more, less))
 
 -- what the parts of the via between two layers join
-record HasJoins (library : Contents) (low high : ℕ) : Type 0 where
+pub record HasJoins (library : Contents) (low high : ℕ) : Type 0 where
   pub parts : List ViaPart
   pub cut : ℕ
   pub joins : Joins (uses_of library.layers) parts low cut high
 
-via_joins : (library : Contents) (low high via : ℕ) → IsVia library low high via → HasJoins library low high
+pub via_joins : (library : Contents) (low high via : ℕ) → IsVia library low high via → HasJoins library low high
 via_joins library low high via (inl first) = record { parts = _; cut = first.holds.joins.cut; joins = first.holds.joins.joins }
 via_joins library low high via (inr first) = record { parts = _; cut = first.first.holds.cut; joins = first.first.holds.joins }
 

@@ -20,3 +20,7 @@ pub mod Squares
 pub mod OpenNodes
 pub mod Beside
 pub mod StepsAt
+pub mod SegmentPoints
+pub mod Strips
+pub mod OpenVias
+pub mod OpenSteps

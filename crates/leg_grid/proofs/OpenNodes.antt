@@ -29,7 +29,7 @@ width_is library n direction width sound runs =
 same_width : (d e : Direction) (v w : ℤ) → Routing d v ≡ Routing e w → v ≡ w
 same_width d e v w is = cc
 
-one_width : (library : Contents) (n : ℕ) (d e : Direction) (v w : ℤ) → Runs library n d v → Runs library n e w → v ≡ w
+pub one_width : (library : Contents) (n : ℕ) (d e : Direction) (v w : ℤ) → Runs library n d v → Runs library n e w → v ≡ w
 one_width library n d e v w runs also =
     let same : runs.layer ≡ also.layer = same_Some runs.layer also.layer (sym runs.there ∙ also.there) in
     same_width d e v w (sym runs.routes ∙ ap (λ (l : Layer). l.kind) same ∙ also.routes)

@@ -1,23 +1,20 @@
 -- Patches that are open.
-use Rattle.std.proofs.Common.{◌≡◌, ℕ, suc, zero, ◌<◌, ◌≤◌, ◌↔◌, ℤ, pos, negsuc, ◌+ℤ◌, ◌≤ℤ◌, ◌<ℤ◌, unsigned_abs, [], ◌∷◌, get_or, refl, subst, arith}
+use Rattle.std.proofs.Common.{◌≡◌, ℕ, suc, zero, ◌<◌, ◌≤◌, ◌↔◌, ℤ, pos, negsuc, ◌+ℤ◌, ◌≤ℤ◌, ◌<ℤ◌, unsigned_abs, [], ◌∷◌, Contains, get_or, refl, subst, arith}
 use Rattle.std.proofs.lemmas.Int.{ints}
 use Rattle.leg_geom.specs.Plane.{Spot, Sides, HasPoint}
 use Rattle.leg_geom.specs.Orientation.{placed, StaysWithin}
 use Rattle.leg_geom.specs.declared.orient.Orient.TheVariants.{N}
 use Rattle.leg_cells.specs.Sound.{IsWidth}
 use Rattle.leg_cells.specs.Records.{Contents}
-use Rattle.leg_block.specs.declared.records.Wire.TheVariants.{Patch}
 use Rattle.leg_block.specs.Records.{DesignContents}
 use Rattle.leg_block.specs.WellFormedParts.{IsPosition}
 use Rattle.leg_flat.specs.declared.shape.Shape.{Shape}
-use Rattle.leg_flat.specs.Outline.{HasPointOf}
-use Rattle.leg_flat.specs.Outline.Outline.{Shifted}
+use Rattle.leg_flat.specs.Outline.{Outline, HasPointOf}
 use Rattle.leg_flat.specs.Metal.{OnLayer}
 use Rattle.leg_flat.specs.Flat.{FlatSaid}
 use Rattle.leg_wire.specs.Comparable.{AreComparable}
 use Rattle.leg_wire.specs.Clean.{net_metal, IsClean}
 use Rattle.leg_grid.specs.Added.{half}
-use Rattle.leg_grid.specs.OpenMetal.{IsOpenWire}
 use Rattle.leg_grid.specs.Steps.Squares.{IsSmall}
 
 -- half of a width is above 0, and is a number that a DEF may have
@@ -62,14 +59,18 @@ clean_within library flat net layer rect r within clean = record {
   comparable : (shape : Shape) → AreComparable (net_metal net layer r) shape → AreComparable (net_metal net layer rect) shape
   comparable shape is = record { layer = is.layer; owners = is.owners; apart = λ one. is.apart (record { component = one.component; of_a = one.of_a; of_b = one.of_b }); metal = is.metal }
 
-module _ (design : DesignContents) (flat : FlatSaid) (net layer : ℕ) (at : Spot) (sides rect : Sides) (points : (p : Spot) → HasPoint rect p ↔ HasPointOf (Shifted at sides) p) where
+-- metal of one outline, which has the points of a rectangle
+module _ (design : DesignContents) (flat : FlatSaid) (net layer : ℕ) (outline : Outline) (rect : Sides) (points : (p : Spot) → HasPoint rect p ↔ HasPointOf outline p) where
   abbrev the_metal : OnLayer
-  the_metal = record { layer = layer; outline = Shifted at sides }
+  the_metal = record { layer = layer; outline = outline }
 
-  pub open_is_clean : IsOpenWire design flat net (Patch layer at sides) → IsClean design.library flat net layer rect
+  abbrev pub IsOpenMetal : Type 0
+  IsOpenMetal = (metal : OnLayer) (r : Sides) → Contains (the_metal ∷ []) metal → ((p : Spot) → HasPoint r p ↔ HasPointOf metal.outline p) → IsClean design.library flat net metal.layer r
+
+  pub open_is_clean : IsOpenMetal → IsClean design.library flat net layer rect
   open_is_clean is_open = is_open the_metal rect (0, omega arith, refl) points
 
-  pub clean_is_open : IsClean design.library flat net layer rect → IsOpenWire design flat net (Patch layer at sides)
+  pub clean_is_open : IsClean design.library flat net layer rect → IsOpenMetal
   clean_is_open clean metal r there same = by there.0 there.1 there.2 where
     within : (m : OnLayer) → the_metal ≡ m → ((p : Spot) → HasPoint r p ↔ HasPointOf m.outline p) → IsClean design.library flat net m.layer r
     within m is =

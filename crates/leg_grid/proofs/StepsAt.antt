@@ -1,10 +1,9 @@
 -- Steps from node to node, and from slot to slot, by numbers.
-use Rattle.std.proofs.Common.{◌≡◌, ℕ, ◌<◌, ◌↔◌, inl, inr, List, length, Option, None, Some, slice_get, refl, sym, ap, subst, ◌∙◌, arith}
+use Rattle.std.proofs.Common.{◌≡◌, ℕ, ◌<◌, ◌↔◌, inl, inr, List, length, None, Some, slice_get, refl, sym, ap, subst, ◌∙◌, arith}
 use Rattle.std.proofs.lemmas.Option.{slice_get_cases, same_Some, none-some}
 use Rattle.leg_block.specs.Records.{DesignContents}
 use Rattle.leg_walk.specs.declared.side.Side.{Side}
 use Rattle.leg_walk.specs.declared.side.Side.TheVariants.{West, East, South, North, Below, Above}
-use Rattle.leg_grid.specs.declared.layers.RoutingLayer.{RoutingLayer}
 use Rattle.leg_grid.specs.declared.node.Node.{Node}
 use Rattle.leg_grid.specs.declared.slot.Slot.{Slot}
 use Rattle.leg_grid.specs.Nodes.{IsNode}

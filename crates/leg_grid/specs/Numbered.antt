@@ -3,6 +3,7 @@ use Rattle.std.specs.Prelude.{ℕ, List}
 use Rattle.leg_flat.specs.Flat.{FlatSaid}
 use Rattle.leg_walk.specs.Walk.{IsShortest, NoWalk}
 use Rattle.leg_walk.specs.declared.side.Side.{Side}
+use Rattle.leg_grid.specs.declared.node.Node.{Node}
 use Rattle.leg_grid.specs.Neighbours.{IsBeside}
 use Rattle.leg_grid.specs.OpenMetal.{IsOpenNode, IsOpenStep}
 use Rattle.leg_grid.specs.Meets.{MeetsJoined, MeetsRest}
@@ -37,3 +38,11 @@ HasNoWalkAt grid flat net =
 -- the node of the number n lies on this side of the node of the number m
 abbrev pub IsBesideAt : GridSaid → Side → ℕ → ℕ → Type 0
 IsBesideAt grid side m n = IsStepOf (IsNumberOf grid) (IsBeside grid.design side) m n
+
+-- the step from the node of the number n to the node on this side of it is open to the net
+pub record IsOpenStepAt (grid : GridSaid) (flat : FlatSaid) (net : ℕ) (side : Side) (n : ℕ) : Type 0 where
+  pub a : Node
+  pub b : Node
+  pub a_is : IsNumberOf grid n a
+  pub beside : IsBeside grid.design side a b
+  pub is_open : IsOpenStep grid.design flat net a b

@@ -3,7 +3,7 @@
 ghost use Rattle.std.specs.Prelude.{◌≡◌, ◌↔◌, ◌<◌, ℕ, Some, IsTrue, IfSome, length};
 ghost use Rattle.leg_walk.specs.declared.side.Side.TheVariants.{West, East, South, North, Below, Above};
 ghost use Rattle.leg_grid.specs.Beside.{IsWithin};
-ghost use Rattle.leg_grid.specs.Grid.{slot_total};
+ghost use Rattle.leg_grid.specs.Grid.{IsGrid, slot_total};
 ghost use Rattle.leg_grid.specs.Numbered.{IsBesideAt};
 ghost use Rattle.leg_grid.specs.Steps.SlotSides.{RunsAt, IsBesideIfAny};
 
@@ -145,6 +145,7 @@ impl<'g, 'a, A: Allocator + Copy> Grid<'g, 'a, A> {
         requires { number < slot_total self.now }
         ensures is { (to : ℕ) → (result ≡ Some to) ↔ IsBesideAt self.now side number to }
         ensures within { IfSome result (λ to. to < slot_total self.now) }
+        ensures proper { IsGrid self.now }
     {
         let slot = self.slot(number);
         if !self.has_node(slot) {

@@ -1,6 +1,6 @@
 //! Patches of metal, and whether they are open to a net.
 
-ghost use Rattle.std.specs.Prelude.{◌≡◌, ◌↔◌, IsTrue};
+ghost use Rattle.std.specs.Prelude.{◌≡◌, ◌↔◌, IsTrue, map};
 ghost use Rattle.leg_geom.specs.Plane.{Spot, Sides, HasPoint};
 ghost use Rattle.leg_cells.specs.Sound.{IsWidth};
 ghost use Rattle.leg_block.specs.declared.records.Wire.TheVariants.{Patch};
@@ -14,11 +14,12 @@ ghost use Rattle.leg_grid.specs.Steps.Squares.{IsSmall};
 use leg_block::Design;
 use leg_flat::Flat;
 use leg_geom::{Orient, Place, Point, Rect};
-use leg_wire::clean;
+use leg_sweep::BinIndex;
+use leg_wire::clean_indexed;
 use std::alloc::Allocator;
 
 /// Half a width.
-fn half(width: i64) -> i64
+pub(crate) fn half(width: i64) -> i64
     ensures { result ≡ half width }
 {
     width.div_euclid(2)
@@ -51,15 +52,17 @@ fn shifted(at: &Point, rect: &Rect) -> Rect
 pub(crate) fn is_open_patch<A: Allocator + Copy>(
     design: &Design<'_, A>,
     flat: &Flat<A>,
+    index: &BinIndex<A>,
     net: u32,
     layer: usize,
     at: &Point,
     rect: &Rect,
 ) -> bool
+    requires indexed { index.now ≡ map (λ shape. shape.rect) flat.now.shapes }
     requires at { IsPosition at.now }
     requires rect { IsSmall rect.now }
     ensures { IsTrue result ↔ IsOpenWire design.now flat.now net (Patch layer at.now rect.now) }
 {
     let metal = shifted(at, rect);
-    clean(design.library(), flat, net, layer, metal)
+    clean_indexed(design.library(), flat, index, net, layer, metal)
 }

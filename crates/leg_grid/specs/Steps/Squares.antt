@@ -1,7 +1,7 @@
 -- Rectangles about a point that are small enough to be moved to any point of a design.
-use Rattle.std.specs.Prelude.{◌≤◌, unsigned_abs}
+use Rattle.std.specs.Prelude.{◌≡◌, ◌≤◌, ◌⊎◌, ◌<ℤ◌, unsigned_abs}
 use Rattle.leg_lex.specs.declared.limits.TheConstants.{NUMBER_LIMIT}
-use Rattle.leg_geom.specs.Plane.{Sides}
+use Rattle.leg_geom.specs.Plane.{Spot, Sides}
 
 -- all sides are numbers that a DEF may have
 pub record IsSmall (r : Sides) : Type 0 where
@@ -9,3 +9,16 @@ pub record IsSmall (r : Sides) : Type 0 where
   pub y1 : unsigned_abs r.y1 ≤ NUMBER_LIMIT
   pub x2 : unsigned_abs r.x2 ≤ NUMBER_LIMIT
   pub y2 : unsigned_abs r.y2 ≤ NUMBER_LIMIT
+
+-- the second point lies to the east of the first
+pub record IsToEast (low high : Spot) : Type 0 where
+  pub level : low.y ≡ high.y
+  pub less : low.x <ℤ high.x
+
+-- the second point lies to the north of the first
+pub record IsToNorth (low high : Spot) : Type 0 where
+  pub upright : low.x ≡ high.x
+  pub less : low.y <ℤ high.y
+
+abbrev pub IsStretch : Spot → Spot → Type 0
+IsStretch low high = IsToEast low high ⊎ IsToNorth low high
