@@ -24,3 +24,4 @@ pub mod SegmentPoints
 pub mod Strips
 pub mod OpenVias
 pub mod OpenSteps
+pub mod Bounds
