@@ -9,7 +9,7 @@ use Rattle.leg_grid.specs.declared.slot_box.SlotBox.{SlotBox}
 use Rattle.leg_grid.specs.Grid.{GridSaid, IsGrid, IsSlot, slot_total}
 use Rattle.leg_grid.specs.Beside.{IsSlotBeside}
 use Rattle.leg_grid.specs.Numbered.{IsBesideAt}
-use Rattle.leg_grid.specs.Bound.{gap, slot_bound, slot_of, bound_at, IsBoxOf}
+use Rattle.leg_grid.specs.Bound.{gap, slot_bound, slot_of, bound_at, IsBoxOf, IsInBox, IsBesideNear}
 use Rattle.leg_grid.proofs.Slots.{one_rest, by_division}
 use Rattle.leg_grid.proofs.StepsAt.{step_from}
 
@@ -110,3 +110,14 @@ bound_small grid ends n s is_grid box slot =
     let r = gap_below (length grid.ys) ends.low.row ends.high.row s.row box.low.row row in
     let c = gap_below (length grid.xs) ends.low.column ends.high.column s.column box.low.column column in
     omega (arith, few.layers_few, few.rows_few, few.columns_few, l, r, c)
+
+pub in_box : (grid : GridSaid) (ends : SlotBox) (n : ℕ) (s : Slot) → IsSlot grid n s.layer s.row s.column → IsInBox ends s → bound_at grid ends n ≡ 0
+in_box grid ends n s slot inside =
+    let l : gap ends.low.layer ends.high.layer s.layer ≡ 0 = omega (arith, inside.low_layer, inside.high_layer) in
+    let r : gap ends.low.row ends.high.row s.row ≡ 0 = omega (arith, inside.low_row, inside.high_row) in
+    let c : gap ends.low.column ends.high.column s.column ≡ 0 = omega (arith, inside.low_column, inside.high_column) in
+    let sum : slot_bound ends s ≡ 0 = omega (arith, l, r, c) in
+    bound_is grid ends n s slot ∙ sum
+
+pub beside_near : (grid : GridSaid) (ends : SlotBox) (side : Side) (n to : ℕ) → IsGrid grid → IsBesideAt grid side n to → IsBesideNear grid ends side n to
+beside_near grid ends side n to is_grid step = record { beside = step; nearer = one_nearer grid ends side n to is_grid step }

@@ -7,7 +7,8 @@ use Rattle.leg_block.specs.declared.records.Wire.TheVariants.{Segment, ViaAt}
 use Rattle.leg_block.specs.Records.{DesignContents}
 use Rattle.leg_flat.specs.Flat.{FlatSaid}
 use Rattle.leg_walk.specs.declared.side.Side.{Side}
-use Rattle.leg_walk.specs.declared.side.Side.TheVariants.{Above}
+use Rattle.leg_walk.specs.declared.side.Side.TheVariants.{West, East, South, North, Below, Above}
+use Rattle.leg_walk.specs.Walk.{IsStep}
 use Rattle.leg_grid.specs.declared.node.Node.{Node}
 use Rattle.leg_grid.specs.declared.slot.Slot.{Slot}
 use Rattle.leg_grid.specs.Tracks.{Runs}
@@ -18,7 +19,7 @@ use Rattle.leg_grid.specs.OpenMetal.{IsOpenWire, IsOpenStep}
 use Rattle.leg_grid.specs.Grid.{GridSaid, IsGrid, IsSlot, IsNumberOf}
 use Rattle.leg_grid.specs.Beside.{IsAboveOf}
 use Rattle.leg_grid.specs.Steps.Squares.{IsStretch}
-use Rattle.leg_grid.specs.Numbered.{IsBesideAt, IsOpenStepAt}
+use Rattle.leg_grid.specs.Numbered.{IsStepOf, IsBesideAt, IsOpenStepAt}
 use Rattle.leg_grid.proofs.GridSlots.{the_node, numbered, lies_at}
 use Rattle.leg_grid.proofs.OpenNodes.{one_width}
 use Rattle.leg_grid.proofs.FirstVia.{one_via}
@@ -163,3 +164,32 @@ module _ (grid : GridSaid) (is_grid : IsGrid grid) (side : Side) (n next : ℕ) 
       let here = open_at grid is_grid side n next a b a_is b_is flat net step in
       let through = open_via grid.design flat net a b via over in
       same_wire (ViaAt via a.at) (λ is. through.0 (here.0 is), λ clean. here.1 (through.1 clean)) says
+
+side_of : (design : DesignContents) (a b : Node) (wire : Wire) → StepAdds design a b wire → (side : Side) × IsBeside design side a b
+side_of design a b wire (inl along) = by along.in_line where
+  by : IsInLine design a b → (side : Side) × IsBeside design side a b
+  by (inl (inl west)) = (West, west)
+  by (inl (inr east)) = (East, east)
+  by (inr (inl south)) = (South, south)
+  by (inr (inr north)) = (North, north)
+side_of design a b wire (inr through) = by through.over where
+  by : IsOver design through.via a b ⊎ IsOver design through.via b a → (side : Side) × IsBeside design side a b
+  by (inl up) = (Above, (through.via, up))
+  by (inr down) = (Below, (through.via, down))
+
+-- an open step goes to some side, and an open step to a side is one
+pub steps_have_sides : (grid : GridSaid) (flat : FlatSaid) (net m n : ℕ) → IsGrid grid → IsStepOf (IsNumberOf grid) (IsOpenStep grid.design flat net) m n ↔ IsStep (IsBesideAt grid) (IsOpenStepAt grid flat net) m n
+steps_have_sides grid flat net m n is_grid = (
+  λ step.
+      let side = side_of grid.design step.a step.b step.step.wire step.step.adds in
+      (side.0, (record { a = step.a; b = step.b; a_is = step.a_is; b_is = step.b_is; step = side.1 }, record { a = step.a; b = step.b; a_is = step.a_is; beside = side.1; is_open = step.step })),
+  λ step.
+      let beside = step.1.0 in
+      record {
+        a = beside.a;
+        b = beside.b;
+        a_is = beside.a_is;
+        b_is = beside.b_is;
+        step = (open_at grid is_grid step.0 m n beside.a beside.b beside.a_is beside.b_is flat net beside).0 step.1.1;
+      },
+)

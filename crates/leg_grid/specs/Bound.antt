@@ -1,9 +1,11 @@
 -- How many steps are left at least from a slot of a grid to the slots of a box (own rule).
-use Rattle.std.specs.Prelude.{ℕ, ◌+◌, ◌-◌, ◌/◌, ◌%◌, length}
+use Rattle.std.specs.Prelude.{ℕ, ◌+◌, ◌-◌, ◌/◌, ◌%◌, ◌≤◌, length}
 use Rattle.leg_grid.specs.declared.slot.Slot.{Slot}
 use Rattle.leg_grid.specs.declared.slot_box.SlotBox.{SlotBox}
 use Rattle.leg_grid.specs.Grid.{GridSaid}
+use Rattle.leg_walk.specs.declared.side.Side.{Side}
 use Rattle.leg_grid.specs.Beside.{IsWithin}
+use Rattle.leg_grid.specs.Numbered.{IsBesideAt}
 
 -- how far a place lies outside of a stretch
 abbrev pub gap : ℕ → ℕ → ℕ → ℕ
@@ -25,3 +27,17 @@ bound_at grid ends n = slot_bound ends (slot_of grid n)
 pub record IsBoxOf (grid : GridSaid) (ends : SlotBox) : Type 0 where
   pub low : IsWithin grid ends.low
   pub high : IsWithin grid ends.high
+
+-- the slot lies in the box
+pub record IsInBox (ends : SlotBox) (s : Slot) : Type 0 where
+  pub low_layer : ends.low.layer ≤ s.layer
+  pub high_layer : s.layer ≤ ends.high.layer
+  pub low_row : ends.low.row ≤ s.row
+  pub high_row : s.row ≤ ends.high.row
+  pub low_column : ends.low.column ≤ s.column
+  pub high_column : s.column ≤ ends.high.column
+
+-- the node of the number b lies on this side of the node of the number a, and is one nearer at most, as all such nodes are
+pub record IsBesideNear (grid : GridSaid) (ends : SlotBox) (side : Side) (a b : ℕ) : Type 0 where
+  pub beside : IsBesideAt grid side a b
+  pub nearer : bound_at grid ends a ≤ bound_at grid ends b + 1
