@@ -1,16 +1,15 @@
 -- Steps come one nearer at most.
-use Rattle.std.proofs.Common.{◌≡◌, ℕ, ◌+◌, ◌-◌, ◌*◌, ◌/◌, ◌%◌, ◌<◌, ◌≤◌, length, sym, ap, ◌∙◌, arith}
+use Rattle.std.proofs.Common.{◌≡◌, ℕ, ◌+◌, ◌*◌, ◌/◌, ◌%◌, ◌<◌, ◌≤◌, length, sym, ap, ◌∙◌, arith}
 use Rattle.std.proofs.Math.Nat.{mul-le-mul_left, mul-le-mul_right}
 use Rattle.std.proofs.lemmas.Nat.{div-mul-add}
 use Rattle.leg_walk.specs.declared.side.Side.{Side}
 use Rattle.leg_walk.specs.declared.side.Side.TheVariants.{West, East, South, North, Below, Above}
 use Rattle.leg_grid.specs.declared.slot.Slot.{Slot}
 use Rattle.leg_grid.specs.declared.slot_box.SlotBox.{SlotBox}
-use Rattle.leg_grid.specs.Grid.{GridSaid, IsGrid, IsSlot, slot_total}
+use Rattle.leg_grid.specs.Grid.{GridSaid, IsGrid, IsSlot}
 use Rattle.leg_grid.specs.Beside.{IsSlotBeside}
 use Rattle.leg_grid.specs.Numbered.{IsBesideAt}
-use Rattle.leg_grid.specs.Bound.{gap, slot_bound, slot_of, bound_at, IsBoxOf, IsInBox, IsBesideNear}
-use Rattle.leg_grid.proofs.Slots.{one_rest, by_division}
+use Rattle.leg_grid.specs.Bound.{gap, slot_bound, bound_at, IsBoxOf, IsInBox, IsBesideNear}
 use Rattle.leg_grid.proofs.StepsAt.{step_from}
 
 -- the slot of a number is told by division
