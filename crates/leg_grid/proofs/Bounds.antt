@@ -1,0 +1,122 @@
+-- Steps come one nearer at most.
+use Rattle.std.proofs.Common.{◌≡◌, ℕ, ◌+◌, ◌*◌, ◌/◌, ◌%◌, ◌<◌, ◌≤◌, length, sym, ap, ◌∙◌, arith}
+use Rattle.std.proofs.Math.Nat.{mul-le-mul_left, mul-le-mul_right}
+use Rattle.std.proofs.lemmas.Nat.{div-mul-add}
+use Rattle.leg_walk.specs.declared.side.Side.{Side}
+use Rattle.leg_walk.specs.declared.side.Side.TheVariants.{West, East, South, North, Below, Above}
+use Rattle.leg_grid.specs.declared.slot.Slot.{Slot}
+use Rattle.leg_grid.specs.declared.slot_box.SlotBox.{SlotBox}
+use Rattle.leg_grid.specs.Grid.{GridSaid, IsGrid, IsSlot}
+use Rattle.leg_grid.specs.Beside.{IsSlotBeside}
+use Rattle.leg_grid.specs.Numbered.{IsBesideAt}
+use Rattle.leg_grid.specs.Bound.{gap, slot_bound, bound_at, IsBoxOf, IsInBox, IsBesideNear}
+use Rattle.leg_grid.proofs.StepsAt.{step_from}
+
+-- the slot of a number is told by division
+pub record IsSlotOf (grid : GridSaid) (n k j i : ℕ) : Type 0 where
+  pub layer : n / length grid.xs / length grid.ys ≡ k
+  pub row : n / length grid.xs % length grid.ys ≡ j
+  pub column : n % length grid.xs ≡ i
+
+rest_of : (size a i : ℕ) → i < size → (a * size + i) % size ≡ i
+rest_of size a i within = let q = div-mul-add a size i within in let e : (a * size + i) / size * size ≡ a * size = ap (λ (n : ℕ). n * size) q in omega (arith, e)
+
+pub slot_is : (grid : GridSaid) (n k j i : ℕ) → IsSlot grid n k j i → IsSlotOf grid n k j i
+slot_is grid n k j i slot =
+    let lines : n / length grid.xs ≡ k * length grid.ys + j = ap (λ (m : ℕ). m / length grid.xs) slot.is ∙ div-mul-add (k * length grid.ys + j) (length grid.xs) i slot.column in
+    record {
+      layer = ap (λ (m : ℕ). m / length grid.ys) lines ∙ div-mul-add k (length grid.ys) j slot.row;
+      row = ap (λ (m : ℕ). m % length grid.ys) lines ∙ rest_of (length grid.ys) k j slot.row;
+      column = ap (λ (m : ℕ). m % length grid.xs) slot.is ∙ rest_of (length grid.xs) (k * length grid.ys + j) i slot.column;
+    }
+
+pub bound_is : (grid : GridSaid) (ends : SlotBox) (n : ℕ) (s : Slot) → IsSlot grid n s.layer s.row s.column → bound_at grid ends n ≡ slot_bound ends s
+bound_is grid ends n s slot =
+    let is = slot_is grid n s.layer s.row s.column slot in
+    λ i. slot_bound ends (record { layer = is.layer i; row = is.row i; column = is.column i })
+
+-- no count of a grid's layers, rows and columns is above their product
+pub record AreFew (limit layers rows columns : ℕ) : Type 0 where
+  pub layers_few : layers ≤ limit
+  pub rows_few : rows ≤ limit
+  pub columns_few : columns ≤ limit
+
+pub few_each : (limit layers rows columns : ℕ) → layers * rows * columns ≤ limit → 0 < layers → 0 < rows → 0 < columns → AreFew limit layers rows columns
+few_each limit layers rows columns few l r c =
+    let lines : (layers * rows) * 1 ≤ layers * rows * columns = mul-le-mul_left (layers * rows) c in
+    let by_row : layers * 1 ≤ layers * rows = mul-le-mul_left layers r in
+    let by_layer : 1 * rows ≤ layers * rows = mul-le-mul_right rows l in
+    let some : 1 ≤ layers * rows = omega (arith, by_row) in
+    let by_line : 1 * columns ≤ layers * rows * columns = mul-le-mul_right columns some in
+    record { layers_few = omega (arith, lines, by_row); rows_few = omega (arith, lines, by_layer); columns_few = omega (arith, by_line) }
+
+near : (low high a b : ℕ) → a ≤ b + 1 → b ≤ a + 1 → gap low high a ≤ gap low high b + 1
+near low high a b less more = omega arith
+
+same_gap : (low high a b : ℕ) → a ≡ b → gap low high a ≡ gap low high b
+same_gap low high a b same = ap (gap low high) same
+
+slots_near : (grid : GridSaid) (ends : SlotBox) (side : Side) (s t : Slot) → IsSlotBeside grid side s t → slot_bound ends s ≤ slot_bound ends t + 1
+slots_near grid ends West s t e =
+    let n = near ends.low.column ends.high.column s.column t.column (omega (arith, e.next)) (omega (arith, e.next)) in
+    let l = same_gap ends.low.layer ends.high.layer s.layer t.layer e.same_layer in
+    let r = same_gap ends.low.row ends.high.row s.row t.row e.same_row in
+    omega (arith, n, l, r)
+slots_near grid ends East s t e =
+    let n = near ends.low.column ends.high.column s.column t.column (omega (arith, e.next)) (omega (arith, e.next)) in
+    let l = same_gap ends.low.layer ends.high.layer s.layer t.layer (sym e.same_layer) in
+    let r = same_gap ends.low.row ends.high.row s.row t.row (sym e.same_row) in
+    omega (arith, n, l, r)
+slots_near grid ends South s t e =
+    let n = near ends.low.row ends.high.row s.row t.row (omega (arith, e.next)) (omega (arith, e.next)) in
+    let l = same_gap ends.low.layer ends.high.layer s.layer t.layer e.same_layer in
+    let r = same_gap ends.low.column ends.high.column s.column t.column e.same_column in
+    omega (arith, n, l, r)
+slots_near grid ends North s t e =
+    let n = near ends.low.row ends.high.row s.row t.row (omega (arith, e.next)) (omega (arith, e.next)) in
+    let l = same_gap ends.low.layer ends.high.layer s.layer t.layer (sym e.same_layer) in
+    let r = same_gap ends.low.column ends.high.column s.column t.column (sym e.same_column) in
+    omega (arith, n, l, r)
+slots_near grid ends Below s t e =
+    let n = near ends.low.layer ends.high.layer s.layer t.layer (omega (arith, e.next)) (omega (arith, e.next)) in
+    let l = same_gap ends.low.row ends.high.row s.row t.row e.same_row in
+    let r = same_gap ends.low.column ends.high.column s.column t.column e.same_column in
+    omega (arith, n, l, r)
+slots_near grid ends Above s t e =
+    let n = near ends.low.layer ends.high.layer s.layer t.layer (omega (arith, e.next)) (omega (arith, e.next)) in
+    let l = same_gap ends.low.row ends.high.row s.row t.row (sym e.same_row) in
+    let r = same_gap ends.low.column ends.high.column s.column t.column (sym e.same_column) in
+    omega (arith, n, l, r)
+
+-- a step comes one nearer at most
+pub one_nearer : (grid : GridSaid) (ends : SlotBox) (side : Side) (n to : ℕ) → IsGrid grid → IsBesideAt grid side n to → bound_at grid ends n ≤ bound_at grid ends to + 1
+one_nearer grid ends side n to is_grid step =
+    let number = step.a_is in
+    let s : Slot = record { layer = number.k; row = number.j; column = number.i } in
+    let from = step_from grid side n s to is_grid number.slot step in
+    rw (bound_is grid ends n s number.slot, bound_is grid ends to from.t from.number) (slots_near grid ends side s from.t from.beside.beside)
+
+gap_below : (n low high place : ℕ) → low < n → place < n → gap low high place < n
+gap_below n low high place l p = omega arith
+
+pub bound_small : (grid : GridSaid) (ends : SlotBox) (n : ℕ) (s : Slot) → IsGrid grid → IsBoxOf grid ends → IsSlot grid n s.layer s.row s.column → slot_bound ends s ≤ 12582912
+bound_small grid ends n s is_grid box slot =
+    let layer = slot.layer in
+    let row = slot.row in
+    let column = slot.column in
+    let few = few_each 4194304 (length grid.layers) (length grid.ys) (length grid.xs) is_grid.few (omega arith) (omega arith) (omega arith) in
+    let l = gap_below (length grid.layers) ends.low.layer ends.high.layer s.layer box.low.layer layer in
+    let r = gap_below (length grid.ys) ends.low.row ends.high.row s.row box.low.row row in
+    let c = gap_below (length grid.xs) ends.low.column ends.high.column s.column box.low.column column in
+    omega (arith, few.layers_few, few.rows_few, few.columns_few, l, r, c)
+
+pub in_box : (grid : GridSaid) (ends : SlotBox) (n : ℕ) (s : Slot) → IsSlot grid n s.layer s.row s.column → IsInBox ends s → bound_at grid ends n ≡ 0
+in_box grid ends n s slot inside =
+    let l : gap ends.low.layer ends.high.layer s.layer ≡ 0 = omega (arith, inside.low_layer, inside.high_layer) in
+    let r : gap ends.low.row ends.high.row s.row ≡ 0 = omega (arith, inside.low_row, inside.high_row) in
+    let c : gap ends.low.column ends.high.column s.column ≡ 0 = omega (arith, inside.low_column, inside.high_column) in
+    let sum : slot_bound ends s ≡ 0 = omega (arith, l, r, c) in
+    bound_is grid ends n s slot ∙ sum
+
+pub beside_near : (grid : GridSaid) (ends : SlotBox) (side : Side) (n to : ℕ) → IsGrid grid → IsBesideAt grid side n to → IsBesideNear grid ends side n to
+beside_near grid ends side n to is_grid step = record { beside = step; nearer = one_nearer grid ends side n to is_grid step }

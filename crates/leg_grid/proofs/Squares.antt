@@ -1,0 +1,82 @@
+-- Patches that are open.
+use Rattle.std.proofs.Common.{◌≡◌, ℕ, suc, zero, ◌<◌, ◌≤◌, ◌↔◌, ℤ, pos, negsuc, ◌+ℤ◌, ◌≤ℤ◌, ◌<ℤ◌, unsigned_abs, [], ◌∷◌, Contains, get_or, refl, subst, arith}
+use Rattle.std.proofs.lemmas.Int.{ints}
+use Rattle.leg_geom.specs.Plane.{Spot, Sides, HasPoint}
+use Rattle.leg_geom.specs.Orientation.{placed, StaysWithin}
+use Rattle.leg_geom.specs.declared.orient.Orient.TheVariants.{N}
+use Rattle.leg_cells.specs.Sound.{IsWidth}
+use Rattle.leg_cells.specs.Records.{Contents}
+use Rattle.leg_block.specs.Records.{DesignContents}
+use Rattle.leg_block.specs.WellFormedParts.{IsPosition}
+use Rattle.leg_flat.specs.declared.shape.Shape.{Shape}
+use Rattle.leg_flat.specs.Outline.{Outline, HasPointOf}
+use Rattle.leg_flat.specs.Metal.{OnLayer}
+use Rattle.leg_flat.specs.Flat.{FlatSaid}
+use Rattle.leg_wire.specs.Comparable.{AreComparable}
+use Rattle.leg_wire.specs.Clean.{net_metal, IsClean}
+use Rattle.leg_grid.specs.Added.{half}
+use Rattle.leg_grid.specs.Steps.Squares.{IsSmall}
+
+-- half of a width is above 0, and is a number that a DEF may have
+pub record IsHalf (h : ℤ) : Type 0 where
+  pub some : pos 1 ≤ℤ h
+  pub within : unsigned_abs h ≤ 200000000
+
+pub half_is : (width : ℤ) → IsWidth width → IsHalf (half width)
+half_is (pos a) is =
+    let above = is.above in
+    let within = is.within in
+    let even = is.even in
+    record { some = halved a even.0 even.1 above; within = omega (arith, ints) } where
+      halved : (a : ℕ) (h : ℤ) → pos a ≡ h +ℤ h → pos 0 <ℤ pos a → pos 1 ≤ℤ half (pos a)
+      halved a h e above = omega (arith, ints)
+half_is (negsuc a) is = absurd (let above = is.above in let e : ⊥ = omega (arith, ints) in e)
+
+pub stays : (at : Spot) (r : Sides) → IsPosition at → IsSmall r → StaysWithin (placed at N (pos 0) (pos 0)) r
+stays at r there small p inside =
+    let x1 = small.x1 in
+    let x2 = small.x2 in
+    let y1 = small.y1 in
+    let y2 = small.y2 in
+    let left = inside.left in
+    let right = inside.right in
+    let bottom = inside.bottom in
+    let top = inside.top in
+    record { x = omega (arith, ints); y = omega (arith, ints) }
+
+-- what lies within clean metal is clean
+pub clean_within : (library : Contents) (flat : FlatSaid) (net layer : ℕ) (rect r : Sides) → ((p : Spot) → HasPoint r p → HasPoint rect p) → IsClean library flat net layer rect → IsClean library flat net layer r
+clean_within library flat net layer rect r within clean = record {
+  no_short = λ shape has short. clean.no_short shape has (record { comparable = comparable shape short.comparable; shared = record { point = short.shared.point; in_a = within short.shared.point short.shared.in_a; in_b = short.shared.in_b } });
+  far = λ shape has near. clean.far shape has (record {
+    comparable = comparable shape near.comparable;
+    apart = λ shared. clean.no_short shape has (record { comparable = comparable shape near.comparable; shared = shared });
+    layer = near.layer;
+    there = near.there;
+    near = record { p = near.near.p; q = near.near.q; in_a = within near.near.p near.near.in_a; in_b = near.near.in_b; near = near.near.near };
+  });
+} where
+  comparable : (shape : Shape) → AreComparable (net_metal net layer r) shape → AreComparable (net_metal net layer rect) shape
+  comparable shape is = record { layer = is.layer; owners = is.owners; apart = λ one. is.apart (record { component = one.component; of_a = one.of_a; of_b = one.of_b }); metal = is.metal }
+
+-- metal of one outline, which has the points of a rectangle
+module _ (design : DesignContents) (flat : FlatSaid) (net layer : ℕ) (outline : Outline) (rect : Sides) (points : (p : Spot) → HasPoint rect p ↔ HasPointOf outline p) where
+  abbrev the_metal : OnLayer
+  the_metal = record { layer = layer; outline = outline }
+
+  abbrev pub IsOpenMetal : Type 0
+  IsOpenMetal = (metal : OnLayer) (r : Sides) → Contains (the_metal ∷ []) metal → ((p : Spot) → HasPoint r p ↔ HasPointOf metal.outline p) → IsClean design.library flat net metal.layer r
+
+  pub open_is_clean : IsOpenMetal → IsClean design.library flat net layer rect
+  open_is_clean is_open = is_open the_metal rect (0, omega arith, refl) points
+
+  pub clean_is_open : IsClean design.library flat net layer rect → IsOpenMetal
+  clean_is_open clean metal r there same = by there.0 there.1 there.2 where
+    within : (m : OnLayer) → the_metal ≡ m → ((p : Spot) → HasPoint r p ↔ HasPointOf m.outline p) → IsClean design.library flat net m.layer r
+    within m is =
+        let P : OnLayer → Type 0 = λ m. ((p : Spot) → HasPoint r p ↔ HasPointOf m.outline p) → IsClean design.library flat net m.layer r in
+        subst P is (λ all. clean_within design.library flat net layer rect r (λ p inside. (points p).1 ((all p).0 inside)) clean)
+
+    by : (k : ℕ) → k < 1 → get_or (the_metal ∷ []) k metal ≡ metal → IsClean design.library flat net metal.layer r
+    by zero below is = within metal is same
+    by (suc k) below is = absurd (omega (arith, below))

@@ -1,0 +1,43 @@
+-- How many steps are left at least from a slot of a grid to the slots of a box (own rule).
+use Rattle.std.specs.Prelude.{ℕ, ◌+◌, ◌-◌, ◌/◌, ◌%◌, ◌≤◌, length}
+use Rattle.leg_grid.specs.declared.slot.Slot.{Slot}
+use Rattle.leg_grid.specs.declared.slot_box.SlotBox.{SlotBox}
+use Rattle.leg_grid.specs.Grid.{GridSaid}
+use Rattle.leg_walk.specs.declared.side.Side.{Side}
+use Rattle.leg_grid.specs.Beside.{IsWithin}
+use Rattle.leg_grid.specs.Numbered.{IsBesideAt}
+
+-- how far a place lies outside of a stretch
+abbrev pub gap : ℕ → ℕ → ℕ → ℕ
+gap low high place = (low - place) + (place - high)
+
+-- how many layers, rows and columns a slot lies outside of the box
+abbrev pub slot_bound : SlotBox → Slot → ℕ
+slot_bound ends s = gap ends.low.layer ends.high.layer s.layer + gap ends.low.row ends.high.row s.row + gap ends.low.column ends.high.column s.column
+
+-- the slot of this number
+abbrev pub slot_of : GridSaid → ℕ → Slot
+slot_of grid n = record { layer = n / length grid.xs / length grid.ys; row = n / length grid.xs % length grid.ys; column = n % length grid.xs }
+
+-- the same for the slot of this number
+abbrev pub bound_at : GridSaid → SlotBox → ℕ → ℕ
+bound_at grid ends n = slot_bound ends (slot_of grid n)
+
+-- the corners of the box are slots of the grid
+pub record IsBoxOf (grid : GridSaid) (ends : SlotBox) : Type 0 where
+  pub low : IsWithin grid ends.low
+  pub high : IsWithin grid ends.high
+
+-- the slot lies in the box
+pub record IsInBox (ends : SlotBox) (s : Slot) : Type 0 where
+  pub low_layer : ends.low.layer ≤ s.layer
+  pub high_layer : s.layer ≤ ends.high.layer
+  pub low_row : ends.low.row ≤ s.row
+  pub high_row : s.row ≤ ends.high.row
+  pub low_column : ends.low.column ≤ s.column
+  pub high_column : s.column ≤ ends.high.column
+
+-- the node of the number b lies on this side of the node of the number a, and is one nearer at most, as all such nodes are
+pub record IsBesideNear (grid : GridSaid) (ends : SlotBox) (side : Side) (a b : ℕ) : Type 0 where
+  pub beside : IsBesideAt grid side a b
+  pub nearer : bound_at grid ends a ≤ bound_at grid ends b + 1

@@ -1,0 +1,17 @@
+pub mod Tracks
+pub mod Nodes
+pub mod Between
+pub mod Neighbours
+pub mod Added
+pub mod OpenMetal
+pub mod Meets
+pub mod Spelling
+pub mod MoreWires
+pub mod Run
+pub mod GridSize
+pub mod Refusals
+pub mod Grid
+pub mod Beside
+pub mod Numbered
+pub mod Bound
+pub mod Steps

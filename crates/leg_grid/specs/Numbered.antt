@@ -1,0 +1,48 @@
+-- Walks over the grid, told by the numbers of slots.
+use Rattle.std.specs.Prelude.{ℕ, List}
+use Rattle.leg_flat.specs.Flat.{FlatSaid}
+use Rattle.leg_walk.specs.Walk.{IsShortest, NoWalk}
+use Rattle.leg_walk.specs.declared.side.Side.{Side}
+use Rattle.leg_grid.specs.declared.node.Node.{Node}
+use Rattle.leg_grid.specs.Neighbours.{IsBeside}
+use Rattle.leg_grid.specs.OpenMetal.{IsOpenNode, IsOpenStep}
+use Rattle.leg_grid.specs.Meets.{MeetsJoined, MeetsRest}
+use Rattle.leg_grid.specs.Grid.{GridSaid, IsNumberOf}
+
+-- this holds of the node of this number
+pub record IsOneOf {Point : Type 0} (Number : ℕ → Point → Type 0) (P : Point → Type 0) (n : ℕ) : Type 0 where
+  pub node : Point
+  pub is : Number n node
+  pub holds : P node
+
+-- there is such a step from the node of the one number to that of the other
+pub record IsStepOf {Point : Type 0} (Number : ℕ → Point → Type 0) (Step : Point → Point → Type 0) (m n : ℕ) : Type 0 where
+  pub a : Point
+  pub b : Point
+  pub a_is : Number m a
+  pub b_is : Number n b
+  pub step : Step a b
+
+-- the numbers of a shortest open walk from the net's joined part to the rest
+abbrev pub IsNextWalkAt : GridSaid → FlatSaid → ℕ → List ℕ → Type 0
+IsNextWalkAt grid flat net numbers =
+    IsShortest (IsOneOf (IsNumberOf grid) (IsOpenNode grid.design flat net)) (IsStepOf (IsNumberOf grid) (IsOpenStep grid.design flat net))
+    (IsOneOf (IsNumberOf grid) (MeetsJoined flat net)) (IsOneOf (IsNumberOf grid) (MeetsRest flat net)) numbers
+
+-- there are no numbers of such a walk
+abbrev pub HasNoWalkAt : GridSaid → FlatSaid → ℕ → Type 0
+HasNoWalkAt grid flat net =
+    NoWalk (IsOneOf (IsNumberOf grid) (IsOpenNode grid.design flat net)) (IsStepOf (IsNumberOf grid) (IsOpenStep grid.design flat net))
+    (IsOneOf (IsNumberOf grid) (MeetsJoined flat net)) (IsOneOf (IsNumberOf grid) (MeetsRest flat net))
+
+-- the node of the number n lies on this side of the node of the number m
+abbrev pub IsBesideAt : GridSaid → Side → ℕ → ℕ → Type 0
+IsBesideAt grid side m n = IsStepOf (IsNumberOf grid) (IsBeside grid.design side) m n
+
+-- the step from the node of the number n to the node on this side of it is open to the net
+pub record IsOpenStepAt (grid : GridSaid) (flat : FlatSaid) (net : ℕ) (side : Side) (n : ℕ) : Type 0 where
+  pub a : Node
+  pub b : Node
+  pub a_is : IsNumberOf grid n a
+  pub beside : IsBeside grid.design side a b
+  pub is_open : IsOpenStep grid.design flat net a b

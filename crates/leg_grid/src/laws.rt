@@ -1,0 +1,52 @@
+//! What follows from the definitions alone, as functions whose contracts say it.
+
+ghost use Rattle.std.specs.Prelude.{◌≡◌, ◌↔◌, ◌+◌, ◌≤◌, ℕ, List};
+ghost use Rattle.std.specs.List.{AllZip};
+ghost use Rattle.leg_flat.specs.Flat.{FlatSaid};
+ghost use Rattle.leg_grid.specs.declared.node.Node.{Node};
+ghost use Rattle.leg_walk.specs.declared.side.Side.{Side};
+ghost use Rattle.leg_grid.specs.declared.slot.Slot.{Slot};
+ghost use Rattle.leg_grid.specs.Nodes.{IsNode};
+ghost use Rattle.leg_grid.specs.Neighbours.{IsBeside};
+ghost use Rattle.leg_grid.specs.Beside.{IsSlotBeside};
+ghost use Rattle.leg_walk.specs.Walk.{IsStep};
+ghost use Rattle.leg_grid.specs.declared.slot_box.SlotBox.{SlotBox};
+ghost use Rattle.leg_grid.specs.OpenMetal.{IsOpenStep};
+ghost use Rattle.leg_grid.specs.Bound.{bound_at, IsInBox};
+ghost use Rattle.leg_grid.specs.Run.{IsNextWalk, HasNoWalk};
+ghost use Rattle.leg_grid.specs.Grid.{GridSaid, IsGrid, IsSlot, LiesAt, IsNumberOf};
+ghost use Rattle.leg_grid.specs.Numbered.{IsStepOf, IsBesideAt, IsOpenStepAt, IsNextWalkAt, HasNoWalkAt};
+
+/// Each node of the grid has a number, no two have one, and none has two.
+#[tactic(auto, using(crate::proofs::GridSlots::one_node, crate::proofs::GridSlots::one_number, crate::proofs::GridSlots::numbered))]
+pub fn nodes_have_numbers()
+    ensures some { (grid : GridSaid) (node : Node) → IsGrid grid → IsNode grid.design node → (n : ℕ) × IsNumberOf grid n node }
+    ensures apart { (grid : GridSaid) (n : ℕ) (a b : Node) → IsGrid grid → IsNumberOf grid n a → IsNumberOf grid n b → a ≡ b }
+    ensures once { (grid : GridSaid) (m n : ℕ) (node : Node) → IsGrid grid → IsNumberOf grid m node → IsNumberOf grid n node → m ≡ n }
+{}
+
+/// A shortest open walk that is told by numbers is one of nodes; where no numbers are those of an open walk, there is none.
+#[tactic(auto, using(crate::proofs::NextWalks::next_walk, crate::proofs::NextWalks::no_next_walk))]
+pub fn numbers_walk_as_nodes()
+    ensures shortest { (grid : GridSaid) (flat : FlatSaid) (net : ℕ) (numbers : List ℕ) → IsGrid grid → IsNextWalkAt grid flat net numbers → (nodes : List Node) × AllZip (IsNumberOf grid) numbers nodes × IsNextWalk grid.design flat net nodes }
+    ensures none { (grid : GridSaid) (flat : FlatSaid) (net : ℕ) → IsGrid grid → HasNoWalkAt grid flat net → HasNoWalk grid.design flat net }
+{}
+
+/// Slots in which nodes lie step to the slots beside them just as their nodes do.
+pub fn slots_step_as_nodes()
+    ensures { (grid : GridSaid) (side : Side) (s t : Slot) (a b : Node) → IsGrid grid → LiesAt grid s.layer s.row s.column a → LiesAt grid t.layer t.row t.column b
+        → IsNode grid.design a → IsNode grid.design b → (IsSlotBeside grid side s t ↔ IsBeside grid.design side a b) }
+{}
+
+/// An open step goes to some side, where it is open; and what is beside a node, where the step to that side is open, is an
+/// open step away.
+pub fn open_steps_have_sides()
+    ensures { (grid : GridSaid) (flat : FlatSaid) (net m n : ℕ) → IsGrid grid
+        → (IsStepOf (IsNumberOf grid) (IsOpenStep grid.design flat net) m n ↔ IsStep (IsBesideAt grid) (IsOpenStepAt grid flat net) m n) }
+{}
+
+/// A step comes one nearer to a box at most, and slots in the box are at it.
+pub fn bounds_hold()
+    ensures nearer { (grid : GridSaid) (ends : SlotBox) (side : Side) (n to : ℕ) → IsGrid grid → IsBesideAt grid side n to → bound_at grid ends n ≤ bound_at grid ends to + 1 }
+    ensures inside { (grid : GridSaid) (ends : SlotBox) (n : ℕ) (s : Slot) → IsSlot grid n s.layer s.row s.column → IsInBox ends s → bound_at grid ends n ≡ 0 }
+{}

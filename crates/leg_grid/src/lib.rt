@@ -1,0 +1,33 @@
+//! The grid on which nets are routed: its nodes and steps by the tracks of a design, and which of them are open to a net.
+#![tactic(auto)]
+
+mod fault;
+mod grid;
+pub mod laws;
+mod layers;
+mod limits;
+mod lines;
+mod neighbour;
+mod net_graph;
+mod node;
+mod open_node;
+mod open_step;
+mod patch;
+mod size;
+mod slot;
+mod slot_box;
+mod strip;
+mod through;
+mod track_marks;
+mod via_patches;
+
+pub use fault::GridFault;
+pub use grid::Grid;
+pub use layers::RoutingLayer;
+pub use limits::GRID_LIMIT;
+pub use net_graph::NetGraph;
+pub use node::Node;
+pub use open_node::is_open_node;
+pub use open_step::is_open_step;
+pub use slot::Slot;
+pub use slot_box::{SlotBox, bound};

@@ -1,0 +1,70 @@
+//! Steps along a layer, and whether they are open to a net.
+
+ghost use Rattle.std.specs.Prelude.{◌≡◌, ◌↔◌, ◌-ℤ◌, ◌+ℤ◌, ◌≤ℤ◌, IsTrue, map};
+ghost use Rattle.leg_lex.specs.Number.{IsNumber};
+ghost use Rattle.leg_geom.specs.Steps.Intervals.{IsSpan};
+ghost use Rattle.leg_cells.specs.Sound.{IsWidth};
+ghost use Rattle.leg_block.specs.declared.records.Wire.TheVariants.{Segment};
+ghost use Rattle.leg_block.specs.WellFormedParts.{IsPosition};
+ghost use Rattle.leg_grid.specs.Added.{half};
+ghost use Rattle.leg_grid.specs.OpenMetal.{IsOpenWire};
+ghost use Rattle.leg_grid.specs.Steps.Squares.{IsStretch};
+
+use crate::patch::half;
+use leg_block::Design;
+use leg_flat::Flat;
+use leg_geom::{Point, Rect};
+use leg_sweep::BinIndex;
+use leg_wire::clean_indexed;
+use std::alloc::Allocator;
+
+/// From the lower of two coordinates to the higher, and half this width past both.
+fn reach(low: i64, high: i64, width: i64) -> (i64, i64)
+    requires width { IsWidth width }
+    requires low { IsNumber low }
+    requires high { IsNumber high }
+    requires order { low ≤ℤ high }
+    ensures span { IsSpan (record { low = result.0; high = result.1 }) }
+    ensures low { result.0 ≡ low -ℤ half width }
+    ensures high { result.1 ≡ high +ℤ half width }
+{
+    let half = half(width);
+    (low - half, high + half)
+}
+
+/// The rectangle from one point to another, and half this width past both.
+fn strip(low: &Point, high: &Point, width: i64) -> Rect
+    requires width { IsWidth width }
+    requires low { IsPosition low.now }
+    requires high { IsPosition high.now }
+    requires stretch { IsStretch low.now high.now }
+    ensures { result ≡ record { x1 = low.now.x -ℤ half width; y1 = low.now.y -ℤ half width; x2 = high.now.x +ℤ half width; y2 = high.now.y +ℤ half width } }
+{
+    let (left, right) = reach(low.x(), high.x(), width);
+    let (bottom, top) = reach(low.y(), high.y(), width);
+    Rect::new(left, bottom, right, top).unwrap()
+}
+
+/// Whether a segment of this width between two points is open to the net, which reaches past both by half the width. It
+/// does not matter from which of them it is told.
+pub(crate) fn is_open_strip<A: Allocator + Copy>(
+    design: &Design<'_, A>,
+    flat: &Flat<A>,
+    index: &BinIndex<A>,
+    net: u32,
+    layer: usize,
+    low: &Point,
+    high: &Point,
+    width: i64,
+) -> bool
+    requires indexed { index.now ≡ map (λ shape. shape.rect) flat.now.shapes }
+    requires width { IsWidth width }
+    requires low { IsPosition low.now }
+    requires high { IsPosition high.now }
+    requires stretch { IsStretch low.now high.now }
+    ensures forth { IsTrue result ↔ IsOpenWire design.now flat.now net (Segment layer low.now high.now width (half width) (half width)) }
+    ensures back { IsTrue result ↔ IsOpenWire design.now flat.now net (Segment layer high.now low.now width (half width) (half width)) }
+{
+    let metal = strip(low, high, width);
+    clean_indexed(design.library(), flat, index, net, layer, metal)
+}
