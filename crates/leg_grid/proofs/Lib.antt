@@ -19,3 +19,9 @@ pub mod NextWalks
 pub mod Squares
 pub mod OpenNodes
 pub mod Beside
+pub mod Due
+pub mod GridWires
+pub mod WalkWires
+pub mod ViaUp
+pub mod FirstSteps
+pub mod OpenWalks

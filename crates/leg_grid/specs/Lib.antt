@@ -13,4 +13,5 @@ pub mod Refusals
 pub mod Grid
 pub mod Beside
 pub mod Numbered
+pub mod GridWalk
 pub mod Steps

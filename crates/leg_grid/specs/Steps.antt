@@ -4,3 +4,5 @@ pub mod LayerList
 pub mod TrackMarks
 pub mod Joining
 pub mod Squares
+pub mod Towards
+pub mod FirstWire

@@ -9,6 +9,8 @@ ghost use Rattle.leg_grid.specs.declared.slot.Slot.{Slot};
 ghost use Rattle.leg_grid.specs.Nodes.{IsNode};
 ghost use Rattle.leg_grid.specs.Neighbours.{IsBeside};
 ghost use Rattle.leg_grid.specs.Beside.{IsSlotBeside};
+ghost use Rattle.leg_grid.specs.GridWalk.{IsGridWalk};
+ghost use Rattle.leg_block.specs.Records.{DesignContents};
 ghost use Rattle.leg_grid.specs.Run.{IsNextWalk, HasNoWalk};
 ghost use Rattle.leg_grid.specs.Grid.{GridSaid, IsGrid, LiesAt, IsNumberOf};
 ghost use Rattle.leg_grid.specs.Numbered.{IsNextWalkAt, HasNoWalkAt};
@@ -32,4 +34,9 @@ pub fn numbers_walk_as_nodes()
 pub fn slots_step_as_nodes()
     ensures { (grid : GridSaid) (side : Side) (s t : Slot) (a b : Node) → IsGrid grid → LiesAt grid s.layer s.row s.column a → LiesAt grid t.layer t.row t.column b
         → IsNode grid.design a → IsNode grid.design b → (IsSlotBeside grid side s t ↔ IsBeside grid.design side a b) }
+{}
+
+/// An open walk is a walk over the grid.
+pub fn open_walks_are_grid_walks()
+    ensures { (design : DesignContents) (flat : FlatSaid) (net : ℕ) (nodes : List Node) → IsNextWalk design flat net nodes → IsGridWalk design nodes }
 {}

@@ -10,8 +10,10 @@ mod lines;
 mod node;
 mod open_node;
 mod patch;
+mod sides;
 mod size;
 mod slot;
+mod spelling;
 mod through;
 mod track_marks;
 
@@ -22,3 +24,4 @@ pub use limits::GRID_LIMIT;
 pub use node::Node;
 pub use open_node::is_open_node;
 pub use slot::Slot;
+pub use spelling::wires_of;

@@ -18,7 +18,7 @@ use leg_wire::clean;
 use std::alloc::Allocator;
 
 /// Half a width.
-fn half(width: i64) -> i64
+pub(crate) fn half(width: i64) -> i64
     ensures { result ≡ half width }
 {
     width.div_euclid(2)
