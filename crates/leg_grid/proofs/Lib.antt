@@ -25,3 +25,9 @@ pub mod Strips
 pub mod OpenVias
 pub mod OpenSteps
 pub mod Bounds
+pub mod Due
+pub mod GridWires
+pub mod WalkWires
+pub mod ViaUp
+pub mod FirstSteps
+pub mod OpenWalks

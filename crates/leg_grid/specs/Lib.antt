@@ -14,4 +14,5 @@ pub mod Grid
 pub mod Beside
 pub mod Numbered
 pub mod Bound
+pub mod GridWalk
 pub mod Steps

@@ -5,3 +5,5 @@ pub mod TrackMarks
 pub mod Joining
 pub mod Squares
 pub mod SlotSides
+pub mod Towards
+pub mod FirstWire

@@ -13,6 +13,8 @@ ghost use Rattle.leg_walk.specs.Walk.{IsStep};
 ghost use Rattle.leg_grid.specs.declared.slot_box.SlotBox.{SlotBox};
 ghost use Rattle.leg_grid.specs.OpenMetal.{IsOpenStep};
 ghost use Rattle.leg_grid.specs.Bound.{bound_at, IsInBox};
+ghost use Rattle.leg_grid.specs.GridWalk.{IsGridWalk};
+ghost use Rattle.leg_block.specs.Records.{DesignContents};
 ghost use Rattle.leg_grid.specs.Run.{IsNextWalk, HasNoWalk};
 ghost use Rattle.leg_grid.specs.Grid.{GridSaid, IsGrid, IsSlot, LiesAt, IsNumberOf};
 ghost use Rattle.leg_grid.specs.Numbered.{IsStepOf, IsBesideAt, IsOpenStepAt, IsNextWalkAt, HasNoWalkAt};
@@ -49,4 +51,7 @@ pub fn open_steps_have_sides()
 pub fn bounds_hold()
     ensures nearer { (grid : GridSaid) (ends : SlotBox) (side : Side) (n to : ℕ) → IsGrid grid → IsBesideAt grid side n to → bound_at grid ends n ≤ bound_at grid ends to + 1 }
     ensures inside { (grid : GridSaid) (ends : SlotBox) (n : ℕ) (s : Slot) → IsSlot grid n s.layer s.row s.column → IsInBox ends s → bound_at grid ends n ≡ 0 }
+/// An open walk is a walk over the grid.
+pub fn open_walks_are_grid_walks()
+    ensures { (design : DesignContents) (flat : FlatSaid) (net : ℕ) (nodes : List Node) → IsNextWalk design flat net nodes → IsGridWalk design nodes }
 {}

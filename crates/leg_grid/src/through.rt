@@ -78,7 +78,7 @@ fn first_via<A: Allocator + Copy>(
 
 /// The via by which wires go from one routing layer to another above it, by its number: the first default via that joins
 /// them, or where there is none the first via that does.
-fn via_between<A: Allocator + Copy>(
+pub(crate) fn via_between<A: Allocator + Copy>(
     library: &Library<'_, A>,
     low: usize,
     high: usize,
