@@ -1,0 +1,11 @@
+pub mod Increasing
+pub mod Slots
+pub mod NumberedWalks
+pub mod NextValues
+pub mod Within
+pub mod TrackLines
+pub mod Service
+pub mod GridValues
+pub mod Pushed
+pub mod Marked
+pub mod Sizes

@@ -1,0 +1,32 @@
+-- The elements of a list that has got one more.
+use Rattle.std.proofs.Common.{◌≡◌, ℕ, suc, zero, ◌+◌, ◌<◌, ◌≤◌, ◌⊎◌, inl, inr, List, [], ◌∷◌, ◌++◌, Some, None, slice_get, length, refl, sym, arith}
+use Rattle.std.proofs.lemmas.Option.{same_Some, none-some, slice_get_within}
+
+-- an element of it is an old one, or the new one in the last place
+pub record IsOld {X : Type 0} (xs : List X) (j : ℕ) (y : X) : Type 0 where
+  pub below : j < length xs
+  pub is : slice_get xs j ≡ Some y
+
+pub record IsLast {X : Type 0} (xs : List X) (x : X) (j : ℕ) (y : X) : Type 0 where
+  pub last : j ≡ length xs
+  pub is : x ≡ y
+
+pub read_pushed : {X : Type 0} (xs : List X) (x : X) (j : ℕ) (y : X) → slice_get (xs ++ x ∷ []) j ≡ Some y → IsOld xs j y ⊎ IsLast xs x j y
+read_pushed [] x zero y is = inr (record { last = refl; is = same_Some x y is })
+read_pushed [] x (suc j) y is = absurd (none-some y is)
+read_pushed (a ∷ xs) x zero y is = inl (record { below = omega arith; is = is })
+read_pushed (a ∷ xs) x (suc j) y is = elim (read_pushed xs x j y is) [
+  | inl old ↦ inl (record { below = omega (arith, old.below); is = old.is })
+  | inr last ↦ inr (record { last = omega (arith, last.last); is = last.is })
+]
+
+pub read_old : {X : Type 0} (xs ys : List X) (j : ℕ) (y : X) → slice_get xs j ≡ Some y → slice_get (xs ++ ys) j ≡ Some y
+read_old [] ys j y is = absurd (none-some y is)
+read_old (a ∷ xs) ys zero y is = is
+read_old (a ∷ xs) ys (suc j) y is = read_old xs ys j y is
+
+pub read_last : {X : Type 0} (xs : List X) (x : X) (j : ℕ) → j ≡ length xs → slice_get (xs ++ x ∷ []) j ≡ Some x
+read_last [] x zero is = refl
+read_last [] x (suc j) is = absurd (omega (arith, is))
+read_last (a ∷ xs) x zero is = absurd (omega (arith, is))
+read_last (a ∷ xs) x (suc j) is = read_last xs x j (omega (arith, is))

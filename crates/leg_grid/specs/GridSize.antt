@@ -1,0 +1,36 @@
+-- How large the grid is (own rules).
+use Rattle.std.specs.Prelude.{ℕ, ◌*◌, ◌<◌, ◌⊎◌, ℤ, ◌<ℤ◌, List, sum_by, count_by, length, AllPairs, All, Contains, is_some, unsigned_abs}
+use Rattle.leg_cells.specs.Records.{Contents}
+use Rattle.leg_block.specs.Layers.{wire_width}
+use Rattle.leg_block.specs.Records.{TrackSaid, DesignContents}
+use Rattle.leg_grid.specs.declared.limits.TheConstants.{GRID_LIMIT}
+use Rattle.leg_grid.specs.Tracks.{IsGridX, IsGridY}
+
+-- the values in increasing order, each once
+pub record AreValues (IsValue : ℤ → Type 0) (values : List ℤ) : Type 0 where
+  pub increasing : AllPairs (λ a b. a <ℤ b) values
+  pub each : All IsValue values
+  pub all : (z : ℤ) → IsValue z → Contains values z
+
+-- how many tracks there are, those of all statements taken together
+abbrev pub track_count : List TrackSaid → ℕ
+track_count tracks = sum_by (λ track. unsigned_abs track.count) tracks
+
+-- how many routing layers there are
+abbrev pub routing_count : Contents → ℕ
+routing_count library = count_by (λ layer. is_some (wire_width layer.kind)) library.layers
+
+-- so many slots has a grid of these values, one on each routing layer
+abbrev pub slot_count : DesignContents → List ℤ → List ℤ → ℕ
+slot_count design xs ys = routing_count design.library * length ys * length xs
+
+-- the grid's values along both axes
+pub record AreGridValues (design : DesignContents) (xs ys : List ℤ) : Type 0 where
+  pub xs_are : AreValues (IsGridX design) xs
+  pub ys_are : AreValues (IsGridY design) ys
+
+-- The grid is too large: there are too many tracks, or too many slots.
+abbrev pub IsGridTooLarge : DesignContents → Type 0
+IsGridTooLarge design =
+    (GRID_LIMIT < track_count design.tracks)
+    ⊎ ((xs : List ℤ) × (ys : List ℤ) × AreGridValues design xs ys × (GRID_LIMIT < slot_count design xs ys))

@@ -1,0 +1,13 @@
+pub mod Tracks
+pub mod Nodes
+pub mod Between
+pub mod Neighbours
+pub mod Added
+pub mod OpenMetal
+pub mod Meets
+pub mod Spelling
+pub mod MoreWires
+pub mod Run
+pub mod GridSize
+pub mod Refusals
+pub mod Steps

@@ -1,0 +1,59 @@
+-- The steps of the grid (own rules). A step goes along its layer's direction to the next value of the grid, or by a via to
+-- the next routing layer.
+use Rattle.std.specs.Prelude.{◌≡◌, ℕ, ◌⊎◌, ℤ, ◌<ℤ◌}
+use Rattle.leg_cells.specs.declared.records.Direction.TheVariants.{Horizontal, Vertical}
+use Rattle.leg_block.specs.Records.{DesignContents}
+use Rattle.leg_walk.specs.declared.side.Side.{Side}
+use Rattle.leg_walk.specs.declared.side.Side.TheVariants.{West, East, South, North, Below, Above}
+use Rattle.leg_grid.specs.declared.node.Node.{Node}
+use Rattle.leg_grid.specs.Tracks.{Runs, IsGridX, IsGridY}
+use Rattle.leg_grid.specs.Nodes.{IsNode}
+use Rattle.leg_grid.specs.Between.{IsVia}
+
+-- of such values b is the next one after a
+pub record IsNext (IsValue : ℤ → Type 0) (a b : ℤ) : Type 0 where
+  pub a_is : IsValue a
+  pub b_is : IsValue b
+  pub less : a <ℤ b
+  pub none_between : (c : ℤ) → IsValue c → a <ℤ c → ¬ (c <ℤ b)
+
+-- b is the node to the east of a, on one horizontal layer
+pub record IsEast (design : DesignContents) (a b : Node) : Type 0 where
+  pub a_is : IsNode design a
+  pub b_is : IsNode design b
+  pub width : ℤ
+  pub horizontal : Runs design.library a.layer Horizontal width
+  pub layer : b.layer ≡ a.layer
+  pub level : b.at.y ≡ a.at.y
+  pub next : IsNext (IsGridX design) a.at.x b.at.x
+
+-- b is the node to the north of a, on one vertical layer
+pub record IsNorth (design : DesignContents) (a b : Node) : Type 0 where
+  pub a_is : IsNode design a
+  pub b_is : IsNode design b
+  pub width : ℤ
+  pub vertical : Runs design.library a.layer Vertical width
+  pub layer : b.layer ≡ a.layer
+  pub upright : b.at.x ≡ a.at.x
+  pub next : IsNext (IsGridY design) a.at.y b.at.y
+
+-- b is the node above a, at the same point, and this via of the library leads there
+pub record IsOver (design : DesignContents) (via : ℕ) (a b : Node) : Type 0 where
+  pub a_is : IsNode design a
+  pub b_is : IsNode design b
+  pub at : b.at ≡ a.at
+  pub via_is : IsVia design.library a.layer b.layer via
+
+-- b is the node beside a on this side
+abbrev pub IsBeside : DesignContents → Side → Node → Node → Type 0
+IsBeside design West a b = IsEast design b a
+IsBeside design East a b = IsEast design a b
+IsBeside design South a b = IsNorth design b a
+IsBeside design North a b = IsNorth design a b
+IsBeside design Below a b = (via : ℕ) × IsOver design via b a
+IsBeside design Above a b = (via : ℕ) × IsOver design via a b
+
+-- b is beside a on one layer
+abbrev pub IsInLine : DesignContents → Node → Node → Type 0
+IsInLine design a b =
+    (IsEast design b a ⊎ IsEast design a b) ⊎ (IsNorth design b a ⊎ IsNorth design a b)

@@ -1,0 +1,50 @@
+-- Why a design isn't routed (own rules).
+use Rattle.std.specs.Prelude.{◌≢◌, ℕ, ◌+◌, ◌<◌, ◌⊎◌, List, [], ◌∷◌, ◌++◌, length}
+use Rattle.leg_block.specs.declared.limits.TheConstants.{PART_LIMIT}
+use Rattle.leg_block.specs.declared.records.Wire.{Wire}
+use Rattle.leg_block.specs.declared.fault.Fault.{Fault}
+use Rattle.leg_block.specs.Violation.{IsListOf}
+use Rattle.leg_block.specs.Records.{DesignContents}
+use Rattle.leg_flat.specs.Metal.{wire_outlines}
+use Rattle.leg_flat.specs.Flat.{FlatSaid}
+use Rattle.leg_place.specs.Faults as place
+use Rattle.leg_wire.specs.Spacing as spacing
+use Rattle.leg_grid.specs.declared.node.Node.{Node}
+use Rattle.leg_grid.specs.Spelling.{AreWiresOf}
+use Rattle.leg_grid.specs.MoreWires.{HasMoreWires}
+use Rattle.leg_grid.specs.Run.{Added, Run, IsTurn, IsNextWalk, HasNoWalk}
+
+-- a violation of any kind but Open, in the design or in this flat of it
+abbrev pub IsOtherThanOpen : DesignContents → FlatSaid → Fault → Type 0
+IsOtherThanOpen design flat fault = place.Holds design.library design fault ⊎ spacing.Holds design.library flat fault
+
+-- The design isn't clean: these are its violations of all kinds but Open, and there are some.
+pub record IsNotClean (design : DesignContents) (flat : FlatSaid) (faults : List Fault) : Type 0 where
+  pub list : IsListOf (IsOtherThanOpen design flat) faults
+  pub some : faults ≢ []
+
+-- The net is unroutable: a run from this flat has come to its turn, and no open walk leads on.
+pub record IsUnroutable (design : DesignContents) (flat : FlatSaid) (net : ℕ) : Type 0 where
+  pub added : List Added
+  pub grown : FlatSaid
+  pub run : Run design flat added grown
+  pub turn : IsTurn design grown net
+  pub none : HasNoWalk design grown net
+
+-- A run from this flat has come to a net's turn, and one of the wires of its next walk has more shapes than a flat may
+-- still get.
+pub record HasTooManyShapes (design : DesignContents) (flat : FlatSaid) : Type 0 where
+  pub added : List Added
+  pub grown : FlatSaid
+  pub net : ℕ
+  pub nodes : List Node
+  pub before : List Wire
+  pub wire : Wire
+  pub after : List Wire
+  pub last : FlatSaid
+  pub run : Run design flat added grown
+  pub turn : IsTurn design grown net
+  pub walk : IsNextWalk design grown net nodes
+  pub wires : AreWiresOf design nodes (before ++ wire ∷ after)
+  pub first : HasMoreWires design net before grown last
+  pub over : PART_LIMIT < length last.shapes + length (wire_outlines design wire)

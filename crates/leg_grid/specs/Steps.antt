@@ -1,0 +1,4 @@
+-- What the code knows on its way. No meaning of a public call speaks of it.
+pub mod Lines
+pub mod LayerList
+pub mod TrackMarks

@@ -1,0 +1,35 @@
+-- The lines of tracks.
+use Rattle.std.specs.Prelude.{◌≡◌, ℕ, ℤ, pos, ◌≤ℤ◌, List, Contains}
+use Rattle.leg_lex.specs.Number.{IsNumber}
+use Rattle.leg_cells.specs.declared.records.Direction.{Direction}
+use Rattle.leg_cells.specs.Records.{Contents}
+use Rattle.leg_block.specs.declared.records.Axis.{Axis}
+use Rattle.leg_block.specs.Records.{TrackSaid}
+use Rattle.leg_grid.specs.Tracks.{Runs, AreFor, IsLineOf}
+
+-- the tracks are for some layer on which wires of this direction run
+pub record Serve (library : Contents) (track : TrackSaid) (direction : Direction) : Type 0 where
+  pub number : ℕ
+  pub width : ℤ
+  pub runs : Runs library number direction width
+  pub are_for : AreFor track number
+
+-- the numbers of a track are such that its lines can be told
+pub record HasLines (track : TrackSaid) : Type 0 where
+  pub start : IsNumber track.start
+  pub some : pos 1 ≤ℤ track.count
+  pub count : IsNumber track.count
+  pub apart : pos 1 ≤ℤ track.step
+  pub step : IsNumber track.step
+
+-- z is a line of these tracks, which lie along this axis and are for some layer of this direction
+pub record IsLineFor (library : Contents) (direction : Direction) (axis : Axis) (track : TrackSaid) (z : ℤ) : Type 0 where
+  pub along : track.axis ≡ axis
+  pub serve : Serve library track direction
+  pub line : IsLineOf track z
+
+-- z is such a line of some of the tracks
+pub record IsLineAlong (library : Contents) (tracks : List TrackSaid) (direction : Direction) (axis : Axis) (z : ℤ) : Type 0 where
+  pub track : TrackSaid
+  pub given : Contains tracks track
+  pub is : IsLineFor library direction axis track z

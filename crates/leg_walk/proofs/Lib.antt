@@ -1,0 +1,8 @@
+-- Marks and how they spread
+mod Marks
+mod Spread
+mod Sides
+-- What the marks say of walks
+mod Walks
+mod Underway
+mod WayBack

@@ -1,0 +1,15 @@
+-- Between the rounds all nodes are unseen, and the limit grows by more each time.
+use Rattle.std.proofs.Common.{◌≡◌, ◌+◌, ◌-◌, ◌^◌, ◌<◌, ◌≤◌, []}
+use Rattle.leg_walk.specs.Steps.Marks.{AreUnseen}
+use Rattle.leg_walk.proofs.rounds.shortest.Given as goal
+
+abbrev pub invariant-rounds : goal.invariant-rounds
+invariant-rounds g l = record {
+  unseen : AreUnseen l.marks;
+  untouched : l.touched.items ≡ [];
+  grows : 0 < l.growth;
+  slowly : l.growth ≤ l.limit + 2;
+}
+
+abbrev pub decreases-rounds : goal.decreases-rounds
+decreases-rounds g l = 2 ^ 33 - l.limit

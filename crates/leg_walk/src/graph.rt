@@ -1,0 +1,46 @@
+//! What a search asks of a graph.
+
+ghost use Rattle.std.specs.Prelude.{◌≡◌, ◌≤◌, ◌<◌, ◌+◌, ◌↔◌, ℕ, IsTrue, IfSome};
+
+use crate::side::Side;
+
+/// A graph of numbered nodes, each with one neighbour at most on each of its sides. Nodes and steps are open or not. The
+/// graph tells how many steps are left at least from a node to the ends of a search, which the caller had in mind when the
+/// graph was made.
+pub trait Graph {
+    ghost use Rattle.leg_walk.specs.declared.side.Side.{Side};
+
+    ghost size_of: { Self → ℕ };
+
+    ghost IsBeside: { Self → Side → ℕ → ℕ → Type 0 };
+
+    ghost OpenNode: { Self → ℕ → Type 0 };
+
+    ghost OpenStep: { Self → Side → ℕ → Type 0 };
+
+    ghost bound_of: { Self → ℕ → ℕ };
+
+    /// The neighbour on this side of the node.
+    fn beside(&self, node: u32, side: Side) -> Option<u32>
+        requires { node < size_of self.now }
+        ensures is { (to : ℕ) → (result ≡ Some to) ↔ IsBeside self.now side node to }
+        ensures within { IfSome result (λ to. to < size_of self.now) };
+
+    /// Whether the step to the neighbour on this side is open.
+    fn is_open_step(&self, node: u32, side: Side) -> bool
+        requires there { node < size_of self.now }
+        requires beside { (to : ℕ) × IsBeside self.now side node to }
+        ensures { IsTrue result ↔ OpenStep self.now side node };
+
+    /// Whether the node is open.
+    fn is_open_node(&self, node: u32) -> bool
+        requires { node < size_of self.now }
+        ensures { IsTrue result ↔ OpenNode self.now node };
+
+    /// How many steps are left at least from the node to an end.
+    fn bound(&self, node: u32) -> u32
+        requires { node < size_of self.now }
+        ensures { result ≡ bound_of self.now node };
+
+    ghost one_nearer: { (g : Self) (side : Side) (a b : ℕ) → IsBeside g side a b → bound_of g a ≤ bound_of g b + 1 };
+}

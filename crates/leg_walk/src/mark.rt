@@ -1,0 +1,12 @@
+//! What a search has noted of a node.
+
+/// What a search has noted of a node.
+#[derive(Clone, Copy)]
+pub enum Mark {
+    /// Nothing yet.
+    Unseen,
+    /// The node is not open.
+    Shut,
+    /// The node is open. It is so many steps from the nearest start, and is entered from the node `from`: a start from itself.
+    Reached { level: u32, from: u32 },
+}
