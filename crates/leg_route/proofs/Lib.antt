@@ -1,0 +1,7 @@
+mod Places
+mod GrownLaws
+mod GridFacts
+mod Straight
+mod OpenWires
+mod RunFacts
+mod Finished

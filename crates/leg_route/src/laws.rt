@@ -1,0 +1,50 @@
+//! Laws of routed designs. Each function does nothing: its contract is the law.
+
+ghost use Rattle.std.specs.Prelude.{ℕ, List, length};
+ghost use Rattle.leg_cells.specs.Sound.{IsSound};
+ghost use Rattle.leg_block.specs.declared.fault.Fault.{Fault};
+ghost use Rattle.leg_block.specs.declared.records.Wire.{Wire};
+ghost use Rattle.leg_block.specs.Records.{DesignContents};
+ghost use Rattle.leg_block.specs.WellFormed.{IsWellFormed};
+ghost use Rattle.leg_flat.specs.Flat.{FlatSaid, IsFlatOf};
+ghost use Rattle.leg_grid.specs.Run.{Added, Run, IsDone};
+ghost use Rattle.leg_grid.specs.Refusals.{IsOtherThanOpen};
+ghost use Rattle.leg_grown.specs.CleanWire.{HasNoSpacingFault};
+ghost use Rattle.leg_grown.specs.Finished.{finished};
+ghost use Rattle.leg_route.specs.Legal.{IsLegal};
+ghost use Rattle.leg_route.specs.SameButForWires.{IsSameButForWires};
+ghost use Rattle.leg_route.specs.Routed.{IsRouted};
+ghost use Rattle.leg_route.specs.Steps.AddedLists.{AreListsOf};
+
+use leg_grown::laws::{
+    clean_wires_stay_clean, finished_design_is_legal, growth_goes_on, placement_stays,
+    run_of_clean_wires_is_clean,
+};
+
+/// A flat without shorts and without shapes too near one another stays so over a routing run.
+pub fn runs_stay_clean()
+    ensures { (design : DesignContents) (flat grown : FlatSaid) (added : List Added) → IsSound design.library
+        → HasNoSpacingFault design.library flat → Run design flat added grown → HasNoSpacingFault design.library grown }
+{
+    run_of_clean_wires_is_clean();
+    clean_wires_stay_clean();
+}
+
+/// A design gets the wires of a run that has come to its end, each entry of `NETS` its own list of them.
+///
+/// It is then the same but for wires, and is routed. It is legal if before the run no violation held but that nets were open.
+pub fn finished_run()
+    ensures same { (design : DesignContents) (lists : List (List Wire)) → IsSameButForWires design (finished design lists) }
+    ensures routed { (design : DesignContents) (flat grown : FlatSaid) (added : List Added) (lists : List (List Wire)) → IsFlatOf design flat
+        → Run design flat added grown → IsDone design grown → AreListsOf (length design.nets) added lists → IsRouted design (finished design lists) }
+    ensures legal { (design : DesignContents) (flat grown : FlatSaid) (added : List Added) (lists : List (List Wire))
+        → IsSound design.library → IsWellFormed design → IsWellFormed (finished design lists) → IsFlatOf design flat
+        → ((fault : Fault) → ¬ IsOtherThanOpen design flat fault) → Run design flat added grown → IsDone design grown
+        → AreListsOf (length design.nets) added lists → IsLegal (finished design lists) }
+{
+    run_of_clean_wires_is_clean();
+    clean_wires_stay_clean();
+    growth_goes_on();
+    finished_design_is_legal();
+    placement_stays();
+}
