@@ -5,3 +5,6 @@ mod Straight
 mod OpenWires
 mod RunFacts
 mod Finished
+mod MoreWires
+mod Turn
+mod Onward

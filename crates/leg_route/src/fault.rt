@@ -1,11 +1,12 @@
 //! Why a design isn't routed.
 
 ghost use Rattle.std.specs.Prelude.{◌≡◌};
-ghost use Rattle.leg_grid.specs.declared.fault.GridFault.{GridFault};
 ghost use Rattle.leg_route.specs.declared.fault.RouteFault.TheVariants.{Memory};
+ghost use Rattle.leg_route.specs.Steps.Stops.{of_flat};
 
 use leg_block::Fault;
 use leg_cells::Items;
+use leg_flat::FlatFault;
 use std::alloc::{AllocError, AllocFailed, Allocator};
 
 /// The cause for which a design isn't routed (own rules). Of several, the first in this order is told, but for memory, and
@@ -37,5 +38,16 @@ impl<T: Drop, A: Allocator> From<AllocFailed<T>> for RouteFault<A> {
 
     fn from(_e: AllocFailed<T>) -> RouteFault<A> {
         RouteFault::Memory
+    }
+}
+
+impl<A: Allocator> From<FlatFault> for RouteFault<A> {
+    ghost from_gives = { λ f e. e ≡ of_flat f };
+
+    fn from(fault: FlatFault) -> RouteFault<A> {
+        match fault {
+            FlatFault::TooMany => RouteFault::TooMany,
+            FlatFault::Memory => RouteFault::Memory,
+        }
     }
 }

@@ -2,6 +2,11 @@
 #![tactic(auto)]
 
 mod fault;
+mod ground;
 pub mod laws;
+mod net_turn;
+mod nets;
 
 pub use fault::RouteFault;
+pub use ground::Ground;
+pub use nets::route_nets;
