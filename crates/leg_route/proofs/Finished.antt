@@ -1,5 +1,5 @@
 -- The design that got the wires of a run which came to its end.
-use Rattle.std.proofs.Common.{◌≡◌, ◌<◌, ℕ, zero, suc, List, [], ◌∷◌, ◌++◌, length, inl, inr, Some, slice_get, refl, sym, ap, ◌∙◌, arith}
+use Rattle.std.proofs.Common.{◌≡◌, ℕ, zero, suc, List, [], ◌∷◌, ◌++◌, length, inl, inr, Some, slice_get, refl, sym, ap, ◌∙◌}
 use Rattle.std.proofs.lemmas.List.{append-nil}
 use Rattle.std.proofs.lemmas.Option.{same_Some, none-some, slice_get_within}
 use Rattle.leg_cells.specs.Scale.{OneForOne}
@@ -12,7 +12,6 @@ use Rattle.leg_block.specs.WellFormed.{IsWellFormed}
 use Rattle.leg_flat.specs.Flat.{FlatSaid, IsFlatOf}
 use Rattle.leg_grid.specs.Run.{Added, Run, IsDone}
 use Rattle.leg_grid.specs.Refusals.{IsOtherThanOpen}
-use Rattle.leg_grown.specs.CleanWire.{HasNoSpacingFault}
 use Rattle.leg_grown.specs.Finished.{finished, AreByNet, IsFinishedFrom}
 use Rattle.leg_grown.specs.Violations as grown_flat
 use Rattle.leg_route.specs.Legal.{IsLegal}

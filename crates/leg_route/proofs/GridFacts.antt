@@ -1,16 +1,15 @@
 -- Facts of the grid: a routing layer has one width, a via leads up, and between two layers it is one.
-use Rattle.std.proofs.Common.{◌≡◌, ℕ, ◌<◌, ◌≤◌, ℤ, List, ◌⊎◌, inl, inr, Some, slice_get, Contains, refl, sym, ap, ◌∙◌, arith}
+use Rattle.std.proofs.Common.{◌≡◌, ℕ, ◌<◌, ◌≤◌, ℤ, List, ◌⊎◌, inl, inr, sym, ap, ◌∙◌, arith}
 use Rattle.std.proofs.lemmas.Bool.{cases_lt}
 use Rattle.std.proofs.lemmas.Option.{same_Some}
 use Rattle.leg_cells.specs.declared.records.Direction.{Direction}
-use Rattle.leg_cells.specs.declared.records.LayerKind.{LayerKind}
 use Rattle.leg_cells.specs.declared.records.LayerKind.TheVariants.{Routing}
 use Rattle.leg_cells.specs.declared.records.Layer.{Layer}
 use Rattle.leg_cells.specs.Records.{Contents, ViaSaid}
 use Rattle.leg_block.specs.Records.{DesignContents}
 use Rattle.leg_grid.specs.declared.node.Node.{Node}
 use Rattle.leg_grid.specs.Tracks.{Runs}
-use Rattle.leg_grid.specs.Between.{JoinsLayers, JoinsByDefault, IsFirst, IsFirstOther, IsVia}
+use Rattle.leg_grid.specs.Between.{JoinsLayers, JoinsByDefault, IsFirst, IsVia}
 use Rattle.leg_grid.specs.Neighbours.{IsOver}
 use Rattle.leg_route.proofs.Places.{contains_at}
 

@@ -1,5 +1,5 @@
 -- The laws of flats that grow, as they are cited here.
-use Rattle.std.proofs.Common.{◌≡◌, ◌≢◌, ◌↔◌, ◌+ℤ◌, ◌≤ℤ◌, ℕ, ℤ, pos, List, ◌++◌, All}
+use Rattle.std.proofs.Common.{◌≢◌, ◌↔◌, ◌≤ℤ◌, ℕ, ℤ, pos, List, ◌++◌, All}
 use Rattle.leg_geom.specs.Plane.{Spot}
 use Rattle.leg_cells.specs.Scale.{IsEven}
 use Rattle.leg_cells.specs.Records.{Contents}

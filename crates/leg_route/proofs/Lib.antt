@@ -8,3 +8,4 @@ mod Finished
 mod MoreWires
 mod Turn
 mod Onward
+mod KindsJoined

@@ -1,5 +1,5 @@
 -- Flats that get wires of a net: how many pieces the net has, and that pieces that are joined stay so.
-use Rattle.std.proofs.Common.{◌≡◌, ◌≢◌, ◌+◌, ◌*◌, ◌<◌, ◌≤◌, ℕ, zero, suc, List, [], ◌∷◌, ◌++◌, length, map, All, Contains, Option, None, Some, slice_get, set, ◌⊎◌, inl, inr, refl, sym, ap, ◌∙◌, subst, arith}
+use Rattle.std.proofs.Common.{◌≡◌, ◌≢◌, ◌+◌, ◌*◌, ◌<◌, ◌≤◌, ℕ, zero, suc, List, [], ◌∷◌, ◌++◌, length, map, Contains, Option, None, Some, slice_get, set, refl, sym, ap, ◌∙◌, subst, arith}
 use Rattle.std.specs.List.{range_with_len}
 use Rattle.std.proofs.lemmas.List.{length-append, length-map}
 use Rattle.std.proofs.lemmas.List.FromFn.{length-range_with_len}
@@ -15,7 +15,7 @@ use Rattle.leg_flat.specs.declared.piece.Piece.TheVariants as pieces
 use Rattle.leg_flat.specs.declared.shape.Shape.{Shape}
 use Rattle.leg_flat.specs.Flat.{FlatSaid, pieces_with, ArePieces, IsWithin}
 use Rattle.leg_flat.specs.MoreWires.{HasOneMoreWire}
-use Rattle.leg_wire.specs.Touch.{piece_count, LiesIn, Touch, Joined, AreJoined}
+use Rattle.leg_wire.specs.Touch.{piece_count, LiesIn, Touch, AreJoined}
 use Rattle.leg_wire.specs.Touch.Joined.{itself, through}
 use Rattle.leg_wire.specs.Open.{IsOpen}
 use Rattle.leg_grid.specs.declared.node.Node.{Node}

@@ -1,5 +1,5 @@
 -- A run over all nets, of which one after another has its turn.
-use Rattle.std.proofs.Common.{◌≡◌, ◌≢◌, ◌==◌, ◌+◌, ◌<◌, ◌≤◌, ℕ, zero, suc, Bool, true, false, List, [], ◌∷◌, ◌++◌, length, All, Some, slice_get, ◌⊎◌, inl, inr, refl, sym, ap, ◌∙◌, subst, arith}
+use Rattle.std.proofs.Common.{◌≡◌, ◌≢◌, ◌==◌, ◌+◌, ◌<◌, ◌≤◌, ℕ, zero, suc, Bool, true, false, List, [], ◌∷◌, ◌++◌, length, map, All, Some, slice_get, ◌⊎◌, inl, inr, refl, sym, ap, ◌∙◌, subst, arith}
 use Rattle.std.proofs.lemmas.Bool.{cases_lt}
 use Rattle.std.proofs.lemmas.Bool.Decides.{nat_tests}
 use Rattle.std.proofs.lemmas.Option.{none-some}
@@ -11,14 +11,14 @@ use Rattle.leg_flat.specs.Flat.{FlatSaid}
 use Rattle.leg_grid.specs.Spelling.{AreWiresOf}
 use Rattle.leg_grid.specs.Run.{Added, Run, IsTurn, IsOpenNet}
 use Rattle.leg_grid.specs.Run.Run.{begun as run_begins, walked as run_goes_on}
-use Rattle.leg_grid.specs.Refusals.{IsUnroutable, HasTooManyShapes}
+use Rattle.leg_grid.specs.Refusals.{IsUnroutable}
 use Rattle.leg_route.specs.Routed.{wires_for}
 use Rattle.leg_route.specs.declared.fault.RouteFault.{RouteFault}
 use Rattle.leg_route.specs.declared.fault.RouteFault.TheVariants.{NotClean, GridTooLarge, Unroutable, TooMany, Memory}
 use Rattle.leg_route.specs.Steps.AddedLists.{AreListsOf}
 use Rattle.leg_route.specs.Steps.NetRun.{NetRun}
 use Rattle.leg_route.specs.Steps.NetRun.NetRun.{begun, walked}
-use Rattle.leg_route.specs.Steps.Stops.{IsStuck, ComesToLimit, IsNetStop, IsRunStop}
+use Rattle.leg_route.specs.Steps.Stops.{IsNetStop, IsRunStop}
 use Rattle.leg_route.specs.Steps.Underway.{IsUnderway}
 use Rattle.leg_route.proofs.MoreWires.{stays_joined}
 
@@ -165,7 +165,7 @@ run_stops design flat net lists mid (Unroutable n) u stop =
     let stuck = stop.1 in
     let w = has_walks design flat net u.added mid u.run u.joined stuck.wires stuck.mid stuck.run in
     let here : IsUnroutable design flat net =
-        record { added = u.added ++ w.walks; grown = stuck.mid; run = w.run; turn = record { is_open = stuck.is_open; first = w.joined }; none = stuck.none } in
+    record { added = u.added ++ w.walks; grown = stuck.mid; run = w.run; turn = record { is_open = stuck.is_open; first = w.joined }; none = stuck.none } in
     subst (IsUnroutable design flat) (sym stop.0) here
 run_stops design flat net lists mid TooMany u stop =
     let w = has_walks design flat net u.added mid u.run u.joined stop.wires stop.mid stop.run in
@@ -186,3 +186,16 @@ run_stops design flat net lists mid TooMany u stop =
       over = stop.passes.over;
     }
 run_stops design flat net lists mid Memory u stop = tt
+
+map_last : {X Y : Type 0} (f : X → Y) (xs : List X) (x : X) → map f (xs ++ x ∷ []) ≡ map f xs ++ f x ∷ []
+map_last f [] x = refl
+map_last f (y ∷ xs) x = ap (λ ys. f y ∷ ys) (map_last f xs x)
+
+-- the same of lists that hold their wires, and of a design that is the same
+pub underway_step : {V : Type 0} (wires_of : V → List Wire) (design d1 : DesignContents) (flat : FlatSaid) (net : ℕ) (lists next : List V) (mid grown : FlatSaid) (own : V) → d1 ≡ design
+    → IsUnderway design flat net (map wires_of lists) mid → NetRun d1 net mid (wires_of own) grown → ¬ IsOpenNet d1 grown net → next ≡ lists ++ own ∷ []
+    → IsUnderway design flat (net + 1) (map wires_of next) grown
+underway_step wires_of design d1 flat net lists next mid grown own same u net_run closed is =
+    let then = underway_next design flat net (map wires_of lists) mid grown (wires_of own) u (subst (λ d. NetRun d net mid (wires_of own) grown) same net_run)
+    (subst (λ d. ¬ IsOpenNet d grown net) same closed) in
+    subst (λ ls. IsUnderway design flat (net + 1) ls grown) (sym (ap (map wires_of) is ∙ map_last wires_of lists own)) then

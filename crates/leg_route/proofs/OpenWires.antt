@@ -1,24 +1,21 @@
 -- The wires of a walk are clean where its nodes and steps are open.
-use Rattle.std.proofs.Common.{◌≡◌, ◌≢◌, ◌<◌, ℕ, ℤ, pos, ◌+ℤ◌, ◌≤ℤ◌, List, [], ◌∷◌, ◌++◌, ◌⊎◌, inl, inr, All, negsuc, refl, sym, ap, ◌∙◌, subst, arith}
+use Rattle.std.proofs.Common.{◌≡◌, ◌≢◌, ℕ, ℤ, pos, ◌≤ℤ◌, List, [], ◌∷◌, ◌++◌, ◌⊎◌, inl, inr, All, negsuc, refl, sym, ap, ◌∙◌, subst, arith}
 use Rattle.std.proofs.lemmas.Int.{ints}
 use Rattle.std.proofs.lemmas.List.Elements.{All-contains, All-cons, All-nil}
-use Rattle.leg_geom.specs.Plane.{Spot, halfway}
+use Rattle.leg_geom.specs.Plane.{Spot}
 use Rattle.leg_cells.specs.declared.records.Direction.{Direction}
-use Rattle.leg_cells.specs.declared.records.LayerKind.{LayerKind}
-use Rattle.leg_cells.specs.Scale.{IsEven}
 use Rattle.leg_cells.specs.Sound.{IsSound, IsSoundLayer, HasWidth, IsWidth}
 use Rattle.leg_block.specs.declared.records.Wire.{Wire}
 use Rattle.leg_block.specs.declared.records.Wire.TheVariants.{Segment, ViaAt, Patch}
 use Rattle.leg_block.specs.Records.{DesignContents}
 use Rattle.leg_flat.specs.Flat.{FlatSaid}
 use Rattle.leg_walk.specs.declared.side.Side.{Side}
-use Rattle.leg_walk.specs.declared.side.Side.TheVariants.{West, East, South, North, Below, Above}
 use Rattle.leg_walk.specs.Walk.{Walk}
 use Rattle.leg_walk.specs.Walk.Walk.{here, on}
 use Rattle.leg_grid.specs.declared.node.Node.{Node}
 use Rattle.leg_grid.specs.Tracks.{Runs}
-use Rattle.leg_grid.specs.Neighbours.{IsBeside, IsInLine, IsOver}
-use Rattle.leg_grid.specs.Added.{half, square, NodeAdds, IsLine, IsLineStep, IsViaStep, StepAdds}
+use Rattle.leg_grid.specs.Neighbours.{IsInLine, IsOver}
+use Rattle.leg_grid.specs.Added.{half, square, NodeAdds, StepAdds}
 use Rattle.leg_grid.specs.OpenMetal.{IsOpenWire, IsOpenNode, IsOpenStep}
 use Rattle.leg_grid.specs.Spelling.{IsOnLayer, IsStraight, Spells, AreWiresOf}
 use Rattle.leg_grid.specs.Spelling.IsStraight.{one, more}
@@ -28,7 +25,7 @@ use Rattle.leg_grown.specs.Lines.{EachStep, last_spot}
 use Rattle.leg_route.proofs.Places.{contains_at}
 use Rattle.leg_route.proofs.GrownLaws.{RunOfCleanWires}
 use Rattle.leg_route.proofs.GridFacts.{same_width, over_up, via_once}
-use Rattle.leg_route.proofs.Straight.{points, beside_layer, beside_ahead, straight_last, straight_ahead, straight_apart, straight_keeps, ahead_apart, in_line}
+use Rattle.leg_route.proofs.Straight.{points, beside_layer, straight_last, straight_ahead, straight_apart, straight_keeps, ahead_apart, in_line}
 
 -- the width of a routing layer is above 0 and even
 pub runs_width : (design : DesignContents) (number : ℕ) (direction : Direction) (width : ℤ) → IsSound design.library → Runs design.library number direction width → IsWidth width

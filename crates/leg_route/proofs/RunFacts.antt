@@ -1,15 +1,14 @@
 -- What a routing run has added, wire after wire, and that a flat without shorts and without shapes too near stays so.
-use Rattle.std.proofs.Common.{◌≡◌, ◌==◌, ◌<◌, ℕ, List, [], ◌∷◌, ◌++◌, length, All, Bool, true, false, ◌⊎◌, inl, inr, if◌then◌else◌, refl, sym, ap, ◌∙◌, subst, arith}
+use Rattle.std.proofs.Common.{◌≡◌, ◌==◌, ◌<◌, ℕ, List, [], ◌∷◌, ◌++◌, length, All, Bool, true, false, refl, sym, ap, ◌∙◌, subst}
 use Rattle.std.proofs.lemmas.List.{append-nil, append_assoc}
 use Rattle.std.proofs.lemmas.List.Elements.{All-nil, All-cons, All-append}
 use Rattle.leg_cells.specs.Sound.{IsSound}
 use Rattle.leg_block.specs.declared.records.Wire.{Wire}
 use Rattle.leg_block.specs.Records.{DesignContents}
 use Rattle.leg_flat.specs.Flat.{FlatSaid}
-use Rattle.leg_flat.specs.MoreWires.{HasOneMoreWire}
 use Rattle.leg_grid.specs.MoreWires.{HasMoreWires}
 use Rattle.leg_grid.specs.MoreWires.HasMoreWires.{none, one_more}
-use Rattle.leg_grid.specs.Run.{Added, Run, IsTurn}
+use Rattle.leg_grid.specs.Run.{Added, Run}
 use Rattle.leg_grid.specs.Run.Run.{begun, walked}
 use Rattle.leg_grown.specs.Growth.{AddedWire, Grows, of_net, wires_added}
 use Rattle.leg_grown.specs.CleanWire.{HasNoSpacingFault}

@@ -1,12 +1,12 @@
 -- Straight runs of steps: what their points are, one after another.
-use Rattle.std.proofs.Common.{◌≡◌, ◌≢◌, ℕ, ℤ, ◌<ℤ◌, List, [], ◌∷◌, map, ◌⊎◌, inl, inr, refl, sym, ap, ◌∙◌, subst, arith}
+use Rattle.std.proofs.Common.{◌≡◌, ◌≢◌, ℤ, ◌<ℤ◌, List, map, inl, inr, refl, sym, ap, arith}
 use Rattle.std.proofs.lemmas.Int.{ints}
 use Rattle.leg_geom.specs.Plane.{Spot}
 use Rattle.leg_block.specs.Records.{DesignContents}
 use Rattle.leg_walk.specs.declared.side.Side.{Side}
 use Rattle.leg_walk.specs.declared.side.Side.TheVariants.{West, East, South, North, Below, Above}
 use Rattle.leg_grid.specs.declared.node.Node.{Node}
-use Rattle.leg_grid.specs.Neighbours.{IsBeside, IsInLine}
+use Rattle.leg_grid.specs.Neighbours.{IsBeside}
 use Rattle.leg_grid.specs.Spelling.{IsOnLayer, IsStraight}
 use Rattle.leg_grid.specs.Spelling.IsStraight.{one, more}
 use Rattle.leg_grown.specs.Lines.{EachStep, last_spot, AreInLine}

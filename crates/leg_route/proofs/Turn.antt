@@ -1,20 +1,18 @@
 -- The turn of a net, walk after walk.
-use Rattle.std.proofs.Common.{◌≡◌, ◌+◌, ◌-◌, ◌*◌, ◌<◌, ◌≤◌, ℕ, suc, List, [], ◌∷◌, ◌++◌, length, take, drop, get_or, All, refl, sym, ap, ◌∙◌, subst, arith}
+use Rattle.std.proofs.Common.{◌≡◌, ◌+◌, ◌-◌, ◌*◌, ◌<◌, ℕ, suc, List, [], ◌∷◌, ◌++◌, length, take, drop, get_or, All, sym, ap, ◌∙◌, subst, arith}
 use Rattle.std.proofs.Math.Seq.{drop-cons}
 use Rattle.std.proofs.lemmas.List.{take_more, take-append-drop}
 use Rattle.leg_block.specs.declared.limits.TheConstants.{PART_LIMIT}
 use Rattle.leg_block.specs.declared.records.Wire.{Wire}
 use Rattle.leg_block.specs.Records.{DesignContents}
 use Rattle.leg_flat.specs.Flat.{FlatSaid, IsWithin}
-use Rattle.leg_flat.specs.MoreWires.{HasOneMoreWire}
 use Rattle.leg_wire.specs.Touch.{piece_count}
 use Rattle.leg_grid.specs.MoreWires.{HasMoreWires}
 use Rattle.leg_grid.specs.Run.{IsOpenNet}
 use Rattle.leg_route.specs.Steps.NextWires.{AreNextWires}
 use Rattle.leg_route.specs.Steps.NetRun.{NetRun}
 use Rattle.leg_route.specs.Steps.NetRun.NetRun.{walked}
-use Rattle.leg_route.specs.Steps.Stops.{PassesLimit, ComesToLimit}
-use Rattle.leg_route.proofs.MoreWires.{few_pieces, more_pieces, more_then, wires_some}
+use Rattle.leg_route.proofs.MoreWires.{few_pieces, more_pieces, wires_some}
 
 pub all_at : {X : Type 0} (P : X → Type 0) (xs : List X) (k : ℕ) (x : X) → All P xs → k < length xs → x ≡ get_or xs k x → P x
 all_at P xs k x all less is = subst P (sym is) (all k x less)

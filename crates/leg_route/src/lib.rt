@@ -1,6 +1,7 @@
 //! The router: it adds wires to nets that are open, along the grid of tracks, until all their pieces are joined.
 #![tactic(auto)]
 
+mod clean_flat;
 mod fault;
 mod ground;
 pub mod laws;

@@ -1,4 +1,4 @@
-use Rattle.std.proofs.Common.{◌≡◌, ◌<◌, ◌+◌, suc, ◌++◌, ◌∷◌, [], false, length, refl, take, drop, subst, sym, arith, ◌∙◌}
+use Rattle.std.proofs.Common.{◌<◌, ◌+◌, suc, false, length, refl, take, drop, subst, sym, ◌∙◌}
 use Rattle.std.proofs.lemmas.Result.{err_from_is_err_and}
 use Rattle.leg_block.specs.declared.limits.TheConstants.{PART_LIMIT}
 use Rattle.leg_block.specs.WellFormedNets.{IsWire}

@@ -1,4 +1,4 @@
-use Rattle.std.proofs.Common.{◌≡◌, ◌<◌, ◌++◌, length, refl, take, subst, sym, ap, arith, ◌∙◌}
+use Rattle.std.proofs.Common.{◌++◌, refl, subst, sym, ap, ◌∙◌}
 use Rattle.leg_route.specs.Steps.NetRun.{NetRun}
 use Rattle.leg_route.specs.Steps.NetRun.NetRun.{begun}
 use Rattle.leg_route.proofs.Turn.{turn_more, turn_less}
