@@ -9,9 +9,11 @@ use Rattle.leg_block.specs.declared.records.Wire.{Wire}
 use Rattle.leg_block.specs.Records.{DesignContents}
 use Rattle.leg_flat.specs.Flat.{FlatSaid}
 use Rattle.leg_grid.specs.Spelling.{AreWiresOf}
-use Rattle.leg_grid.specs.Run.{Added, Run, IsTurn, IsOpenNet}
+use Rattle.leg_grid.specs.Run.{Added, Run, IsTurn, IsOpenNet, IsDone}
 use Rattle.leg_grid.specs.Run.Run.{begun as run_begins, walked as run_goes_on}
 use Rattle.leg_grid.specs.Refusals.{IsUnroutable}
+use Rattle.leg_route.specs.Refusal.{ComesToRun, IsRefusal}
+use Rattle.leg_route.specs.Refusal.HasTooMany.{on_the_way}
 use Rattle.leg_route.specs.Routed.{wires_for}
 use Rattle.leg_route.specs.declared.fault.RouteFault.{RouteFault}
 use Rattle.leg_route.specs.declared.fault.RouteFault.TheVariants.{NotClean, GridTooLarge, Unroutable, TooMany, Memory}
@@ -199,3 +201,15 @@ underway_step wires_of design d1 flat net lists next mid grown own same u net_ru
     let then = underway_next design flat net (map wires_of lists) mid grown (wires_of own) u (subst (λ d. NetRun d net mid (wires_of own) grown) same net_run)
     (subst (λ d. ¬ IsOpenNet d grown net) same closed) in
     subst (λ ls. IsUnderway design flat (net + 1) ls grown) (sym (ap (map wires_of) is ∙ map_last wires_of lists own)) then
+
+-- behind the last net the run has come to its end
+pub underway_done : (design : DesignContents) (flat : FlatSaid) (lists : List (List Wire)) (grown : FlatSaid) → IsUnderway design flat (length design.nets) lists grown → IsDone design grown
+underway_done design flat lists grown u net has = u.joined net has.1.net has
+
+-- where the run stops the design is refused
+pub refused_then : {A : Type 0} (design : DesignContents) (flat : FlatSaid) (fault : RouteFault A) → ComesToRun design flat → IsRunStop design flat fault → IsRefusal design fault
+refused_then design flat (NotClean faults) comes stop = absurd stop
+refused_then design flat GridTooLarge comes stop = absurd stop
+refused_then design flat (Unroutable n) comes stop = (flat, comes, stop)
+refused_then design flat TooMany comes stop = on_the_way comes stop
+refused_then design flat Memory comes stop = tt

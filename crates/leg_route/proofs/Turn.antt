@@ -1,8 +1,10 @@
 -- The turn of a net, walk after walk.
-use Rattle.std.proofs.Common.{◌≡◌, ◌+◌, ◌-◌, ◌*◌, ◌<◌, ℕ, suc, List, [], ◌∷◌, ◌++◌, length, take, drop, get_or, All, sym, ap, ◌∙◌, subst, arith}
+use Rattle.std.proofs.Common.{◌≡◌, ◌+◌, ◌-◌, ◌*◌, ◌<◌, ℕ, suc, List, [], ◌∷◌, ◌++◌, length, take, drop, get_or, All, sym, ap, ◌∙◌, subst, arith, false}
 use Rattle.std.proofs.Math.Seq.{drop-cons}
 use Rattle.std.proofs.lemmas.List.{take_more, take-append-drop}
+use Rattle.std.proofs.lemmas.List.Elements.{All-nil, All-cons, All-append}
 use Rattle.leg_block.specs.declared.limits.TheConstants.{PART_LIMIT}
+use Rattle.leg_block.specs.WellFormedNets.{IsWire}
 use Rattle.leg_block.specs.declared.records.Wire.{Wire}
 use Rattle.leg_block.specs.Records.{DesignContents}
 use Rattle.leg_flat.specs.Flat.{FlatSaid, IsWithin}
@@ -45,3 +47,15 @@ take_next wires i wire less is = take_more wires i wire less ∙ ap (λ w. take 
 pub split_at : (wires : List Wire) (i : ℕ) (wire : Wire) → i < length wires → wire ≡ get_or wires i wire → wires ≡ take i wires ++ wire ∷ drop (suc i) wires
 split_at wires i wire less is =
     sym (take-append-drop i wires) ∙ ap (λ ws. take i wires ++ ws) (drop-cons wires i wire less ∙ ap (λ w. w ∷ drop (suc i) wires) (sym is))
+
+abbrev CanHave : DesignContents → Wire → Type 0
+CanHave design wire = IsWire design.library design.vias false wire
+
+-- all wires so far are such as NETS can have
+pub spelled_more : (design d1 : DesignContents) (net : ℕ) (f1 : FlatSaid) (wires more then : List Wire) → d1 ≡ design → AreNextWires d1 f1 net more → then ≡ wires ++ more
+    → All (CanHave design) wires → All (CanHave design) then
+spelled_more design d1 net f1 wires more then same next is all =
+    subst (All (CanHave design)) (sym is) (All-append (CanHave design) wires more all (subst (λ d. All (CanHave d) more) same next.spelled))
+
+pub all_last : {X : Type 0} (P : X → Type 0) (xs next : List X) (x : X) → next ≡ xs ++ x ∷ [] → All P xs → P x → All P next
+all_last P xs next x is all last = subst (All P) (sym is) (All-append P xs (x ∷ []) all (All-cons P x [] last (All-nil P)))

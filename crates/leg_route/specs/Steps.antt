@@ -4,3 +4,4 @@ pub mod NextWires
 pub mod NetRun
 pub mod Underway
 pub mod Stops
+pub mod FinishedRun

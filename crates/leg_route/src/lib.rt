@@ -3,6 +3,7 @@
 
 mod clean_flat;
 mod fault;
+mod finish;
 mod ground;
 pub mod laws;
 mod net_turn;

@@ -44,6 +44,7 @@ pub(crate) fn route_net<A: Allocator + Copy, G: Ground<A>>(
     requires in_range { net < length (G.design ground.old).nets }
     requires within { IsWithin (G.flat ground.old) }
     ensures run { IfOk result (λ wires. NetRun (G.design ground.old) net (G.flat ground.old) wires.items (G.flat ground.new)) }
+    ensures spelled { IfOk result (λ wires. All (IsWire (G.design ground.old).library (G.design ground.old).vias false) wires.items) }
     ensures joined { OnOk result (¬ IsOpenNet (G.design ground.old) (G.flat ground.new) net) }
     ensures within { OnOk result (IsWithin (G.flat ground.new)) }
     ensures stop { IfErr result (λ fault. IsNetStop (G.design ground.old) (G.flat ground.old) net fault) }

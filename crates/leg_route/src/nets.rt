@@ -1,6 +1,7 @@
 //! All nets, one after another.
 
-ghost use Rattle.std.specs.Prelude.{◌≡◌, length, map, IfOk, IfErr};
+ghost use Rattle.std.specs.Prelude.{◌≡◌, false, All, length, map, IfOk, IfErr};
+ghost use Rattle.leg_block.specs.WellFormedNets.{IsWire};
 ghost use Rattle.leg_flat.specs.Flat.{IsWithin};
 ghost use Rattle.leg_route.specs.Steps.Underway.{IsUnderway};
 ghost use Rattle.leg_route.specs.Steps.Stops.{IsRunStop};
@@ -23,6 +24,7 @@ pub fn route_nets<A: Allocator + Copy, G: Ground<A>>(
     requires count { nets ≡ length (G.design ground.old).nets }
     requires within { IsWithin (G.flat ground.old) }
     ensures run { IfOk result (λ lists. IsUnderway (G.design ground.old) (G.flat ground.old) nets (map (λ wires. wires.items) lists.items) (G.flat ground.new)) }
+    ensures spelled { IfOk result (λ lists. All (λ wires. All (IsWire (G.design ground.old).library (G.design ground.old).vias false) wires.items) lists.items) }
     ensures stop { IfErr result (λ fault. IsRunStop (G.design ground.old) (G.flat ground.old) fault) }
     ensures same_design { G.design ground.new ≡ G.design ground.old }
 {
