@@ -41,17 +41,21 @@ module _ (design : DesignContents) (lists : List (List Wire)) where
   same_design_pins p [] = refl
   same_design_pins p (pin ∷ pins) = rw (same_belonging design lists None (Pin p), same_design_pins (suc p) pins) refl
 
--- metal of a component or of a design pin
+-- the metal of components and of design pins
+abbrev pub fixed_metal : DesignContents → List Metal
+fixed_metal design = components_metal design 0 design.components ++ design_pins_metal design 0 design.pins
+
 abbrev pub IsFixed : DesignContents → Metal → Type 0
-IsFixed design m = Contains (components_metal design 0 design.components ++ design_pins_metal design 0 design.pins) m
+IsFixed design m = Contains (fixed_metal design) m
+
+pub same_fixed : (design : DesignContents) (lists : List (List Wire)) → fixed_metal (finished design lists) ≡ fixed_metal design
+same_fixed design lists = rw (same_components design lists 0 design.components, same_design_pins design lists 0 design.pins) refl
 
 pub fixed_there : (design : DesignContents) (lists : List (List Wire)) (m : Metal) → IsFixed design m → IsFixed (finished design lists) m
-fixed_there design lists m fixed =
-    subst (λ metal. Contains metal m) (sym (rw (same_components design lists 0 design.components, same_design_pins design lists 0 design.pins) refl)) fixed
+fixed_there design lists m fixed = subst (λ metal. Contains metal m) (sym (same_fixed design lists)) fixed
 
 pub fixed_back : (design : DesignContents) (lists : List (List Wire)) (m : Metal) → IsFixed (finished design lists) m → IsFixed design m
-fixed_back design lists m fixed =
-    subst (λ metal. Contains metal m) (rw (same_components design lists 0 design.components, same_design_pins design lists 0 design.pins) refl) fixed
+fixed_back design lists m fixed = subst (λ metal. Contains metal m) (same_fixed design lists) fixed
 
 -- metal of some net
 abbrev pub IsOfSomeNet : Metal → Type 0

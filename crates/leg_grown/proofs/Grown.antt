@@ -15,13 +15,13 @@ use Rattle.leg_grown.specs.Growth.{AddedWire, Grows, of_net, wires_added, IsMeta
 use Rattle.leg_grown.proofs.Places.{set_here, set_elsewhere, has_like, is_like}
 use Rattle.leg_grown.proofs.PiecesWith.{same_terminals, same_wires}
 
-same_length : {X Y : Type 0} (R : X → Y → Type 0) (xs : List X) (ys : List Y) → OneForOne R xs ys → length xs ≡ length ys
+pub same_length : {X Y : Type 0} (R : X → Y → Type 0) (xs : List X) (ys : List Y) → OneForOne R xs ys → length xs ≡ length ys
 same_length R [] [] each = refl
 same_length R [] (y ∷ ys) each = absurd each
 same_length R (x ∷ xs) [] each = absurd each
 same_length R (x ∷ xs) (y ∷ ys) each = ap suc (same_length R xs ys each.1)
 
-metal_count : (design : DesignContents) (net k : ℕ) (wire : Wire) → length (wire_metal design net k wire) ≡ length (wire_outlines design wire)
+pub metal_count : (design : DesignContents) (net k : ℕ) (wire : Wire) → length (wire_metal design net k wire) ≡ length (wire_outlines design wire)
 metal_count design net k wire = length-map (wire_outlines design wire) _
 
 -- the wires of a net, where the first added wire is one of it, or isn't

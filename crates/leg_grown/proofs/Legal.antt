@@ -1,14 +1,12 @@
 -- A finished design is legal where the grown flat is.
-use Rattle.std.proofs.Common.{◌≡◌, ◌↔◌, ◌+◌, ◌<◌, ℕ, List, length, Contains, arith}
+use Rattle.std.proofs.Common.{◌↔◌, ℕ, List, arith}
 use Rattle.leg_cells.specs.Records.{Contents}
 use Rattle.leg_block.specs.declared.fault.Fault.{Fault}
 use Rattle.leg_block.specs.declared.fault.Fault.TheVariants.{Short, TooNear}
 use Rattle.leg_block.specs.declared.records.Wire.{Wire}
 use Rattle.leg_block.specs.Records.{DesignContents}
 use Rattle.leg_place.specs.Faults as place
-use Rattle.leg_flat.specs.Nets.{terminals_of, regular_entry, entry_wires}
 use Rattle.leg_flat.specs.Flat.{FlatSaid}
-use Rattle.leg_wire.specs.Spacing as spacing
 use Rattle.leg_wire.specs.Spacing.Holds.{short, too_near}
 use Rattle.leg_wire.specs.Open as joins
 use Rattle.leg_wire.specs.Open.Holds.{open_net}

@@ -10,7 +10,9 @@ mod RunClean
 -- A flat that grows
 mod Grown
 mod WiresClean
--- The design that gets the wires
+mod GrownNumbers
+-- The design that gets the wires: what stays, and where pieces of nets go
+mod ByNet
 mod SameNets
 mod FixedMetal
 mod Moves
@@ -21,6 +23,8 @@ mod NetWires
 mod FlatPieces
 mod PieceMoves
 mod Likes
+mod MetalCount
+-- What is legal
 mod Opens
 mod Placement
 mod Legal

@@ -1,5 +1,5 @@
 -- Each shape of the grown flat has its like in the flat of the design that got the wires, and each of this in that.
-use Rattle.std.proofs.Common.{◌≡◌, ℕ, ◌+◌, ◌<◌, ◌≤◌, List, [], ◌++◌, length, Contains, Option, None, Some, slice_get, ◌⊎◌, inl, inr, sym, ap, subst, ◌∙◌, refl, arith}
+use Rattle.std.proofs.Common.{◌≡◌, ℕ, ◌+◌, ◌<◌, ◌≤◌, List, length, Contains, None, Some, slice_get, ◌⊎◌, inl, inr, sym, ap, subst, ◌∙◌, arith}
 use Rattle.std.proofs.lemmas.Bool.{cases_lt}
 use Rattle.std.proofs.lemmas.List.{length-append}
 use Rattle.std.proofs.lemmas.List.Elements.{Contains-append_left, Contains-append_right, Contains-append_cases}
@@ -26,7 +26,7 @@ use Rattle.leg_grown.proofs.SameShapes.{AreAlike}
 use Rattle.leg_grown.proofs.NetMetal.{MetalHasItsPiece, PieceHasItsMetal, IsDrawn, IsNet, net_or_not, pieces_are, drawn_from, drawn_to}
 use Rattle.leg_grown.proofs.NetWires.{none_added, wires_before}
 use Rattle.leg_grown.proofs.FlatPieces.{pieces_at, pieces_there}
-use Rattle.leg_grown.proofs.PieceMoves.{HasLikePiece, GoesTo, ComesBack, IsNewWire, added_there, piece_then, piece_before}
+use Rattle.leg_grown.proofs.PieceMoves.{ComesBack, IsNewWire, added_there, piece_then, piece_before}
 
 -- the number of a net
 net_number : Owner → ℕ
@@ -36,7 +36,7 @@ net_number Power = 0
 net_number Ground = 0
 net_number (Obs c) = 0
 
-same_net : (owner : Owner) (m n : ℕ) → owner ≡ Net m → owner ≡ Net n → m ≡ n
+pub same_net : (owner : Owner) (m n : ℕ) → owner ≡ Net m → owner ≡ Net n → m ≡ n
 unfolding net_number
 same_net owner m n first second = ap net_number (sym first ∙ second)
 
@@ -189,9 +189,11 @@ module _ (metal_has : MetalHasItsPiece) (piece_has : PieceHasItsMetal) (design :
             above = omega (arith, had_wires n);
             below = omega (arith, had_wires n, less);
             is = omega (arith, had_wires n, new.place);
-          })) in
-          (s.0, subst (λ shapes. Contains shapes s.0) (sym growth.shapes) (Contains-append_right from.flat.shapes growth.more s.0 s.1),
-          moved_piece n g d (Wire 0) drawn.piece drawn.metal s.0 t s.2 drawn.is (sym new.lone) moves)
+          })) in (
+            s.0,
+            subst (λ shapes. Contains shapes s.0) (sym growth.shapes) (Contains-append_right from.flat.shapes growth.more s.0 s.1),
+            moved_piece n g d (Wire 0) drawn.piece drawn.metal s.0 t s.2 drawn.is (sym new.lone) moves,
+          )
         where
           of_nets : (n < length design.nets) ⊎ (length design.nets ≤ n) → n < length design.nets
           of_nets (inl within) = within

@@ -3,7 +3,7 @@ use Rattle.std.proofs.Common.{◌≡◌, ◌≢◌, ◌⊎◌, inl, inr, ℤ, po
 use Rattle.std.proofs.lemmas.Int.{ints}
 use Rattle.leg_geom.specs.Plane.{Spot}
 use Rattle.leg_flat.specs.Outline.{beyond, IsAlong, IsAcross, HasPointOf}
-use Rattle.leg_grown.specs.Lines.{EachStep, SomeStep, last_spot, AreInLine, line}
+use Rattle.leg_grown.specs.Lines.{EachStep, last_spot, AreInLine, line}
 
 -- the number lies between two others, or at most this far beyond them
 data IsNear (reach a b z : ℤ) : Type 0 where
@@ -51,6 +51,11 @@ near_split reach a b c z some (down low high) = by (either z (b -ℤ reach)) whe
   by : (z <ℤ (b -ℤ reach)) ⊎ ((b -ℤ reach) ≤ℤ z) → IsNear reach a b z ⊎ IsNear reach b c z
   by (inl past) = inr (down low (omega (arith, ints)))
   by (inr within) = inl (down within high)
+
+-- it holds from some point to the next
+abbrev pub SomeStep : (Spot → Spot → Type 0) → Spot → List Spot → Type 0
+SomeStep Step from [] = ⊥
+SomeStep Step from (to ∷ spots) = Step from to ⊎ SomeStep Step to spots
 
 abbrev IsLevel : Spot → Spot → Type 0
 IsLevel a b = a.y ≡ b.y

@@ -1,7 +1,7 @@
 -- A line between two different points, side by side or one above the other, is a rectangle, where its width is even.
-use Rattle.std.proofs.Common.{◌≡◌, ◌≢◌, ◌⊎◌, inl, inr, ◌*◌, ℤ, pos, ◌+ℤ◌, ◌-ℤ◌, ◌≤ℤ◌, ◌<ℤ◌, unsigned_abs, Bool, true, false, int_lt, arith}
+use Rattle.std.proofs.Common.{◌≡◌, ◌≢◌, ◌⊎◌, inl, inr, ℤ, ◌+ℤ◌, ◌-ℤ◌, ◌≤ℤ◌, ◌<ℤ◌, arith}
 use Rattle.std.proofs.lemmas.Int.{ints}
-use Rattle.leg_geom.specs.Plane.{Spot, Sides, HasPoint}
+use Rattle.leg_geom.specs.Plane.{Spot, Sides}
 use Rattle.leg_cells.specs.Scale.{IsEven}
 use Rattle.leg_flat.specs.Outline.{IsAlong, IsAcross}
 use Rattle.leg_grown.specs.CleanWire.{IsRectOf}
@@ -55,40 +55,44 @@ module _ (width reach : ℤ) (even : IsEven width) (a b : Spot) (differ : a ≢ 
   level_rect : a.y ≡ b.y → (rect : Sides) × IsRectOf (line width reach a b) rect
   level_rect level =
       let half = even.0 in
-      let x = ends reach a.x b.x (λ same. differ (same_spot a b same level)) in
-      (record { x1 = x.low; y1 = a.y -ℤ half; x2 = x.high; y2 = a.y +ℤ half }, λ p. (
-        λ inside. inl (record {
-          level = level;
-          along = x.along.there p.x inside.left inside.right;
-          across = across_there a.y width half p.y even.1 inside.bottom inside.top;
-        }),
-        λ has. elim has [
-          | inl flat ↦
-              let along = x.along.back p.x flat.along in
-              let across = across_back a.y width half p.y even.1 flat.across in
-              record { left = along.0; right = along.1; bottom = across.0; top = across.1 }
-          | inr tall ↦ absurd (differ (same_spot a b tall.upright level))
-        ],
-      ))
+      let x = ends reach a.x b.x (λ same. differ (same_spot a b same level)) in (
+        record { x1 = x.low; y1 = a.y -ℤ half; x2 = x.high; y2 = a.y +ℤ half },
+        λ p. (
+          λ inside. inl (record {
+            level = level;
+            along = x.along.there p.x inside.left inside.right;
+            across = across_there a.y width half p.y even.1 inside.bottom inside.top;
+          }),
+          λ has. elim has [
+            | inl flat ↦
+                let along = x.along.back p.x flat.along in
+                let across = across_back a.y width half p.y even.1 flat.across in
+                record { left = along.0; right = along.1; bottom = across.0; top = across.1 }
+            | inr tall ↦ absurd (differ (same_spot a b tall.upright level))
+          ],
+        ),
+      )
 
   upright_rect : a.x ≡ b.x → (rect : Sides) × IsRectOf (line width reach a b) rect
   upright_rect upright =
       let half = even.0 in
-      let y = ends reach a.y b.y (λ same. differ (same_spot a b upright same)) in
-      (record { x1 = a.x -ℤ half; y1 = y.low; x2 = a.x +ℤ half; y2 = y.high }, λ p. (
-        λ inside. inr (record {
-          upright = upright;
-          along = y.along.there p.y inside.bottom inside.top;
-          across = across_there a.x width half p.x even.1 inside.left inside.right;
-        }),
-        λ has. elim has [
-          | inl flat ↦ absurd (differ (same_spot a b upright flat.level))
-          | inr tall ↦
-              let along = y.along.back p.y tall.along in
-              let across = across_back a.x width half p.x even.1 tall.across in
-              record { left = across.0; right = across.1; bottom = along.0; top = along.1 }
-        ],
-      ))
+      let y = ends reach a.y b.y (λ same. differ (same_spot a b upright same)) in (
+        record { x1 = a.x -ℤ half; y1 = y.low; x2 = a.x +ℤ half; y2 = y.high },
+        λ p. (
+          λ inside. inr (record {
+            upright = upright;
+            along = y.along.there p.y inside.bottom inside.top;
+            across = across_there a.x width half p.x even.1 inside.left inside.right;
+          }),
+          λ has. elim has [
+            | inl flat ↦ absurd (differ (same_spot a b upright flat.level))
+            | inr tall ↦
+                let along = y.along.back p.y tall.along in
+                let across = across_back a.x width half p.x even.1 tall.across in
+                record { left = across.0; right = across.1; bottom = along.0; top = along.1 }
+          ],
+        ),
+      )
 
   pub line_rect : (a.y ≡ b.y) ⊎ (a.x ≡ b.x) → (rect : Sides) × IsRectOf (line width reach a b) rect
   line_rect (inl level) = level_rect level

@@ -1,7 +1,5 @@
 -- The shapes of a net in a design's flat: those of its pieces.
-use Rattle.std.proofs.Common.{◌≡◌, ℕ, ◌+◌, ◌<◌, List, Contains, Option, None, Some, slice_get, length, map, ◌⊎◌, inl, inr, sym, ap, ◌∙◌, subst, refl}
-use Rattle.std.specs.List.{range_with_len}
-use Rattle.leg_block.specs.declared.records.Terminal.{Terminal}
+use Rattle.std.proofs.Common.{◌≡◌, ℕ, Contains, Some, slice_get, length, ◌⊎◌, inl, inr, sym, ◌∙◌, subst, refl}
 use Rattle.leg_block.specs.Records.{DesignContents}
 use Rattle.leg_block.specs.WellFormed.{IsWellFormed}
 use Rattle.leg_flat.specs.declared.owner.Owner.{Owner}
@@ -10,7 +8,7 @@ use Rattle.leg_flat.specs.declared.piece.Piece.{Piece}
 use Rattle.leg_flat.specs.declared.shape.Shape.{Shape}
 use Rattle.leg_flat.specs.Nets.{terminals_of, wires_of, pieces_of}
 use Rattle.leg_flat.specs.Metal.{OnLayer, Metal, metal_of}
-use Rattle.leg_flat.specs.Pieces.{IsOfPiece, IsOfNumber, HasItsPiece, piece_component, of_piece}
+use Rattle.leg_flat.specs.Pieces.{IsOfPiece, IsOfNumber, HasItsPiece, of_piece}
 use Rattle.leg_flat.specs.Flat.{FlatSaid, IsShapeOf, IsFlatOf, pieces_with}
 use Rattle.leg_grown.proofs.Places.{has_like, is_like}
 
@@ -62,21 +60,24 @@ module _ (metal_has : MetalHasItsPiece) (piece_has : PieceHasItsMetal) (design :
   pub drawn_from : (n : ℕ) (shape : Shape) → Contains flat.shapes shape → shape.owner ≡ Net n → (k : ℕ) × (shape.piece ≡ Some k) × IsDrawn design n k shape
   drawn_from n shape there owner =
       let from = is_like IsShapeOf (metal_of design) flat.shapes shape is.shapes there in
-      let has = of_net n from.x (sym from.like.owner ∙ owner) (metal_has design proper from.x from.there) in
-      (has.0, from.like.piece ∙ has.1, record {
-        piece = has.2.piece;
-        there = has.2.has_piece;
-        metal = from.x.metal;
-        draws = has.2.draws;
-        is = record {
-          layer = from.like.layer;
-          proper = from.like.proper;
-          points = from.like.points;
-          owner = owner;
-          component = from.like.component ∙ has.2.component;
-          piece = from.like.piece ∙ has.1;
-        };
-      })
+      let has = of_net n from.x (sym from.like.owner ∙ owner) (metal_has design proper from.x from.there) in (
+        has.0,
+        from.like.piece ∙ has.1,
+        record {
+          piece = has.2.piece;
+          there = has.2.has_piece;
+          metal = from.x.metal;
+          draws = has.2.draws;
+          is = record {
+            layer = from.like.layer;
+            proper = from.like.proper;
+            points = from.like.points;
+            owner = owner;
+            component = from.like.component ∙ has.2.component;
+            piece = from.like.piece ∙ has.1;
+          };
+        },
+      )
 
   -- and each shape of a piece is there
   pub drawn_to : (n k : ℕ) (piece : Piece) (metal : OnLayer) → slice_get (pieces_of design n) k ≡ Some piece → IsOfPiece design n piece metal

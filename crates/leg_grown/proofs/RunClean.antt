@@ -1,7 +1,7 @@
 -- A line over several points is clean where the lines between them are, and so are the squares at its ends.
-use Rattle.std.proofs.Common.{◌≡◌, ◌≢◌, ◌⊎◌, inl, inr, ◌*◌, ℕ, ℤ, pos, ◌+ℤ◌, ◌-ℤ◌, ◌≤ℤ◌, ◌<ℤ◌, unsigned_abs, List, [], ◌∷◌, Contains, subst, sym, ap, refl, ◌∙◌, arith}
+use Rattle.std.proofs.Common.{◌≡◌, ◌≢◌, ◌⊎◌, inl, inr, ℕ, ℤ, pos, ◌+ℤ◌, ◌-ℤ◌, ◌≤ℤ◌, ◌<ℤ◌, List, [], ◌∷◌, subst, sym, ap, refl, arith}
 use Rattle.std.proofs.lemmas.Int.{ints}
-use Rattle.leg_geom.specs.Plane.{Spot, Sides, HasPoint}
+use Rattle.leg_geom.specs.Plane.{Spot, Sides}
 use Rattle.leg_geom.specs.Orientation.{moved, ComesFrom}
 use Rattle.leg_cells.specs.Scale.{IsEven}
 use Rattle.leg_cells.specs.Records.{Contents}
@@ -13,10 +13,10 @@ use Rattle.leg_flat.specs.Metal.{OnLayer}
 use Rattle.leg_flat.specs.Flat.{FlatSaid}
 use Rattle.leg_wire.specs.Clean.{IsClean}
 use Rattle.leg_grown.specs.CleanWire.{IsRectOf, IsCleanWire, HasCleanRect, LiesInClean}
-use Rattle.leg_grown.specs.Lines.{EachStep, SomeStep, last_spot, AreInLine, line, square}
+use Rattle.leg_grown.specs.Lines.{EachStep, last_spot, AreInLine, line, square}
 use Rattle.leg_grown.proofs.Places.{the_only, contains_only}
 use Rattle.leg_grown.proofs.Covered.{covered, clean_wire}
-use Rattle.leg_grown.proofs.LinePoints.{either, same_spot, some_step}
+use Rattle.leg_grown.proofs.LinePoints.{either, SomeStep, same_spot, some_step}
 use Rattle.leg_grown.proofs.LineRects.{line_rect}
 
 -- what lies about an end of a line lies along it
@@ -138,4 +138,4 @@ ends_clean library design flat net layer reach a b differ in_line clean =
         let has = line_clean library design flat net layer (reach +ℤ reach) reach (reach, refl) a b differ in_line clean in
         let square_has : HasCleanRect library flat net layer (Shifted c (square reach)) = record { rect = has.rect; covers = λ p of. has.covers p (inside p of); clean = has.clean } in
         clean_wire library design flat net (Patch layer c (square reach)) (λ metal there.
-          subst (λ (m : OnLayer). HasCleanRect library flat net m.layer m.outline) (the_only (record { layer = layer; outline = Shifted c (square reach) }) metal there) square_has)
+        subst (λ (m : OnLayer). HasCleanRect library flat net m.layer m.outline) (the_only (record { layer = layer; outline = Shifted c (square reach) }) metal there) square_has)

@@ -1,11 +1,11 @@
 -- Flats whose shapes are alike but for pieces and order have the same shorts and shapes too near one another.
-use Rattle.std.proofs.Common.{◌≡◌, ◌↔◌, ℕ, List, Some, Contains, slice_get, sym, ap, ◌∙◌}
+use Rattle.std.proofs.Common.{◌≡◌, ◌↔◌, ℕ, List, Contains, slice_get, sym, ap, ◌∙◌}
 use Rattle.leg_geom.specs.Plane.{Spot, HasPoint}
 use Rattle.leg_cells.specs.Records.{Contents}
 use Rattle.leg_block.specs.declared.fault.Fault.TheVariants.{Short, TooNear}
 use Rattle.leg_flat.specs.declared.shape.Shape.{Shape}
 use Rattle.leg_flat.specs.Flat.{FlatSaid}
-use Rattle.leg_wire.specs.Comparable.{IsObstruction, AreComparable}
+use Rattle.leg_wire.specs.Comparable.{AreComparable}
 use Rattle.leg_wire.specs.Spacing.{AreShort, AreTooNear, Holds}
 use Rattle.leg_wire.specs.Spacing.Holds.{short, too_near}
 use Rattle.leg_grown.specs.Violations.{HasShort, HasTooNear}

@@ -9,11 +9,6 @@ abbrev pub EachStep : (Spot → Spot → Type 0) → Spot → List Spot → Type
 EachStep Step from [] = Unit {0}
 EachStep Step from (to ∷ spots) = Step from to × EachStep Step to spots
 
--- it holds from some point to the next
-abbrev pub SomeStep : (Spot → Spot → Type 0) → Spot → List Spot → Type 0
-SomeStep Step from [] = ⊥
-SomeStep Step from (to ∷ spots) = Step from to ⊎ SomeStep Step to spots
-
 -- the last of the points
 abbrev pub last_spot : Spot → List Spot → Spot
 last_spot from [] = from

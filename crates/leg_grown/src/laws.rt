@@ -1,6 +1,7 @@
 //! Laws of flats and designs that grow by wires. Each function does nothing: its contract is the law.
 
-ghost use Rattle.std.specs.Prelude.{◌≡◌, ◌≢◌, ◌↔◌, ◌<◌, ◌+◌, ◌⊎◌, ◌++◌, ◌+ℤ◌, ◌∷◌, [], ◌≤ℤ◌, ℕ, ℤ, pos, List, All, Contains, length};
+ghost use Rattle.std.specs.Prelude.{◌≡◌, ◌≢◌, ◌↔◌, ◌<◌, ◌+◌, ◌⊎◌, ◌++◌, ◌-◌, ◌+ℤ◌, ◌∷◌, [], ◌≤ℤ◌, ℕ, ℤ, Bool, pos, List, All, Contains, length, replicate, Some, slice_get, slice_set};
+ghost use Rattle.std.specs.List.{range_with_len};
 ghost use Rattle.leg_geom.specs.Plane.{Spot, Sides, HasPoint};
 ghost use Rattle.leg_cells.specs.Scale.{IsEven};
 ghost use Rattle.leg_cells.specs.Records.{Contents};
@@ -10,14 +11,16 @@ ghost use Rattle.leg_block.specs.declared.records.Wire.TheVariants.{Segment, Pat
 ghost use Rattle.leg_block.specs.Records.{DesignContents};
 ghost use Rattle.leg_place.specs.Faults as place;
 ghost use Rattle.leg_flat.specs.Nets.{terminals_of, regular_entry, entry_wires};
-ghost use Rattle.leg_flat.specs.Metal.{OnLayer, wire_outlines};
-ghost use Rattle.leg_flat.specs.Flat.{FlatSaid};
+ghost use Rattle.leg_flat.specs.Metal.{OnLayer, wire_outlines, metal_of};
+ghost use Rattle.leg_flat.specs.Flat.{FlatSaid, IsFlatOf};
 ghost use Rattle.leg_flat.specs.MoreWires.{HasOneMoreWire};
 ghost use Rattle.leg_wire.specs.Clean.{IsClean};
+ghost use Rattle.leg_wire.specs.NetShapes.{AreNumbersOf};
+ghost use Rattle.leg_wire.specs.Touch.{piece_count, AreJoined, AreMarks};
 ghost use Rattle.leg_grown.specs.Growth.{AddedWire, Grows, of_net, HasGrown};
 ghost use Rattle.leg_grown.specs.CleanWire.{HasNoSpacingFault, IsRectOf, IsCleanWire, HasCleanRect, LiesInClean};
 ghost use Rattle.leg_grown.specs.Lines.{EachStep, last_spot, AreInLine, line, square};
-ghost use Rattle.leg_grown.specs.Finished.{finished, IsFinishedFrom};
+ghost use Rattle.leg_grown.specs.Finished.{finished, AreByNet, IsFinishedFrom};
 ghost use Rattle.leg_grown.specs.Violations.{HasShort, HasTooNear, IsOpenNet, IsLegal};
 
 use leg_flat::laws::{metal_has_its_piece, piece_has_its_metal};
@@ -86,6 +89,39 @@ pub fn growth_goes_on()
         → Grows design first before between → Grows design then between after → Grows design (first ++ then) before after }
 {}
 
+/// When a net gets wires, the numbers of its shapes are those that it had and then those of all new shapes.
+pub fn own_numbers_grow()
+    ensures { (design : DesignContents) (net : ℕ) (wires : List Wire) (before after : FlatSaid) (numbers : List ℕ)
+        → Grows design (of_net net wires) before after → AreNumbersOf before.shapes net numbers
+        → AreNumbersOf after.shapes net (numbers ++ range_with_len (length before.shapes) (length after.shapes - length before.shapes)) }
+{}
+
+/// The numbers of another net's shapes stay.
+pub fn other_numbers_stay()
+    ensures { (design : DesignContents) (net other : ℕ) (wires : List Wire) (before after : FlatSaid) (numbers : List ℕ)
+        → Grows design (of_net net wires) before after → other ≢ net → AreNumbersOf before.shapes other numbers
+        → AreNumbersOf after.shapes other numbers }
+{}
+
+/// Empty lists, one for each of the first so many nets, have the wires of these nets where none was added yet.
+pub fn no_wires_by_net()
+    ensures { (count : ℕ) → AreByNet count [] (replicate count []) }
+{}
+
+/// Lists that have the added wires net by net have them still when a net gets wires and its list gets the same at its end.
+pub fn more_wires_by_net()
+    ensures { (count : ℕ) (added : List AddedWire) (lists : List (List Wire)) (net : ℕ) (before wires : List Wire)
+        → AreByNet count added lists → net < count → slice_get lists net ≡ Some before
+        → AreByNet count (added ++ of_net net wires) (slice_set lists net (before ++ wires)) }
+{}
+
+/// A design that got the wires that its flat grew by has as many shapes as the grown flat.
+pub fn shapes_stay_as_many()
+    ensures { (design : DesignContents) (flat grown : FlatSaid) (added : List AddedWire) (lists : List (List Wire))
+        → IsFlatOf design flat → Grows design added flat grown → AreByNet (length design.nets) added lists
+        → length (metal_of (finished design lists)) ≡ length grown.shapes }
+{}
+
 /// Where a flat grew by wires and its design got the same wires, the flat of that design has a short just where the grown
 /// one has.
 pub fn shorts_stay()
@@ -124,6 +160,19 @@ pub fn open_nets_stay_open()
     ensures { (design : DesignContents) (added : List AddedWire) (grown : FlatSaid) (lists : List (List Wire)) (end : FlatSaid)
         → IsFinishedFrom design added grown lists end → (n : ℕ) → n < length design.nets
         → 0 < length (terminals_of design n) + length (entry_wires (regular_entry design n))
+        → IsOpenNet design grown n ↔ IsOpenNet (finished design lists) end n }
+{
+    metal_has_its_piece();
+    piece_has_its_metal();
+    joined_both_ways();
+    joined_onward();
+}
+
+/// So is any net of which marks tell, as `joined` finds them, which pieces are joined to the first one.
+pub fn marked_nets_stay_open()
+    ensures { (design : DesignContents) (added : List AddedWire) (grown : FlatSaid) (lists : List (List Wire)) (end : FlatSaid)
+        → IsFinishedFrom design added grown lists end → (n : ℕ) → n < length design.nets
+        → (marks : List Bool) → AreMarks (AreJoined grown n 0) (piece_count grown n) marks
         → IsOpenNet design grown n ↔ IsOpenNet (finished design lists) end n }
 {
     metal_has_its_piece();

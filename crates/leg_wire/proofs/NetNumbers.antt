@@ -11,7 +11,7 @@ use Rattle.std.proofs.lemmas.Option.{same_Some, slice_get_within}
 use Rattle.leg_sweep.proofs.Lists.{AllPairs-nil, All-from_contains, Contains-nil}
 use Rattle.leg_flat.specs.declared.owner.Owner.TheVariants.{Net}
 use Rattle.leg_flat.specs.declared.shape.Shape.{Shape}
-use Rattle.leg_wire.specs.Steps.NetShapes.{IsOfNet, AreNumbersOf}
+use Rattle.leg_wire.specs.NetShapes.{IsOfNet, AreNumbersOf}
 
 same_net : (m n : ℕ) → Net m ≡ Net n → m ≡ n
 same_net m n same = cc

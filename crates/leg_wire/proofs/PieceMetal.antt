@@ -9,7 +9,7 @@ use Rattle.leg_flat.specs.declared.shape.Shape.{Shape}
 use Rattle.leg_flat.specs.Flat.{FlatSaid}
 use Rattle.leg_wire.specs.declared.piece_shape.PieceShape.{PieceShape}
 use Rattle.leg_wire.specs.Touch.{piece_count}
-use Rattle.leg_wire.specs.Steps.NetShapes.{IsOfNet, AreNumbersOf}
+use Rattle.leg_wire.specs.NetShapes.{IsOfNet, AreNumbersOf}
 use Rattle.leg_wire.specs.Steps.PieceMetal.{SaysShape, IsPieceShape, ArePieceShapes}
 
 module _ (flat : FlatSaid) (net : ℕ) where

@@ -2,7 +2,6 @@
 pub mod TooCloseRule
 pub mod LayerSpacing
 pub mod MeetingRule
-pub mod NetShapes
 pub mod PieceMetal
 pub mod AddedFaults
 pub mod PairViolations

@@ -2,7 +2,7 @@
 
 ghost use Rattle.std.specs.Prelude.{◌<◌, length, IfOk};
 ghost use Rattle.leg_wire.specs.Touch.{piece_count, AreJoined, AreMarks};
-ghost use Rattle.leg_wire.specs.Steps.NetShapes.{AreNumbersOf};
+ghost use Rattle.leg_wire.specs.NetShapes.{AreNumbersOf};
 
 use crate::joining::joined_sets;
 use crate::net_shapes::numbers_of_net;
@@ -24,11 +24,14 @@ pub fn joined<A: Allocator + Copy>(
 {
     prove!(net < flat.net_count());
     let numbers = numbers_of_net(alloc, flat.shapes(), net)?;
-    joined_by_shapes(alloc, flat, net, &numbers)
+    joined_among(alloc, flat, net, &numbers)
 }
 
-/// The same for the net whose shapes have these numbers.
-pub(crate) fn joined_by_shapes<A: Allocator + Copy>(
+/// The same for a net of whose shapes the numbers are known: in increasing order, as `numbers_by_net` gives them. It looks at
+/// these shapes alone.
+///
+/// It fails only when out of memory.
+pub fn joined_among<A: Allocator + Copy>(
     alloc: A,
     flat: &Flat<A>,
     net: u32,

@@ -2,7 +2,8 @@
 //! pieces aren't joined.
 //!
 //! `spacing_faults` and `open_faults` list exactly the violations of these kinds, each once, in order; `joined` says which
-//! pieces of a net are joined to its first one. `clean` says where metal of a net may lie.
+//! pieces of a net are joined to its first one, and `joined_among` the same where the numbers of the net's shapes are known,
+//! which `numbers_by_net` finds. `clean` says where metal of a net may lie.
 #![tactic(auto)]
 
 mod clean_metal;
@@ -20,6 +21,7 @@ mod spacing;
 mod too_close;
 
 pub use clean_metal::clean;
-pub use join::joined;
+pub use join::{joined, joined_among};
+pub use net_shapes::numbers_by_net;
 pub use open_fault::open_faults;
 pub use spacing::spacing_faults;

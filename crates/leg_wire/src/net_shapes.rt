@@ -2,14 +2,16 @@
 
 ghost use Rattle.std.specs.Prelude.{◌≡◌, ◌↔◌, ◌<◌, ◌^◌, ◌++◌, ◌∷◌, [], ℕ, IsTrue, Some, get_or, replicate, slice_set, length, IfOk, OnOk};
 ghost use Rattle.leg_flat.specs.declared.owner.Owner.TheVariants.{Net};
-ghost use Rattle.leg_wire.specs.Steps.NetShapes.{AreNumbersOf};
+ghost use Rattle.leg_wire.specs.NetShapes.{AreNumbersOf};
 
 use leg_cells::Items;
 use leg_flat::{Owner, Shape};
 use std::alloc::{AllocError, Allocator};
 
 /// For each net below this number the numbers of its shapes, in increasing order.
-pub(crate) fn numbers_by_net<A: Allocator + Copy>(
+///
+/// It fails only when out of memory.
+pub fn numbers_by_net<A: Allocator + Copy>(
     alloc: A,
     shapes: &[Shape],
     nets: u32,

@@ -7,7 +7,7 @@ ghost use Rattle.leg_wire.specs.Open.{Holds};
 ghost use Rattle.leg_wire.specs.Steps.OpenViolations.{TellsUnmarked};
 ghost use Rattle.leg_wire.specs.Steps.AddedFaults.{AreAdded};
 
-use crate::join::joined_by_shapes;
+use crate::join::joined_among;
 use crate::net_shapes::numbers_by_net;
 use leg_block::{Design, Fault};
 use leg_flat::Flat;
@@ -30,7 +30,7 @@ pub fn open_faults<A: Allocator + Copy>(
     let numbers = numbers_by_net(alloc, flat.shapes(), nets)?;
     let mut found = Vec::new(alloc);
     for net in 0..nets {
-        let marks = joined_by_shapes(alloc, flat, net, numbers[net as usize].as_slice())?;
+        let marks = joined_among(alloc, flat, net, numbers[net as usize].as_slice())?;
         push_open(net, &marks, &mut found)?;
     }
     Ok(found)

@@ -1,7 +1,7 @@
 //! The metal of the pieces of a net.
 
 ghost use Rattle.std.specs.Prelude.{◌≡◌, ◌↔◌, ◌<◌, ◌^◌, Some, length, IfOk};
-ghost use Rattle.leg_wire.specs.Steps.NetShapes.{AreNumbersOf};
+ghost use Rattle.leg_wire.specs.NetShapes.{AreNumbersOf};
 ghost use Rattle.leg_wire.specs.Steps.PieceMetal.{SaysShape, ArePieceShapes};
 
 use leg_flat::{Flat, Shape};

@@ -13,8 +13,8 @@ prove-unreachable-requires g c =
     let within = nets_within c.args.design.now c.args.flat.now c.requires in
     omega (arith, within, c.if-prove.true, c.net_count.ensures.is, ap length c.nets.ensures.is)
 
-pub joined_by_shapes-requires-clause-numbers : goal.joined_by_shapes-requires-clause-numbers
-joined_by_shapes-requires-clause-numbers g c =
+pub joined_among-requires-clause-numbers : goal.joined_among-requires-clause-numbers
+joined_among-requires-clause-numbers g c =
     let net = c.loop-net.net in
     let lists = c.in_ok-numbers.numbers.items in
     let low : net < length c.nets.result.now = omega arith in

@@ -4,7 +4,7 @@ use Rattle.std.proofs.lemmas.Result.{IfOk-weaker}
 use Rattle.leg_wire.specs.Touch.{piece_count, AreJoined, AreMarks}
 use Rattle.leg_wire.specs.Steps.NumberSets.{AreTogether}
 use Rattle.leg_wire.proofs.Touches.{marks_of_joined}
-use Rattle.leg_wire.proofs.join.joined_by_shapes.Goals as goal
+use Rattle.leg_wire.proofs.join.joined_among.Goals as goal
 
 pub returns : goal.returns
 returns g c =
