@@ -9,6 +9,7 @@ use Rattle.leg_block.specs.declared.records.Wire.{Wire}
 use Rattle.leg_block.specs.MoreWires.{each_with, with_more_wires}
 use Rattle.leg_block.specs.Records.{DesignContents, NetSaid}
 use Rattle.leg_block.specs.WellFormed.{IsWellFormed}
+use Rattle.leg_flat.specs.Metal.{metal_of}
 use Rattle.leg_flat.specs.Flat.{FlatSaid, IsFlatOf}
 use Rattle.leg_grid.specs.Run.{Added, Run, IsDone}
 use Rattle.leg_grid.specs.Refusals.{IsOtherThanOpen}
@@ -18,7 +19,7 @@ use Rattle.leg_route.specs.Legal.{IsLegal}
 use Rattle.leg_route.specs.SameButForWires.{HasMoreWires, IsSameButForWires}
 use Rattle.leg_route.specs.Routed.{wires_for, HasAdded, IsRouted}
 use Rattle.leg_route.specs.Steps.AddedLists.{AreListsOf}
-use Rattle.leg_route.proofs.GrownLaws.{RunOfCleanWires, CleanWiresStay, GrowthGoesOn, FinishedIsLegal, PlacementStays}
+use Rattle.leg_route.proofs.GrownLaws.{RunOfCleanWires, CleanWiresStay, GrowthGoesOn, FinishedIsLegal, PlacementStays, ShapesStayAsMany}
 use Rattle.leg_route.proofs.RunFacts.{told, added_for, run_grows, run_nets, run_clean}
 
 -- each entry is as it was, with wires behind its own
@@ -57,6 +58,15 @@ has_added design added lists are = record {
   each = λ n net there. entry_with design.nets lists n net (wires_for n added) there (are.each n (slice_get_within design.nets n net there));
 }
 
+-- each entry has the wires that the flat got for it
+pub by_net : (goes_on : GrowthGoesOn) (design : DesignContents) (flat grown : FlatSaid) (added : List Added) (lists : List (List Wire)) → Run design flat added grown
+    → AreListsOf (length design.nets) added lists → AreByNet (length design.nets) (told added) lists
+by_net goes_on design flat grown added lists run are = record {
+  nets = run_nets goes_on design flat grown added run;
+  one_each = are.one_each;
+  each = λ net less. are.each net less ∙ ap Some (sym (added_for net added));
+}
+
 module _ (run_of : RunOfCleanWires) (stay : CleanWiresStay) (goes_on : GrowthGoesOn) (is_legal : FinishedIsLegal) (placement : PlacementStays) where
   pub legal_then : (design : DesignContents) (flat grown : FlatSaid) (added : List Added) (lists : List (List Wire))
       → IsSound design.library → IsWellFormed design → IsWellFormed (finished design lists) → IsFlatOf design flat
@@ -67,20 +77,13 @@ module _ (run_of : RunOfCleanWires) (stay : CleanWiresStay) (goes_on : GrowthGoe
     shapes = λ end fault is_end. (judged end is_end).shapes fault;
     nets = λ end fault is_end. (judged end is_end).nets fault;
   } where
-    by_net : AreByNet (length design.nets) (told added) lists
-    by_net = record {
-      nets = run_nets goes_on design flat grown added run;
-      one_each = are.one_each;
-      each = λ net less. are.each net less ∙ ap Some (sym (added_for net added));
-    }
-
     from : (end : FlatSaid) → IsFlatOf (finished design lists) end → IsFinishedFrom design (told added) grown lists end
     from end is_end = record {
       flat = flat;
       is_flat = is_flat;
       proper = proper;
       grows = run_grows goes_on design flat grown added run;
-      by_net = by_net;
+      by_net = by_net goes_on design flat grown added lists run are;
       proper_end = proper_then;
       is_end = is_end;
     }
@@ -94,3 +97,8 @@ pub routed_then : (design : DesignContents) (flat grown : FlatSaid) (added : Lis
     → IsDone design grown → AreListsOf (length design.nets) added lists → IsRouted design (finished design lists)
 routed_then design flat grown added lists is_flat run done are =
     record { flat = flat; is_flat = is_flat; added = added; grown = grown; run = run; done = done; wires = has_added design added lists are }
+
+pub as_many : GrowthGoesOn → ShapesStayAsMany → (design : DesignContents) (flat grown : FlatSaid) (added : List Added) (lists : List (List Wire)) → IsFlatOf design flat
+    → Run design flat added grown → AreListsOf (length design.nets) added lists → length (metal_of (finished design lists)) ≡ length grown.shapes
+as_many goes_on stay design flat grown added lists is_flat run are =
+    stay design flat grown (told added) lists is_flat (run_grows goes_on design flat grown added run) (by_net goes_on design flat grown added lists run are)

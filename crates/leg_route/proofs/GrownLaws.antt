@@ -1,5 +1,5 @@
 -- The laws of flats that grow, as they are cited here.
-use Rattle.std.proofs.Common.{◌≢◌, ◌↔◌, ◌≤ℤ◌, ℕ, ℤ, pos, List, ◌++◌, All}
+use Rattle.std.proofs.Common.{◌≡◌, ◌≢◌, ◌↔◌, ◌≤ℤ◌, ℕ, ℤ, pos, List, ◌++◌, All, length}
 use Rattle.leg_geom.specs.Plane.{Spot}
 use Rattle.leg_cells.specs.Scale.{IsEven}
 use Rattle.leg_cells.specs.Records.{Contents}
@@ -8,11 +8,12 @@ use Rattle.leg_block.specs.declared.records.Wire.{Wire}
 use Rattle.leg_block.specs.declared.records.Wire.TheVariants.{Segment}
 use Rattle.leg_block.specs.Records.{DesignContents}
 use Rattle.leg_place.specs.Faults as place
-use Rattle.leg_flat.specs.Flat.{FlatSaid}
+use Rattle.leg_flat.specs.Metal.{metal_of}
+use Rattle.leg_flat.specs.Flat.{FlatSaid, IsFlatOf}
 use Rattle.leg_grown.specs.Growth.{AddedWire, Grows, of_net}
 use Rattle.leg_grown.specs.CleanWire.{HasNoSpacingFault, IsCleanWire}
 use Rattle.leg_grown.specs.Lines.{EachStep, last_spot, AreInLine}
-use Rattle.leg_grown.specs.Finished.{finished, IsFinishedFrom}
+use Rattle.leg_grown.specs.Finished.{finished, AreByNet, IsFinishedFrom}
 use Rattle.leg_grown.specs.Violations.{IsOpenNet, IsLegal}
 
 abbrev pub RunOfCleanWires : Type 0
@@ -44,3 +45,9 @@ abbrev pub PlacementStays : Type 0
 PlacementStays =
     (library : Contents) (design : DesignContents) (lists : List (List Wire)) (fault : Fault)
     → place.Holds library design fault ↔ place.Holds library (finished design lists) fault
+
+abbrev pub ShapesStayAsMany : Type 0
+ShapesStayAsMany =
+    (design : DesignContents) (flat grown : FlatSaid) (added : List AddedWire) (lists : List (List Wire))
+    → IsFlatOf design flat → Grows design added flat grown → AreByNet (length design.nets) added lists
+    → length (metal_of (finished design lists)) ≡ length grown.shapes

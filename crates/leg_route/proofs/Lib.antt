@@ -9,3 +9,4 @@ mod MoreWires
 mod Turn
 mod Onward
 mod KindsJoined
+mod FewWires

@@ -1,12 +1,11 @@
 //! The design gets the wires of a run that has come to its end.
 
-ghost use Rattle.std.specs.Prelude.{◌≡◌, ◌+◌, ◌≤◌, false, All, map, IfOk, IfErr};
+ghost use Rattle.std.specs.Prelude.{◌≡◌, ◌≤◌, false, All, length, map, IfOk, IfErr};
 ghost use Rattle.leg_cells.specs.Sound.{IsSound};
 ghost use Rattle.leg_block.specs.declared.limits.TheConstants.{PART_LIMIT};
-ghost use Rattle.leg_block.specs.MoreWires.{with_more_wires};
-ghost use Rattle.leg_block.specs.Records.{wire_count};
 ghost use Rattle.leg_block.specs.WellFormed.{IsWellFormed};
 ghost use Rattle.leg_block.specs.WellFormedNets.{IsWire};
+ghost use Rattle.leg_flat.specs.Metal.{metal_of};
 ghost use Rattle.leg_route.specs.Legal.{IsLegal};
 ghost use Rattle.leg_route.specs.SameButForWires.{IsSameButForWires};
 ghost use Rattle.leg_route.specs.Routed.{IsRouted};
@@ -34,10 +33,10 @@ pub(crate) fn finish<'a, A: Allocator + Copy>(
 ) -> Result<Design<'a, A>, (Design<'a, A>, RouteFault<A>)>
     requires run { IsFinishedRun design (map (λ wires. wires.items) lists.items) }
     requires spelled { All (λ wires. All (IsWire design.library design.vias false) wires.items) lists.items }
-    requires few { wire_count (with_more_wires design.nets (map (λ wires. wires.items) lists.items)) + wire_count design.special ≤ PART_LIMIT }
     ensures legal { IfOk result (λ done. IsLegal done) }
     ensures same { IfOk result (λ done. IsSameButForWires design.entry done) }
     ensures run { IfOk result (λ done. IsRouted design.entry done) }
+    ensures few { IfOk result (λ done. length (metal_of done) ≤ PART_LIMIT) }
     ensures unchanged { IfErr result (λ back. back.0 ≡ design.entry) }
     ensures refused { IfErr result (λ back. IsRefusal design.entry back.1) }
 {
