@@ -7,7 +7,7 @@ use Rattle.std.proofs.lemmas.List.{append-nil, append_assoc, length-append}
 use Rattle.std.proofs.lemmas.List.Elements.{All-nil, All-cons, All-append, All-head, All-tail}
 use Rattle.leg_block.specs.declared.records.Wire.{Wire}
 use Rattle.leg_block.specs.Records.{DesignContents}
-use Rattle.leg_flat.specs.Flat.{FlatSaid}
+use Rattle.leg_flat.specs.Flat.{FlatSaid, IsWithin}
 use Rattle.leg_grid.specs.Spelling.{AreWiresOf}
 use Rattle.leg_grid.specs.Run.{Added, Run, IsTurn, IsOpenNet, IsDone}
 use Rattle.leg_grid.specs.Run.Run.{begun as run_begins, walked as run_goes_on}
@@ -18,6 +18,7 @@ use Rattle.leg_route.specs.Routed.{wires_for}
 use Rattle.leg_route.specs.declared.fault.RouteFault.{RouteFault}
 use Rattle.leg_route.specs.declared.fault.RouteFault.TheVariants.{NotClean, GridTooLarge, Unroutable, TooMany, Memory}
 use Rattle.leg_route.specs.Steps.AddedLists.{AreListsOf}
+use Rattle.leg_route.specs.Steps.FinishedRun.{IsFinishedRun}
 use Rattle.leg_route.specs.Steps.NetRun.{NetRun}
 use Rattle.leg_route.specs.Steps.NetRun.NetRun.{begun, walked}
 use Rattle.leg_route.specs.Steps.Stops.{IsNetStop, IsRunStop}
@@ -213,3 +214,17 @@ refused_then design flat GridTooLarge comes stop = absurd stop
 refused_then design flat (Unroutable n) comes stop = (flat, comes, stop)
 refused_then design flat TooMany comes stop = on_the_way comes stop
 refused_then design flat Memory comes stop = tt
+
+pub finished_underway : (design : DesignContents) (flat : FlatSaid) (nets : ℕ) (lists : List (List Wire)) (grown : FlatSaid) → nets ≡ length design.nets → ComesToRun design flat
+    → IsUnderway design flat nets lists grown → IsWithin grown → IsFinishedRun design lists
+finished_underway design flat nets lists grown count comes u within =
+    let all = subst (λ n. IsUnderway design flat n lists grown) count u in record {
+      flat = flat;
+      clean = comes.clean;
+      added = all.added;
+      grown = grown;
+      run = all.run;
+      done = underway_done design flat lists grown all;
+      within = within.shapes;
+      lists_are = all.lists_are;
+    }

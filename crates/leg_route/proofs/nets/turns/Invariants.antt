@@ -3,7 +3,7 @@ use Rattle.std.proofs.Common.{◌≡◌, false, All, map}
 use Rattle.leg_block.specs.WellFormedNets.{IsWire}
 use Rattle.leg_flat.specs.Flat.{IsWithin}
 use Rattle.leg_route.specs.Steps.Underway.{IsUnderway}
-use Rattle.leg_route.proofs.nets.route_nets.Given as goal
+use Rattle.leg_route.proofs.nets.turns.Given as goal
 
 abbrev pub invariant-loop-net : goal.invariant-loop-net
 invariant-loop-net g l =
