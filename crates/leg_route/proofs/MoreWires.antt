@@ -147,8 +147,11 @@ module _ (design : DesignContents) (net : ℕ) where
         open_piece = λ joins. h.open_piece (joined 0 k joins);
       }
 
+    pub was_open : (wires : List Wire) (f g : FlatSaid) → HasMoreWires design net wires f g → IsOpenNet design g n → IsOpenNet design f n
+    was_open wires f g more has = (has.0, open_before f g (kept wires f g more) has.0 has.1)
+
     pub stays_joined : (wires : List Wire) (f g : FlatSaid) → HasMoreWires design net wires f g → ¬ IsOpenNet design f n → ¬ IsOpenNet design g n
-    stays_joined wires f g more joins has = joins (has.0, open_before f g (kept wires f g more) has.0 has.1)
+    stays_joined wires f g more joins has = joins (was_open wires f g more has)
 
 -- a walk has some wire
 spells_some : (design : DesignContents) (a : Node) (nodes : List Node) (wires : List Wire) → 0 < length nodes → Spells design a nodes wires → 0 < length wires

@@ -1,5 +1,6 @@
 -- What a routing run has added, wire after wire, and that a flat without shorts and without shapes too near stays so.
-use Rattle.std.proofs.Common.{◌≡◌, ◌==◌, ◌<◌, ℕ, List, [], ◌∷◌, ◌++◌, length, All, Bool, true, false, refl, sym, ap, ◌∙◌, subst}
+use Rattle.std.proofs.Common.{◌≡◌, ◌==◌, ◌<◌, ℕ, List, [], ◌∷◌, ◌++◌, length, All, Bool, true, false, refl, sym, ap, ◌∙◌, subst, ◌≢◌, arith}
+use Rattle.std.proofs.lemmas.Bool.Decides.{nat_tests}
 use Rattle.std.proofs.lemmas.List.{append-nil, append_assoc}
 use Rattle.std.proofs.lemmas.List.Elements.{All-nil, All-cons, All-append}
 use Rattle.leg_cells.specs.Sound.{IsSound}
@@ -8,12 +9,13 @@ use Rattle.leg_block.specs.Records.{DesignContents}
 use Rattle.leg_flat.specs.Flat.{FlatSaid}
 use Rattle.leg_grid.specs.MoreWires.{HasMoreWires}
 use Rattle.leg_grid.specs.MoreWires.HasMoreWires.{none, one_more}
-use Rattle.leg_grid.specs.Run.{Added, Run}
+use Rattle.leg_grid.specs.Run.{Added, Run, IsOpenNet}
 use Rattle.leg_grid.specs.Run.Run.{begun, walked}
 use Rattle.leg_grown.specs.Growth.{AddedWire, Grows, of_net, wires_added}
 use Rattle.leg_grown.specs.CleanWire.{HasNoSpacingFault}
 use Rattle.leg_route.specs.Routed.{wires_for}
 use Rattle.leg_route.proofs.GrownLaws.{RunOfCleanWires, CleanWiresStay, GrowthGoesOn}
+use Rattle.leg_route.proofs.MoreWires.{was_open}
 use Rattle.leg_route.proofs.OpenWires.{walk_clean}
 
 -- the wires of a run, each with its net
@@ -82,3 +84,15 @@ module _ (run_of_clean : RunOfCleanWires) (stay : CleanWiresStay) (design : Desi
       stay design.library design net wires mid grown (run_clean flat mid before sound clean run)
       (walk_clean run_of_clean design mid net sound walk.from walk.to nodes wires walk.walk spelled)
       (more_grows design net wires mid grown more)
+
+-- a net that is open after a run was open before it
+pub was_open_first : (design : DesignContents) (flat grown : FlatSaid) (added : List Added) (net : ℕ) → Run design flat added grown → IsOpenNet design grown net → IsOpenNet design flat net
+was_open_first design flat grown added net begun is_open = is_open
+was_open_first design flat grown added net (walked {mid = mid} {added = before} {wires = wires} one run turn walk spelled more) is_open =
+    was_open_first design flat mid before net run (by (net == one) refl)
+  where
+    by : (b : Bool) → (net == one) ≡ b → IsOpenNet design mid net
+    by true same = let same_net : one ≡ net = grind (arith, nat_tests, same) in subst (IsOpenNet design mid) same_net turn.is_open
+    by false other =
+        let differ : net ≢ one = λ same. let e : ⊥ = grind (arith, nat_tests, other, same) in e in
+        was_open design one net differ wires mid grown more is_open

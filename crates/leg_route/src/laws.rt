@@ -10,7 +10,7 @@ ghost use Rattle.leg_block.specs.WellFormed.{IsWellFormed};
 ghost use Rattle.leg_block.specs.WellFormedNets.{IsWire};
 ghost use Rattle.leg_flat.specs.Metal.{metal_of};
 ghost use Rattle.leg_flat.specs.Flat.{FlatSaid, IsFlatOf};
-ghost use Rattle.leg_grid.specs.Run.{Added, Run, IsDone};
+ghost use Rattle.leg_grid.specs.Run.{Added, Run, IsOpenNet, IsDone};
 ghost use Rattle.leg_grid.specs.Refusals.{IsOtherThanOpen};
 ghost use Rattle.leg_grown.specs.CleanWire.{HasNoSpacingFault};
 ghost use Rattle.leg_grown.specs.Finished.{finished};
@@ -33,6 +33,12 @@ pub fn runs_stay_clean()
     run_of_clean_wires_is_clean();
     clean_wires_stay_clean();
 }
+
+/// A net that is open where a run has come to was open before the run.
+pub fn open_nets_were_open()
+    ensures { (design : DesignContents) (flat grown : FlatSaid) (added : List Added) (net : ℕ) → Run design flat added grown
+        → IsOpenNet design grown net → IsOpenNet design flat net }
+{}
 
 /// A design gets the wires of a run that has come to its end, each entry of `NETS` its own list of them.
 ///
