@@ -1,0 +1,104 @@
+-- The design that got the wires of a run which came to its end.
+use Rattle.std.proofs.Common.{◌≡◌, ℕ, zero, suc, List, [], ◌∷◌, ◌++◌, length, inl, inr, Some, slice_get, refl, sym, ap, ◌∙◌}
+use Rattle.std.proofs.lemmas.List.{append-nil}
+use Rattle.std.proofs.lemmas.Option.{same_Some, none-some, slice_get_within}
+use Rattle.leg_cells.specs.Scale.{OneForOne}
+use Rattle.leg_cells.specs.Sound.{IsSound}
+use Rattle.leg_block.specs.declared.fault.Fault.{Fault}
+use Rattle.leg_block.specs.declared.records.Wire.{Wire}
+use Rattle.leg_block.specs.MoreWires.{each_with, with_more_wires}
+use Rattle.leg_block.specs.Records.{DesignContents, NetSaid}
+use Rattle.leg_block.specs.WellFormed.{IsWellFormed}
+use Rattle.leg_flat.specs.Metal.{metal_of}
+use Rattle.leg_flat.specs.Flat.{FlatSaid, IsFlatOf}
+use Rattle.leg_grid.specs.Run.{Added, Run, IsDone}
+use Rattle.leg_grid.specs.Refusals.{IsOtherThanOpen}
+use Rattle.leg_grown.specs.Finished.{finished, AreByNet, IsFinishedFrom}
+use Rattle.leg_grown.specs.Violations as grown_flat
+use Rattle.leg_route.specs.Legal.{IsLegal}
+use Rattle.leg_route.specs.SameButForWires.{HasMoreWires, IsSameButForWires}
+use Rattle.leg_route.specs.Routed.{wires_for, HasAdded, IsRouted}
+use Rattle.leg_route.specs.Steps.AddedLists.{AreListsOf}
+use Rattle.leg_route.proofs.GrownLaws.{RunOfCleanWires, CleanWiresStay, GrowthGoesOn, FinishedIsLegal, PlacementStays, ShapesStayAsMany}
+use Rattle.leg_route.proofs.RunFacts.{told, added_for, run_grows, run_nets, run_clean}
+
+-- each entry is as it was, with wires behind its own
+one_for_one : (nets : List NetSaid) (lists : List (List Wire)) → OneForOne HasMoreWires nets (with_more_wires nets lists)
+unfolding each_with
+one_for_one [] lists = tt
+one_for_one (net ∷ nets) [] = (record { more = []; is = ap (λ wires. record net { wires = wires }) (sym (append-nil net.wires)) }, all_same nets) where
+  all_same : (nets : List NetSaid) → OneForOne HasMoreWires nets nets
+  all_same [] = tt
+  all_same (net ∷ nets) = (record { more = []; is = ap (λ wires. record net { wires = wires }) (sym (append-nil net.wires)) }, all_same nets)
+one_for_one (net ∷ nets) (wires ∷ lists) = (record { more = wires; is = refl }, one_for_one nets lists)
+
+entry_count : (nets : List NetSaid) (lists : List (List Wire)) → length (with_more_wires nets lists) ≡ length nets
+unfolding each_with
+entry_count [] lists = refl
+entry_count (net ∷ nets) [] = refl
+entry_count (net ∷ nets) (wires ∷ lists) = ap suc (entry_count nets lists)
+
+entry_with : (nets : List NetSaid) (lists : List (List Wire)) (n : ℕ) (net : NetSaid) (wires : List Wire) → slice_get nets n ≡ Some net → slice_get lists n ≡ Some wires
+    → slice_get (with_more_wires nets lists) n ≡ Some (record net { wires = net.wires ++ wires })
+unfolding each_with
+entry_with [] lists n net wires there list = absurd (none-some net there)
+entry_with (first ∷ nets) [] n net wires there list = absurd (none-some wires list)
+entry_with (first ∷ nets) (own ∷ lists) zero net wires there list =
+    ap (λ (it : NetSaid). Some (record it { wires = it.wires ++ own })) (same_Some first net there)
+    ∙ ap (λ ws. Some (record net { wires = net.wires ++ ws })) (same_Some own wires list)
+entry_with (first ∷ nets) (own ∷ lists) (suc n) net wires there list = entry_with nets lists n net wires there list
+
+pub same_but_for_wires : (design : DesignContents) (lists : List (List Wire)) → IsSameButForWires design (finished design lists)
+same_but_for_wires design lists = record { rest = refl; nets = one_for_one design.nets lists }
+
+pub has_added : (design : DesignContents) (added : List Added) (lists : List (List Wire)) → AreListsOf (length design.nets) added lists → HasAdded design added (finished design lists)
+has_added design added lists are = record {
+  rest = refl;
+  count = entry_count design.nets lists;
+  each = λ n net there. entry_with design.nets lists n net (wires_for n added) there (are.each n (slice_get_within design.nets n net there));
+}
+
+-- each entry has the wires that the flat got for it
+pub by_net : (goes_on : GrowthGoesOn) (design : DesignContents) (flat grown : FlatSaid) (added : List Added) (lists : List (List Wire)) → Run design flat added grown
+    → AreListsOf (length design.nets) added lists → AreByNet (length design.nets) (told added) lists
+by_net goes_on design flat grown added lists run are = record {
+  nets = run_nets goes_on design flat grown added run;
+  one_each = are.one_each;
+  each = λ net less. are.each net less ∙ ap Some (sym (added_for net added));
+}
+
+module _ (run_of : RunOfCleanWires) (stay : CleanWiresStay) (goes_on : GrowthGoesOn) (is_legal : FinishedIsLegal) (placement : PlacementStays) where
+  pub legal_then : (design : DesignContents) (flat grown : FlatSaid) (added : List Added) (lists : List (List Wire))
+      → IsSound design.library → IsWellFormed design → IsWellFormed (finished design lists) → IsFlatOf design flat
+      → ((fault : Fault) → ¬ IsOtherThanOpen design flat fault) → Run design flat added grown → IsDone design grown
+      → AreListsOf (length design.nets) added lists → IsLegal (finished design lists)
+  legal_then design flat grown added lists sound proper proper_then is_flat clean run done are = record {
+    places = λ fault holds. clean fault (inl ((placement design.library design lists fault).1 holds));
+    shapes = λ end fault is_end. (judged end is_end).shapes fault;
+    nets = λ end fault is_end. (judged end is_end).nets fault;
+  } where
+    from : (end : FlatSaid) → IsFlatOf (finished design lists) end → IsFinishedFrom design (told added) grown lists end
+    from end is_end = record {
+      flat = flat;
+      is_flat = is_flat;
+      proper = proper;
+      grows = run_grows goes_on design flat grown added run;
+      by_net = by_net goes_on design flat grown added lists run are;
+      proper_end = proper_then;
+      is_end = is_end;
+    }
+
+    judged : (end : FlatSaid) → IsFlatOf (finished design lists) end → grown_flat.IsLegal design.library (finished design lists) end
+    judged end is_end =
+        is_legal design.library design (told added) grown lists end (from end is_end) (λ fault holds. clean fault (inl holds))
+        (run_clean run_of stay design flat grown added sound (λ fault holds. clean fault (inr holds)) run) done
+
+pub routed_then : (design : DesignContents) (flat grown : FlatSaid) (added : List Added) (lists : List (List Wire)) → IsFlatOf design flat → Run design flat added grown
+    → IsDone design grown → AreListsOf (length design.nets) added lists → IsRouted design (finished design lists)
+routed_then design flat grown added lists is_flat run done are =
+    record { flat = flat; is_flat = is_flat; added = added; grown = grown; run = run; done = done; wires = has_added design added lists are }
+
+pub as_many : GrowthGoesOn → ShapesStayAsMany → (design : DesignContents) (flat grown : FlatSaid) (added : List Added) (lists : List (List Wire)) → IsFlatOf design flat
+    → Run design flat added grown → AreListsOf (length design.nets) added lists → length (metal_of (finished design lists)) ≡ length grown.shapes
+as_many goes_on stay design flat grown added lists is_flat run are =
+    stay design flat grown (told added) lists is_flat (run_grows goes_on design flat grown added run) (by_net goes_on design flat grown added lists run are)

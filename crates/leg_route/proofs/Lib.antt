@@ -1,0 +1,12 @@
+mod Places
+mod GrownLaws
+mod GridFacts
+mod Straight
+mod OpenWires
+mod RunFacts
+mod Finished
+mod MoreWires
+mod Turn
+mod Onward
+mod KindsJoined
+mod FewWires

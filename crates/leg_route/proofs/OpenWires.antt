@@ -1,0 +1,166 @@
+-- The wires of a walk are clean where its nodes and steps are open.
+use Rattle.std.proofs.Common.{◌≡◌, ◌≢◌, ℕ, ℤ, pos, ◌≤ℤ◌, List, [], ◌∷◌, ◌++◌, ◌⊎◌, inl, inr, All, negsuc, refl, sym, ap, ◌∙◌, subst, arith}
+use Rattle.std.proofs.lemmas.Int.{ints}
+use Rattle.std.proofs.lemmas.List.Elements.{All-contains, All-cons, All-nil}
+use Rattle.leg_geom.specs.Plane.{Spot}
+use Rattle.leg_cells.specs.declared.records.Direction.{Direction}
+use Rattle.leg_cells.specs.Sound.{IsSound, IsSoundLayer, HasWidth, IsWidth}
+use Rattle.leg_block.specs.declared.records.Wire.{Wire}
+use Rattle.leg_block.specs.declared.records.Wire.TheVariants.{Segment, ViaAt, Patch}
+use Rattle.leg_block.specs.Records.{DesignContents}
+use Rattle.leg_flat.specs.Flat.{FlatSaid}
+use Rattle.leg_walk.specs.declared.side.Side.{Side}
+use Rattle.leg_walk.specs.Walk.{Walk}
+use Rattle.leg_walk.specs.Walk.Walk.{here, on}
+use Rattle.leg_grid.specs.declared.node.Node.{Node}
+use Rattle.leg_grid.specs.Tracks.{Runs}
+use Rattle.leg_grid.specs.Neighbours.{IsInLine, IsOver}
+use Rattle.leg_grid.specs.Added.{half, square, NodeAdds, StepAdds}
+use Rattle.leg_grid.specs.OpenMetal.{IsOpenWire, IsOpenNode, IsOpenStep}
+use Rattle.leg_grid.specs.Spelling.{IsOnLayer, IsStraight, Spells, AreWiresOf}
+use Rattle.leg_grid.specs.Spelling.IsStraight.{one, more}
+use Rattle.leg_grid.specs.Spelling.Spells.{done, through, along}
+use Rattle.leg_grid.specs.Spelling.AreWiresOf.{stays, goes}
+use Rattle.leg_grown.specs.Lines.{EachStep, last_spot}
+use Rattle.leg_route.proofs.Places.{contains_at}
+use Rattle.leg_route.proofs.GrownLaws.{RunOfCleanWires}
+use Rattle.leg_route.proofs.GridFacts.{same_width, over_up, via_once}
+use Rattle.leg_route.proofs.Straight.{points, beside_layer, straight_last, straight_ahead, straight_apart, straight_keeps, ahead_apart, in_line}
+
+-- the width of a routing layer is above 0 and even
+pub runs_width : (design : DesignContents) (number : ℕ) (direction : Direction) (width : ℤ) → IsSound design.library → Runs design.library number direction width → IsWidth width
+runs_width design number direction width sound runs =
+    let layer = All-contains IsSoundLayer design.library.layers runs.layer sound.layers (contains_at design.library.layers number runs.layer runs.there) in
+    subst HasWidth runs.routes layer.width
+
+-- half of a width isn't below 0
+half_least : (width : ℤ) → IsWidth width → pos 0 ≤ℤ half width
+half_least (pos a) is = omega (arith, ints)
+half_least (negsuc a) is = absurd (let above = is.above in let e : ⊥ = omega (arith, ints) in e)
+
+module _ (run_of_clean : RunOfCleanWires) (design : DesignContents) (flat : FlatSaid) (net : ℕ) where
+  abbrev Clean : Wire → Type 0
+  Clean wire = IsOpenWire design flat net wire
+
+  abbrev Step : Node → Node → Type 0
+  Step a b = IsOpenStep design flat net a b
+
+  -- all steps from a over these nodes are open
+  abbrev AreSteps : Node → List Node → Type 0
+  AreSteps a [] = Unit {0}
+  AreSteps a (b ∷ nodes) = Step a b × AreSteps b nodes
+
+  -- a walk from a has these nodes: a, and then others over which all steps are open
+  abbrev GoesOver : Node → List Node → Type 0
+  GoesOver a [] = ⊥
+  GoesOver a (b ∷ nodes) = (a ≡ b) × IsOpenNode design flat net a × AreSteps a nodes
+
+  goes_over : (a c : Node) (nodes : List Node) → Walk (IsOpenNode design flat net) Step a nodes c → GoesOver a nodes
+  goes_over a c nodes (here is_open) = (refl, is_open, tt)
+  goes_over a c nodes (on {b = b} {nodes = others} is_open step walk) = (refl, is_open, steps others (goes_over b c others walk)) where
+    steps : (others : List Node) → GoesOver b others → AreSteps a others
+    steps [] over = absurd over
+    steps (d ∷ others) over = (subst (Step a) over.0 step, subst (λ n. AreSteps n others) over.0 over.2)
+
+  -- the wire that a node adds is the one that was asked
+  node_clean : (a : Node) (wire : Wire) → IsOpenNode design flat net a → NodeAdds design a wire → Clean wire
+  node_clean a wire is_open adds =
+      let width : is_open.adds.width ≡ adds.width =
+      same_width design.library a.layer is_open.adds.direction adds.direction is_open.adds.width adds.width is_open.adds.runs adds.runs in
+      let same : is_open.wire ≡ wire = is_open.adds.is ∙ ap (λ w. Patch a.layer a.at (square w)) width ∙ sym adds.is in
+      subst Clean same is_open.clean
+
+  -- steps on a layer are not steps through a via
+  line_layer : (a b : Node) → IsInLine design a b → a.layer ≡ b.layer
+  line_layer a b (inl (inl h)) = h.layer
+  line_layer a b (inl (inr h)) = sym h.layer
+  line_layer a b (inr (inl h)) = h.layer
+  line_layer a b (inr (inr h)) = sym h.layer
+
+  abbrev IsThrough : ℕ → Node → Node → Type 0
+  IsThrough via a b = IsOver design via a b ⊎ IsOver design via b a
+
+  through_other : (via : ℕ) (a b : Node) → IsThrough via a b → a.layer ≡ b.layer → ⊥
+  through_other via a b (inl up) same = let less = over_up design via a b up in omega (arith, less, same)
+  through_other via a b (inr down) same = let less = over_up design via b a down in omega (arith, less, same)
+
+  through_once : (via other : ℕ) (a b : Node) → IsThrough via a b → IsThrough other a b → via ≡ other
+  through_once via other a b (inl p) (inl q) = via_once design.library a.layer b.layer via other p.via_is q.via_is
+  through_once via other a b (inl p) (inr q) =
+      let less = over_up design via a b p in let more = over_up design other b a q in absurd (omega (arith, less, more))
+  through_once via other a b (inr p) (inl q) =
+      let less = over_up design via b a p in let more = over_up design other a b q in absurd (omega (arith, less, more))
+  through_once via other a b (inr p) (inr q) = via_once design.library b.layer a.layer via other p.via_is q.via_is
+
+  -- the via of an open step is clean
+  via_clean : (via : ℕ) (a b : Node) → IsThrough via a b → Step a b → Clean (ViaAt via a.at)
+  via_clean via a b over step = by step.adds where
+    by : StepAdds design a b step.wire → Clean (ViaAt via a.at)
+    by (inl line) = absurd (through_other via a b over (line_layer a b line.in_line))
+    by (inr it) =
+        let same : step.wire ≡ ViaAt via a.at = it.is ∙ ap (λ k. ViaAt k a.at) (through_once it.via via a b it.over over) in
+        subst Clean same step.clean
+
+  -- the segment of an open step along a layer is clean
+  line_clean : (layer : ℕ) (direction : Direction) (width : ℤ) (a b : Node) → a.layer ≡ layer → Runs design.library layer direction width → a.layer ≡ b.layer
+      → Step a b → Clean (Segment layer a.at b.at width (half width) (half width))
+  line_clean layer direction width a b is runs level step = by step.adds where
+    by : StepAdds design a b step.wire → Clean (Segment layer a.at b.at width (half width) (half width))
+    by (inr it) = absurd (through_other it.via a b it.over level)
+    by (inl line) =
+        let it = line.line in
+        let width_is : it.width ≡ width =
+        same_width design.library layer it.direction direction it.width width (subst (λ n. Runs design.library n it.direction it.width) is it.runs) runs in
+        let same : step.wire ≡ Segment layer a.at b.at width (half width) (half width) =
+        it.is ∙ ap (λ n. Segment n a.at b.at it.width (half it.width) (half it.width)) is ∙ ap (λ w. Segment layer a.at b.at w (half w) (half w)) width_is in
+        subst Clean same step.clean
+
+  module _ (side : Side) (on_layer : IsOnLayer side) (layer : ℕ) (direction : Direction) (width : ℤ) (runs : Runs design.library layer direction width) where
+    abbrev IsCleanLine : Spot → Spot → Type 0
+    IsCleanLine p q = Clean (Segment layer p q width (half width) (half width))
+
+    run_clean : (a b : Node) (run : List Node) → a.layer ≡ layer → IsStraight design side a run b → AreSteps a run → EachStep IsCleanLine a.at (points run)
+    run_clean a b run is (one beside) steps = (line_clean layer direction width a b is runs (sym (beside_layer design side a b on_layer beside)) steps.0, tt)
+    run_clean a b run is (more {b = mid} {nodes = nodes} beside rest) steps =
+        let level = beside_layer design side a mid on_layer beside in
+        (line_clean layer direction width a mid is runs (sym level) steps.0, run_clean mid b nodes (level ∙ is) rest steps.1)
+
+    whole_clean : (a b : Node) (run : List Node) → IsSound design.library → a.layer ≡ layer → IsStraight design side a run b → AreSteps a run
+        → Clean (Segment layer a.at b.at width (half width) (half width))
+    whole_clean a b run sound is straight steps =
+        let is_width = runs_width design layer direction width sound runs in
+        let last = straight_last design side on_layer a b run straight in
+        let apart : a.at ≢ last_spot a.at (points run) =
+        λ same. ahead_apart side a.at b.at (straight_ahead design side on_layer a b run straight) (same ∙ last) in
+        let whole = run_of_clean design.library design flat net layer width (half width) a.at (points run) is_width.even (half_least width is_width)
+        (in_line side a.at (points run) on_layer (straight_keeps design side on_layer a b run straight)) apart
+        (straight_apart design side on_layer a b run straight) (run_clean a b run is straight steps) in
+        subst (λ q. Clean (Segment layer a.at q width (half width) (half width))) last whole
+
+  -- a run of steps, and those behind it
+  steps_first : (side : Side) (a b : Node) (run nodes : List Node) → IsStraight design side a run b → AreSteps a (run ++ nodes) → AreSteps a run
+  steps_first side a b run nodes (one beside) steps = (steps.0, tt)
+  steps_first side a b run nodes (more {b = mid} {nodes = others} beside rest) steps = (steps.0, steps_first side mid b others nodes rest steps.1)
+
+  steps_then : (side : Side) (a b : Node) (run nodes : List Node) → IsStraight design side a run b → AreSteps a (run ++ nodes) → AreSteps b nodes
+  steps_then side a b run nodes (one beside) steps = steps.1
+  steps_then side a b run nodes (more {b = mid} {nodes = others} beside rest) steps = steps_then side mid b others nodes rest steps.1
+
+  spelled_clean : IsSound design.library → (a : Node) (nodes : List Node) (wires : List Wire) → Spells design a nodes wires → AreSteps a nodes → All Clean wires
+  spelled_clean sound a nodes wires done steps = All-nil Clean
+  spelled_clean sound a nodes wires (through {b = b} {nodes = others} {wires = more_wires} via over rest) steps =
+      All-cons Clean (ViaAt via a.at) more_wires (via_clean via a b over steps.0) (spelled_clean sound b others more_wires rest steps.1)
+  spelled_clean sound a nodes wires (along {b = b} {nodes = others} {wire = wire} {wires = more_wires} side run on_layer straight ends line rest) steps =
+      let whole = whole_clean side on_layer a.layer line.direction line.width line.runs a b run sound refl straight (steps_first side a b run others straight steps) in
+      All-cons Clean wire more_wires (subst Clean (sym line.is) whole)
+      (spelled_clean sound b others more_wires rest (steps_then side a b run others straight steps))
+
+  -- each wire of an open walk is clean
+  pub walk_clean : IsSound design.library → (from to : Node) (nodes : List Node) (wires : List Wire) → Walk (IsOpenNode design flat net) Step from nodes to
+      → AreWiresOf design nodes wires → All Clean wires
+  walk_clean sound from to nodes wires walk (stays {a = a} {wire = wire} adds) =
+      let over = goes_over from to (a ∷ []) walk in
+      All-cons Clean wire [] (node_clean a wire (subst (IsOpenNode design flat net) over.0 over.1) adds) (All-nil Clean)
+  walk_clean sound from to nodes wires walk (goes {a = a} {b = b} {nodes = others} spells) =
+      let over = goes_over from to (a ∷ b ∷ others) walk in
+      spelled_clean sound a (b ∷ others) wires spells (subst (λ n. AreSteps n (b ∷ others)) over.0 over.2)

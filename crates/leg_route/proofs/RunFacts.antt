@@ -1,0 +1,98 @@
+-- What a routing run has added, wire after wire, and that a flat without shorts and without shapes too near stays so.
+use Rattle.std.proofs.Common.{◌≡◌, ◌==◌, ◌<◌, ℕ, List, [], ◌∷◌, ◌++◌, length, All, Bool, true, false, refl, sym, ap, ◌∙◌, subst, ◌≢◌, arith}
+use Rattle.std.proofs.lemmas.Bool.Decides.{nat_tests}
+use Rattle.std.proofs.lemmas.List.{append-nil, append_assoc}
+use Rattle.std.proofs.lemmas.List.Elements.{All-nil, All-cons, All-append}
+use Rattle.leg_cells.specs.Sound.{IsSound}
+use Rattle.leg_block.specs.declared.records.Wire.{Wire}
+use Rattle.leg_block.specs.Records.{DesignContents}
+use Rattle.leg_flat.specs.Flat.{FlatSaid}
+use Rattle.leg_grid.specs.MoreWires.{HasMoreWires}
+use Rattle.leg_grid.specs.MoreWires.HasMoreWires.{none, one_more}
+use Rattle.leg_grid.specs.Run.{Added, Run, IsOpenNet}
+use Rattle.leg_grid.specs.Run.Run.{begun, walked}
+use Rattle.leg_grown.specs.Growth.{AddedWire, Grows, of_net, wires_added}
+use Rattle.leg_grown.specs.CleanWire.{HasNoSpacingFault}
+use Rattle.leg_route.specs.Routed.{wires_for}
+use Rattle.leg_route.proofs.GrownLaws.{RunOfCleanWires, CleanWiresStay, GrowthGoesOn}
+use Rattle.leg_route.proofs.MoreWires.{was_open}
+use Rattle.leg_route.proofs.OpenWires.{walk_clean}
+
+-- the wires of a run, each with its net
+abbrev pub told : List Added → List AddedWire
+told [] = []
+told (one ∷ more) = of_net one.net one.wires ++ told more
+
+pub told_then : (first second : List Added) → told (first ++ second) ≡ told first ++ told second
+told_then [] second = refl
+told_then (one ∷ first) second = ap (λ ws. of_net one.net one.wires ++ ws) (told_then first second) ∙ sym (append_assoc (of_net one.net one.wires) (told first) (told second))
+
+pub told_one : (net : ℕ) (wires : List Wire) → told (record { net = net; wires = wires } ∷ []) ≡ of_net net wires
+told_one net wires = append-nil (of_net net wires)
+
+pub told_last : (added : List Added) (net : ℕ) (wires : List Wire) → told (added ++ record { net = net; wires = wires } ∷ []) ≡ told added ++ of_net net wires
+told_last added net wires = told_then added (record { net = net; wires = wires } ∷ []) ∙ ap (λ ws. told added ++ ws) (told_one net wires)
+
+-- the wires of a net among them
+added_all : (other net : ℕ) (wires : List Wire) (more : List AddedWire) → (net == other) ≡ true → wires_added other (of_net net wires ++ more) ≡ wires ++ wires_added other more
+added_all other net [] more same = refl
+added_all other net (wire ∷ wires) more same = rw same (ap (λ ws. wire ∷ ws) (added_all other net wires more same))
+
+added_none : (other net : ℕ) (wires : List Wire) (more : List AddedWire) → (net == other) ≡ false → wires_added other (of_net net wires ++ more) ≡ wires_added other more
+added_none other net [] more differ = refl
+added_none other net (wire ∷ wires) more differ = rw differ (added_none other net wires more differ)
+
+added_next : (net : ℕ) (one : Added) (more : List Added) → wires_added net (told more) ≡ wires_for net more → wires_added net (told (one ∷ more)) ≡ wires_for net (one ∷ more)
+added_next net one more rest = by (one.net == net) refl where
+  by : (b : Bool) → (one.net == net) ≡ b → wires_added net (of_net one.net one.wires ++ told more) ≡ wires_for net (one ∷ more)
+  by true same = rw same (added_all net one.net one.wires (told more) same ∙ ap (λ ws. one.wires ++ ws) rest)
+  by false differ = rw differ (added_none net one.net one.wires (told more) differ ∙ rest)
+
+pub added_for : (net : ℕ) (added : List Added) → wires_added net (told added) ≡ wires_for net added
+added_for net [] = refl
+added_for net (one ∷ more) = added_next net one more (added_for net more)
+
+-- wires one after another
+pub more_grows : (design : DesignContents) (net : ℕ) (wires : List Wire) (before after : FlatSaid) → HasMoreWires design net wires before after → Grows design (of_net net wires) before after
+more_grows design net wires before after none = refl
+more_grows design net wires before after (one_more {mid = mid} {wires = others} step rest) = (mid, step, more_grows design net others mid after rest)
+
+module _ (goes_on : GrowthGoesOn) (design : DesignContents) where
+  pub run_grows : (flat grown : FlatSaid) (added : List Added) → Run design flat added grown → Grows design (told added) flat grown
+  run_grows flat grown added begun = refl
+  run_grows flat grown added (walked {mid = mid} {added = before} {wires = wires} net run turn walk spelled more) =
+      subst (λ ws. Grows design ws flat grown) (sym (told_last before net wires))
+      (goes_on design (told before) (of_net net wires) flat mid grown (run_grows flat mid before run) (more_grows design net wires mid grown more))
+
+  -- all added wires are of entries of NETS
+  pub run_nets : (flat grown : FlatSaid) (added : List Added) → Run design flat added grown → All (λ (one : AddedWire). one.net < length design.nets) (told added)
+  run_nets flat grown added begun = All-nil (λ (one : AddedWire). one.net < length design.nets)
+  run_nets flat grown added (walked {mid = mid} {added = before} {wires = wires} net run turn walk spelled more) =
+      subst (All (λ (one : AddedWire). one.net < length design.nets)) (sym (told_last before net wires))
+      (All-append (λ (one : AddedWire). one.net < length design.nets) (told before) (of_net net wires) (run_nets flat mid before run) (all_of net wires turn.is_open.1.net))
+    where
+      all_of : (net : ℕ) (wires : List Wire) → net < length design.nets → All (λ (one : AddedWire). one.net < length design.nets) (of_net net wires)
+      all_of net [] within = All-nil (λ (one : AddedWire). one.net < length design.nets)
+      all_of net (wire ∷ wires) within =
+          All-cons (λ (one : AddedWire). one.net < length design.nets) (record { net = net; wire = wire }) (of_net net wires) within (all_of net wires within)
+
+module _ (run_of_clean : RunOfCleanWires) (stay : CleanWiresStay) (design : DesignContents) where
+  pub run_clean : (flat grown : FlatSaid) (added : List Added) → IsSound design.library → HasNoSpacingFault design.library flat → Run design flat added grown
+      → HasNoSpacingFault design.library grown
+  run_clean flat grown added sound clean begun = clean
+  run_clean flat grown added sound clean (walked {mid = mid} {added = before} {nodes = nodes} {wires = wires} net run turn walk spelled more) =
+      stay design.library design net wires mid grown (run_clean flat mid before sound clean run)
+      (walk_clean run_of_clean design mid net sound walk.from walk.to nodes wires walk.walk spelled)
+      (more_grows design net wires mid grown more)
+
+-- a net that is open after a run was open before it
+pub was_open_first : (design : DesignContents) (flat grown : FlatSaid) (added : List Added) (net : ℕ) → Run design flat added grown → IsOpenNet design grown net → IsOpenNet design flat net
+was_open_first design flat grown added net begun is_open = is_open
+was_open_first design flat grown added net (walked {mid = mid} {added = before} {wires = wires} one run turn walk spelled more) is_open =
+    was_open_first design flat mid before net run (by (net == one) refl)
+  where
+    by : (b : Bool) → (net == one) ≡ b → IsOpenNet design mid net
+    by true same = let same_net : one ≡ net = grind (arith, nat_tests, same) in subst (IsOpenNet design mid) same_net turn.is_open
+    by false other =
+        let differ : net ≢ one = λ same. let e : ⊥ = grind (arith, nat_tests, other, same) in e in
+        was_open design one net differ wires mid grown more is_open

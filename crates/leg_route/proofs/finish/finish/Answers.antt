@@ -1,0 +1,27 @@
+use Rattle.std.proofs.Common.{false, All, map, arith}
+use Rattle.std.proofs.lemmas.List.Elements.{All-map}
+use Rattle.leg_block.specs.WellFormedNets.{IsWire}
+use Rattle.leg_route.proofs.finish.finish.Goals as goal
+
+pub with_all_wires-requires-clause-few : goal.with_all_wires-requires-clause-few
+with_all_wires-requires-clause-few g c =
+    let it = c.requires.run in
+    let design = c.args.design in
+    let lists = map (λ wires. wires.items) c.args.lists.items in
+    let spelled = All-map (All (IsWire design.library design.vias false)) (λ wires. wires.items) c.args.lists.items c.requires.spelled in
+    let wires = c.finished_run.ensures.wires design lists c.design_is_sound.ensures.library c.design_is_sound.ensures.proper spelled in
+    let shapes = c.finished_run.ensures.shapes design it.flat it.grown it.added lists it.clean.judged.is_flat it.run it.lists_are in
+    let within = it.within in
+    omega (arith, wires, shapes, within)
+
+pub returns-in-Ok-clause-few : goal.returns-in-Ok-clause-few
+returns-in-Ok-clause-few g c =
+    let it = c.requires.run in
+    let shapes = c.finished_run.ensures.shapes c.args.design it.flat it.grown it.added (map (λ wires. wires.items) c.args.lists.items) it.clean.judged.is_flat it.run it.lists_are in
+    rw (c.in-Ok.ensures.added, shapes) it.within
+
+pub returns-in-Ok-clause-run : goal.returns-in-Ok-clause-run
+returns-in-Ok-clause-run g c =
+    let it = c.requires.run in
+    rw c.in-Ok.ensures.added (c.finished_run.ensures.routed c.args.design it.flat it.grown it.added (map (λ wires. wires.items) c.args.lists.items) it.clean.judged.is_flat it.run it.done
+    it.lists_are)

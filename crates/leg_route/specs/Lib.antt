@@ -1,0 +1,5 @@
+pub mod Legal
+pub mod SameButForWires
+pub mod Routed
+pub mod Refusal
+pub mod Steps

@@ -1,0 +1,39 @@
+-- When the router refuses a design (own rules): the first cause that holds.
+use Rattle.std.specs.Prelude.{◌<◌, ◌≤◌, length}
+use Rattle.leg_block.specs.declared.limits.TheConstants.{PART_LIMIT}
+use Rattle.leg_block.specs.declared.fault.Fault.{Fault}
+use Rattle.leg_block.specs.Records.{DesignContents}
+use Rattle.leg_flat.specs.Metal.{metal_of}
+use Rattle.leg_flat.specs.Flat.{FlatSaid, IsFlatOf}
+use Rattle.leg_grid.specs.GridSize.{IsGridTooLarge}
+use Rattle.leg_grid.specs.Refusals.{IsOtherThanOpen, IsNotClean, IsUnroutable, HasTooManyShapes}
+use Rattle.leg_route.specs.declared.fault.RouteFault.{RouteFault}
+use Rattle.leg_route.specs.declared.fault.RouteFault.TheVariants.{NotClean, GridTooLarge, Unroutable, TooMany, Memory}
+
+-- the design's metal keeps the limit of shapes, and this is a flat of it
+pub record IsJudgedBy (design : DesignContents) (flat : FlatSaid) : Type 0 where
+  pub few : length (metal_of design) ≤ PART_LIMIT
+  pub is_flat : IsFlatOf design flat
+
+-- the design's metal keeps the limit of shapes, and no violation of any kind but Open holds in this flat of it
+pub record IsCleanIn (design : DesignContents) (flat : FlatSaid) : Type 0 where
+  pub judged : IsJudgedBy design flat
+  pub none : (fault : Fault) → ¬ IsOtherThanOpen design flat fault
+
+-- such a design, whose grid isn't too large, so that it comes to a routing run
+pub record ComesToRun (design : DesignContents) (flat : FlatSaid) : Type 0 where
+  pub clean : IsCleanIn design flat
+  pub fits : ¬ IsGridTooLarge design
+
+-- The design's metal passes the limit of shapes as it is, or a run comes to wires with which it would.
+pub data HasTooMany (design : DesignContents) : Type 0 where
+  at_first : PART_LIMIT < length (metal_of design) → HasTooMany design
+  on_the_way : {flat : FlatSaid} → ComesToRun design flat → HasTooManyShapes design flat → HasTooMany design
+
+-- the first cause of refusal that holds, but for want of memory
+abbrev pub IsRefusal : {A : Type 0} → DesignContents → RouteFault A → Type 0
+IsRefusal design (NotClean faults) = (flat : FlatSaid) × IsJudgedBy design flat × IsNotClean design flat faults
+IsRefusal design GridTooLarge = ((flat : FlatSaid) × IsCleanIn design flat) × IsGridTooLarge design
+IsRefusal design (Unroutable net) = (flat : FlatSaid) × ComesToRun design flat × IsUnroutable design flat net
+IsRefusal design TooMany = HasTooMany design
+IsRefusal design Memory = Unit {0}

@@ -1,0 +1,29 @@
+-- What a routed design has: the wires of a routing run (own rules).
+use Rattle.std.specs.Prelude.{◌≡◌, ◌==◌, ℕ, List, [], ◌∷◌, ◌++◌, length, Some, slice_get, if◌then◌else◌}
+use Rattle.leg_block.specs.declared.records.Wire.{Wire}
+use Rattle.leg_block.specs.Records.{NetSaid, DesignContents}
+use Rattle.leg_flat.specs.Flat.{FlatSaid, IsFlatOf}
+use Rattle.leg_grid.specs.Run.{Added, Run, IsDone}
+
+-- the wires that a run added to this net, in their order
+abbrev pub wires_for : ℕ → List Added → List Wire
+wires_for net [] = []
+wires_for net (one ∷ more) = if one.net == net then one.wires ++ wires_for net more else wires_for net more
+
+-- The second design is the first with these wires, each in its entry of NETS behind those that the entry had.
+pub record HasAdded (before : DesignContents) (added : List Added) (after : DesignContents) : Type 0 where
+  pub rest : after ≡ record before { nets = after.nets }
+  pub count : length after.nets ≡ length before.nets
+  pub each : (n : ℕ) (net : NetSaid) → slice_get before.nets n ≡ Some net
+      → slice_get after.nets n ≡ Some (record net { wires = net.wires ++ wires_for n added })
+
+-- The second design is the first one, routed: a run from its metal has come to where no net is open, and what that run added
+-- is what was added to the design.
+pub record IsRouted (before after : DesignContents) : Type 0 where
+  pub flat : FlatSaid
+  pub is_flat : IsFlatOf before flat
+  pub added : List Added
+  pub grown : FlatSaid
+  pub run : Run before flat added grown
+  pub done : IsDone before grown
+  pub wires : HasAdded before added after

@@ -1,0 +1,16 @@
+-- What the router leaves as it is (own rule): all but the wires of `NETS`, where it adds some behind those that are there.
+use Rattle.std.specs.Prelude.{◌≡◌, List, ◌++◌}
+use Rattle.leg_cells.specs.Scale.{OneForOne}
+use Rattle.leg_block.specs.declared.records.Wire.{Wire}
+use Rattle.leg_block.specs.Records.{NetSaid, DesignContents}
+
+-- the entry with some wires more, or none, behind its own
+pub record HasMoreWires (before after : NetSaid) : Type 0 where
+  pub more : List Wire
+  pub is : after ≡ record before { wires = before.wires ++ more }
+
+-- The designs are equal but for the wires of entries of NETS: each entry has its wires from before, and then those that it
+-- got.
+pub record IsSameButForWires (before after : DesignContents) : Type 0 where
+  pub rest : after ≡ record before { nets = after.nets }
+  pub nets : OneForOne HasMoreWires before.nets after.nets

@@ -1,0 +1,74 @@
+-- Where a run stops before its end: no walk, or too many shapes, or want of memory.
+use Rattle.std.specs.Prelude.{◌≡◌, ℕ, ◌+◌, ◌<◌, List, ◌∷◌, ◌++◌, length}
+use Rattle.leg_block.specs.declared.limits.TheConstants.{PART_LIMIT}
+use Rattle.leg_block.specs.declared.records.Wire.{Wire}
+use Rattle.leg_block.specs.Records.{DesignContents}
+use Rattle.leg_flat.specs.declared.fault.FlatFault.{FlatFault}
+use Rattle.leg_flat.specs.declared.fault.FlatFault.TheVariants as flat_fault
+use Rattle.leg_flat.specs.Metal.{wire_outlines}
+use Rattle.leg_flat.specs.Flat.{FlatSaid}
+use Rattle.leg_grid.specs.declared.fault.GridFault.{GridFault}
+use Rattle.leg_grid.specs.declared.fault.GridFault.TheVariants as grid_fault
+use Rattle.leg_grid.specs.declared.node.Node.{Node}
+use Rattle.leg_grid.specs.Spelling.{AreWiresOf}
+use Rattle.leg_grid.specs.MoreWires.{HasMoreWires}
+use Rattle.leg_grid.specs.Run.{IsOpenNet, IsNextWalk, HasNoWalk}
+use Rattle.leg_grid.specs.Refusals.{IsUnroutable, HasTooManyShapes}
+use Rattle.leg_route.specs.declared.fault.RouteFault.{RouteFault}
+use Rattle.leg_route.specs.declared.fault.RouteFault.TheVariants.{NotClean, GridTooLarge, Unroutable, TooMany, Memory}
+use Rattle.leg_route.specs.Steps.NetRun.{NetRun}
+
+-- what a refusal to flatten or to add a wire is here, and a refusal of the grid
+abbrev pub of_flat : {A : Type 0} → FlatFault → RouteFault A
+of_flat flat_fault.TooMany = TooMany
+of_flat flat_fault.Memory = Memory
+
+abbrev pub of_grid : {A : Type 0} → GridFault → RouteFault A
+of_grid grid_fault.TooLarge = GridTooLarge
+of_grid grid_fault.Memory = Memory
+
+-- of these wires one has more shapes than the flat may still get, once those before it are added
+pub record PassesLimit (design : DesignContents) (net : ℕ) (flat : FlatSaid) (wires : List Wire) : Type 0 where
+  pub before : List Wire
+  pub wire : Wire
+  pub after : List Wire
+  pub are : wires ≡ before ++ wire ∷ after
+  pub last : FlatSaid
+  pub first : HasMoreWires design net before flat last
+  pub over : PART_LIMIT < length last.shapes + length (wire_outlines design wire)
+
+-- within its turn the net has come to where no walk leads on
+pub record IsStuck (design : DesignContents) (net : ℕ) (flat : FlatSaid) : Type 0 where
+  pub wires : List Wire
+  pub mid : FlatSaid
+  pub run : NetRun design net flat wires mid
+  pub is_open : IsOpenNet design mid net
+  pub none : HasNoWalk design mid net
+
+-- within its turn the net has come to a walk of too many shapes
+pub record ComesToLimit (design : DesignContents) (net : ℕ) (flat : FlatSaid) : Type 0 where
+  pub wires : List Wire
+  pub mid : FlatSaid
+  pub run : NetRun design net flat wires mid
+  pub is_open : IsOpenNet design mid net
+  pub nodes : List Node
+  pub more : List Wire
+  pub walk : IsNextWalk design mid net nodes
+  pub spelled : AreWiresOf design nodes more
+  pub passes : PassesLimit design net mid more
+
+-- why the net's turn stops
+abbrev pub IsNetStop : {A : Type 0} → DesignContents → FlatSaid → ℕ → RouteFault A → Type 0
+IsNetStop design flat net (NotClean faults) = ⊥
+IsNetStop design flat net GridTooLarge = ⊥
+IsNetStop design flat net (Unroutable n) = (n ≡ net) × IsStuck design net flat
+IsNetStop design flat net TooMany = ComesToLimit design net flat
+IsNetStop design flat net Memory = Unit {0}
+
+-- why the run stops
+abbrev pub IsRunStop : {A : Type 0} → DesignContents → FlatSaid → RouteFault A → Type 0
+IsRunStop design flat (NotClean faults) = ⊥
+IsRunStop design flat GridTooLarge = ⊥
+IsRunStop design flat (Unroutable n) = IsUnroutable design flat n
+IsRunStop design flat TooMany = HasTooManyShapes design flat
+IsRunStop design flat Memory = Unit {0}

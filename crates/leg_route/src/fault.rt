@@ -1,0 +1,53 @@
+//! Why a design isn't routed.
+
+ghost use Rattle.std.specs.Prelude.{◌≡◌};
+ghost use Rattle.leg_route.specs.declared.fault.RouteFault.TheVariants.{Memory};
+ghost use Rattle.leg_route.specs.Steps.Stops.{of_flat};
+
+use leg_block::Fault;
+use leg_cells::Items;
+use leg_flat::FlatFault;
+use std::alloc::{AllocError, AllocFailed, Allocator};
+
+/// The cause for which a design isn't routed (own rules). Of several, the first in this order is told, but for memory, and
+/// for a design that has too many shapes as it is: that is told before all others.
+#[derive(Drop)]
+pub enum RouteFault<A: Allocator> {
+    /// The design has violations of other kinds than `OpenNet`: all of them, in order.
+    NotClean(Items<Fault, A>),
+    /// It has too many tracks, or its grid too many slots.
+    GridTooLarge,
+    /// The turn of the net of this number came, and no open walk led from its joined part to the rest.
+    Unroutable(u32),
+    /// The design has more shapes than a flat may have, or a wire that was to be added would pass their number.
+    TooMany,
+    /// Memory was refused.
+    Memory,
+}
+
+impl<A: Allocator> From<AllocError> for RouteFault<A> {
+    ghost from_gives = { λ _ e. e ≡ Memory };
+
+    fn from(_e: AllocError) -> RouteFault<A> {
+        RouteFault::Memory
+    }
+}
+
+impl<T: Drop, A: Allocator> From<AllocFailed<T>> for RouteFault<A> {
+    ghost from_gives = { λ _ e. e ≡ Memory };
+
+    fn from(_e: AllocFailed<T>) -> RouteFault<A> {
+        RouteFault::Memory
+    }
+}
+
+impl<A: Allocator> From<FlatFault> for RouteFault<A> {
+    ghost from_gives = { λ f e. e ≡ of_flat f };
+
+    fn from(fault: FlatFault) -> RouteFault<A> {
+        match fault {
+            FlatFault::TooMany => RouteFault::TooMany,
+            FlatFault::Memory => RouteFault::Memory,
+        }
+    }
+}

@@ -1,0 +1,52 @@
+//! The design gets the wires of a run that has come to its end.
+
+ghost use Rattle.std.specs.Prelude.{◌≡◌, ◌≤◌, false, All, length, map, IfOk, IfErr};
+ghost use Rattle.leg_cells.specs.Sound.{IsSound};
+ghost use Rattle.leg_block.specs.declared.limits.TheConstants.{PART_LIMIT};
+ghost use Rattle.leg_block.specs.WellFormed.{IsWellFormed};
+ghost use Rattle.leg_block.specs.WellFormedNets.{IsWire};
+ghost use Rattle.leg_flat.specs.Metal.{metal_of};
+ghost use Rattle.leg_route.specs.Legal.{IsLegal};
+ghost use Rattle.leg_route.specs.SameButForWires.{IsSameButForWires};
+ghost use Rattle.leg_route.specs.Routed.{IsRouted};
+ghost use Rattle.leg_route.specs.Refusal.{IsRefusal};
+ghost use Rattle.leg_route.specs.Steps.FinishedRun.{IsFinishedRun};
+
+use crate::fault::RouteFault;
+use crate::laws::finished_run;
+use leg_block::{Design, Wire};
+use std::alloc::Allocator;
+
+/// What holds of every design and of its library, as their types say: nothing is done.
+fn design_is_sound<A: Allocator + Copy>(design: &Design<'_, A>)
+    ensures library { IsSound design.now.library }
+    ensures proper { IsWellFormed design.now }
+{
+    let _layers = design.library().layers();
+    let _vias = design.vias();
+}
+
+/// Gives each entry of `NETS` the wires of its list. Where memory is refused, the design comes back as it was.
+pub(crate) fn finish<'a, A: Allocator + Copy>(
+    design: Design<'a, A>,
+    lists: Vec<Vec<Wire, A>, A>,
+) -> Result<Design<'a, A>, (Design<'a, A>, RouteFault<A>)>
+    requires run { IsFinishedRun design (map (λ wires. wires.items) lists.items) }
+    requires spelled { All (λ wires. All (IsWire design.library design.vias false) wires.items) lists.items }
+    ensures legal { IfOk result (λ done. IsLegal done) }
+    ensures same { IfOk result (λ done. IsSameButForWires design.entry done) }
+    ensures run { IfOk result (λ done. IsRouted design.entry done) }
+    ensures few { IfOk result (λ done. length (metal_of done) ≤ PART_LIMIT) }
+    ensures unchanged { IfErr result (λ back. back.0 ≡ design.entry) }
+    ensures refused { IfErr result (λ back. IsRefusal design.entry back.1) }
+{
+    finished_run();
+    design_is_sound(&design);
+    match design.with_all_wires(lists) {
+        Ok(done) => {
+            design_is_sound(&done);
+            Ok(done)
+        }
+        Err((design, _refusal)) => Err((design, RouteFault::Memory)),
+    }
+}

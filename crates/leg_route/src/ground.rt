@@ -1,0 +1,48 @@
+//! What the router works on.
+
+ghost use Rattle.std.specs.Prelude.{◌≡◌, ◌↔◌, ◌<◌, ◌≤◌, ◌+◌, IsTrue, false, length, IfOk, IfErr, OnOk, OnErr, option_map};
+ghost use Rattle.leg_block.specs.declared.limits.TheConstants.{PART_LIMIT};
+ghost use Rattle.leg_block.specs.WellFormedNets.{IsWire};
+ghost use Rattle.leg_flat.specs.declared.fault.FlatFault.TheVariants.{TooMany};
+ghost use Rattle.leg_flat.specs.Metal.{wire_outlines};
+ghost use Rattle.leg_flat.specs.MoreWires.{HasOneMoreWire};
+ghost use Rattle.leg_flat.specs.Flat.{IsWithin};
+ghost use Rattle.leg_grid.specs.Run.{IsOpenNet};
+ghost use Rattle.leg_route.specs.Steps.NextWires.{IsNextAnswer};
+
+use leg_block::Wire;
+use leg_flat::FlatFault;
+use std::alloc::{AllocError, Allocator};
+
+/// A design, and the flat of it that grows as nets get wires.
+pub trait Ground<A: Allocator + Copy> {
+    ghost use Rattle.leg_block.specs.Records.{DesignContents};
+    ghost use Rattle.leg_flat.specs.Flat.{FlatSaid};
+
+    ghost design: { Self → DesignContents };
+
+    ghost flat: { Self → FlatSaid };
+
+    /// Whether a piece of the net isn't joined to its first one. It fails only when out of memory.
+    fn is_open(&self, alloc: A, net: u32) -> Result<bool, AllocError>
+        requires { net < length (design self.now).nets }
+        ensures { IfOk result (λ answer. IsTrue answer ↔ IsOpenNet (design self.now) (flat self.now) net) };
+
+    /// The wires of a shortest open walk from the joined part of the net to the rest, or `None` where there is no such walk.
+    /// It fails only when out of memory.
+    fn next_wires(&mut self, alloc: A, net: u32) -> Result<Option<Vec<Wire, A>>, AllocError>
+        requires in_range { net < length (design self.old).nets }
+        requires is_open { IsOpenNet (design self.old) (flat self.old) net }
+        ensures answer { IfOk result (λ answer. IsNextAnswer (design self.old) (flat self.old) net (option_map (λ wires. wires.items) answer)) }
+        ensures same_design { design self.new ≡ design self.old }
+        ensures same_flat { flat self.new ≡ flat self.old };
+
+    /// Adds a wire to the net. `TooMany` is told exactly where the flat would have more than `PART_LIMIT` shapes.
+    fn add(&mut self, net: u32, wire: Wire) -> Result<(), FlatFault>
+        requires in_range { net < length (design self.old).nets }
+        requires spelled { IsWire (design self.old).library (design self.old).vias false wire }
+        ensures added { OnOk result (HasOneMoreWire (design self.old) net wire (flat self.old) (flat self.new)) }
+        ensures within { OnOk result (IsWithin (flat self.new)) }
+        ensures many { IfErr result (λ fault. fault ≡ TooMany → PART_LIMIT < length (flat self.old).shapes + length (wire_outlines (design self.old) wire)) }
+        ensures same_design { design self.new ≡ design self.old };
+}

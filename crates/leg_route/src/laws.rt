@@ -1,0 +1,68 @@
+//! Laws of routed designs. Each function does nothing: its contract is the law.
+
+ghost use Rattle.std.specs.Prelude.{◌≡◌, ◌≤◌, ◌+◌, ℕ, List, All, false, length};
+ghost use Rattle.leg_cells.specs.Sound.{IsSound};
+ghost use Rattle.leg_block.specs.declared.fault.Fault.{Fault};
+ghost use Rattle.leg_block.specs.declared.records.Wire.{Wire};
+ghost use Rattle.leg_block.specs.MoreWires.{with_more_wires};
+ghost use Rattle.leg_block.specs.Records.{DesignContents, wire_count};
+ghost use Rattle.leg_block.specs.WellFormed.{IsWellFormed};
+ghost use Rattle.leg_block.specs.WellFormedNets.{IsWire};
+ghost use Rattle.leg_flat.specs.Metal.{metal_of};
+ghost use Rattle.leg_flat.specs.Flat.{FlatSaid, IsFlatOf};
+ghost use Rattle.leg_grid.specs.Run.{Added, Run, IsOpenNet, IsDone};
+ghost use Rattle.leg_grid.specs.Refusals.{IsOtherThanOpen};
+ghost use Rattle.leg_grown.specs.CleanWire.{HasNoSpacingFault};
+ghost use Rattle.leg_grown.specs.Finished.{finished};
+ghost use Rattle.leg_route.specs.Legal.{IsLegal};
+ghost use Rattle.leg_route.specs.SameButForWires.{IsSameButForWires};
+ghost use Rattle.leg_route.specs.Routed.{IsRouted};
+ghost use Rattle.leg_route.specs.Steps.AddedLists.{AreListsOf};
+
+use leg_cells::laws::good_vias_join_layers;
+use leg_grown::laws::{
+    clean_wires_stay_clean, finished_design_is_legal, growth_goes_on, placement_stays,
+    run_of_clean_wires_is_clean, shapes_stay_as_many,
+};
+
+/// A flat without shorts and without shapes too near one another stays so over a routing run.
+pub fn runs_stay_clean()
+    ensures { (design : DesignContents) (flat grown : FlatSaid) (added : List Added) → IsSound design.library
+        → HasNoSpacingFault design.library flat → Run design flat added grown → HasNoSpacingFault design.library grown }
+{
+    run_of_clean_wires_is_clean();
+    clean_wires_stay_clean();
+}
+
+/// A net that is open where a run has come to was open before the run.
+pub fn open_nets_were_open()
+    ensures { (design : DesignContents) (flat grown : FlatSaid) (added : List Added) (net : ℕ) → Run design flat added grown
+        → IsOpenNet design grown net → IsOpenNet design flat net }
+{}
+
+/// A design gets the wires of a run that has come to its end, each entry of `NETS` its own list of them.
+///
+/// It is then the same but for wires, and is routed. It is legal if before the run no violation held but that nets were open.
+/// It has as many shapes as the flat has grown to, and no more wires than shapes.
+pub fn finished_run()
+    ensures same { (design : DesignContents) (lists : List (List Wire)) → IsSameButForWires design (finished design lists) }
+    ensures routed { (design : DesignContents) (flat grown : FlatSaid) (added : List Added) (lists : List (List Wire)) → IsFlatOf design flat
+        → Run design flat added grown → IsDone design grown → AreListsOf (length design.nets) added lists → IsRouted design (finished design lists) }
+    ensures legal { (design : DesignContents) (flat grown : FlatSaid) (added : List Added) (lists : List (List Wire))
+        → IsSound design.library → IsWellFormed design → IsWellFormed (finished design lists) → IsFlatOf design flat
+        → ((fault : Fault) → ¬ IsOtherThanOpen design flat fault) → Run design flat added grown → IsDone design grown
+        → AreListsOf (length design.nets) added lists → IsLegal (finished design lists) }
+    ensures shapes { (design : DesignContents) (flat grown : FlatSaid) (added : List Added) (lists : List (List Wire)) → IsFlatOf design flat
+        → Run design flat added grown → AreListsOf (length design.nets) added lists → length (metal_of (finished design lists)) ≡ length grown.shapes }
+    ensures wires { (design : DesignContents) (lists : List (List Wire)) → IsSound design.library → IsWellFormed design
+        → All (All (IsWire design.library design.vias false)) lists
+        → wire_count (with_more_wires design.nets lists) + wire_count design.special ≤ length (metal_of (finished design lists)) }
+{
+    good_vias_join_layers();
+    shapes_stay_as_many();
+    run_of_clean_wires_is_clean();
+    clean_wires_stay_clean();
+    growth_goes_on();
+    finished_design_is_legal();
+    placement_stays();
+}

@@ -1,0 +1,14 @@
+//! The router: it adds wires to nets that are open, along the grid of tracks, until all their pieces are joined.
+#![tactic(auto)]
+
+mod clean_flat;
+mod fault;
+mod finish;
+mod ground;
+pub mod laws;
+mod net_turn;
+mod nets;
+
+pub use fault::RouteFault;
+pub use ground::Ground;
+pub use nets::route_nets;

@@ -1,0 +1,62 @@
+//! The turn of a net: it gets wires until it isn't open any more.
+
+ghost use Rattle.std.specs.Prelude.{◌≡◌, ◌<◌, ◌≤◌, false, All, length, IfOk, IfErr, OnOk};
+ghost use Rattle.leg_block.specs.WellFormedNets.{IsWire};
+ghost use Rattle.leg_flat.specs.declared.fault.FlatFault.TheVariants.{TooMany};
+ghost use Rattle.leg_flat.specs.Flat.{IsWithin};
+ghost use Rattle.leg_grid.specs.MoreWires.{HasMoreWires};
+ghost use Rattle.leg_grid.specs.Run.{IsOpenNet};
+ghost use Rattle.leg_route.specs.Steps.NetRun.{NetRun};
+ghost use Rattle.leg_route.specs.Steps.Stops.{PassesLimit, IsNetStop};
+
+use crate::fault::RouteFault;
+use crate::ground::Ground;
+use leg_block::Wire;
+use leg_flat::FlatFault;
+use std::alloc::Allocator;
+
+/// Adds wires to the net, one after another.
+fn add_wires<A: Allocator + Copy, G: Ground<A>>(
+    ground: &mut G,
+    net: u32,
+    wires: &[Wire],
+) -> Result<(), FlatFault>
+    requires in_range { net < length (G.design ground.old).nets }
+    requires spelled { All (IsWire (G.design ground.old).library (G.design ground.old).vias false) wires.now }
+    requires within { IsWithin (G.flat ground.old) }
+    ensures added { OnOk result (HasMoreWires (G.design ground.old) net wires.now (G.flat ground.old) (G.flat ground.new)) }
+    ensures within { OnOk result (IsWithin (G.flat ground.new)) }
+    ensures many { IfErr result (λ fault. fault ≡ TooMany → PassesLimit (G.design ground.old) net (G.flat ground.old) wires.now) }
+    ensures same_design { G.design ground.new ≡ G.design ground.old }
+{
+    for wire in wires {
+        ground.add(net, *wire)?;
+    }
+    Ok(())
+}
+
+/// Routes the net: it gets the wires of one walk after another until it isn't open. They are handed out, in their order.
+pub(crate) fn route_net<A: Allocator + Copy, G: Ground<A>>(
+    alloc: A,
+    ground: &mut G,
+    net: u32,
+) -> Result<Vec<Wire, A>, RouteFault<A>>
+    requires in_range { net < length (G.design ground.old).nets }
+    requires within { IsWithin (G.flat ground.old) }
+    ensures run { IfOk result (λ wires. NetRun (G.design ground.old) net (G.flat ground.old) wires.items (G.flat ground.new)) }
+    ensures spelled { IfOk result (λ wires. All (IsWire (G.design ground.old).library (G.design ground.old).vias false) wires.items) }
+    ensures joined { OnOk result (¬ IsOpenNet (G.design ground.old) (G.flat ground.new) net) }
+    ensures within { OnOk result (IsWithin (G.flat ground.new)) }
+    ensures stop { IfErr result (λ fault. IsNetStop (G.design ground.old) (G.flat ground.old) net fault) }
+    ensures same_design { G.design ground.new ≡ G.design ground.old }
+{
+    let mut wires = Vec::new(alloc);
+    while ground.is_open(alloc, net)? {
+        let Some(more) = ground.next_wires(alloc, net)? else {
+            return Err(RouteFault::Unroutable(net));
+        };
+        add_wires(ground, net, &more)?;
+        wires.extend_from_slice(&more)?;
+    }
+    Ok(wires)
+}

@@ -1,0 +1,59 @@
+//! All nets, one after another.
+
+ghost use Rattle.std.specs.Prelude.{◌≡◌, false, All, length, map, IfOk, IfErr, OnOk};
+ghost use Rattle.leg_block.specs.WellFormedNets.{IsWire};
+ghost use Rattle.leg_flat.specs.Flat.{IsWithin};
+ghost use Rattle.leg_route.specs.Refusal.{ComesToRun, IsRefusal};
+ghost use Rattle.leg_route.specs.Steps.FinishedRun.{IsFinishedRun};
+ghost use Rattle.leg_route.specs.Steps.Underway.{IsUnderway};
+ghost use Rattle.leg_route.specs.Steps.Stops.{IsRunStop};
+
+use crate::fault::RouteFault;
+use crate::ground::Ground;
+use crate::net_turn::route_net;
+use leg_block::Wire;
+use std::alloc::Allocator;
+
+/// Gives each of so many nets its turn, in their order. For each there is a list of the wires that it got.
+fn turns<A: Allocator + Copy, G: Ground<A>>(
+    alloc: A,
+    ground: &mut G,
+    nets: u32,
+) -> Result<Vec<Vec<Wire, A>, A>, RouteFault<A>>
+    requires count { nets ≡ length (G.design ground.old).nets }
+    requires within { IsWithin (G.flat ground.old) }
+    ensures run { IfOk result (λ lists. IsUnderway (G.design ground.old) (G.flat ground.old) nets (map (λ wires. wires.items) lists.items) (G.flat ground.new)) }
+    ensures spelled { IfOk result (λ lists. All (λ wires. All (IsWire (G.design ground.old).library (G.design ground.old).vias false) wires.items) lists.items) }
+    ensures within { OnOk result (IsWithin (G.flat ground.new)) }
+    ensures stop { IfErr result (λ fault. IsRunStop (G.design ground.old) (G.flat ground.old) fault) }
+    ensures same_design { G.design ground.new ≡ G.design ground.old }
+{
+    let mut lists = Vec::new(alloc);
+    for net in 0..nets {
+        let wires = route_net(alloc, ground, net)?;
+        lists.push(wires)?;
+    }
+    Ok(lists)
+}
+
+/// Routes the nets of `NETS`, of which there are so many, in their order: each gets the wires of one shortest walk after
+/// another until it isn't open. For each net there is a list of the wires that it got, in their order.
+///
+/// The flat is that of the design, in which no violation of another kind than `OpenNet` holds, and whose grid isn't too
+/// large. `Unroutable` and `TooMany` tell where such a run stops before its end.
+pub fn route_nets<A: Allocator + Copy, G: Ground<A>>(
+    alloc: A,
+    ground: &mut G,
+    nets: u32,
+) -> Result<Vec<Vec<Wire, A>, A>, RouteFault<A>>
+    requires count { nets ≡ length (G.design ground.old).nets }
+    requires comes { ComesToRun (G.design ground.old) (G.flat ground.old) }
+    requires within { IsWithin (G.flat ground.old) }
+    ensures run { IfOk result (λ lists. IsFinishedRun (G.design ground.old) (map (λ wires. wires.items) lists.items)) }
+    ensures spelled { IfOk result (λ lists. All (λ wires. All (IsWire (G.design ground.old).library (G.design ground.old).vias false) wires.items) lists.items) }
+    ensures refused { IfErr result (λ fault. IsRefusal (G.design ground.old) fault) }
+    ensures same_design { G.design ground.new ≡ G.design ground.old }
+{
+    let lists = turns(alloc, ground, nets)?;
+    Ok(lists)
+}
