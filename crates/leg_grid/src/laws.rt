@@ -51,6 +51,8 @@ pub fn open_steps_have_sides()
 pub fn bounds_hold()
     ensures nearer { (grid : GridSaid) (ends : SlotBox) (side : Side) (n to : ℕ) → IsGrid grid → IsBesideAt grid side n to → bound_at grid ends n ≤ bound_at grid ends to + 1 }
     ensures inside { (grid : GridSaid) (ends : SlotBox) (n : ℕ) (s : Slot) → IsSlot grid n s.layer s.row s.column → IsInBox ends s → bound_at grid ends n ≡ 0 }
+{}
+
 /// An open walk is a walk over the grid.
 pub fn open_walks_are_grid_walks()
     ensures { (design : DesignContents) (flat : FlatSaid) (net : ℕ) (nodes : List Node) → IsNextWalk design flat net nodes → IsGridWalk design nodes }

@@ -18,7 +18,7 @@ use Rattle.leg_grown.specs.Violations as grown_flat
 use Rattle.leg_route.specs.Legal.{IsLegal}
 use Rattle.leg_route.specs.SameButForWires.{HasMoreWires, IsSameButForWires}
 use Rattle.leg_route.specs.Routed.{wires_for, HasAdded, IsRouted}
-use Rattle.leg_route.specs.Steps.AddedLists.{AreListsOf}
+use Rattle.leg_route.specs.AddedLists.{AreListsOf}
 use Rattle.leg_route.proofs.GrownLaws.{RunOfCleanWires, CleanWiresStay, GrowthGoesOn, FinishedIsLegal, PlacementStays, ShapesStayAsMany}
 use Rattle.leg_route.proofs.RunFacts.{told, added_for, run_grows, run_nets, run_clean}
 

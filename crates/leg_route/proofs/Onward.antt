@@ -17,8 +17,8 @@ use Rattle.leg_route.specs.Refusal.HasTooMany.{on_the_way}
 use Rattle.leg_route.specs.Routed.{wires_for}
 use Rattle.leg_route.specs.declared.fault.RouteFault.{RouteFault}
 use Rattle.leg_route.specs.declared.fault.RouteFault.TheVariants.{NotClean, GridTooLarge, Unroutable, TooMany, Memory}
-use Rattle.leg_route.specs.Steps.AddedLists.{AreListsOf}
-use Rattle.leg_route.specs.Steps.FinishedRun.{IsFinishedRun}
+use Rattle.leg_route.specs.AddedLists.{AreListsOf}
+use Rattle.leg_route.specs.FinishedRun.{IsFinishedRun}
 use Rattle.leg_route.specs.Steps.NetRun.{NetRun}
 use Rattle.leg_route.specs.Steps.NetRun.NetRun.{begun, walked}
 use Rattle.leg_route.specs.Steps.Stops.{IsNetStop, IsRunStop}

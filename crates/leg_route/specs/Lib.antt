@@ -2,4 +2,6 @@ pub mod Legal
 pub mod SameButForWires
 pub mod Routed
 pub mod Refusal
+pub mod AddedLists
+pub mod FinishedRun
 pub mod Steps

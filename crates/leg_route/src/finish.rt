@@ -10,7 +10,7 @@ ghost use Rattle.leg_route.specs.Legal.{IsLegal};
 ghost use Rattle.leg_route.specs.SameButForWires.{IsSameButForWires};
 ghost use Rattle.leg_route.specs.Routed.{IsRouted};
 ghost use Rattle.leg_route.specs.Refusal.{IsRefusal};
-ghost use Rattle.leg_route.specs.Steps.FinishedRun.{IsFinishedRun};
+ghost use Rattle.leg_route.specs.FinishedRun.{IsFinishedRun};
 
 use crate::fault::RouteFault;
 use crate::laws::finished_run;

@@ -17,7 +17,7 @@ ghost use Rattle.leg_grown.specs.Finished.{finished};
 ghost use Rattle.leg_route.specs.Legal.{IsLegal};
 ghost use Rattle.leg_route.specs.SameButForWires.{IsSameButForWires};
 ghost use Rattle.leg_route.specs.Routed.{IsRouted};
-ghost use Rattle.leg_route.specs.Steps.AddedLists.{AreListsOf};
+ghost use Rattle.leg_route.specs.AddedLists.{AreListsOf};
 
 use leg_cells::laws::good_vias_join_layers;
 use leg_grown::laws::{

@@ -4,7 +4,7 @@ ghost use Rattle.std.specs.Prelude.{◌≡◌, false, All, length, map, IfOk, If
 ghost use Rattle.leg_block.specs.WellFormedNets.{IsWire};
 ghost use Rattle.leg_flat.specs.Flat.{IsWithin};
 ghost use Rattle.leg_route.specs.Refusal.{ComesToRun, IsRefusal};
-ghost use Rattle.leg_route.specs.Steps.FinishedRun.{IsFinishedRun};
+ghost use Rattle.leg_route.specs.FinishedRun.{IsFinishedRun};
 ghost use Rattle.leg_route.specs.Steps.Underway.{IsUnderway};
 ghost use Rattle.leg_route.specs.Steps.Stops.{IsRunStop};
 

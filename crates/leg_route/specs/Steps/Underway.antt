@@ -4,7 +4,7 @@ use Rattle.leg_block.specs.declared.records.Wire.{Wire}
 use Rattle.leg_block.specs.Records.{DesignContents}
 use Rattle.leg_flat.specs.Flat.{FlatSaid}
 use Rattle.leg_grid.specs.Run.{Added, Run, IsOpenNet}
-use Rattle.leg_route.specs.Steps.AddedLists.{AreListsOf}
+use Rattle.leg_route.specs.AddedLists.{AreListsOf}
 
 -- The run has come to the turn of this net: those before it are joined, and each has a list of the wires that it got.
 pub record IsUnderway (design : DesignContents) (flat : FlatSaid) (net : ℕ) (lists : List (List Wire)) (grown : FlatSaid) : Type 0 where

@@ -6,7 +6,7 @@ use Rattle.leg_block.specs.Records.{DesignContents}
 use Rattle.leg_flat.specs.Flat.{FlatSaid}
 use Rattle.leg_grid.specs.Run.{Added, Run, IsDone}
 use Rattle.leg_route.specs.Refusal.{IsCleanIn}
-use Rattle.leg_route.specs.Steps.AddedLists.{AreListsOf}
+use Rattle.leg_route.specs.AddedLists.{AreListsOf}
 
 -- from a flat of the design, in which no violation but open nets holds, a run has come to its end within the limit of shapes,
 -- and each entry of NETS has a list of the wires that it got
