@@ -51,7 +51,11 @@ fn unsolved_text<A: Allocator + Copy>(
     ensures { IfOk result (λ text. IsRefusal design.now fault.now → TellsWhyNot design.now text.items) }
 {
     match fault {
-        LegalFault::FixedIllegal(violations) => fixed_illegal_text(alloc, design, violations.as_slice()),
+        LegalFault::FixedIllegal(violations) => fixed_illegal_text(
+            alloc,
+            design,
+            violations.as_slice(),
+        ),
         LegalFault::NoSite(c) => component_text(alloc, b"NOSITE ", design, *c),
         LegalFault::NoRoom(c) => component_text(alloc, b"NOROOM ", design, *c),
         LegalFault::Memory => Err(AllocError),

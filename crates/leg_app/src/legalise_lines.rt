@@ -20,7 +20,11 @@ pub(crate) fn legalised_text<A: Allocator + Copy>(
     ensures { IfOk result (λ text. text.items ≡ legalised_text design.now moves.now.per_component moves.now.total moves.now.greatest) }
 {
     let mut text = print_def(alloc, design.library(), design)?;
-    for (component, distance) in design.components().iter().zip(moves.per_component.as_slice()) {
+    for (component, distance) in design
+        .components()
+        .iter()
+        .zip(moves.per_component.as_slice())
+    {
         push_move(&mut text, component, *distance)?;
     }
     push_totals(&mut text, moves.total, moves.greatest)?;
@@ -79,7 +83,13 @@ pub(crate) fn fixed_illegal_text<A: Allocator + Copy>(
     ensures { IfOk result (λ text. text.items ≡ fixed_illegal_text design.now violations.now) }
 {
     let no_flat: Option<Flat<A>> = None;
-    let mut text = print_faults(alloc, design.library(), design, no_flat.as_ref(), violations)?;
+    let mut text = print_faults(
+        alloc,
+        design.library(),
+        design,
+        no_flat.as_ref(),
+        violations,
+    )?;
     text.extend_from_slice(b"FIXEDILLEGAL ")?;
     push_number(&mut text, violations.len() as u64)?;
     text.extend_from_slice(b"\n")?;

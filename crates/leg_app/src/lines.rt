@@ -73,14 +73,20 @@ pub(crate) fn scale_text<A: Allocator + Copy>(
     Ok(text)
 }
 
-pub(crate) fn push_length<A: Allocator>(text: &mut Vec<u8, A>, length: i64) -> Result<(), AllocError>
+pub(crate) fn push_length<A: Allocator>(
+    text: &mut Vec<u8, A>,
+    length: i64,
+) -> Result<(), AllocError>
     ensures { OnOk result (text.new.items ≡ text.old.items ++ signed_decimal length) }
 {
     let mut buffer = Buffer::new();
     text.extend_from_slice(buffer.format(length).as_bytes())
 }
 
-pub(crate) fn push_number<A: Allocator>(text: &mut Vec<u8, A>, number: u64) -> Result<(), AllocError>
+pub(crate) fn push_number<A: Allocator>(
+    text: &mut Vec<u8, A>,
+    number: u64,
+) -> Result<(), AllocError>
     ensures { OnOk result (text.new.items ≡ text.old.items ++ decimal number) }
 {
     let mut buffer = Buffer::new();
