@@ -1,13 +1,12 @@
 -- What the places that are chosen make of a design, and the causes of refusal.
-use Rattle.std.proofs.Common.{◌≡◌, ◌≢◌, List, [], ◌∷◌, length, refl, inl, inr, arith}
-use Rattle.std.proofs.lemmas.List.Elements.{All-head, All-nil}
+use Rattle.std.proofs.Common.{◌≡◌, List, [], ◌∷◌, length, refl, inl, inr, arith}
+use Rattle.std.proofs.lemmas.List.Elements.{All-nil}
 use Rattle.leg_sweep.proofs.Lists.{Contains-nil}
 use Rattle.leg_cells.specs.Sound.{IsSound}
 use Rattle.leg_block.specs.Records.{DesignContents}
 use Rattle.leg_block.specs.declared.fault.Fault.{Fault}
 use Rattle.leg_block.specs.Violation.{IsListOf}
 use Rattle.leg_block.specs.WellFormed.{IsWellFormed}
-use Rattle.leg_place.specs.Faults.{Holds}
 use Rattle.leg_legal.specs.declared.fault.LegalFault.{LegalFault}
 use Rattle.leg_legal.specs.declared.fault.LegalFault.TheVariants.{FixedIllegal, NoSite, NoRoom, Memory}
 use Rattle.leg_legal.specs.declared.taken.Taken.{Taken}
@@ -27,17 +26,9 @@ none_there [] is = refl
 none_there (x ∷ xs) is = absurd (omega (arith, is))
 
 module _ (design : DesignContents) where
-  -- a design without violations is legally placed
-  pub legal_from_none : (faults : List Fault) → IsListOf (Holds design.library design) faults → faults ≡ [] → IsLegallyPlaced design
-  legal_from_none faults list is = λ fault holds. Contains-nil fault (rw is at (list.all fault holds))
-
+  -- no violation concerns only components that stay
   pub staying_from_none : (faults : List Fault) → IsListOf (HoldsOfStaying design) faults → faults ≡ [] → NoneStaying design
   staying_from_none faults list is = λ fault holds. Contains-nil fault (rw is at (list.all fault holds))
-
-  -- and one with some isn't
-  pub illegal_from_some : (faults : List Fault) → IsListOf (Holds design.library design) faults → faults ≢ [] → IsLegallyPlaced design → ⊥
-  illegal_from_some [] list some legal = some refl
-  illegal_from_some (fault ∷ faults) list some legal = legal fault (All-head (Holds design.library design) fault faults list.each)
 
   pub chosen_none : (taken : List Taken) → taken ≡ [] → IsWellFormed design → IsLegallyPlaced design → AreChosen design taken
   chosen_none taken is proper legal =

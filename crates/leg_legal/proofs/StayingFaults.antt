@@ -1,109 +1,86 @@
--- Of a list of violations those that concern only components that stay.
-use Rattle.std.proofs.Common.{◌≡◌, ◌⊎◌, ◌↔◌, ℕ, ◌+◌, ◌<◌, Bool, true, false, IsTrue, cond, List, [], ◌∷◌, ◌++◌, length, take, get_or, Contains, refl, sym, ap, ◌∙◌, inl, inr}
-use Rattle.std.specs.List.{filter}
-use Rattle.std.proofs.lemmas.Bool.{false≢true}
-use Rattle.std.proofs.lemmas.List.{append-nil}
-use Rattle.std.proofs.lemmas.List.Elements.{All-filter, filter_passes, filter_more}
-use Rattle.std.proofs.lemmas.List.Kept.{AllPairs-filter}
-use Rattle.leg_sweep.proofs.Lists.{Contains-nil, Contains-here, Contains-there, Contains-cons_cases}
+-- The violations that concern only components that stay, by marks.
+use Rattle.std.proofs.Common.{◌≡◌, ◌↔◌, ℕ, ◌+◌, ◌<◌, Bool, true, false, not, IsTrue, List, [], ◌∷◌, ◌++◌, length, Some, slice_get, refl, sym, ap, ◌∙◌, inl, inr, arith}
+use Rattle.std.proofs.lemmas.Bool.{cases_lt, false≢true}
+use Rattle.std.proofs.lemmas.List.{length_push, get_or_push, get_or_append_left}
+use Rattle.std.proofs.lemmas.List.Elements.{All-weaker}
+use Rattle.std.proofs.lemmas.Option.{same_Some, slice_get_within, slice_get-get_or}
 use Rattle.leg_block.specs.Records.{DesignContents}
 use Rattle.leg_block.specs.declared.fault.Fault.{Fault}
-use Rattle.leg_block.specs.declared.fault.Fault.TheVariants.{Unplaced, Outside, OffSite, Overlap, Short, TooNear, OpenNet}
-use Rattle.leg_block.specs.Violation.{ComesBefore, IsListOf}
+use Rattle.leg_block.specs.Violation.{IsListOf}
 use Rattle.leg_place.specs.Faults.{Holds}
+use Rattle.leg_place.specs.Faults.Holds.{unplaced, outside, off_site, overlap}
+use Rattle.leg_place.specs.Among.{TellsMarked, HoldsAmong}
 use Rattle.leg_legal.specs.Movable.{IsMovable}
 use Rattle.leg_legal.specs.Refusals.{ConcernsStaying, HoldsOfStaying}
-use Rattle.leg_legal.proofs.MovableOrNot.{movable_or_not}
+use Rattle.leg_legal.specs.Steps.Marks.{AreMarksBelow}
 
--- a filter keeps what passes
-module _ {X : Type 0} (p : X → Bool) where
-  kept_behind : (b : Bool) (y : X) (ys : List X) (x : X) → Contains ys x → Contains (cond b (y ∷ ys) ys) x
-  kept_behind true y ys x has = Contains-there y ys x has
-  kept_behind false y ys x has = has
+-- a mark of a component that isn't movable
+mark_of : (b : Bool) {Moves : Type 0} → IsTrue b ↔ Moves → (not b ≡ true) ↔ (Moves → ⊥)
+mark_of true test = (λ t. absurd (false≢true t), λ stays. absurd (stays (test.0 refl)))
+mark_of false test = (λ t m. false≢true (test.1 m), λ stays. refl)
 
-  kept_here : (b : Bool) (y : X) (ys : List X) → b ≡ true → Contains (cond b (y ∷ ys) ys) y
-  kept_here true y ys passes = Contains-here y ys
-  kept_here false y ys passes = absurd (false≢true passes)
+-- what stands in a list that grows at its end
+get_front : {X : Type 0} (xs : List X) (x : X) (i : ℕ) → i < length xs → slice_get (xs ++ x ∷ []) i ≡ slice_get xs i
+get_front xs x i within =
+    let longer : i < length (xs ++ x ∷ []) = rw (length_push xs x) (omega (arith, within)) in
+    slice_get-get_or (xs ++ x ∷ []) i x longer ∙ ap Some (get_or_append_left xs (x ∷ []) x i within) ∙ sym (slice_get-get_or xs i x within)
 
-  pub Contains-filter : (xs : List X) (x : X) → Contains xs x → p x ≡ true → Contains (filter p xs) x
-  Contains-filter [] x has passes = absurd (Contains-nil x has)
-  Contains-filter (y ∷ ys) x has passes =
-      elim (Contains-cons_cases y ys x has) [
-        | inl same ↦ rw same (kept_here (p x) x (filter p ys) passes)
-        | inr rest ↦ kept_behind (p y) y (filter p ys) x (Contains-filter ys x rest passes)
-      ]
+get_last : {X : Type 0} (xs : List X) (x : X) (i : ℕ) → length xs ≡ i → slice_get (xs ++ x ∷ []) i ≡ Some x
+get_last xs x i count =
+    let within : i < length (xs ++ x ∷ []) = rw (length_push xs x) (omega (arith, count)) in
+    slice_get-get_or (xs ++ x ∷ []) i x within ∙ ap Some (get_or_push xs x x i count)
+
+-- the mark at the end
+told_at_end : (marks : List Bool) (m : Bool) (i : ℕ) {Stays : Type 0} → length marks ≡ i → (m ≡ true) ↔ Stays → (slice_get (marks ++ m ∷ []) i ≡ Some true) ↔ Stays
+told_at_end marks m i count test = (
+  λ t. test.0 (same_Some m true (sym (get_last marks m i count) ∙ t)),
+  λ stays. get_last marks m i count ∙ ap Some (test.1 stays),
+)
 
 module _ (design : DesignContents) where
-  stays_or_not : (c : ℕ) → (IsMovable design c → ⊥) ⊎ ((IsMovable design c → ⊥) → ⊥)
-  stays_or_not c = elim (movable_or_not design c) [ inl m ↦ inr (λ stays. stays m) | inr stays ↦ inl stays ]
+  pub marks_none : (marks : List Bool) → marks ≡ [] → AreMarksBelow design 0 marks
+  marks_none marks is = rw is (record { count = refl; each = λ c below. absurd (omega (arith, below)) })
 
-  pub concerns_or_not : (fault : Fault) → ConcernsStaying design fault ⊎ (ConcernsStaying design fault → ⊥)
-  concerns_or_not (Unplaced c) = stays_or_not c
-  concerns_or_not (Outside c) = stays_or_not c
-  concerns_or_not (OffSite c) = stays_or_not c
-  concerns_or_not (Overlap a b) =
-      elim (stays_or_not a) [
-        | inl stays ↦ elim (stays_or_not b) [ inl both ↦ inl (stays, both) | inr never ↦ inr (λ h. never h.1) ]
-        | inr never ↦ inr (λ h. never h.0)
-      ]
-  concerns_or_not (Short a b) = inr (λ h. h)
-  concerns_or_not (TooNear a b) = inr (λ h. h)
-  concerns_or_not (OpenNet n k) = inr (λ h. h)
+  -- one more mark
+  pub marks_more : (i : ℕ) (marks : List Bool) (b : Bool) → IsTrue b ↔ IsMovable design i → AreMarksBelow design i marks → AreMarksBelow design (i + 1) (marks ++ not b ∷ [])
+  marks_more i marks b test are = record {
+    count = length_push marks (not b) ∙ (let n = are.count in omega (arith, n));
+    each = λ c below. elim (cases_lt c i) [
+      | inl earlier ↦
+          let front : slice_get (marks ++ not b ∷ []) c ≡ slice_get marks c = get_front marks (not b) c (let n = are.count in omega (arith, n, earlier)) in
+          rw front (are.each c earlier)
+      | inr late ↦
+          let here : c ≡ i = omega (arith, below, late) in
+          rw here (told_at_end marks (not b) i are.count (mark_of b test))
+    ];
+  }
 
-  unfoldable pub test_of : (fault : Fault) → ConcernsStaying design fault ⊎ (ConcernsStaying design fault → ⊥) → Bool
-  test_of fault (inl h) = true
-  test_of fault (inr h) = false
+  -- where the marks tell which components stay, a violation tells marked ones alone just where it concerns only such
+  module _ (marks : List Bool) (are : AreMarksBelow design (length design.components) marks) where
+    staying_of : (v : Fault) → Holds design.library design v → TellsMarked marks v → ConcernsStaying design v
+    staying_of v (unplaced {c = c} h) told = (are.each c (slice_get_within design.components c h.component h.there)).0 told
+    staying_of v (outside {c = c} h) told = (are.each c (slice_get_within design.components c h.stands.component h.stands.there)).0 told
+    staying_of v (off_site {c = c} h) told = (are.each c (slice_get_within design.components c h.component h.there)).0 told
+    staying_of v (overlap {a = a} {b = b} h) told = (
+      (are.each a (slice_get_within design.components a h.stands_a.component h.stands_a.there)).0 told.0,
+      (are.each b (slice_get_within design.components b h.stands_b.component h.stands_b.there)).0 told.1,
+    )
 
-  -- the test that tells them
-  abbrev pub concerns : Fault → Bool
-  concerns fault = test_of fault (concerns_or_not fault)
+    marked_of : (v : Fault) → Holds design.library design v → ConcernsStaying design v → TellsMarked marks v
+    marked_of v (unplaced {c = c} h) stays = (are.each c (slice_get_within design.components c h.component h.there)).1 stays
+    marked_of v (outside {c = c} h) stays = (are.each c (slice_get_within design.components c h.stands.component h.stands.there)).1 stays
+    marked_of v (off_site {c = c} h) stays = (are.each c (slice_get_within design.components c h.component h.there)).1 stays
+    marked_of v (overlap {a = a} {b = b} h) stays = (
+      (are.each a (slice_get_within design.components a h.stands_a.component h.stands_a.there)).1 stays.0,
+      (are.each b (slice_get_within design.components b h.stands_b.component h.stands_b.there)).1 stays.1,
+    )
 
-  told_by : (fault : Fault) (d : ConcernsStaying design fault ⊎ (ConcernsStaying design fault → ⊥)) (b : Bool) → IsTrue b ↔ ConcernsStaying design fault → b ≡ test_of fault d
-  unfolding test_of
-  told_by fault (inl h) b test = test.1 h
-  told_by fault (inr h) true test = absurd (h (test.0 refl))
-  told_by fault (inr h) false test = refl
-
-  pub same_test : (fault : Fault) (b : Bool) → IsTrue b ↔ ConcernsStaying design fault → b ≡ concerns fault
-  same_test fault b test = told_by fault (concerns_or_not fault) b test
-
-  from_test : (fault : Fault) (d : ConcernsStaying design fault ⊎ (ConcernsStaying design fault → ⊥)) → test_of fault d ≡ true → ConcernsStaying design fault
-  unfolding test_of
-  from_test fault (inl h) t = h
-  from_test fault (inr h) t = absurd (false≢true t)
-
-  to_test : (fault : Fault) (d : ConcernsStaying design fault ⊎ (ConcernsStaying design fault → ⊥)) → ConcernsStaying design fault → test_of fault d ≡ true
-  unfolding test_of
-  to_test fault (inl h) s = refl
-  to_test fault (inr h) s = absurd (h s)
-
-  -- what the test keeps of the list of all is the list of those
-  pub staying_list : (faults kept : List Fault) → IsListOf (Holds design.library design) faults → kept ≡ filter concerns faults → IsListOf (HoldsOfStaying design) kept
-  staying_list faults kept list is =
-      rw is (record {
-        increasing = AllPairs-filter ComesBefore concerns faults list.increasing;
-        each = λ k d within.
-            record {
-              holds = All-filter concerns (Holds design.library design) faults list.each k d within;
-              staying = from_test _ (concerns_or_not _) (filter_passes concerns faults k d within);
-            };
-        all = λ fault held. Contains-filter concerns faults fault (list.all fault held.holds) (to_test fault (concerns_or_not fault) held.staying);
-      })
-
-  -- what the test keeps of one more violation
-  module _ (faults staying : List Fault) (i : ℕ) (fault : Fault) (within : i < length faults) (is : fault ≡ get_or faults i fault)
-      (so : staying ≡ filter concerns (take i faults)) where
-    kept_next : filter concerns (take (i + 1) faults) ≡ filter concerns (take i faults) ++ cond (concerns fault) (fault ∷ []) []
-    kept_next = let grown = filter_more concerns faults i fault within in rw (← is) at grown
-
-    pub staying_more : ConcernsStaying design fault → staying ++ fault ∷ [] ≡ filter concerns (take (i + 1) faults)
-    staying_more held =
-        let passes : concerns fault ≡ true = to_test fault (concerns_or_not fault) held in
-        let kept : cond (concerns fault) (fault ∷ []) [] ≡ fault ∷ [] = rw passes refl in
-        ap (λ ys. ys ++ fault ∷ []) so ∙ ap (λ ys. filter concerns (take i faults) ++ ys) (sym kept) ∙ sym kept_next
-
-    pub staying_skip : (ConcernsStaying design fault → ⊥) → staying ≡ filter concerns (take (i + 1) faults)
-    staying_skip never =
-        let fails : false ≡ concerns fault = same_test fault false (λ t. absurd (false≢true t), λ h. absurd (never h)) in
-        let kept : cond (concerns fault) (fault ∷ []) [] ≡ [] = rw (← fails) refl in
-        so ∙ sym (append-nil (filter concerns (take i faults))) ∙ ap (λ ys. filter concerns (take i faults) ++ ys) (sym kept) ∙ sym kept_next
+    -- so the list of the ones is that of the others
+    pub staying_list : (faults : List Fault) → IsListOf (HoldsAmong design.library design marks) faults → IsListOf (HoldsOfStaying design) faults
+    staying_list faults list = record {
+      increasing = list.increasing;
+      each =
+          All-weaker (HoldsAmong design.library design marks) (HoldsOfStaying design)
+          (λ v held. record { holds = held.holds; staying = staying_of v held.holds held.marked }) faults list.each;
+      all = λ v held. list.all v (record { holds = held.holds; marked = marked_of v held.holds held.staying });
+    }

@@ -1,10 +1,8 @@
 //! Legalising a design.
 
-ghost use Rattle.std.specs.Prelude.{◌≡◌, ◌≢◌, [], IfOk, IfErr};
+ghost use Rattle.std.specs.Prelude.{◌≡◌, IfOk, IfErr};
 ghost use Rattle.leg_cells.specs.Sound.{IsSound};
-ghost use Rattle.leg_block.specs.Violation.{IsListOf};
 ghost use Rattle.leg_block.specs.WellFormed.{IsWellFormed};
-ghost use Rattle.leg_place.specs.Faults.{Holds};
 ghost use Rattle.leg_legal.specs.Run.{IsLegallyPlaced, IsLegalised};
 ghost use Rattle.leg_legal.specs.SameButForPlaces.{IsSameButForPlaces};
 ghost use Rattle.leg_legal.specs.Moves.{AreMoves};
@@ -19,9 +17,9 @@ use crate::taken::{Taken, with_places};
 use crate::taking::{take_in_turn, take_staying};
 use crate::turns::order_of_taking;
 use crate::unsuited::least_unsuited;
-use leg_block::{Design, Fault};
+use leg_block::Design;
 use leg_cells::{Items, Library};
-use leg_place::place_faults;
+use leg_place::is_placed;
 use leg_sites::FreeRows;
 use std::alloc::Allocator;
 
@@ -77,27 +75,27 @@ fn chosen_places<A: Allocator + Copy>(
     ensures refused { IfErr result (IsRefusal design.now) }
 {
     known_sound(design);
-    let faults = place_faults(alloc, library, design)?;
-    if faults.as_slice().is_empty() {
+    let placed = is_placed(alloc, library, design)?;
+    if placed {
         return Ok(Vec::new(alloc));
     }
-    places_of(alloc, design, faults.as_slice())
+    places_of(alloc, library, design)
 }
 
-/// The places of the movable components, where these are the violations of where components stand.
+/// The places of the movable components of a design that isn't legally placed.
 fn places_of<A: Allocator + Copy>(
     alloc: A,
+    library: &Library<'_, A>,
     design: &Design<'_, A>,
-    faults: &[Fault],
 ) -> Result<Vec<Taken, A>, LegalFault<A>>
-    requires list { IsListOf (Holds design.now.library design.now) faults.now }
-    requires some { faults.now ≢ [] }
+    requires library { library.now ≡ design.now.library }
+    requires illegal { ¬ IsLegallyPlaced design.now }
     requires proper { IsWellFormed design.now }
     requires sound { IsSound design.now.library }
     ensures chosen { IfOk result (λ taken. AreChosen design.now taken.items) }
     ensures refused { IfErr result (IsRefusal design.now) }
 {
-    let staying = staying_faults(alloc, design, faults)?;
+    let staying = staying_faults(alloc, library, design)?;
     if !staying.as_slice().is_empty() {
         return Err(LegalFault::FixedIllegal(Items::from_vec(staying)));
     }

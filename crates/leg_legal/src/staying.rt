@@ -1,46 +1,40 @@
-//! Which violations concern only components that stay.
+//! The violations that concern only components that stay.
 
-ghost use Rattle.std.specs.Prelude.{◌↔◌, IsTrue, IfOk};
+ghost use Rattle.std.specs.Prelude.{◌≡◌, length, IfOk};
 ghost use Rattle.leg_block.specs.Violation.{IsListOf};
-ghost use Rattle.leg_place.specs.Faults.{Holds};
-ghost use Rattle.leg_legal.specs.Refusals.{ConcernsStaying, HoldsOfStaying};
+ghost use Rattle.leg_legal.specs.Refusals.{HoldsOfStaying};
+ghost use Rattle.leg_legal.specs.Steps.Marks.{AreMarksBelow};
 
 use crate::movable::is_movable;
 use leg_block::{Design, Fault};
+use leg_cells::Library;
+use leg_place::place_faults_among;
 use std::alloc::{AllocError, Allocator};
 
-/// Whether a violation of where components stand concerns only components that stay.
-fn concerns_staying<A: Allocator + Copy>(design: &Design<'_, A>, fault: &Fault) -> bool
-    ensures { IsTrue result ↔ ConcernsStaying design.now fault.now }
-{
-    match *fault {
-        Fault::Unplaced(c) => !is_movable(design, c as usize),
-        Fault::Outside(c) => !is_movable(design, c as usize),
-        Fault::OffSite(c) => !is_movable(design, c as usize),
-        Fault::Overlap(a, b) => {
-            !is_movable(design, a as usize) && !is_movable(design, b as usize)
-        }
-        Fault::Short(_a, _b) => false,
-        Fault::TooNear(_a, _b) => false,
-        Fault::OpenNet(_n, _k) => false,
-    }
-}
-
-/// Of all violations of where components stand, those that concern only components that stay.
-pub(crate) fn staying_faults<A: Allocator + Copy>(
+/// A mark for each component: whether it stays.
+fn marks_of_staying<A: Allocator + Copy>(
     alloc: A,
     design: &Design<'_, A>,
-    faults: &[Fault],
+) -> Result<Vec<bool, A>, AllocError>
+    ensures { IfOk result (λ marks. AreMarksBelow design.now (length design.now.components) marks.items) }
+{
+    let mut marks = Vec::with_capacity(alloc, design.components().len())?;
+    for i in 0..design.components().len() {
+        marks.push(!is_movable(design, i))?;
+    }
+    Ok(marks)
+}
+
+/// The violations of where components stand that concern only components that stay.
+pub(crate) fn staying_faults<A: Allocator + Copy>(
+    alloc: A,
+    library: &Library<'_, A>,
+    design: &Design<'_, A>,
 ) -> Result<Vec<Fault, A>, AllocError>
-    requires { IsListOf (Holds design.now.library design.now) faults.now }
+    requires { library.now ≡ design.now.library }
     ensures { IfOk result (λ staying. IsListOf (HoldsOfStaying design.now) staying.items) }
 {
-    let mut staying = Vec::new(alloc);
-    for i in 0..faults.len() {
-        let fault = faults[i];
-        if concerns_staying(design, &fault) {
-            staying.push(fault)?;
-        }
-    }
-    Ok(staying)
+    let marks = marks_of_staying(alloc, design)?;
+    let faults = place_faults_among(alloc, library, design, &marks)?;
+    Ok(faults)
 }

@@ -11,7 +11,8 @@ use Rattle.leg_cells.specs.Records.{Contents}
 use Rattle.leg_block.specs.Records.{DesignContents}
 use Rattle.leg_place.specs.Box.{box_of, StandsIn}
 use Rattle.leg_place.specs.Faults.{IsOutside}
-use Rattle.leg_place.specs.Steps.ListPrefix.{AreBoxesBelow, HasLowerNumber}
+use Rattle.leg_place.specs.Among.{IsMarked}
+use Rattle.leg_place.specs.Steps.ListPrefix.{AreBoxesBelow, HasLowerNumber, IsMarkedBox}
 use Rattle.leg_place.proofs.Cells.{HasCell-points, CellOutside-points}
 
 module _ (library : Contents) (design : DesignContents) where
@@ -48,35 +49,42 @@ module _ (library : Contents) (design : DesignContents) where
     pub IsOutside-unplaced : None ≡ box_of library component → IsOutside library design c → ⊥
     IsOutside-unplaced is out = none-some out.box (is ∙ StandsIn-is c component out.box at out.stands)
 
+  module _ (marks : List Bool) (c : ℕ) where
+    -- the component at a number stands in no other box
+    StandsIn-same : (rect other : Sides) → StandsIn library design c rect → StandsIn library design c other → other ≡ rect
+    StandsIn-same rect other stands also = same_Some other rect (sym (StandsIn-is c stands.component other stands.there also) ∙ stands.placed)
+
     -- one more box
-    pub boxes_more : (rect : Sides) (boxes : List PlacedBox) → Some rect ≡ box_of library component → AreBoxesBelow library design c boxes → AreBoxesBelow library design (c + 1) (boxes ++ record { component = c; rect = rect } ∷ [])
+    pub boxes_more : (rect : Sides) (boxes : List PlacedBox) → IsMarkedBox library design marks c (Some rect) → AreBoxesBelow library design marks c boxes → AreBoxesBelow library design marks (c + 1) (boxes ++ record { component = c; rect = rect } ∷ [])
     boxes_more rect boxes is done = record {
       increasing = all_pairs_push HasLowerNumber boxes (record { component = c; rect = rect }) done.increasing done.below;
       each =
           All-push (λ box. StandsIn library design box.component box.rect) boxes (record { component = c; rect = rect })
-          done.each (record { component = component; there = at; placed = sym is });
+          done.each is.1;
+      marked = All-push (λ box. IsMarked marks box.component) boxes (record { component = c; rect = rect }) done.marked is.0;
       below =
           All-push (λ box. box.component < c + 1) boxes (record { component = c; rect = rect })
           (All-weaker (λ box. box.component < c) (λ box. box.component < c + 1) (λ box below. omega arith) boxes done.below) (omega arith);
-      all = λ d other below stands. elim (cases_lt d c) [
-        | inl earlier ↦ Contains-append_left boxes _ _ (done.all d other earlier stands)
+      all = λ d other below marked stands. elim (cases_lt d c) [
+        | inl earlier ↦ Contains-append_left boxes _ _ (done.all d other earlier marked stands)
         | inr late ↦
             let here : d ≡ c = omega arith in
-            let same : other ≡ rect = same_Some other rect (sym (StandsIn-is c component other at (rw here at stands)) ∙ sym is) in
+            let same : other ≡ rect = StandsIn-same rect other is.1 (rw here at stands) in
             rw (here, same) (Contains-push boxes (record { component = c; rect = rect }))
       ];
     }
 
-    -- a component without a place has none
-    pub boxes_skip : (boxes : List PlacedBox) → None ≡ box_of library component → AreBoxesBelow library design c boxes → AreBoxesBelow library design (c + 1) boxes
+    -- a component that isn't marked or has no place has none
+    pub boxes_skip : (boxes : List PlacedBox) → IsMarkedBox library design marks c None → AreBoxesBelow library design marks c boxes → AreBoxesBelow library design marks (c + 1) boxes
     boxes_skip boxes is done = record {
       increasing = done.increasing;
       each = done.each;
+      marked = done.marked;
       below = All-weaker (λ box. box.component < c) (λ box. box.component < c + 1) (λ box below. omega arith) boxes done.below;
-      all = λ d other below stands. elim (cases_lt d c) [
-        | inl earlier ↦ done.all d other earlier stands
+      all = λ d other below marked stands. elim (cases_lt d c) [
+        | inl earlier ↦ done.all d other earlier marked stands
         | inr late ↦
             let here : d ≡ c = omega arith in
-            absurd (none-some other (is ∙ StandsIn-is c component other at (rw here at stands)))
+            absurd (is other (rw here at marked) (rw here at stands))
       ];
     }

@@ -13,6 +13,7 @@ mod OnRows
 -- The list of violations
 mod Listing
 mod Overlaps
+mod Misplaced
 -- What the proofs of other crates cite
 pub mod PlaceFaults
 pub mod OnSites

@@ -1,5 +1,5 @@
 -- How the list of violations goes on.
-use Rattle.std.proofs.Common.{◌≡◌, ℕ, ◌+◌, ◌<◌, List, [], ◌∷◌, ◌++◌, length, ◌⊎◌, inl, inr, arith}
+use Rattle.std.proofs.Common.{◌≡◌, ℕ, Bool, ◌+◌, ◌<◌, List, [], ◌∷◌, ◌++◌, length, ◌⊎◌, inl, inr, arith}
 use Rattle.std.proofs.lemmas.Bool.{cases_lt, cases_eq}
 use Rattle.std.proofs.lemmas.List.Elements.{All-push, All-weaker, Contains-append_left, Contains-push}
 use Rattle.std.proofs.lemmas.List.Quantifiers.{all_pairs_push}
@@ -7,7 +7,7 @@ use Rattle.leg_cells.specs.Records.{Contents}
 use Rattle.leg_block.specs.Records.{DesignContents}
 use Rattle.leg_block.specs.declared.fault.Fault.{Fault}
 use Rattle.leg_block.specs.Violation.{kind_number, numbers_of, ComesBefore}
-use Rattle.leg_place.specs.Faults.{Holds}
+use Rattle.leg_place.specs.Among.{HoldsAmong}
 use Rattle.leg_place.specs.Steps.ListPrefix.{HoldsBefore, IsListBefore}
 use Rattle.leg_block.proofs.FaultNumbers.{same_fault, no_second_number}
 use Rattle.leg_place.proofs.PlaceFaults.{component_below}
@@ -72,29 +72,29 @@ module _ (v next : Fault) (kind c : ℕ) (one : kind < 3) (this : Tells v kind c
         })
       ]
 
-module _ (library : Contents) (design : DesignContents) where
+module _ (library : Contents) (design : DesignContents) (marks : List Bool) where
   -- the same list behind another violation, where no others hold
-  listing_upto : (end later : Fault) (found : List Fault) → ComesBefore end later → ((w : Fault) → ComesBefore w later → Holds library design w → ComesBefore w end) → IsListBefore library design end found → IsListBefore library design later found
+  listing_upto : (end later : Fault) (found : List Fault) → ComesBefore end later → ((w : Fault) → ComesBefore w later → HoldsAmong library design marks w → ComesBefore w end) → IsListBefore library design marks end found → IsListBefore library design marks later found
   listing_upto end later found onward back done = record {
     increasing = done.increasing;
     each =
-        All-weaker (HoldsBefore library design end) (HoldsBefore library design later)
+        All-weaker (HoldsBefore library design marks end) (HoldsBefore library design marks later)
         (λ w held. record { holds = held.holds; before = ComesBefore-trans w end later held.before onward }) found done.each;
     all = λ w held. done.all w (record { holds = held.holds; before = back w held.before held.holds });
   }
 
   module _ (v next : Fault) (kind c : ℕ) (one : kind < 3) (this : Tells v kind c) (after : Tells next kind (c + 1)) where
     -- one more violation that holds
-    pub listing_more : (found : List Fault) → Holds library design v → IsListBefore library design v found → IsListBefore library design next (found ++ v ∷ [])
+    pub listing_more : (found : List Fault) → HoldsAmong library design marks v → IsListBefore library design marks v found → IsListBefore library design marks next (found ++ v ∷ [])
     listing_more found holds done =
         let later = next_later v next kind c one this after in
         record {
           increasing =
               all_pairs_push ComesBefore found v done.increasing
-              (All-weaker (HoldsBefore library design v) (λ w. ComesBefore w v) (λ w held. held.before) found done.each);
+              (All-weaker (HoldsBefore library design marks v) (λ w. ComesBefore w v) (λ w held. held.before) found done.each);
           each =
-              All-push (HoldsBefore library design next) found v
-              (All-weaker (HoldsBefore library design v) (HoldsBefore library design next)
+              All-push (HoldsBefore library design marks next) found v
+              (All-weaker (HoldsBefore library design marks v) (HoldsBefore library design marks next)
               (λ w held. record { holds = held.holds; before = ComesBefore-trans w v next held.before later }) found done.each)
               (record { holds = holds; before = later });
           all = λ w held. elim (next_back v next kind c one this after w held.before) [
@@ -104,14 +104,14 @@ module _ (library : Contents) (design : DesignContents) where
         }
 
     -- it doesn't hold
-    pub listing_skip : (found : List Fault) → (Holds library design v → ⊥) → IsListBefore library design v found → IsListBefore library design next found
+    pub listing_skip : (found : List Fault) → (HoldsAmong library design marks v → ⊥) → IsListBefore library design marks v found → IsListBefore library design marks next found
     listing_skip found not_holds done =
         listing_upto v next found (next_later v next kind c one this after)
         (λ w below held. elim (next_back v next kind c one this after w below) [ inl earlier ↦ earlier | inr same ↦ absurd (not_holds (rw same held)) ])
         done
 
   -- behind the last component the next kind begins
-  pub listing_end : (end later : Fault) (kind c : ℕ) → Tells end kind c → Tells later (kind + 1) 0 → c ≡ length design.components → (found : List Fault) → IsListBefore library design end found → IsListBefore library design later found
+  pub listing_end : (end later : Fault) (kind c : ℕ) → Tells end kind c → Tells later (kind + 1) 0 → c ≡ length design.components → (found : List Fault) → IsListBefore library design marks end found → IsListBefore library design marks later found
   listing_end end later kind c this after last found done =
       listing_upto end later found
       (record {
@@ -120,7 +120,7 @@ module _ (library : Contents) (design : DesignContents) where
         second = λ same. absurd (omega (arith, this.is_kind, after.is_kind, same));
       })
       (λ w below holds.
-      let within = component_below library design w holds in
+      let within = component_below library design w holds.holds in
       elim (cases_eq (kind_number w) (kind + 1)) [
         | inl same ↦
             let alike : kind_number w ≡ kind_number later = omega (arith, same, after.is_kind) in

@@ -1,12 +1,13 @@
 -- Overlaps by the pairs of boxes that share a cell.
-use Rattle.std.proofs.Common.{◌≡◌, ℕ, ◌<◌, List, ◌++◌, map, Option, Some, None, slice_get, length, Contains, refl, sym, ap, ◌∙◌, inl, inr, All, ◌+◌, ◌∷◌, [], get_or, take, arith}
+use Rattle.std.proofs.Common.{◌≡◌, ℕ, Bool, true, replicate, ◌<◌, List, ◌++◌, map, Option, Some, None, slice_get, length, Contains, refl, sym, ap, ◌∙◌, inl, inr, All, ◌+◌, ◌∷◌, [], get_or, take, arith}
 use Rattle.std.proofs.lemmas.Bool.{cases_lt}
 use Rattle.std.proofs.lemmas.List.{take_more, map-append, append_assoc}
 use Rattle.std.proofs.lemmas.List.Elements.{All-append, All-map, All-weaker, Contains-append_left, Contains-append_right}
-use Rattle.std.proofs.lemmas.Option.{same_Some, slice_get_within, get_or_from_slice_get}
+use Rattle.std.proofs.lemmas.Option.{same_Some, slice_get_within, slice_get-get_or, get_or_from_slice_get}
 use Rattle.leg_geom.specs.Plane.{ShareCell}
-use Rattle.leg_sweep.specs.Pairs.{Before, IsPair, ArePairs}
-use Rattle.leg_sweep.proofs.Lists.{AllPairs-append_by, AllPairs-map_where, Contains-map}
+use Rattle.leg_sweep.specs.Pairs.{Before, IsPair, ArePairs, TakesAll, TookPairs}
+use Rattle.leg_sweep.specs.Pairs.TakesAll.{none, more}
+use Rattle.leg_sweep.proofs.Lists.{AllPairs-append_by, AllPairs-map_where, Contains-map, Contains-nil}
 use Rattle.leg_cells.specs.Records.{Contents}
 use Rattle.leg_block.specs.Records.{DesignContents}
 use Rattle.leg_block.specs.declared.fault.Fault.{Fault}
@@ -15,8 +16,10 @@ use Rattle.leg_block.specs.Violation.{ComesBefore, kind_number, numbers_of, IsLi
 use Rattle.leg_place.specs.declared.placed_box.PlacedBox.{PlacedBox}
 use Rattle.leg_place.specs.Box.{StandsIn}
 use Rattle.leg_place.specs.Faults.{DoOverlap, Holds}
+use Rattle.leg_place.specs.Among.{IsMarked, TellsMarked, HoldsAmong}
 use Rattle.leg_place.specs.Faults.Holds.{unplaced, outside, off_site, overlap}
-use Rattle.leg_place.specs.Steps.ListPrefix.{HoldsBefore, IsListBefore, AreBoxesBelow, HasLowerNumber}
+use Rattle.leg_place.specs.Steps.ListPrefix.{HoldsBefore, IsListBefore, AreBoxesBelow, HasLowerNumber, DoSomeOverlap, HasPair}
+use Rattle.leg_place.proofs.PlaceFaults.{overlap_there, marked_by_all}
 use Rattle.leg_place.proofs.Places.{place_of_contained, All-at, AllPairs-at, lower_first, same_place}
 
 -- two boxes share a cell
@@ -44,18 +47,29 @@ overlaps_more boxes pairs i first second before found each within first_is secon
     let next : overlap_of boxes (get_or pairs i (0, 0)) ≡ Overlap first.component second.component = rw (pair.a_at, pair.b_at, a_is, b_is) in
     rw (take_more pairs i (0, 0), map-append, next, ← append_assoc, done)
 
-module _ (library : Contents) (design : DesignContents) (n : ℕ) (boxes : List PlacedBox) (are : AreBoxesBelow library design n boxes) where
+-- a sink that takes no pair has taken none
+took_none : {Sink : Type 0} (found : List (ℕ × ℕ)) (before after : Sink) → TakesAll (λ s p t. ⊥) before found after → (p : ℕ × ℕ) → Contains found p → ⊥
+took_none found before after (none) p has = Contains-nil p has
+took_none found before after (more rest never) p has = absurd never
+
+module _ (library : Contents) (design : DesignContents) (marks : List Bool) (n : ℕ) (boxes : List PlacedBox) (are : AreBoxesBelow library design marks n boxes) where
   -- the violation of a pair of boxes holds
-  Holds-overlap_of : (p : ℕ × ℕ) → IsPair Share boxes p → Holds library design (overlap_of boxes p)
+  Holds-overlap_of : (p : ℕ × ℕ) → IsPair Share boxes p → HoldsAmong library design marks (overlap_of boxes p)
   Holds-overlap_of p pair =
-      rw (pair.a_at, pair.b_at) (overlap (record {
-        in_order = AllPairs-at HasLowerNumber boxes p.0 p.1 pair.a pair.b are.increasing pair.a_at pair.b_at pair.in_order;
-        box_a = pair.a.rect;
-        box_b = pair.b.rect;
-        stands_a = All-at (λ box. StandsIn library design box.component box.rect) boxes p.0 pair.a are.each pair.a_at;
-        stands_b = All-at (λ box. StandsIn library design box.component box.rect) boxes p.1 pair.b are.each pair.b_at;
-        shared = pair.holds;
-      }))
+      rw (pair.a_at, pair.b_at) (record {
+        holds = overlap (record {
+          in_order = AllPairs-at HasLowerNumber boxes p.0 p.1 pair.a pair.b are.increasing pair.a_at pair.b_at pair.in_order;
+          box_a = pair.a.rect;
+          box_b = pair.b.rect;
+          stands_a = All-at (λ box. StandsIn library design box.component box.rect) boxes p.0 pair.a are.each pair.a_at;
+          stands_b = All-at (λ box. StandsIn library design box.component box.rect) boxes p.1 pair.b are.each pair.b_at;
+          shared = pair.holds;
+        });
+        marked = (
+          All-at (λ box. IsMarked marks box.component) boxes p.0 pair.a are.marked pair.a_at,
+          All-at (λ box. IsMarked marks box.component) boxes p.1 pair.b are.marked pair.b_at,
+        );
+      })
 
   -- pairs in order are overlaps in order
   ComesBefore-overlap_of : (p q : ℕ × ℕ) → IsPair Share boxes p → IsPair Share boxes q → Before p q → ComesBefore (overlap_of boxes p) (overlap_of boxes q)
@@ -75,10 +89,10 @@ module _ (library : Contents) (design : DesignContents) (n : ℕ) (boxes : List 
       })
 
   -- each overlap is that of a pair
-  overlap_from_pair : (found : List (ℕ × ℕ)) → ArePairs Share boxes found → (a b : ℕ) → (holds : DoOverlap library design a b) → a < n → b < n → Contains (map (overlap_of boxes) found) (Overlap a b)
-  overlap_from_pair found pairs a b holds a_below b_below =
-      let first = place_of_contained boxes (record { component = a; rect = holds.box_a }) (are.all a holds.box_a a_below holds.stands_a) in
-      let second = place_of_contained boxes (record { component = b; rect = holds.box_b }) (are.all b holds.box_b b_below holds.stands_b) in
+  overlap_from_pair : (found : List (ℕ × ℕ)) → ArePairs Share boxes found → (a b : ℕ) → (holds : DoOverlap library design a b) → a < n → b < n → IsMarked marks a → IsMarked marks b → Contains (map (overlap_of boxes) found) (Overlap a b)
+  overlap_from_pair found pairs a b holds a_below b_below a_marked b_marked =
+      let first = place_of_contained boxes (record { component = a; rect = holds.box_a }) (are.all a holds.box_a a_below a_marked holds.stands_a) in
+      let second = place_of_contained boxes (record { component = b; rect = holds.box_b }) (are.all b holds.box_b b_below b_marked holds.stands_b) in
       let pair : IsPair Share boxes (first.0, second.0) = record {
         a = record { component = a; rect = holds.box_a };
         b = record { component = b; rect = holds.box_b };
@@ -91,22 +105,22 @@ module _ (library : Contents) (design : DesignContents) (n : ℕ) (boxes : List 
       rw (first.1, second.1) at has
 
 -- overlaps behind the violations of the other kinds
-module _ (library : Contents) (design : DesignContents) (found : List Fault) (before : IsListBefore library design (Overlap 0 0) found) (boxes : List PlacedBox) (are : AreBoxesBelow library design (length design.components) boxes) where
-  pub listing_Overlap_end : (pairs : List (ℕ × ℕ)) → ArePairs Share boxes pairs → IsListOf (Holds library design) (found ++ map (overlap_of boxes) pairs)
+module _ (library : Contents) (design : DesignContents) (marks : List Bool) (found : List Fault) (before : IsListBefore library design marks (Overlap 0 0) found) (boxes : List PlacedBox) (are : AreBoxesBelow library design marks (length design.components) boxes) where
+  pub listing_Overlap_end : (pairs : List (ℕ × ℕ)) → ArePairs Share boxes pairs → IsListOf (HoldsAmong library design marks) (found ++ map (overlap_of boxes) pairs)
   listing_Overlap_end pairs are_pairs = record {
     increasing =
-        AllPairs-append_by ComesBefore (HoldsBefore library design (Overlap 0 0)) (λ w. kind_number w ≡ 3) kinds_rise found (map (overlap_of boxes) pairs)
+        AllPairs-append_by ComesBefore (HoldsBefore library design marks (Overlap 0 0)) (λ w. kind_number w ≡ 3) kinds_rise found (map (overlap_of boxes) pairs)
         before.each (All-map (λ w. kind_number w ≡ 3) (overlap_of boxes) pairs (λ k d within. refl)) before.increasing
-        (AllPairs-map_where Before ComesBefore (overlap_of boxes) (IsPair Share boxes) (ComesBefore-overlap_of library design (length design.components) boxes are) pairs are_pairs.each are_pairs.increasing);
+        (AllPairs-map_where Before ComesBefore (overlap_of boxes) (IsPair Share boxes) (ComesBefore-overlap_of library design marks (length design.components) boxes are) pairs are_pairs.each are_pairs.increasing);
     each =
-        All-append (Holds library design) found (map (overlap_of boxes) pairs)
-        (All-weaker (HoldsBefore library design (Overlap 0 0)) (Holds library design) (λ v held. held.holds) found before.each)
-        (All-map (Holds library design) (overlap_of boxes) pairs
-        (All-weaker (IsPair Share boxes) (λ p. Holds library design (overlap_of boxes p)) (Holds-overlap_of library design (length design.components) boxes are) pairs are_pairs.each));
-    all = λ v. found_in v;
+        All-append (HoldsAmong library design marks) found (map (overlap_of boxes) pairs)
+        (All-weaker (HoldsBefore library design marks (Overlap 0 0)) (HoldsAmong library design marks) (λ v held. held.holds) found before.each)
+        (All-map (HoldsAmong library design marks) (overlap_of boxes) pairs
+        (All-weaker (IsPair Share boxes) (λ p. HoldsAmong library design marks (overlap_of boxes p)) (Holds-overlap_of library design marks (length design.components) boxes are) pairs are_pairs.each));
+    all = λ v held. found_in v held.holds held.marked;
   }
     where
-      kinds_rise : (v w : Fault) → HoldsBefore library design (Overlap 0 0) v → kind_number w ≡ 3 → ComesBefore v w
+      kinds_rise : (v w : Fault) → HoldsBefore library design marks (Overlap 0 0) v → kind_number w ≡ 3 → ComesBefore v w
       kinds_rise v w held kind =
           let none : kind_number v ≡ 3 → ⊥ = λ last.
           let start : (numbers_of v).0 ≡ 0 = omega (arith, held.before.first last) in
@@ -117,7 +131,7 @@ module _ (library : Contents) (design : DesignContents) (found : List Fault) (be
             second = λ same. absurd (none (same ∙ kind));
           }
 
-      earlier_in : (v : Fault) → kind_number v < 3 → Holds library design v → Contains (found ++ map (overlap_of boxes) pairs) v
+      earlier_in : (v : Fault) → kind_number v < 3 → HoldsAmong library design marks v → Contains (found ++ map (overlap_of boxes) pairs) v
       earlier_in v few holds =
           Contains-append_left found (map (overlap_of boxes) pairs) v
           (before.all v (record {
@@ -125,12 +139,57 @@ module _ (library : Contents) (design : DesignContents) (found : List Fault) (be
             before = record { kind = omega (arith, few); first = λ e. absurd (omega (arith, few, e)); second = λ e. absurd (omega (arith, few, e)) };
           }))
 
-      found_in : (v : Fault) → Holds library design v → Contains (found ++ map (overlap_of boxes) pairs) v
-      found_in v (unplaced h) = earlier_in v (omega arith) (unplaced h)
-      found_in v (outside h) = earlier_in v (omega arith) (outside h)
-      found_in v (off_site h) = earlier_in v (omega arith) (off_site h)
-      found_in v (overlap {a = a} {b = b} h) =
+      found_in : (v : Fault) → Holds library design v → TellsMarked marks v → Contains (found ++ map (overlap_of boxes) pairs) v
+      found_in v (unplaced h) marked = earlier_in v (omega arith) (record { holds = unplaced h; marked = marked })
+      found_in v (outside h) marked = earlier_in v (omega arith) (record { holds = outside h; marked = marked })
+      found_in v (off_site h) marked = earlier_in v (omega arith) (record { holds = off_site h; marked = marked })
+      found_in v (overlap {a = a} {b = b} h) marked =
           Contains-append_right found (map (overlap_of boxes) pairs) (Overlap a b)
-          (overlap_from_pair library design (length design.components) boxes are pairs are_pairs a b h
+          (overlap_from_pair library design marks (length design.components) boxes are pairs are_pairs a b h
           (slice_get_within design.components a h.stands_a.component h.stands_a.there)
-          (slice_get_within design.components b h.stands_b.component h.stands_b.there))
+          (slice_get_within design.components b h.stands_b.component h.stands_b.there) marked.0 marked.1)
+
+-- two boxes at places in order that share a cell
+pub pair_at : (boxes : List PlacedBox) (a b : ℕ) (first second : PlacedBox) → a < b → b < length boxes → ShareCell (get_or boxes a first).rect (get_or boxes b second).rect → HasPair boxes
+pair_at boxes a b first second lower within shared =
+    record {
+      numbers = (a, b);
+      pair = record {
+        a = get_or boxes a first;
+        b = get_or boxes b second;
+        a_at = slice_get-get_or boxes a first (omega (arith, lower, within));
+        b_at = slice_get-get_or boxes b second within;
+        in_order = lower;
+        holds = shared;
+      };
+    }
+
+-- overlaps of components that are all marked
+module _ (library : Contents) (design : DesignContents) (boxes : List PlacedBox) (are : AreBoxesBelow library design (replicate (length design.components) true) (length design.components) boxes) where
+  -- of a pair
+  pub overlap_of_pair : HasPair boxes → DoSomeOverlap library design
+  overlap_of_pair has =
+      let held = Holds-overlap_of library design (replicate (length design.components) true) (length design.components) boxes are has.numbers has.pair in
+      record {
+        a = number_of (slice_get boxes has.numbers.0);
+        b = number_of (slice_get boxes has.numbers.1);
+        overlap = overlap_there library design _ _ held.holds;
+      }
+
+  -- a sink that takes no pair has taken all just where there are none
+  pub overlap_from_took : {Sink : Type 0} (before after : Sink) → TookPairs (λ s p t. ⊥) Share boxes before after → DoSomeOverlap library design → ⊥
+  overlap_from_took before after took some =
+      let h = some.overlap in
+      let a_below = slice_get_within design.components some.a h.stands_a.component h.stands_a.there in
+      let b_below = slice_get_within design.components some.b h.stands_b.component h.stands_b.there in
+      let first = place_of_contained boxes (record { component = some.a; rect = h.box_a }) (are.all some.a h.box_a a_below (marked_by_all library design some.a a_below) h.stands_a) in
+      let second = place_of_contained boxes (record { component = some.b; rect = h.box_b }) (are.all some.b h.box_b b_below (marked_by_all library design some.b b_below) h.stands_b) in
+      let pair : IsPair Share boxes (first.0, second.0) = record {
+        a = record { component = some.a; rect = h.box_a };
+        b = record { component = some.b; rect = h.box_b };
+        a_at = first.1;
+        b_at = second.1;
+        in_order = lower_first (λ box. box.component) boxes are.increasing first.0 second.0 _ _ first.1 second.1 h.in_order;
+        holds = h.shared;
+      } in
+      took_none took.found before after took.taken (first.0, second.0) (took.are.all (first.0, second.0) pair)

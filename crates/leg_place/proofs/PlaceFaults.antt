@@ -1,13 +1,16 @@
 -- Violations of where components stand: their kinds, and the components that they tell.
-use Rattle.std.proofs.Common.{ℕ, ◌<◌, length, arith}
-use Rattle.std.proofs.lemmas.Option.{slice_get_within}
+use Rattle.std.proofs.Common.{◌≡◌, ◌∙◌, ap, ℕ, ◌<◌, Bool, true, Some, List, length, replicate, arith}
+use Rattle.std.proofs.lemmas.List.{get_or-replicate, length-replicate}
+use Rattle.std.proofs.lemmas.List.Elements.{All-weaker}
+use Rattle.std.proofs.lemmas.Option.{slice_get_within, slice_get-get_or}
 use Rattle.leg_cells.specs.Records.{Contents}
 use Rattle.leg_block.specs.Records.{DesignContents}
 use Rattle.leg_block.specs.declared.fault.Fault.{Fault}
-use Rattle.leg_block.specs.declared.fault.Fault.TheVariants.{Unplaced, Outside, OffSite}
-use Rattle.leg_block.specs.Violation.{kind_number, numbers_of}
+use Rattle.leg_block.specs.declared.fault.Fault.TheVariants.{Unplaced, Outside, OffSite, Overlap}
+use Rattle.leg_block.specs.Violation.{kind_number, numbers_of, IsListOf}
 use Rattle.leg_place.specs.Sites.{IsOffSite}
-use Rattle.leg_place.specs.Faults.{IsUnplaced, IsOutside, Holds}
+use Rattle.leg_place.specs.Faults.{IsUnplaced, IsOutside, DoOverlap, Holds}
+use Rattle.leg_place.specs.Among.{IsMarked, TellsMarked, HoldsAmong}
 use Rattle.leg_place.specs.Faults.Holds.{unplaced, outside, off_site, overlap}
 
 module _ (library : Contents) (design : DesignContents) where
@@ -34,3 +37,33 @@ module _ (library : Contents) (design : DesignContents) where
 
   pub off_site_there : (c : ℕ) → Holds library design (OffSite c) → IsOffSite library design c
   off_site_there c (off_site h) = h
+
+  -- both components that an overlap tells are there
+  pub overlap_there : (a b : ℕ) → Holds library design (Overlap a b) → DoOverlap library design a b
+  overlap_there a b (overlap h) = h
+
+  module _ (marks : List Bool) (each : (c : ℕ) → c < length design.components → IsMarked marks c) where
+    -- where all components are marked, a violation tells marked ones alone
+    pub all_told : (v : Fault) → Holds library design v → TellsMarked marks v
+    all_told v (unplaced {c = c} h) = each c (slice_get_within design.components c h.component h.there)
+    all_told v (outside {c = c} h) = each c (slice_get_within design.components c h.stands.component h.stands.there)
+    all_told v (off_site {c = c} h) = each c (slice_get_within design.components c h.component h.there)
+    all_told v (overlap {a = a} {b = b} h) = (
+      each a (slice_get_within design.components a h.stands_a.component h.stands_a.there),
+      each b (slice_get_within design.components b h.stands_b.component h.stands_b.there),
+    )
+
+  -- each mark of as many as there are components
+  pub marked_by_all : (c : ℕ) → c < length design.components → IsMarked (replicate (length design.components) true) c
+  marked_by_all c below =
+      let n = length design.components in
+      slice_get-get_or (replicate n true) c true (rw (length-replicate n true) below) ∙ ap Some (get_or-replicate n c true true below)
+
+  pub list_of_all : (found : List Fault) → library ≡ design.library → IsListOf (HoldsAmong library design (replicate (length design.components) true)) found → IsListOf (Holds library design) found
+  list_of_all found same list =
+      let marks = replicate (length design.components) true in
+      record {
+        increasing = list.increasing;
+        each = All-weaker (HoldsAmong library design marks) (Holds library design) (λ v held. held.holds) found list.each;
+        all = λ v holds. list.all v (record { holds = holds; marked = all_told marks marked_by_all v holds });
+      }

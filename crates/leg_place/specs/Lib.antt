@@ -1,4 +1,5 @@
 pub mod Box
 pub mod Sites
 pub mod Faults
+pub mod Among
 pub mod Steps

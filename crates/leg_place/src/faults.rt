@@ -2,9 +2,11 @@
 
 ghost use Rattle.std.specs.Prelude.{◌≡◌, ◌<◌, ◌↔◌, length, IsTrue, IfOk, OnOk};
 ghost use Rattle.leg_block.specs.Violation.{IsListOf};
-ghost use Rattle.leg_place.specs.Faults.{IsOutside, Holds};
+ghost use Rattle.leg_place.specs.Faults.{IsUnplaced, IsOutside, Holds};
+ghost use Rattle.leg_place.specs.Among.{HoldsAmong};
 ghost use Rattle.leg_place.specs.Steps.ListPrefix.{IsListBefore};
 
+use crate::marks::{all_marked, is_marked};
 use crate::overlap::push_overlaps;
 use crate::placed_box::box_of;
 use crate::row_spans::row_spans;
@@ -25,40 +27,68 @@ pub fn place_faults<A: Allocator + Copy>(
     requires { library.now ≡ design.now.library }
     ensures { IfOk result (λ found. IsListOf (Holds library.now design.now) found.items) }
 {
+    let marks = all_marked(alloc, design)?;
+    let faults = place_faults_among(alloc, library, design, &marks)?;
+    Ok(faults)
+}
+
+/// Those violations that tell only components that are marked, as `place_faults` lists them. A component is marked where
+/// `true` stands at its number.
+///
+/// Pairs of other components cost no time, however many of them overlap. It fails only when out of memory.
+pub fn place_faults_among<A: Allocator + Copy>(
+    alloc: A,
+    library: &Library<'_, A>,
+    design: &Design<'_, A>,
+    marks: &[bool],
+) -> Result<Vec<Fault, A>, AllocError>
+    requires { library.now ≡ design.now.library }
+    ensures { IfOk result (λ found. IsListOf (HoldsAmong library.now design.now marks.now) found.items) }
+{
     let mut found = Vec::new(alloc);
-    push_unplaced(design, &mut found)?;
-    push_outside(design, &mut found)?;
-    push_off_site(alloc, design, &mut found)?;
-    push_overlaps(alloc, design, &mut found)?;
+    push_unplaced(design, marks, &mut found)?;
+    push_outside(design, marks, &mut found)?;
+    push_off_site(alloc, design, marks, &mut found)?;
+    push_overlaps(alloc, design, marks, &mut found)?;
     Ok(found)
 }
 
-/// Adds the components that have no place to an empty list.
+/// Adds the marked components that have no place to an empty list.
 fn push_unplaced<A: Allocator + Copy>(
     design: &Design<'_, A>,
+    marks: &[bool],
     found: &mut Vec<Fault, A>,
 ) -> Result<(), AllocError>
-    requires { IsListBefore design.now.library design.now (Fault.Unplaced 0) found.old.items }
-    ensures { OnOk result (IsListBefore design.now.library design.now (Fault.Outside 0) found.new.items) }
+    requires { IsListBefore design.now.library design.now marks.now (Fault.Unplaced 0) found.old.items }
+    ensures { OnOk result (IsListBefore design.now.library design.now marks.now (Fault.Outside 0) found.new.items) }
 {
-    for (i, component) in design.components().iter().enumerate() {
-        if component.place.is_none() {
+    for i in 0..design.components().len() {
+        if is_marked(marks, i) && is_unplaced(design, i) {
             found.push(Fault::Unplaced(i as u32))?;
         }
     }
     Ok(())
 }
 
-/// Adds the components that lie outside the die to those that have no place.
+/// Whether the component has no place.
+pub(crate) fn is_unplaced<A: Allocator + Copy>(design: &Design<'_, A>, number: usize) -> bool
+    requires { number < length design.now.components }
+    ensures { IsTrue result ↔ IsUnplaced design.now number }
+{
+    design.components()[number].place.is_none()
+}
+
+/// Adds the marked components that lie outside the die to those that have no place.
 fn push_outside<A: Allocator + Copy>(
     design: &Design<'_, A>,
+    marks: &[bool],
     found: &mut Vec<Fault, A>,
 ) -> Result<(), AllocError>
-    requires { IsListBefore design.now.library design.now (Fault.Outside 0) found.old.items }
-    ensures { OnOk result (IsListBefore design.now.library design.now (Fault.OffSite 0) found.new.items) }
+    requires { IsListBefore design.now.library design.now marks.now (Fault.Outside 0) found.old.items }
+    ensures { OnOk result (IsListBefore design.now.library design.now marks.now (Fault.OffSite 0) found.new.items) }
 {
     for i in 0..design.components().len() {
-        if is_outside(design, i) {
+        if is_marked(marks, i) && is_outside(design, i) {
             found.push(Fault::Outside(i as u32))?;
         }
     }
@@ -66,7 +96,7 @@ fn push_outside<A: Allocator + Copy>(
 }
 
 /// Whether a cell of the component lies outside the die.
-fn is_outside<A: Allocator + Copy>(design: &Design<'_, A>, number: usize) -> bool
+pub(crate) fn is_outside<A: Allocator + Copy>(design: &Design<'_, A>, number: usize) -> bool
     requires { number < length design.now.components }
     ensures { IsTrue result ↔ IsOutside design.now.library design.now number }
 {
@@ -76,18 +106,19 @@ fn is_outside<A: Allocator + Copy>(design: &Design<'_, A>, number: usize) -> boo
     }
 }
 
-/// Adds the components that don't stand on the sites of a row to those without a place and those outside the die.
+/// Adds the marked components that don't stand on the sites of a row to those without a place and those outside the die.
 fn push_off_site<A: Allocator + Copy>(
     alloc: A,
     design: &Design<'_, A>,
+    marks: &[bool],
     found: &mut Vec<Fault, A>,
 ) -> Result<(), AllocError>
-    requires { IsListBefore design.now.library design.now (Fault.OffSite 0) found.old.items }
-    ensures { OnOk result (IsListBefore design.now.library design.now (Fault.Overlap 0 0) found.new.items) }
+    requires { IsListBefore design.now.library design.now marks.now (Fault.OffSite 0) found.old.items }
+    ensures { OnOk result (IsListBefore design.now.library design.now marks.now (Fault.Overlap 0 0) found.new.items) }
 {
     let rows = row_spans(alloc, design)?;
     for i in 0..design.components().len() {
-        if is_off_site(design, &rows, i) {
+        if is_marked(marks, i) && is_off_site(design, &rows, i) {
             found.push(Fault::OffSite(i as u32))?;
         }
     }

@@ -1,16 +1,20 @@
 //! What is not legal about where components stand: without a place, outside the die, off the sites of the rows, and on
 //! one another.
 //!
-//! `place_faults` lists exactly the violations of these four kinds, each once, in order. `box_of` and `placed_size` say
-//! in which box a component stands.
+//! `place_faults` lists exactly the violations of these four kinds, each once, in order, and `place_faults_among` those of
+//! some components alone. `is_placed` tells whether there are any. `box_of` and `placed_size` say in which box a component
+//! stands.
 #![tactic(auto)]
 
 mod faults;
+mod marks;
 mod overlap;
+mod placed;
 mod placed_box;
 mod row_spans;
 mod site_span;
 mod sites;
 
-pub use faults::place_faults;
+pub use faults::{place_faults, place_faults_among};
+pub use placed::is_placed;
 pub use placed_box::{box_of, placed_size};

@@ -1,16 +1,17 @@
 //! Components on one another.
 
-ghost use Rattle.std.specs.Prelude.{◌≡◌, OnOk};
+ghost use Rattle.std.specs.Prelude.{◌≡◌, ◌^◌, ◌↔◌, IsTrue, IfOk, OnOk};
 ghost use Rattle.std.proofs.Common.{refl};
 ghost use Rattle.leg_geom.specs.Plane.{ShareCell};
 ghost use Rattle.leg_geom.proofs.Gaps.{ShareCell-symmetric, ShareCell-gaps};
 ghost use Rattle.leg_block.specs.Violation.{IsListOf};
-ghost use Rattle.leg_place.specs.Steps.ListPrefix.{IsListBefore};
-ghost use Rattle.leg_place.specs.Faults.{Holds};
+ghost use Rattle.leg_place.specs.Among.{HoldsAmong};
+ghost use Rattle.leg_place.specs.Steps.ListPrefix.{IsListBefore, DoSomeOverlap, HasPair};
 
+use crate::marks::all_marked;
 use crate::placed_box::{PlacedBox, placed_boxes};
 use leg_block::{Design, Fault};
-use leg_sweep::{LayeredRule, PairRule, pairs_in_bands};
+use leg_sweep::{LayeredRule, PairRule, PairSink, each_pair, pairs_in_bands};
 use std::alloc::{AllocError, Allocator};
 
 /// Holds of boxes that share a cell.
@@ -99,16 +100,17 @@ impl LayeredRule for OnOneAnother {
     ghost near_on_layer = { λ r a b h. ShareCell-gaps _ _ h };
 }
 
-/// Adds the pairs of placed components that share a cell to the violations of the other kinds.
+/// Adds the pairs of marked components that share a cell to the violations of the other kinds.
 pub(crate) fn push_overlaps<A: Allocator + Copy>(
     alloc: A,
     design: &Design<'_, A>,
+    marks: &[bool],
     found: &mut Vec<Fault, A>,
 ) -> Result<(), AllocError>
-    requires { IsListBefore design.now.library design.now (Fault.Overlap 0 0) found.old.items }
-    ensures { OnOk result (IsListOf (Holds design.now.library design.now) found.new.items) }
+    requires { IsListBefore design.now.library design.now marks.now (Fault.Overlap 0 0) found.old.items }
+    ensures { OnOk result (IsListOf (HoldsAmong design.now.library design.now marks.now) found.new.items) }
 {
-    let boxes = placed_boxes(alloc, design)?;
+    let boxes = placed_boxes(alloc, design, marks)?;
     let mut rule = OnOneAnother { tests: 0, looks: 0 };
     let overlaps = pairs_in_bands(alloc, &boxes, &mut rule)?;
     for (a, b) in &overlaps {
@@ -117,4 +119,56 @@ pub(crate) fn push_overlaps<A: Allocator + Copy>(
         found.push(Fault::Overlap(first, second))?;
     }
     Ok(())
+}
+
+/// Keeps the first pair that a search hands it, and refuses it, by which the search ends.
+#[derive(Drop)]
+struct FirstPair {
+    pair: Option<(u32, u32)>,
+}
+
+impl PairSink for FirstPair {
+    ghost Takes = { λ before pair after. ⊥ };
+
+    ghost room_of = { λ s. 2 ^ 32 };
+
+    fn take(&mut self, pair: (u32, u32)) -> Result<(), AllocError> {
+        self.pair = Some(pair);
+        Err(AllocError)
+    }
+}
+
+/// Whether two placed components share a cell. It ends at the first two that do.
+pub(crate) fn do_some_overlap<A: Allocator + Copy>(
+    alloc: A,
+    design: &Design<'_, A>,
+) -> Result<bool, AllocError>
+    ensures { IfOk result (λ overlap. IsTrue overlap ↔ DoSomeOverlap design.now.library design.now) }
+{
+    let marks = all_marked(alloc, design)?;
+    let boxes = placed_boxes(alloc, design, &marks)?;
+    let mut rule = OnOneAnother { tests: 0, looks: 0 };
+    let mut first = FirstPair { pair: None };
+    match each_pair(alloc, &boxes, &mut rule, &mut first) {
+        Ok(()) => Ok(false),
+        Err(refusal) => {
+            if has_pair(&boxes, &first) {
+                return Ok(true);
+            }
+            Err(refusal)
+        }
+    }
+}
+
+/// Whether there is a pair, of two boxes that share a cell.
+fn has_pair(boxes: &[PlacedBox], first: &FirstPair) -> bool
+    ensures { IsTrue result → HasPair boxes.now }
+{
+    match first.pair {
+        Some((a, b)) => {
+            let (a, b) = (a as usize, b as usize);
+            a < b && b < boxes.len() && boxes[a].rect.overlaps(&boxes[b].rect)
+        }
+        None => false,
+    }
 }

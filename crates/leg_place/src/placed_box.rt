@@ -1,12 +1,13 @@
 //! The boxes of placed components.
 
-ghost use Rattle.std.specs.Prelude.{◌≡◌, ◌≤◌, length, IfOk, IfSome};
+ghost use Rattle.std.specs.Prelude.{◌≡◌, ◌≤◌, ◌<◌, length, IfOk, IfSome};
 ghost use Rattle.leg_geom.specs.Plane.{IsRect};
 ghost use Rattle.leg_block.specs.declared.limits.TheConstants.{ENTRY_LIMIT};
 ghost use Rattle.leg_block.specs.WellFormedParts.{IsPosition, IsComponent};
 ghost use Rattle.leg_place.specs.Box.{placed_box, box_of};
-ghost use Rattle.leg_place.specs.Steps.ListPrefix.{AreBoxesBelow};
+ghost use Rattle.leg_place.specs.Steps.ListPrefix.{AreBoxesBelow, IsMarkedBox};
 
+use crate::marks::is_marked;
 use leg_block::{Component, Design};
 use leg_cells::{Extent, Library};
 use leg_geom::{Place, Rect};
@@ -44,17 +45,33 @@ pub fn box_of<A: Allocator + Copy>(
     Some(placed_size(&place, &master.size))
 }
 
-/// The boxes of the placed components, in file order.
+/// The box of the component, where it is marked and has a place.
+fn marked_box<A: Allocator + Copy>(
+    design: &Design<'_, A>,
+    marks: &[bool],
+    number: usize,
+) -> Option<Rect>
+    requires { number < length design.now.components }
+    ensures { IsMarkedBox design.now.library design.now marks.now number result }
+{
+    if !is_marked(marks, number) {
+        return None;
+    }
+    box_of(design.library(), &design.components()[number])
+}
+
+/// The boxes of the marked components that are placed, in file order.
 pub(crate) fn placed_boxes<A: Allocator + Copy>(
     alloc: A,
     design: &Design<'_, A>,
+    marks: &[bool],
 ) -> Result<Vec<PlacedBox, A>, AllocError>
-    ensures boxes { IfOk result (λ boxes. AreBoxesBelow design.now.library design.now (length design.now.components) boxes.items) }
+    ensures boxes { IfOk result (λ boxes. AreBoxesBelow design.now.library design.now marks.now (length design.now.components) boxes.items) }
     ensures few { IfOk result (λ boxes. length boxes.items ≤ ENTRY_LIMIT) }
 {
     let mut boxes = Vec::new(alloc);
-    for (i, component) in design.components().iter().enumerate() {
-        if let Some(rect) = box_of(design.library(), component) {
+    for i in 0..design.components().len() {
+        if let Some(rect) = marked_box(design, marks, i) {
             boxes.push(PlacedBox {
                 component: i as u32,
                 rect,

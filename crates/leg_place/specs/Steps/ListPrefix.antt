@@ -1,29 +1,61 @@
 -- What a walk over a design has found so far.
-use Rattle.std.specs.Prelude.{ℕ, ◌<◌, List, All, AllPairs, Contains}
-use Rattle.leg_geom.specs.Plane.{Sides}
+use Rattle.std.specs.Prelude.{ℕ, ◌<◌, Bool, Option, Some, None, List, All, AllPairs, Contains}
+use Rattle.leg_geom.specs.Plane.{Sides, ShareCell}
+use Rattle.leg_sweep.specs.Pairs.{IsPair}
 use Rattle.leg_cells.specs.Records.{Contents}
 use Rattle.leg_block.specs.Records.{DesignContents}
 use Rattle.leg_block.specs.declared.fault.Fault.{Fault}
 use Rattle.leg_block.specs.Violation.{ComesBefore, IsListOf}
 use Rattle.leg_place.specs.declared.placed_box.PlacedBox.{PlacedBox}
 use Rattle.leg_place.specs.Box.{StandsIn}
-use Rattle.leg_place.specs.Faults.{Holds}
+use Rattle.leg_place.specs.Faults.{DoOverlap, IsUnplaced, IsOutside}
+use Rattle.leg_place.specs.Sites.{IsOffSite}
+use Rattle.leg_place.specs.Among.{IsMarked, HoldsAmong}
 
--- a violation holds and comes before the given one
-pub record HoldsBefore (library : Contents) (design : DesignContents) (end fault : Fault) : Type 0 where
-  pub holds : Holds library design fault
+-- a violation among the marked components holds, and comes before the given one
+pub record HoldsBefore (library : Contents) (design : DesignContents) (marks : List Bool) (end fault : Fault) : Type 0 where
+  pub holds : HoldsAmong library design marks fault
   pub before : ComesBefore fault end
 
--- the list of the violations that hold and come before the given one: all of them, each once, in order
-abbrev pub IsListBefore : Contents → DesignContents → Fault → List Fault → Type 0
-IsListBefore library design end faults = IsListOf (HoldsBefore library design end) faults
+-- the list of the violations of these that come before the given one: all of them, each once, in order
+abbrev pub IsListBefore : Contents → DesignContents → List Bool → Fault → List Fault → Type 0
+IsListBefore library design marks end faults = IsListOf (HoldsBefore library design marks end) faults
 
 abbrev pub HasLowerNumber : PlacedBox → PlacedBox → Type 0
 HasLowerNumber a b = a.component < b.component
 
--- the boxes of the placed components whose numbers are below end: all of them, each once, in order
-pub record AreBoxesBelow (library : Contents) (design : DesignContents) (end : ℕ) (boxes : List PlacedBox) : Type 0 where
+-- the boxes of the marked components that are placed and whose numbers are below end: all of them, each once, in order
+pub record AreBoxesBelow (library : Contents) (design : DesignContents) (marks : List Bool) (end : ℕ) (boxes : List PlacedBox) : Type 0 where
   pub increasing : AllPairs HasLowerNumber boxes
   pub each : All (λ box. StandsIn library design box.component box.rect) boxes
+  pub marked : All (λ box. IsMarked marks box.component) boxes
   pub below : All (λ box. box.component < end) boxes
-  pub all : (c : ℕ) (rect : Sides) → c < end → StandsIn library design c rect → Contains boxes (record { component = c; rect = rect })
+  pub all : (c : ℕ) (rect : Sides) → c < end → IsMarked marks c → StandsIn library design c rect → Contains boxes (record { component = c; rect = rect })
+
+-- the box of component c, or none where it isn't marked or has no place
+abbrev pub IsMarkedBox : Contents → DesignContents → List Bool → ℕ → Option Sides → Type 0
+IsMarkedBox library design marks c None = (rect : Sides) → IsMarked marks c → ¬ StandsIn library design c rect
+IsMarkedBox library design marks c (Some rect) = IsMarked marks c × StandsIn library design c rect
+
+-- a component has no place, is outside the die, or is off the sites of the rows
+pub data IsMisplaced (library : Contents) (design : DesignContents) (c : ℕ) : Type 0 where
+  no_place : IsUnplaced design c → IsMisplaced library design c
+  off_die : IsOutside library design c → IsMisplaced library design c
+  off_sites : IsOffSite library design c → IsMisplaced library design c
+
+-- some component is, whose number is below end
+pub record IsOneMisplaced (library : Contents) (design : DesignContents) (end : ℕ) : Type 0 where
+  pub c : ℕ
+  pub below : c < end
+  pub misplaced : IsMisplaced library design c
+
+-- two components overlap
+pub record DoSomeOverlap (library : Contents) (design : DesignContents) : Type 0 where
+  pub a : ℕ
+  pub b : ℕ
+  pub overlap : DoOverlap library design a b
+
+-- two boxes share a cell
+pub record HasPair (boxes : List PlacedBox) : Type 0 where
+  pub numbers : ℕ × ℕ
+  pub pair : IsPair (λ a b. ShareCell a.rect b.rect) boxes numbers

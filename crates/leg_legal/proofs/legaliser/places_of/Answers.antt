@@ -2,7 +2,7 @@
 use Rattle.std.proofs.Common.{◌≡◌, [], length, sym, ◌∙◌}
 use Rattle.std.proofs.lemmas.Bool.{eqb-true}
 use Rattle.std.proofs.lemmas.Result.{IfOk-weaker, IfErr-weaker}
-use Rattle.leg_legal.proofs.Chosen.{none_there, staying_from_none, illegal_from_some, chosen_run, refusal_of}
+use Rattle.leg_legal.proofs.Chosen.{none_there, staying_from_none, chosen_run, refusal_of}
 use Rattle.leg_legal.proofs.legaliser.places_of.Goals as goal
 
 pub returns-clause-chosen : goal.returns-clause-chosen
@@ -10,13 +10,11 @@ returns-clause-chosen g c =
     let empty : length c.as_slice.result.now ≡ 0 = eqb-true (length c.as_slice.result.now) 0 (sym c.if-not-is_empty.ensures) in
     let none : c.in_ok-staying.staying.items ≡ [] = sym c.as_slice.ensures.value ∙ none_there c.as_slice.result.now empty in
     let staying = staying_from_none c.args.design.now c.in_ok-staying.staying.items c.in_ok-staying.ensures none in
-    let illegal = illegal_from_some c.args.design.now c.args.faults.now c.requires.list c.requires.some in
-    IfOk-weaker c.take_all.result _ _ (λ taken r. chosen_run c.args.design.now taken.items c.requires.proper c.requires.sound staying illegal r) c.take_all.ensures.run
+    IfOk-weaker c.take_all.result _ _ (λ taken r. chosen_run c.args.design.now taken.items c.requires.proper c.requires.sound staying c.requires.illegal r) c.take_all.ensures.run
 
 pub returns-clause-refused : goal.returns-clause-refused
 returns-clause-refused g c =
     let empty : length c.as_slice.result.now ≡ 0 = eqb-true (length c.as_slice.result.now) 0 (sym c.if-not-is_empty.ensures) in
     let none : c.in_ok-staying.staying.items ≡ [] = sym c.as_slice.ensures.value ∙ none_there c.as_slice.result.now empty in
     let staying = staying_from_none c.args.design.now c.in_ok-staying.staying.items c.in_ok-staying.ensures none in
-    let illegal = illegal_from_some c.args.design.now c.args.faults.now c.requires.list c.requires.some in
-    IfErr-weaker c.take_all.result _ _ (λ fault f. refusal_of c.args.design.now fault staying c.in-None.ensures illegal f) c.take_all.ensures.refused
+    IfErr-weaker c.take_all.result _ _ (λ fault f. refusal_of c.args.design.now fault staying c.in-None.ensures c.requires.illegal f) c.take_all.ensures.refused

@@ -1,31 +1,37 @@
--- A component outside the die is one more violation, and one within it none.
+-- A marked component outside the die is one more violation, and any other none.
 use Rattle.std.proofs.Common.{◌≡◌, ◌+◌, length, refl, arith}
 use Rattle.std.proofs.lemmas.Bool.{false≢true}
 use Rattle.leg_block.specs.declared.fault.Fault.TheVariants.{Outside, OffSite}
+use Rattle.leg_place.specs.Among.{HoldsAmong}
 use Rattle.leg_place.specs.Faults.Holds.{outside}
 use Rattle.leg_place.proofs.PlaceFaults.{outside_there}
 use Rattle.leg_place.proofs.Listing.{Tells, listing_more, listing_skip, listing_end}
 use Rattle.leg_place.proofs.faults.push_outside.Goals as goal
-use Rattle.leg_place.proofs.faults.push_outside.Goals.{then-is_outside+in_ok-push, else-is_outside}
+use Rattle.leg_place.proofs.faults.push_outside.Goals.{then-is_marked+then-is_outside+in_ok-push, else-is_marked, else-is_marked-via-then-is_marked+else-is_outside, else-is_marked-via-else-is_marked}
 
 pub loop-i-preserved : goal.loop-i-preserved
 loop-i-preserved g c =
     let library = c.args.design.now.library in
     let design = c.args.design.now in
+    let marks = c.args.marks.now in
     let i = c.loop-i.i in
+    let found = c.loop-i.found.items in
     let this : Tells (Outside i) 1 i = record { is_kind = refl; first = refl; second = refl } in
     let after : Tells (Outside (i + 1)) 1 (i + 1) = record { is_kind = refl; first = refl; second = refl } in
-    elim c.if-is_outside.branch [
-      | then-is_outside+in_ok-push w ↦
-          rw (w.found-is, w.in_ok-push.ensures.items)
-          (listing_more library design (Outside i) (Outside (i + 1)) 1 i (omega arith) this after c.loop-i.found.items (outside (w.if-is_outside.ensures.0 refl)) c.loop-i.invariant)
-      | else-is_outside w ↦
-          rw w.found-is
-          (listing_skip library design (Outside i) (Outside (i + 1)) 1 i (omega arith) this after c.loop-i.found.items (λ h. false≢true (w.if-is_outside.ensures.1 (outside_there library design i h))) c.loop-i.invariant)
+    elim c.if-is_marked.branch [
+      | then-is_marked+then-is_outside+in_ok-push w ↦
+          let holds : HoldsAmong library design marks (Outside i) = record { holds = outside (w.if-is_outside.ensures.0 refl); marked = w.if-is_marked.ensures.0 refl } in
+          rw (w.found-is, w.in_ok-push.ensures.items) (listing_more library design marks (Outside i) (Outside (i + 1)) 1 i (omega arith) this after found holds c.loop-i.invariant)
+      | else-is_marked w ↦
+          let never : HoldsAmong library design marks (Outside i) → ⊥ = λ held. elim w.else-is_marked.branch [
+            | else-is_marked-via-then-is_marked+else-is_outside v ↦ false≢true (v.if-is_outside.ensures.1 (outside_there library design i held.holds))
+            | else-is_marked-via-else-is_marked v ↦ false≢true (v.if-is_marked.ensures.1 held.marked)
+          ] in
+          rw w.found-is (listing_skip library design marks (Outside i) (Outside (i + 1)) 1 i (omega arith) this after found never c.loop-i.invariant)
     ]
 
 pub returns : goal.returns
 returns g c =
     let last : c.loop-i.i ≡ length c.args.design.now.components = rw (← c.components-i-end.ensures.is) (omega arith) in
-    listing_end c.args.design.now.library c.args.design.now (Outside c.loop-i.i) (OffSite 0) 1 c.loop-i.i
+    listing_end c.args.design.now.library c.args.design.now c.args.marks.now (Outside c.loop-i.i) (OffSite 0) 1 c.loop-i.i
     (record { is_kind = refl; first = refl; second = refl }) (record { is_kind = refl; first = refl; second = refl }) last c.loop-i.found.items c.loop-i.invariant

@@ -4,4 +4,4 @@ use Rattle.leg_place.specs.Steps.ListPrefix.{IsListBefore}
 use Rattle.leg_place.proofs.faults.push_unplaced.Given as goal
 
 abbrev pub invariant-loop-i : goal.invariant-loop-i
-invariant-loop-i g l = IsListBefore l.design.library l.design (Unplaced l.i) l.found.items
+invariant-loop-i g l = IsListBefore l.design.library l.design l.marks (Unplaced l.i) l.found.items
