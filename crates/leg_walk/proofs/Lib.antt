@@ -6,3 +6,4 @@ mod Sides
 mod Walks
 mod Underway
 mod WayBack
+mod WalksBack

@@ -6,7 +6,7 @@ use Rattle.std.proofs.lemmas.List.Sums.{sum_by-set}
 use Rattle.std.proofs.lemmas.Option.{get_or_from_slice_get, slice_get_within, slice_get-get_or}
 use Rattle.std.proofs.Math.ListN.{length-set}
 use Rattle.leg_walk.specs.declared.mark.Mark.{Mark}
-use Rattle.leg_walk.specs.declared.mark.Mark.TheVariants.{Unseen, Shut, Reached}
+use Rattle.leg_walk.specs.declared.mark.Mark.TheVariants.{Unseen, Shut, Reached, Far}
 use Rattle.leg_walk.specs.Marks.{AreUnseen}
 use Rattle.leg_walk.specs.Steps.Marks.{is_unseen, IsMark, IsNoted}
 
@@ -32,6 +32,10 @@ one_mark marks a m n one other = cc (one.is, other.is)
 pub no_mark : (marks : List Mark) (a : ℕ) (m : Mark) → slice_get marks a ≡ Some Unseen → IsMark marks a m → ⊥
 no_mark marks a m unseen is =
     let same : Unseen ≡ m = cc (unseen, is.is) in false≢true (sym (ap is_unseen same ∙ is.seen))
+
+-- the mark that is read
+pub mark_read : (marks : List Mark) (a : ℕ) (m : Mark) → a < length marks → get_or marks a Unseen ≡ m → is_unseen m ≡ false → IsMark marks a m
+mark_read marks a m within read seen = record { is = slice_get-get_or marks a Unseen within ∙ ap Some read; seen = seen }
 
 -- nor has any where all are unseen
 pub unseen_no_mark : (marks : List Mark) (a : ℕ) (m : Mark) → AreUnseen marks → IsMark marks a m → ⊥
@@ -70,6 +74,13 @@ one_fewer marks to v unseen seen =
     let sums = sum_by-set (λ (m : Mark). cond (is_unseen m) 1 0) marks to v Unseen within in
     rw (read, seen) at sums ∙ omega arith
 
+-- Where all are unseen, none need be noted.
+pub noted_none : (marks : List Mark) (touched : List ℕ) → AreUnseen marks → touched ≡ [] → IsNoted marks touched
+noted_none marks touched unseen empty = record {
+  noted = λ a m is. absurd (unseen_no_mark marks a m unseen is);
+  within = λ a there. absurd (let some : length touched ≡ 0 = ap length empty in omega (arith, some, there.1));
+}
+
 -- A node is noted, and gets a mark.
 pub noted_push_mark : (marks : List Mark) (touched : List ℕ) (to : ℕ) (v : Mark) → to < length marks → IsNoted marks touched → IsNoted (slice_set marks to v) (touched ++ to ∷ [])
 noted_push_mark marks touched to v within so_far = record {
@@ -102,6 +113,7 @@ unseen_at : (marks : List Mark) → IsNoted marks [] → (a : ℕ) (m : Mark) �
 unseen_at marks so_far a Unseen is = refl
 unseen_at marks so_far a Shut is = absurd (omega (arith, (so_far.noted a Shut (record { is = is; seen = refl })).1))
 unseen_at marks so_far a (Reached level from) is = absurd (omega (arith, (so_far.noted a (Reached level from) (record { is = is; seen = refl })).1))
+unseen_at marks so_far a (Far steps) is = absurd (omega (arith, (so_far.noted a (Far steps) (record { is = is; seen = refl })).1))
 
 -- With no node noted all are unseen.
 pub unseen_from_noted : (marks : List Mark) → IsNoted marks [] → AreUnseen marks

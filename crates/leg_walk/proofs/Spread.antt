@@ -3,7 +3,7 @@ use Rattle.std.proofs.Common.{◌≡◌, ℕ, ◌+◌, ◌^◌, ◌<◌, ◌≤�
 use Rattle.std.proofs.lemmas.List.Elements.{Contains-append_left, Contains-push, Contains-push_cases}
 use Rattle.std.proofs.Math.ListN.{length-set}
 use Rattle.leg_walk.specs.declared.mark.Mark.{Mark}
-use Rattle.leg_walk.specs.declared.mark.Mark.TheVariants.{Unseen, Shut, Reached}
+use Rattle.leg_walk.specs.declared.mark.Mark.TheVariants.{Unseen, Shut, Reached, Far}
 use Rattle.leg_walk.specs.Steps.Marks.{is_unseen, IsSeen, IsAt}
 use Rattle.leg_walk.specs.Steps.Spread.{IsNew, IsSpread, IsEntered}
 use Rattle.leg_walk.proofs.Marks.{mark_here, mark_kept, mark_cases, one_fewer}
@@ -84,6 +84,7 @@ module _ (Open : ℕ → Type 0) (bound : ℕ → ℕ) (limit level : ℕ) where
   new_as Tried Tried2 next next2 more longer a Unseen n = n
   new_as Tried Tried2 next next2 more longer a Shut n = n
   new_as Tried Tried2 next next2 more longer a (Reached k from) n = (n.0, n.1, n.2, more from a n.3, longer a n.4)
+  new_as Tried Tried2 next next2 more longer a (Far steps) n = n
 
   -- the same, where the steps that were tried are said otherwise
   pub spread_as : (Tried Tried2 : ℕ → ℕ → Type 0) (marks : List Mark) (next : List ℕ) (left : Bool) (marks2 : List Mark) (next2 : List ℕ) (left2 : Bool)

@@ -3,7 +3,7 @@ use Rattle.std.proofs.Common.{◌≡◌, ℕ, ◌+◌, ◌<◌, ◌≤◌, Bool,
 use Rattle.std.proofs.lemmas.Bool.{cases_lt, cases_eq, false≢true}
 use Rattle.std.proofs.lemmas.List.Sums.{count_by-le-length}
 use Rattle.leg_walk.specs.declared.mark.Mark.{Mark}
-use Rattle.leg_walk.specs.declared.mark.Mark.TheVariants.{Unseen, Shut, Reached}
+use Rattle.leg_walk.specs.declared.mark.Mark.TheVariants.{Unseen, Shut, Reached, Far}
 use Rattle.leg_walk.specs.Marks.{AreUnseen}
 use Rattle.leg_walk.specs.Steps.Marks.{is_unseen, IsMark, IsAt}
 use Rattle.leg_walk.specs.Steps.Spread.{IsNew, IsSpread}
@@ -21,6 +21,7 @@ module _ (Open : ℕ → Type 0) (Step : ℕ → ℕ → Type 0) (Start End : �
   new_at Tried level next marks a Unseen is_open is n = absurd n
   new_at Tried level next marks a Shut is_open is n = absurd (n is_open)
   new_at Tried level next marks a (Reached k from) is_open is n = (from, rw (← n.0) is)
+  new_at Tried level next marks a (Far steps) is_open is n = absurd n
 
   -- the starts alone are marked
   pub underway_begun : (marks marks2 : List Mark) (next2 : List ℕ) (left2 : Bool) → AreUnseen marks
@@ -30,6 +31,7 @@ module _ (Open : ℕ → Type 0) (Step : ℕ → ℕ → Type 0) (Start End : �
       elim (s.new a m is) [ inl old ↦ absurd (unseen_no_mark marks a m unseen old) | inr n ↦ n ] in record {
         linked = λ a level from is. let n = is_new a (Reached level from) is in (n.2, inl (n.0, n.3));
         shut = λ a is. is_new a Shut is;
+        none_far = λ a steps is. is_new a (Far steps) is;
         begun = λ a start is_open near.
             let seen = s.tried a a start (λ was. omega (arith, near was)) in
             new_at (λ _ b. Start b) 0 next2 marks2 a seen.0 is_open seen.1 (is_new a seen.0 seen.1);
@@ -54,6 +56,8 @@ module _ (Open : ℕ → Type 0) (Step : ℕ → ℕ → Type 0) (Start End : �
         | inl old ↦ (k, (from, is), omega (arith, (u.low b k (from, old)).0, same))
         | inr n ↦ (k, (from, is), omega (arith, n.0, same))
       ]
+  reached_next d level marks front left marks2 next2 left2 u s same b (Far steps) is_open is =
+      elim (s.new b (Far steps) is) [ inl old ↦ absurd (u.none_far b steps old) | inr n ↦ absurd n ]
 
   -- one level more
   pub underway_more : (d : ℕ) (marks : List Mark) (front : List ℕ) (left : Bool) (marks2 : List Mark) (next2 : List ℕ) (left2 : Bool)
@@ -78,6 +82,7 @@ module _ (Open : ℕ → Type 0) (Step : ℕ → ℕ → Type 0) (Start End : �
           | inr n ↦ (n.2, inr (record { below = d; level_is = n.0; from_at = at_kept from d (u.front_at from n.3.0); step = n.3.1 }))
         ];
         shut = λ a is is_open. elim (s.new a Shut is) [ inl old ↦ u.shut a old is_open | inr n ↦ n is_open ];
+        none_far = λ a steps is. elim (s.new a (Far steps) is) [ inl old ↦ u.none_far a steps old | inr n ↦ n ];
         begun = λ a start is_open near. at_kept a 0 (u.begun a start is_open (λ was. near (s.left_kept was)));
         low = λ a level is. elim (s.new a (Reached level is.0) is.1) [
           | inl old ↦ let was = u.low a level (is.0, old) in (omega (arith, was.0), was.1)

@@ -1,3 +1,4 @@
+pub mod Side
 pub mod Walk
 pub mod Marks
 pub mod Steps

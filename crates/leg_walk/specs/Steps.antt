@@ -3,3 +3,4 @@ pub mod Marks
 pub mod Spread
 pub mod Search
 pub mod Back
+pub mod Dive

@@ -36,7 +36,7 @@ fn level_of(marks: &[Mark], node: u32) -> u32
 {
     match marks[node as usize] {
         Mark::Reached { level, .. } => level,
-        Mark::Shut | Mark::Unseen => unreachable!(),
+        Mark::Unseen | Mark::Shut | Mark::Far { .. } => unreachable!(),
     }
 }
 
@@ -47,6 +47,6 @@ fn entered_from(marks: &[Mark], node: u32) -> u32
 {
     match marks[node as usize] {
         Mark::Reached { from, .. } => from,
-        Mark::Shut | Mark::Unseen => unreachable!(),
+        Mark::Unseen | Mark::Shut | Mark::Far { .. } => unreachable!(),
     }
 }

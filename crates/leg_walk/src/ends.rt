@@ -26,7 +26,7 @@ fn is_reached(marks: &[Mark], node: u32, level: u32) -> bool
 {
     match marks[node as usize] {
         Mark::Reached { level: found, .. } => found == level,
-        Mark::Shut | Mark::Unseen => false,
+        Mark::Unseen | Mark::Shut | Mark::Far { .. } => false,
     }
 }
 

@@ -5,10 +5,11 @@ ghost use Rattle.std.specs.Prelude.{◌≡◌, ◌≤◌, ◌<◌, ◌+◌, ◌�
 use crate::side::Side;
 
 /// A graph of numbered nodes, each with one neighbour at most on each of its sides. Nodes and steps are open or not. The
-/// graph tells how many steps are left at least from a node to the ends of a search, which the caller had in mind when the
-/// graph was made.
+/// graph tells how many steps are left at least from a node to the ends of a search, and from its starts to a node; the caller
+/// had both in mind when the graph was made.
 pub trait Graph {
     ghost use Rattle.leg_walk.specs.declared.side.Side.{Side};
+    ghost use Rattle.leg_walk.specs.Side.{opposite};
 
     ghost size_of: { Self → ℕ };
 
@@ -19,6 +20,8 @@ pub trait Graph {
     ghost OpenStep: { Self → Side → ℕ → Type 0 };
 
     ghost bound_of: { Self → ℕ → ℕ };
+
+    ghost back_bound_of: { Self → ℕ → ℕ };
 
     /// The neighbour on this side of the node.
     fn beside(&self, node: u32, side: Side) -> Option<u32>
@@ -53,5 +56,15 @@ pub trait Graph {
         requires { node < size_of self.now }
         ensures { result ≡ bound_of self.now node };
 
+    /// How many steps are left at least from a start to the node. A graph that says more than none at some start is searched
+    /// without it.
+    fn back_bound(&self, node: u32) -> u32
+        requires { node < size_of self.now }
+        ensures { result ≡ back_bound_of self.now node };
+
     ghost one_nearer: { (g : Self) (side : Side) (a b : ℕ) → IsBeside g side a b → bound_of g a ≤ bound_of g b + 1 };
+
+    ghost one_further: { (g : Self) (side : Side) (a b : ℕ) → IsBeside g side a b → back_bound_of g b ≤ back_bound_of g a + 1 };
+
+    ghost both_ways: { (g : Self) (side : Side) (a b : ℕ) → IsBeside g side a b → IsBeside g (opposite side) b a };
 }

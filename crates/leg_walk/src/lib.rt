@@ -2,6 +2,8 @@
 #![tactic(auto)]
 
 mod back;
+mod dive;
+mod dives;
 mod ends;
 mod graph;
 mod level;
@@ -15,4 +17,4 @@ pub use graph::Graph;
 pub use mark::Mark;
 pub use reset::unseen_marks;
 pub use rounds::shortest;
-pub use side::Side;
+pub use side::{Side, opposite};

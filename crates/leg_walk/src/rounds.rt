@@ -1,13 +1,14 @@
 //! A shortest walk, found in rounds of a growing limit.
 
-ghost use Rattle.std.specs.Prelude.{◌≡◌, ◌≤◌, ◌<◌, ◌^◌, [], true, false, length, All, Contains, IfOk, OnOk};
+ghost use Rattle.std.specs.Prelude.{◌≡◌, ◌≤◌, ◌<◌, ◌^◌, [], true, false, length, All, Contains, IfOk, IfSome, OnOk};
 ghost use Rattle.std.specs.Option.{option_map};
-ghost use Rattle.leg_walk.specs.Walk.{IsStep, IsAnswer};
+ghost use Rattle.leg_walk.specs.Walk.{IsStep, IsShortest, IsAnswer};
 ghost use Rattle.leg_walk.specs.Marks.{AreUnseen};
 ghost use Rattle.leg_walk.specs.Steps.Marks.{IsNoted};
 ghost use Rattle.leg_walk.specs.Steps.Search.{IsRound};
 
 use crate::back::way_to;
+use crate::dives::walk_by_dives;
 use crate::graph::Graph;
 use crate::mark::Mark;
 use crate::reset::reset;
@@ -44,6 +45,10 @@ pub fn shortest<G: Graph, A: Allocator + Copy>(
     ensures untouched { touched.new.items ≡ [] }
 {
     let mut limit = least_bound(graph, starts);
+    let near = near_walk(alloc, graph, starts, ends, &mut limit, marks, touched)?;
+    if let Some(walk) = near {
+        return Ok(Some(walk));
+    }
     let mut growth = FIRST_GROWTH;
     'rounds: loop {
         let mut left_out = false;
@@ -66,6 +71,32 @@ pub fn shortest<G: Graph, A: Allocator + Copy>(
         limit += growth;
         growth *= 2;
     }
+}
+
+/// Looks for a shortest walk by dives, and leaves all nodes unseen. Where none is found, `limit` may grow, and no walk has fewer
+/// steps.
+fn near_walk<G: Graph, A: Allocator + Copy>(
+    alloc: A,
+    graph: &G,
+    starts: &[u32],
+    ends: &[u32],
+    limit: &mut u64,
+    marks: &mut [Mark],
+    touched: &mut Vec<u32, A>,
+) -> Result<Option<Vec<u32, A>>, AllocError>
+    requires count { length marks.old ≡ G.size_of graph.now }
+    requires unseen { AreUnseen marks.old }
+    requires untouched { touched.old.items ≡ [] }
+    requires starts { All (λ a. a < G.size_of graph.now) starts.now }
+    requires ends { All (λ a. a < G.size_of graph.now) ends.now }
+    ensures found { IfOk result (λ walk. IfSome walk (λ nodes. IsShortest (G.OpenNode graph.now) (IsStep (G.IsBeside graph.now) (G.OpenStep graph.now))
+        (Contains starts.now) (Contains ends.now) nodes.items)) }
+    ensures unseen { AreUnseen marks.new }
+    ensures untouched { touched.new.items ≡ [] }
+{
+    let walk = walk_by_dives(alloc, graph, starts, ends, limit, marks, touched);
+    reset(marks, touched);
+    walk
 }
 
 /// The least number of steps that are left from a start to an end, as far as the graph tells.

@@ -1,14 +1,14 @@
 //! A maze: a grid of layers with walls, which counts what it is asked.
 
-ghost use Rattle.std.specs.Prelude.{◌≡◌, ◌<◌, true, length};
-ghost use Rattle.walk_tests.specs.Maze.{next_of, opens_to, place_at, IsNext};
+ghost use Rattle.std.specs.Prelude.{◌≡◌, ◌<◌, ◌↔◌, IsTrue, true, length};
+ghost use Rattle.walk_tests.specs.Maze.{next_of, opens_to, place_at, IsNext, IsLinked};
 
-use leg_walk::{Graph, Side};
+use leg_walk::{Graph, Side, opposite};
 use std::alloc::{AllocError, Allocator};
 use std::cell::Cell;
 
-/// A place of a maze: its neighbours, whether it is open, whether the steps to the west and to the east are, and how many
-/// steps are left at least.
+/// A place of a maze: its neighbours, whether it is open, whether the steps to the west and to the east are, how many steps it
+/// is from the start at least, and how many are left at least.
 #[derive(Clone, Copy)]
 pub struct Place {
     pub west: Option<u32>,
@@ -20,6 +20,7 @@ pub struct Place {
     pub is_open: bool,
     pub opens_west: bool,
     pub opens_east: bool,
+    pub gone: u32,
     pub left: u32,
 }
 
@@ -78,15 +79,21 @@ pub struct Maze<A: Allocator> {
 }
 
 impl<A: Allocator + Copy> Maze<A> {
-    /// A maze without walls. So many steps are left at least from each place to the goal: along x, y and the layers.
-    pub fn new(alloc: A, size: Size, goal: (u32, u32, u32)) -> Result<Maze<A>, AllocError> {
+    /// A maze without walls. So many steps are left at least from the start to each place, and from there to the goal: along x, y
+    /// and the layers.
+    pub fn new(
+        alloc: A,
+        size: Size,
+        start: (u32, u32, u32),
+        goal: (u32, u32, u32),
+    ) -> Result<Maze<A>, AllocError> {
         let mut places = Vec::new(alloc);
         let mut asked = Vec::new(alloc);
         let mut number = 0u32;
         for layer in 0..size.layers {
             for y in 0..size.height {
                 for x in 0..size.width {
-                    places.push(open_place(size, number, (x, y, layer), goal))?;
+                    places.push(open_place(size, number, (x, y, layer), start, goal))?;
                     for _ in 0..QUESTIONS {
                         asked.push(Cell::new(0))?;
                     }
@@ -112,10 +119,31 @@ impl<A: Allocator + Copy> Maze<A> {
         }
     }
 
-    /// Forgets how many steps are left.
+    /// Forgets how far the start and the goal are.
     pub fn forget_goal(&mut self) {
         for place in &mut self.places {
+            place.gone = 0;
             place.left = 0;
+        }
+    }
+
+    /// Takes the start to be a step away from each place, the start too. So no search dives.
+    pub fn hide_start(&mut self) {
+        for place in &mut self.places {
+            place.gone = 1;
+        }
+    }
+
+    /// Closes places and steps by a rule that looks random.
+    pub fn scatter_walls(&mut self, seed: u32) {
+        let mut number = seed;
+        for node in 0..self.places.len() {
+            number = number.wrapping_mul(1_664_525).wrapping_add(1_013_904_223);
+            match number >> 28 {
+                0..=3 => self.close(node),
+                4..=5 => self.close_east(node),
+                _ => {}
+            }
         }
     }
 
@@ -156,13 +184,14 @@ const QUESTIONS: usize = 7;
 fn open_place(
     size: Size,
     number: u32,
-    (x, y, layer): (u32, u32, u32),
+    place: (u32, u32, u32),
+    start: (u32, u32, u32),
     goal: (u32, u32, u32),
 ) -> Place {
+    let (x, y, layer) = place;
     let area = size.width.wrapping_mul(size.height);
     let along_x = !size.one_way || layer % 2 == 0;
     let along_y = !size.one_way || layer % 2 == 1;
-    let far = x.abs_diff(goal.0).wrapping_add(y.abs_diff(goal.1));
     Place {
         west: (along_x && x > 0).then_some(number.wrapping_sub(1)),
         east: (along_x && x.wrapping_add(1) < size.width).then_some(number.wrapping_add(1)),
@@ -175,8 +204,29 @@ fn open_place(
         is_open: true,
         opens_west: true,
         opens_east: true,
-        left: far.wrapping_add(layer.abs_diff(goal.2)),
+        gone: steps_between(start, place),
+        left: steps_between(place, goal),
     }
+}
+
+/// How many steps there are at least from one place to another.
+fn steps_between(from: (u32, u32, u32), to: (u32, u32, u32)) -> u32 {
+    let along = from.0.abs_diff(to.0).wrapping_add(from.1.abs_diff(to.1));
+    along.wrapping_add(from.2.abs_diff(to.2))
+}
+
+/// Whether the second place is the neighbour on this side of the first, at most one step nearer to the goal and one further from
+/// the start.
+fn is_linked(places: &[Place], node: u32, side: Side, to: u32) -> bool
+    requires node { node < length places.now }
+    requires to { to < length places.now }
+    ensures { IsTrue result ↔ IsLinked places.now side node to }
+{
+    let place = &places[node as usize];
+    let next = &places[to as usize];
+    place.next(side) == Some(to)
+        && u64::from(place.left) <= u64::from(next.left) + 1
+        && u64::from(next.gone) <= u64::from(place.gone) + 1
 }
 
 /// The number of a side.
@@ -192,7 +242,7 @@ fn number_of(side: Side) -> usize {
 }
 
 impl<A: Allocator + Copy> Graph for Maze<A> {
-    ghost use Rattle.walk_tests.specs.Maze.{opens_to, place_at, IsNext};
+    ghost use Rattle.walk_tests.specs.Maze.{opens_to, place_at, IsNext, turned};
 
     ghost size_of = { λ m. length m.places.items };
 
@@ -204,11 +254,13 @@ impl<A: Allocator + Copy> Graph for Maze<A> {
 
     ghost bound_of = { λ m a. (place_at m.places.items a).left };
 
+    ghost back_bound_of = { λ m a. (place_at m.places.items a).gone };
+
     fn beside(&self, node: u32, side: Side) -> Option<u32> {
-        let place = &self.places[node as usize];
-        let to = place.next(side)?;
+        let to = self.places[node as usize].next(side)?;
         if (to as usize) < self.places.len()
-            && u64::from(place.left) <= u64::from(self.places[to as usize].left) + 1
+            && is_linked(&self.places, node, side, to)
+            && is_linked(&self.places, to, opposite(side), node)
         {
             Some(to)
         } else {
@@ -230,5 +282,13 @@ impl<A: Allocator + Copy> Graph for Maze<A> {
         self.places[node as usize].left
     }
 
-    ghost one_nearer = { λ m side a b beside. beside.2 };
+    fn back_bound(&self, node: u32) -> u32 {
+        self.places[node as usize].gone
+    }
+
+    ghost one_nearer = { λ m side a b beside. beside.there.2 };
+
+    ghost one_further = { λ m side a b beside. beside.there.3 };
+
+    ghost both_ways = { λ m side a b beside. turned m.places.items side a b beside };
 }

@@ -58,7 +58,7 @@ fn four_rows(alloc: Global) -> Result<Maze<Global>, AllocError> {
         layers: 1,
         one_way: false,
     };
-    Maze::new(alloc, size, (4, 3, 0))
+    Maze::new(alloc, size, (0, 0, 0), (4, 3, 0))
 }
 
 #[test]
@@ -83,10 +83,10 @@ fn comes_from_the_east_before_the_south_and_from_below_last(rt: HostRuntime) -> 
         layers: 2,
         one_way: false,
     };
-    let maze = Maze::new(rt.alloc(), size, (0, 2, 1))?;
+    let maze = Maze::new(rt.alloc(), size, (2, 0, 0), (0, 2, 1))?;
     let found = walk(&rt, rt.alloc(), &maze, &[2], &[15])?.ok_or("none")?;
     assert_eq!(rt; found.as_slice(), [2, 11, 14, 17, 16, 15].as_slice());
-    let maze = Maze::new(rt.alloc(), size, (0, 0, 0))?;
+    let maze = Maze::new(rt.alloc(), size, (0, 2, 1), (0, 0, 0))?;
     let found = walk(&rt, rt.alloc(), &maze, &[15], &[0])?.ok_or("none")?;
     assert_eq!(rt; found.as_slice(), [15, 6, 3, 0].as_slice());
     Ok(())
@@ -142,7 +142,7 @@ fn goes_a_long_way_round_a_wall(rt: HostRuntime) -> Result<(), Fail> {
         layers: 1,
         one_way: false,
     };
-    let mut maze = Maze::new(rt.alloc(), size, (19, 0, 0))?;
+    let mut maze = Maze::new(rt.alloc(), size, (0, 0, 0), (19, 0, 0))?;
     for row in 0..19 {
         maze.close(20 * row + 10);
     }
@@ -171,11 +171,31 @@ fn keeps_near_a_shortest_walk_in_the_open(rt: HostRuntime) -> Result<(), Fail> {
         layers: 6,
         one_way: true,
     };
-    let maze = Maze::new(rt.alloc(), size, (150, 150, 0))?;
+    let maze = Maze::new(rt.alloc(), size, (50, 50, 0), (150, 150, 0))?;
     let found = walk(&rt, rt.alloc(), &maze, &[10_050], &[30_150])?.ok_or("none")?;
     assert_eq!(rt; found.len(), 203);
     let asked = maze.questions();
-    assert!(rt; asked.nodes < 32_000, "{} nodes", asked.nodes);
+    assert!(rt; asked.nodes < 250, "{} nodes", asked.nodes);
+    assert!(rt; asked.steps < 400, "{} steps", asked.steps);
     assert!(rt; asked.most == 2);
+    Ok(())
+}
+
+#[test]
+fn takes_the_same_walk_with_dives_and_without(rt: HostRuntime) -> Result<(), Fail> {
+    let size = Size {
+        width: 12,
+        height: 12,
+        layers: 2,
+        one_way: false,
+    };
+    for seed in 0..60 {
+        let mut maze = Maze::new(rt.alloc(), size, (2, 3, 0), (10, 8, 1))?;
+        maze.scatter_walls(seed);
+        let dived = walk(&rt, rt.alloc(), &maze, &[38], &[250])?;
+        maze.hide_start();
+        let spread = walk(&rt, rt.alloc(), &maze, &[38], &[250])?;
+        assert_eq!(rt; dived, spread);
+    }
     Ok(())
 }

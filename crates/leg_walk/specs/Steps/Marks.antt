@@ -1,12 +1,13 @@
 -- The marks of nodes. A node goes by its number.
 use Rattle.std.specs.Prelude.{◌≡◌, ℕ, ◌<◌, Bool, true, false, List, length, Some, slice_get, Contains}
 use Rattle.leg_walk.specs.declared.mark.Mark.{Mark}
-use Rattle.leg_walk.specs.declared.mark.Mark.TheVariants.{Unseen, Shut, Reached}
+use Rattle.leg_walk.specs.declared.mark.Mark.TheVariants.{Unseen, Shut, Reached, Far}
 
 abbrev pub is_unseen : Mark → Bool
 is_unseen Unseen = true
 is_unseen Shut = false
 is_unseen (Reached level from) = false
+is_unseen (Far steps) = false
 
 -- The node is marked so, and not unseen.
 pub record IsMark (marks : List Mark) (a : ℕ) (m : Mark) : Type 0 where

@@ -1,7 +1,7 @@
 -- A search on its way, with all nodes marked up to some level.
 use Rattle.std.specs.Prelude.{◌≡◌, ◌⊎◌, ℕ, ◌+◌, ◌<◌, ◌≤◌, Bool, true, false, List, length, count_by, Contains, Option, Some, None}
 use Rattle.leg_walk.specs.declared.mark.Mark.{Mark}
-use Rattle.leg_walk.specs.declared.mark.Mark.TheVariants.{Shut, Reached}
+use Rattle.leg_walk.specs.declared.mark.Mark.TheVariants.{Shut, Reached, Far}
 use Rattle.leg_walk.specs.Walk.{Walk, IsShortest, NoWalk}
 use Rattle.leg_walk.specs.Steps.Marks.{is_unseen, IsMark, IsAt}
 
@@ -21,6 +21,7 @@ AreLinked Open Step Start marks =
 pub record IsUnderway (Open : ℕ → Type 0) (Step : ℕ → ℕ → Type 0) (Start End : ℕ → Type 0) (bound : ℕ → ℕ) (limit d : ℕ) (marks : List Mark) (front : List ℕ) (left : Bool) : Type 0 where
   pub linked : AreLinked Open Step Start marks
   pub shut : (a : ℕ) → IsMark marks a Shut → Open a → ⊥
+  pub none_far : (a steps : ℕ) → IsMark marks a (Far steps) → ⊥
   pub begun : (a : ℕ) → Start a → Open a → (left ≡ true → bound a ≤ limit) → IsAt marks a 0
   pub low : (a level : ℕ) → IsAt marks a level → (level ≤ d) × (level ≤ limit)
   pub in_front : (a : ℕ) → IsAt marks a d → Contains front a

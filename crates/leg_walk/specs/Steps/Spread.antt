@@ -1,7 +1,7 @@
 -- How marks spread from one level to the next.
 use Rattle.std.specs.Prelude.{◌≡◌, ◌⊎◌, ℕ, ◌+◌, ◌^◌, ◌<◌, ◌≤◌, Bool, true, List, [], ◌∷◌, ◌++◌, length, slice_set, count_by, Contains}
 use Rattle.leg_walk.specs.declared.mark.Mark.{Mark}
-use Rattle.leg_walk.specs.declared.mark.Mark.TheVariants.{Unseen, Shut, Reached}
+use Rattle.leg_walk.specs.declared.mark.Mark.TheVariants.{Unseen, Shut, Reached, Far}
 use Rattle.leg_walk.specs.Steps.Marks.{is_unseen, IsMark, IsSeen, IsAt}
 
 -- What a new mark of a node says: it is not open, or it is open, and some step that was tried leads to it.
@@ -9,6 +9,7 @@ abbrev pub IsNew : (ℕ → Type 0) → (ℕ → ℕ → Type 0) → ℕ → ℕ
 IsNew Open Tried limit level next a Unseen = ⊥
 IsNew Open Tried limit level next a Shut = Open a → ⊥
 IsNew Open Tried limit level next a (Reached k from) = (k ≡ level) × (level ≤ limit) × Open a × Tried from a × Contains next a
+IsNew Open Tried limit level next a (Far steps) = ⊥
 
 -- Some steps to nodes of a level were tried: what is new in the marks and in the list of the level's nodes. `left` says
 -- whether a node was left out, being too far from the ends for the limit.

@@ -1,0 +1,75 @@
+use Rattle.std.proofs.Common.{◌∷◌, [], get_or, Contains, arith}
+use Rattle.std.proofs.lemmas.List.{take_all}
+use Rattle.leg_walk.specs.declared.mark.Mark.TheVariants.{Far}
+use Rattle.leg_walk.specs.declared.side.Side.{Side}
+use Rattle.leg_walk.specs.declared.side.Side.TheVariants.{West, East, South, North, Below, Above}
+use Rattle.leg_walk.specs.Side.{opposite}
+use Rattle.leg_walk.specs.Walk.Walk.{here}
+use Rattle.leg_walk.specs.Steps.Dive.{IsFarFrom}
+use Rattle.leg_walk.proofs.Marks.{noted_push_mark}
+use Rattle.leg_walk.proofs.WalksBack.{far_more, far_less, far_beyond, far_from_sides, back_push, known_far}
+use Rattle.leg_walk.proofs.dive.+dive.Goals as goal
+
+pub returns-then-is_start-clause-found : goal.returns-then-is_start-clause-found
+returns-then-is_start-clause-found g t c =
+    rw c.in_ok-from_slice.ensures.items (record {
+      from = c.args.node;
+      start = c.is_start.ensures.start c.if-is_start.true;
+      walk = here c.requires.is_open;
+      short = omega arith;
+    })
+
+pub loop-side-preserved-in_default : goal.loop-side-preserved-in_default
+loop-side-preserved-in_default g t c =
+    let graph = g.G.Graph in
+    let at_graph = c.args.graph.now in
+    let starts = c.args.starts.now in
+    let so_far = c.loop-side.invariant in record {
+      noted = c.in_ok-from.ensures.noted;
+      known = c.in_ok-from.ensures.known starts so_far.known;
+      far = far_more (λ steps side. IsFarFrom (graph.IsBeside at_graph) (graph.OpenStep at_graph) (graph.OpenNode at_graph) (Contains starts) steps c.args.node side)
+          (λ steps fewer side. far_less (graph.IsBeside at_graph) (graph.OpenStep at_graph) (graph.OpenNode at_graph) (Contains starts) steps fewer c.args.node side)
+          _ c.loop-side.side-index _ _ (omega arith) c.in_ok-from.ensures.fewer so_far.far (rw c.in_default.is at c.in_ok-from.ensures.past starts so_far.known);
+    }
+
+pub returns-in-Some-walk-clause-found : goal.returns-in-Some-walk-clause-found
+returns-in-Some-walk-clause-found g t c =
+    let side : Side = get_or (West ∷ East ∷ South ∷ North ∷ Below ∷ Above ∷ []) c.loop-side.side-index West in
+    let back = rw c.in-Some-walk.is at c.in_ok-walk.ensures.found in
+    let entered = rw c.in-Some.is at c.in_ok-from.ensures.entered in
+    rw c.in_ok-push.ensures.items
+    (back_push c.args.left c.in-Some.from c.args.node c.in-Some-walk.nodes.items entered.1 (opposite side, entered.2) c.requires.is_open back)
+
+pub loop-side-preserved : goal.loop-side-preserved
+loop-side-preserved g t c =
+    let graph = g.G.Graph in
+    let at_graph = c.args.graph.now in
+    let starts = c.args.starts.now in
+    let so_far = c.loop-side.invariant in
+    let side : Side = get_or (West ∷ East ∷ South ∷ North ∷ Below ∷ Above ∷ []) c.loop-side.side-index West in
+    let only = rw c.in-Some.is at c.in_ok-from.ensures.only in
+    let known = c.in_ok-walk.ensures.known in record {
+      noted = c.in_ok-walk.ensures.noted;
+      known = known;
+      far = far_more (λ steps side. IsFarFrom (graph.IsBeside at_graph) (graph.OpenStep at_graph) (graph.OpenNode at_graph) (Contains starts) steps c.args.node side)
+          (λ steps fewer side. far_less (graph.IsBeside at_graph) (graph.OpenStep at_graph) (graph.OpenNode at_graph) (Contains starts) steps fewer c.args.node side)
+          _ c.loop-side.side-index _ _ (omega arith) (omega (arith, c.min-steps.ensures, c.in_ok-from.ensures.fewer)) so_far.far
+          (far_beyond (graph.IsBeside at_graph) (graph.OpenStep at_graph) (graph.OpenNode at_graph) (Contains starts) _ c.steps_left.result c.args.node c.in-Some.from side
+          (omega (arith, c.min-steps.ensures, c.one_more.ensures)) only (c.steps_left.ensures starts known));
+    }
+
+pub returns-clause-known : goal.returns-clause-known
+returns-clause-known g t c =
+    let graph = g.G.Graph in
+    let at_graph = c.args.graph.now in
+    let starts = c.args.starts.now in
+    let so_far = c.loop-side.invariant in
+    let sides = West ∷ East ∷ South ∷ North ∷ Below ∷ Above ∷ [] in
+    known_far (graph.back_bound_of at_graph) c.loop-side.marks c.args.node c.loop-side.steps (omega (arith, c.requires.count, c.requires.within)) c.requires.is_open
+    (far_from_sides (graph.IsBeside at_graph) (graph.OpenStep at_graph) (graph.OpenNode at_graph) (Contains starts) c.loop-side.steps c.args.node
+    (rw (take_all c.loop-side.side-index sides (omega arith)) at so_far.far) (c.is_start.ensures.other c.if-is_start.false)) so_far.known
+
+pub returns-clause-noted : goal.returns-clause-noted
+returns-clause-noted g t c =
+    rw c.in_ok-push-2.ensures.items
+    (noted_push_mark c.loop-side.marks c.loop-side.touched.items c.args.node (Far c.loop-side.steps) (omega (arith, c.requires.count, c.requires.within)) c.loop-side.invariant.noted)

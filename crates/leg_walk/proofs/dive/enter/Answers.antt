@@ -1,0 +1,25 @@
+use Rattle.std.proofs.Common.{ℕ, ◌∙◌, refl, subst, sym}
+use Rattle.std.proofs.lemmas.Bool.{false≢true}
+use Rattle.leg_walk.specs.declared.side.Side.{Side}
+use Rattle.leg_walk.proofs.WalksBack.{end_open, only_beyond}
+use Rattle.leg_walk.proofs.dive.enter.Goals as goal
+
+pub is_open_step-requires-clause-beside : goal.is_open_step-requires-clause-beside
+is_open_step-requires-clause-beside g c =
+    let graph = g.G.Graph in
+    let here = c.args.graph.now in
+    let node : ℕ = c.args.node in
+    let from : ℕ = c.in-Some.from in
+    (node, subst (λ (s : Side). graph.IsBeside here s from node) (sym c.opposite.ensures) (g.met.G.Graph.both_ways here c.args.side node from ((c.in-Some.ensures.is from).0 refl)))
+
+pub returns-then-not-branch-clause-past : goal.returns-then-not-branch-clause-past
+returns-then-not-branch-clause-past g c starts known last first nodes step start walk =
+    let here = c.args.graph.now in
+    let same = only_beyond (g.G.Graph.IsBeside here) (g.met.G.Graph.both_ways here) c.args.side c.args.node c.in-Some.from c.in-Some.ensures.is last step.0 in
+    let there : g.G.Graph.OpenNode here last = end_open walk in
+    absurd (false≢true (sym c.if-not-branch.true ∙ (c.in_ok-is_open.ensures.is starts known).1 (rw same at there)))
+
+pub returns-clause-only : goal.returns-clause-only
+returns-clause-only g c last beside =
+    let here = c.args.graph.now in
+    only_beyond (g.G.Graph.IsBeside here) (g.met.G.Graph.both_ways here) c.args.side c.args.node c.in-Some.from c.in-Some.ensures.is last beside

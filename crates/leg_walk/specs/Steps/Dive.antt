@@ -1,0 +1,32 @@
+-- What a dive knows: a search depth first, from a node back to a start.
+use Rattle.std.specs.Prelude.{◌≡◌, ℕ, ◌+◌, ◌≤◌, List, length}
+use Rattle.leg_walk.specs.declared.mark.Mark.{Mark}
+use Rattle.leg_walk.specs.declared.mark.Mark.TheVariants.{Shut, Far}
+use Rattle.leg_walk.specs.declared.side.Side.{Side}
+use Rattle.leg_walk.specs.Side.{opposite}
+use Rattle.leg_walk.specs.Walk.{Walk, IsStep, IsStepTo}
+use Rattle.leg_walk.specs.Steps.Marks.{IsMark}
+
+-- each walk from a start to the node has at least so many steps
+abbrev pub IsFar : (ℕ → Type 0) → (ℕ → ℕ → Type 0) → (ℕ → Type 0) → ℕ → ℕ → Type 0
+IsFar Open Step Start steps node = (from : ℕ) (nodes : List ℕ) → Start from → Walk Open Step from nodes node → steps + 1 ≤ length nodes
+
+-- and so has each that comes to the node from this side
+abbrev pub IsFarFrom : (Side → ℕ → ℕ → Type 0) → (Side → ℕ → Type 0) → (ℕ → Type 0) → (ℕ → Type 0) → ℕ → ℕ → Side → Type 0
+IsFarFrom IsBeside OpenStep Open Start steps node side =
+    (last from : ℕ) (nodes : List ℕ) → IsStepTo IsBeside OpenStep (opposite side) last node → Start from
+    → Walk Open (IsStep IsBeside OpenStep) from nodes last → steps ≤ length nodes
+
+-- What the marks say is true, whatever the limit of the dive that made them, and no steps are left at a start.
+pub record AreKnown (Open : ℕ → Type 0) (Step : ℕ → ℕ → Type 0) (Start : ℕ → Type 0) (bound : ℕ → ℕ) (marks : List Mark) : Type 0 where
+  pub at_start : (a : ℕ) → Start a → bound a ≡ 0
+  pub shut : (a : ℕ) → IsMark marks a Shut → Open a → ⊥
+  pub is_open : (a steps : ℕ) → IsMark marks a (Far steps) → Open a
+  pub far : (a steps : ℕ) → IsMark marks a (Far steps) → IsFar Open Step Start steps a
+
+-- the nodes of a walk from a start to the node, of so many steps at most
+pub record IsWalkBack (Open : ℕ → Type 0) (Step : ℕ → ℕ → Type 0) (Start : ℕ → Type 0) (left node : ℕ) (nodes : List ℕ) : Type 0 where
+  pub from : ℕ
+  pub start : Start from
+  pub walk : Walk Open Step from nodes node
+  pub short : length nodes ≤ left + 1
