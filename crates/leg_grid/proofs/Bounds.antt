@@ -3,6 +3,7 @@ use Rattle.std.proofs.Common.{◌≡◌, ℕ, ◌+◌, ◌*◌, ◌/◌, ◌%◌
 use Rattle.std.proofs.Math.Nat.{mul-le-mul_left, mul-le-mul_right}
 use Rattle.std.proofs.lemmas.Nat.{div-mul-add}
 use Rattle.leg_walk.specs.declared.side.Side.{Side}
+use Rattle.leg_walk.specs.Side.{opposite}
 use Rattle.leg_walk.specs.declared.side.Side.TheVariants.{West, East, South, North, Below, Above}
 use Rattle.leg_grid.specs.declared.slot.Slot.{Slot}
 use Rattle.leg_grid.specs.declared.slot_box.SlotBox.{SlotBox}
@@ -118,5 +119,22 @@ in_box grid ends n s slot inside =
     let sum : slot_bound ends s ≡ 0 = omega (arith, l, r, c) in
     bound_is grid ends n s slot ∙ sum
 
-pub beside_near : (grid : GridSaid) (ends : SlotBox) (side : Side) (n to : ℕ) → IsGrid grid → IsBesideAt grid side n to → IsBesideNear grid ends side n to
-beside_near grid ends side n to is_grid step = record { beside = step; nearer = one_nearer grid ends side n to is_grid step }
+-- what lies on a side of a node has it on the other
+turned_beside : (grid : GridSaid) (side : Side) (n to : ℕ) → IsBesideAt grid side n to → IsBesideAt grid (opposite side) to n
+turned_beside grid West n to step = record { a = step.b; b = step.a; a_is = step.b_is; b_is = step.a_is; step = step.step }
+turned_beside grid East n to step = record { a = step.b; b = step.a; a_is = step.b_is; b_is = step.a_is; step = step.step }
+turned_beside grid South n to step = record { a = step.b; b = step.a; a_is = step.b_is; b_is = step.a_is; step = step.step }
+turned_beside grid North n to step = record { a = step.b; b = step.a; a_is = step.b_is; b_is = step.a_is; step = step.step }
+turned_beside grid Below n to step = record { a = step.b; b = step.a; a_is = step.b_is; b_is = step.a_is; step = step.step }
+turned_beside grid Above n to step = record { a = step.b; b = step.a; a_is = step.b_is; b_is = step.a_is; step = step.step }
+
+pub beside_near : (grid : GridSaid) (starts ends : SlotBox) (side : Side) (n to : ℕ) → IsGrid grid → IsBesideAt grid side n to → IsBesideNear grid starts ends side n to
+beside_near grid starts ends side n to is_grid step =
+    let back = turned_beside grid side n to step in record {
+      beside = step;
+      across = back;
+      nearer = one_nearer grid ends side n to is_grid step;
+      nearer_across = one_nearer grid ends (opposite side) to n is_grid back;
+      further = one_nearer grid starts (opposite side) to n is_grid back;
+      further_across = one_nearer grid starts side n to is_grid step;
+    }

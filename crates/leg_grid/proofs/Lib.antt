@@ -31,3 +31,7 @@ pub mod WalkWires
 pub mod ViaUp
 pub mod FirstSteps
 pub mod OpenWalks
+pub mod SlotRanges
+pub mod NumbersTold
+pub mod LeastBoxes
+pub mod BeyondSteps

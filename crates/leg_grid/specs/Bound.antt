@@ -1,9 +1,10 @@
 -- How many steps are left at least from a slot of a grid to the slots of a box (own rule).
-use Rattle.std.specs.Prelude.{ℕ, ◌+◌, ◌-◌, ◌/◌, ◌%◌, ◌≤◌, length}
+use Rattle.std.specs.Prelude.{ℕ, ◌+◌, ◌-◌, ◌/◌, ◌%◌, ◌≤◌, List, length, All}
 use Rattle.leg_grid.specs.declared.slot.Slot.{Slot}
 use Rattle.leg_grid.specs.declared.slot_box.SlotBox.{SlotBox}
 use Rattle.leg_grid.specs.Grid.{GridSaid}
 use Rattle.leg_walk.specs.declared.side.Side.{Side}
+use Rattle.leg_walk.specs.Side.{opposite, across_twice}
 use Rattle.leg_grid.specs.Beside.{IsWithin}
 use Rattle.leg_grid.specs.Numbered.{IsBesideAt}
 
@@ -37,7 +38,28 @@ pub record IsInBox (ends : SlotBox) (s : Slot) : Type 0 where
   pub low_column : ends.low.column ≤ s.column
   pub high_column : s.column ≤ ends.high.column
 
--- the node of the number b lies on this side of the node of the number a, and is one nearer at most, as all such nodes are
-pub record IsBesideNear (grid : GridSaid) (ends : SlotBox) (side : Side) (a b : ℕ) : Type 0 where
+-- the box has all slots of these numbers, and each box that has them has both its corners
+pub record IsLeastBox (grid : GridSaid) (numbers : List ℕ) (ends : SlotBox) : Type 0 where
+  pub inside : All (λ n. IsInBox ends (slot_of grid n)) numbers
+  pub least : (other : SlotBox) → All (λ n. IsInBox other (slot_of grid n)) numbers → IsInBox other ends.low × IsInBox other ends.high
+
+-- the node of the number b lies on this side of the node of the number a, and that of a across from it; each is one nearer at
+-- most to the starts and to the ends than the other, as all such nodes are
+pub record IsBesideNear (grid : GridSaid) (starts ends : SlotBox) (side : Side) (a b : ℕ) : Type 0 where
   pub beside : IsBesideAt grid side a b
+  pub across : IsBesideAt grid (opposite side) b a
   pub nearer : bound_at grid ends a ≤ bound_at grid ends b + 1
+  pub nearer_across : bound_at grid ends b ≤ bound_at grid ends a + 1
+  pub further : bound_at grid starts b ≤ bound_at grid starts a + 1
+  pub further_across : bound_at grid starts a ≤ bound_at grid starts b + 1
+
+-- the same, seen from the other node
+pub turned_near : (grid : GridSaid) (starts ends : SlotBox) (side : Side) (a b : ℕ) → IsBesideNear grid starts ends side a b → IsBesideNear grid starts ends (opposite side) b a
+turned_near grid starts ends side a b near = record {
+  beside = near.across;
+  across = across_twice (λ (s : Side). IsBesideAt grid s a b) side near.beside;
+  nearer = near.nearer_across;
+  nearer_across = near.nearer;
+  further = near.further_across;
+  further_across = near.further;
+}

@@ -15,4 +15,5 @@ pub mod Beside
 pub mod Numbered
 pub mod Bound
 pub mod GridWalk
+pub mod InRect
 pub mod Steps

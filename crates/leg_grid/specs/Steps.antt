@@ -7,3 +7,5 @@ pub mod Squares
 pub mod SlotSides
 pub mod Towards
 pub mod FirstWire
+pub mod SlotRanges
+pub mod Boxes

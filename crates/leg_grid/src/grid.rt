@@ -147,7 +147,8 @@ impl<'g, 'a, A: Allocator + Copy> Grid<'g, 'a, A> {
 
     /// How many slots there are.
     pub fn size(&self) -> u32
-        ensures { result ≡ slot_total self.now }
+        ensures is { result ≡ slot_total self.now }
+        ensures proper { IsGrid self.now }
     {
         slots_of(self.layers.len(), self.ys.len(), self.xs.len()).unwrap()
     }
@@ -167,6 +168,30 @@ impl<'g, 'a, A: Allocator + Copy> Grid<'g, 'a, A> {
             row: row % rows,
             column: number % columns,
         }
+    }
+
+    /// The routing layers, bottom up.
+    pub(crate) fn layers(&self) -> &[RoutingLayer]
+        ensures is { result.now ≡ self.now.layers }
+        ensures proper { IsGrid self.now }
+    {
+        &self.layers
+    }
+
+    /// The x values of the columns, in increasing order.
+    pub(crate) fn xs(&self) -> &[i64]
+        ensures is { result.now ≡ self.now.xs }
+        ensures proper { IsGrid self.now }
+    {
+        &self.xs
+    }
+
+    /// The y values of the rows, in increasing order.
+    pub(crate) fn ys(&self) -> &[i64]
+        ensures is { result.now ≡ self.now.ys }
+        ensures proper { IsGrid self.now }
+    {
+        &self.ys
     }
 
     /// How many columns of slots there are, one for each x value.
@@ -302,4 +327,12 @@ fn widths_are_sound<A: Allocator + Copy>(design: &Design<'_, A>)
     ensures { IsSound design.now.library }
 {
     let _layers = design.library().layers();
+}
+
+/// What holds of each grid, as its type says: nothing is done.
+pub(crate) fn grid_is_sound<A: Allocator + Copy>(grid: &Grid<'_, '_, A>)
+    ensures library { IsSound grid.now.design.library }
+    ensures proper { IsGrid grid.now }
+{
+    widths_are_sound(grid.design);
 }

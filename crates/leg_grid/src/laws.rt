@@ -1,6 +1,6 @@
 //! What follows from the definitions alone, as functions whose contracts say it.
 
-ghost use Rattle.std.specs.Prelude.{◌≡◌, ◌↔◌, ◌+◌, ◌≤◌, ℕ, List};
+ghost use Rattle.std.specs.Prelude.{◌≡◌, ◌↔◌, ◌+◌, ◌<◌, ◌≤◌, ℕ, List, All, Contains};
 ghost use Rattle.std.specs.List.{AllZip};
 ghost use Rattle.leg_flat.specs.Flat.{FlatSaid};
 ghost use Rattle.leg_grid.specs.declared.node.Node.{Node};
@@ -9,15 +9,16 @@ ghost use Rattle.leg_grid.specs.declared.slot.Slot.{Slot};
 ghost use Rattle.leg_grid.specs.Nodes.{IsNode};
 ghost use Rattle.leg_grid.specs.Neighbours.{IsBeside};
 ghost use Rattle.leg_grid.specs.Beside.{IsSlotBeside};
-ghost use Rattle.leg_walk.specs.Walk.{IsStep};
+ghost use Rattle.leg_walk.specs.Walk.{IsStep, IsShortest, NoWalk};
 ghost use Rattle.leg_grid.specs.declared.slot_box.SlotBox.{SlotBox};
-ghost use Rattle.leg_grid.specs.OpenMetal.{IsOpenStep};
-ghost use Rattle.leg_grid.specs.Bound.{bound_at, IsInBox};
+ghost use Rattle.leg_grid.specs.OpenMetal.{IsOpenNode, IsOpenStep};
+ghost use Rattle.leg_grid.specs.Bound.{bound_at, IsInBox, IsBesideNear};
 ghost use Rattle.leg_grid.specs.GridWalk.{IsGridWalk};
 ghost use Rattle.leg_block.specs.Records.{DesignContents};
+ghost use Rattle.leg_grid.specs.Meets.{MeetsJoined, MeetsRest};
 ghost use Rattle.leg_grid.specs.Run.{IsNextWalk, HasNoWalk};
-ghost use Rattle.leg_grid.specs.Grid.{GridSaid, IsGrid, IsSlot, LiesAt, IsNumberOf};
-ghost use Rattle.leg_grid.specs.Numbered.{IsStepOf, IsBesideAt, IsOpenStepAt, IsNextWalkAt, HasNoWalkAt};
+ghost use Rattle.leg_grid.specs.Grid.{GridSaid, IsGrid, IsSlot, LiesAt, IsNumberOf, slot_total};
+ghost use Rattle.leg_grid.specs.Numbered.{IsOneOf, IsStepOf, IsBesideAt, IsOpenStepAt, IsNextWalkAt, HasNoWalkAt};
 
 /// Each node of the grid has a number, no two have one, and none has two.
 #[tactic(auto, using(crate::proofs::GridSlots::one_node, crate::proofs::GridSlots::one_number, crate::proofs::GridSlots::numbered))]
@@ -25,6 +26,22 @@ pub fn nodes_have_numbers()
     ensures some { (grid : GridSaid) (node : Node) → IsGrid grid → IsNode grid.design node → (n : ℕ) × IsNumberOf grid n node }
     ensures apart { (grid : GridSaid) (n : ℕ) (a b : Node) → IsGrid grid → IsNumberOf grid n a → IsNumberOf grid n b → a ≡ b }
     ensures once { (grid : GridSaid) (m n : ℕ) (node : Node) → IsGrid grid → IsNumberOf grid m node → IsNumberOf grid n node → m ≡ n }
+{}
+
+/// What a search in the graph of a net answers, told by numbers, is an open walk of the net, where the numbers of its starts
+/// and of its ends are those of the slots at which walks of the net begin and end.
+pub fn searches_walk_as_numbers()
+    ensures shortest { (grid : GridSaid) (origin ends : SlotBox) (flat : FlatSaid) (net : ℕ) (starts finish numbers : List ℕ) → IsGrid grid
+        → ((n : ℕ) → Contains starts n ↔ IsOneOf (IsNumberOf grid) (MeetsJoined flat net) n) → ((n : ℕ) → Contains finish n ↔ IsOneOf (IsNumberOf grid) (MeetsRest flat net) n)
+        → IsShortest (IsOneOf (IsNumberOf grid) (IsOpenNode grid.design flat net)) (IsStep (IsBesideNear grid origin ends) (IsOpenStepAt grid flat net)) (Contains starts) (Contains finish) numbers
+        → IsNextWalkAt grid flat net numbers }
+    ensures none { (grid : GridSaid) (origin ends : SlotBox) (flat : FlatSaid) (net : ℕ) (starts finish : List ℕ) → IsGrid grid
+        → ((n : ℕ) → Contains starts n ↔ IsOneOf (IsNumberOf grid) (MeetsJoined flat net) n) → ((n : ℕ) → Contains finish n ↔ IsOneOf (IsNumberOf grid) (MeetsRest flat net) n)
+        → NoWalk (IsOneOf (IsNumberOf grid) (IsOpenNode grid.design flat net)) (IsStep (IsBesideNear grid origin ends) (IsOpenStepAt grid flat net)) (Contains starts) (Contains finish)
+        → HasNoWalkAt grid flat net }
+    ensures within { (grid : GridSaid) (origin ends : SlotBox) (flat : FlatSaid) (net : ℕ) (starts finish numbers : List ℕ)
+        → IsShortest (IsOneOf (IsNumberOf grid) (IsOpenNode grid.design flat net)) (IsStep (IsBesideNear grid origin ends) (IsOpenStepAt grid flat net)) (Contains starts) (Contains finish) numbers
+        → All (λ n. n < slot_total grid) numbers }
 {}
 
 /// A shortest open walk that is told by numbers is one of nodes; where no numbers are those of an open walk, there is none.

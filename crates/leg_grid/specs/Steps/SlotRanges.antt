@@ -1,0 +1,41 @@
+-- Slots of a grid by ranges of rows and columns.
+use Rattle.std.specs.Prelude.{◌≡◌, ◌↔◌, ◌⊎◌, ℕ, ◌<◌, ◌≤◌, ℤ, ◌≤ℤ◌, List, length, Some, slice_get, Contains, Option, MatchOption}
+use Rattle.leg_grid.specs.declared.layers.RoutingLayer.{RoutingLayer}
+use Rattle.leg_grid.specs.Grid.{GridSaid, IsSlot}
+
+-- the places from the first to before the end are those of the values from low to high
+pub record ArePlaces (values : List ℤ) (low high : ℤ) (first end : ℕ) : Type 0 where
+  pub within : end ≤ length values
+  pub low_in : (k : ℕ) (z : ℤ) → slice_get values k ≡ Some z → first ≤ k → low ≤ℤ z
+  pub high_in : (k : ℕ) (z : ℤ) → slice_get values k ≡ Some z → k < end → z ≤ℤ high
+  pub first_in : (k : ℕ) (z : ℤ) → slice_get values k ≡ Some z → low ≤ℤ z → first ≤ k
+  pub end_in : (k : ℕ) (z : ℤ) → slice_get values k ≡ Some z → z ≤ℤ high → k < end
+
+-- routing layer k is the layer of this number in the library
+pub record IsLayerAt (layers : List RoutingLayer) (number k : ℕ) : Type 0 where
+  pub layer : RoutingLayer
+  pub there : slice_get layers k ≡ Some layer
+  pub is : layer.number ≡ number
+
+-- which of the routing layers it is, or that it is none
+abbrev pub IsLayerIfAny : List RoutingLayer → ℕ → Option ℕ → Type 0
+IsLayerIfAny layers number found = MatchOption found ((k : ℕ) → ¬ IsLayerAt layers number k) (λ k. IsLayerAt layers number k)
+
+-- n comes at one of the places from the first to before the end
+pub record IsAmong (At : ℕ → ℕ → Type 0) (first end n : ℕ) : Type 0 where
+  pub k : ℕ
+  pub from : first ≤ k
+  pub below : k < end
+  pub is : At k n
+
+-- n is the number of a slot of these columns in a row
+abbrev pub IsInRow : GridSaid → ℕ → ℕ → ℕ × ℕ → ℕ → Type 0
+IsInRow grid layer row columns n = IsAmong (λ column m. IsSlot grid m layer row column) columns.0 columns.1 n
+
+-- n is the number of a slot of these rows and columns
+abbrev pub IsInRows : GridSaid → ℕ → ℕ × ℕ → ℕ × ℕ → ℕ → Type 0
+IsInRows grid layer rows columns n = IsAmong (λ row m. IsInRow grid layer row columns m) rows.0 rows.1 n
+
+-- the numbers have got those of which this holds, and no others
+abbrev pub HaveGot : (ℕ → Type 0) → List ℕ → List ℕ → Type 0
+HaveGot New before after = (n : ℕ) → Contains after n ↔ (Contains before n ⊎ New n)
