@@ -10,3 +10,7 @@ mod Turn
 mod Onward
 mod KindsJoined
 mod FewWires
+mod Noted
+mod Ready
+mod NetSlots
+mod NextWalk

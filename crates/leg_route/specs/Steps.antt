@@ -3,3 +3,5 @@ pub mod NextWires
 pub mod NetRun
 pub mod Underway
 pub mod Stops
+pub mod Ready
+pub mod NetSlots

@@ -2,11 +2,12 @@
 
 ghost use Rattle.std.specs.Prelude.{◌≡◌};
 ghost use Rattle.leg_route.specs.declared.fault.RouteFault.TheVariants.{Memory};
-ghost use Rattle.leg_route.specs.Steps.Stops.{of_flat};
+ghost use Rattle.leg_route.specs.Steps.Stops.{of_flat, of_grid};
 
 use leg_block::Fault;
 use leg_cells::Items;
 use leg_flat::FlatFault;
+use leg_grid::GridFault;
 use std::alloc::{AllocError, AllocFailed, Allocator};
 
 /// The cause for which a design isn't routed (own rules). Of several, the first in this order is told, but for memory, and
@@ -48,6 +49,17 @@ impl<A: Allocator> From<FlatFault> for RouteFault<A> {
         match fault {
             FlatFault::TooMany => RouteFault::TooMany,
             FlatFault::Memory => RouteFault::Memory,
+        }
+    }
+}
+
+impl<A: Allocator> From<GridFault> for RouteFault<A> {
+    ghost from_gives = { λ f e. e ≡ of_grid f };
+
+    fn from(fault: GridFault) -> RouteFault<A> {
+        match fault {
+            GridFault::TooLarge => RouteFault::GridTooLarge,
+            GridFault::Memory => RouteFault::Memory,
         }
     }
 }

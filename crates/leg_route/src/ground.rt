@@ -14,7 +14,8 @@ use leg_block::Wire;
 use leg_flat::FlatFault;
 use std::alloc::{AllocError, Allocator};
 
-/// A design, and the flat of it that grows as nets get wires.
+/// A design, and the flat of it that grows as nets get wires. What else a search needs is kept beside them: it is ready where
+/// all of this fits the flat.
 pub trait Ground<A: Allocator + Copy> {
     ghost use Rattle.leg_block.specs.Records.{DesignContents};
     ghost use Rattle.leg_flat.specs.Flat.{FlatSaid};
@@ -23,26 +24,33 @@ pub trait Ground<A: Allocator + Copy> {
 
     ghost flat: { Self → FlatSaid };
 
+    ghost IsReady: { Self → Type 0 };
+
     /// Whether a piece of the net isn't joined to its first one. It fails only when out of memory.
     fn is_open(&self, alloc: A, net: u32) -> Result<bool, AllocError>
-        requires { net < length (design self.now).nets }
+        requires ready { IsReady self.now }
+        requires in_range { net < length (design self.now).nets }
         ensures { IfOk result (λ answer. IsTrue answer ↔ IsOpenNet (design self.now) (flat self.now) net) };
 
     /// The wires of a shortest open walk from the joined part of the net to the rest, or `None` where there is no such walk.
     /// It fails only when out of memory.
     fn next_wires(&mut self, alloc: A, net: u32) -> Result<Option<Vec<Wire, A>>, AllocError>
+        requires ready { IsReady self.old }
         requires in_range { net < length (design self.old).nets }
         requires is_open { IsOpenNet (design self.old) (flat self.old) net }
         ensures answer { IfOk result (λ answer. IsNextAnswer (design self.old) (flat self.old) net (option_map (λ wires. wires.items) answer)) }
+        ensures ready { OnOk result (IsReady self.new) }
         ensures same_design { design self.new ≡ design self.old }
         ensures same_flat { flat self.new ≡ flat self.old };
 
     /// Adds a wire to the net. `TooMany` is told exactly where the flat would have more than `PART_LIMIT` shapes.
     fn add(&mut self, net: u32, wire: Wire) -> Result<(), FlatFault>
+        requires ready { IsReady self.old }
         requires in_range { net < length (design self.old).nets }
         requires spelled { IsWire (design self.old).library (design self.old).vias false wire }
         ensures added { OnOk result (HasOneMoreWire (design self.old) net wire (flat self.old) (flat self.new)) }
         ensures within { OnOk result (IsWithin (flat self.new)) }
+        ensures ready { OnOk result (IsReady self.new) }
         ensures many { IfErr result (λ fault. fault ≡ TooMany → PART_LIMIT < length (flat self.old).shapes + length (wire_outlines (design self.old) wire)) }
         ensures same_design { design self.new ≡ design self.old };
 }

@@ -4,11 +4,15 @@
 mod clean_flat;
 mod fault;
 mod finish;
+mod grid_ground;
 mod ground;
 pub mod laws;
 mod net_turn;
 mod nets;
+mod next_wires;
+mod routing;
 
 pub use fault::RouteFault;
 pub use ground::Ground;
 pub use nets::route_nets;
+pub use routing::route;

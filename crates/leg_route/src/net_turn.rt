@@ -21,11 +21,13 @@ fn add_wires<A: Allocator + Copy, G: Ground<A>>(
     net: u32,
     wires: &[Wire],
 ) -> Result<(), FlatFault>
+    requires ready { G.IsReady ground.old }
     requires in_range { net < length (G.design ground.old).nets }
     requires spelled { All (IsWire (G.design ground.old).library (G.design ground.old).vias false) wires.now }
     requires within { IsWithin (G.flat ground.old) }
     ensures added { OnOk result (HasMoreWires (G.design ground.old) net wires.now (G.flat ground.old) (G.flat ground.new)) }
     ensures within { OnOk result (IsWithin (G.flat ground.new)) }
+    ensures ready { OnOk result (G.IsReady ground.new) }
     ensures many { IfErr result (λ fault. fault ≡ TooMany → PassesLimit (G.design ground.old) net (G.flat ground.old) wires.now) }
     ensures same_design { G.design ground.new ≡ G.design ground.old }
 {
@@ -41,12 +43,14 @@ pub(crate) fn route_net<A: Allocator + Copy, G: Ground<A>>(
     ground: &mut G,
     net: u32,
 ) -> Result<Vec<Wire, A>, RouteFault<A>>
+    requires ready { G.IsReady ground.old }
     requires in_range { net < length (G.design ground.old).nets }
     requires within { IsWithin (G.flat ground.old) }
     ensures run { IfOk result (λ wires. NetRun (G.design ground.old) net (G.flat ground.old) wires.items (G.flat ground.new)) }
     ensures spelled { IfOk result (λ wires. All (IsWire (G.design ground.old).library (G.design ground.old).vias false) wires.items) }
     ensures joined { OnOk result (¬ IsOpenNet (G.design ground.old) (G.flat ground.new) net) }
     ensures within { OnOk result (IsWithin (G.flat ground.new)) }
+    ensures ready { OnOk result (G.IsReady ground.new) }
     ensures stop { IfErr result (λ fault. IsNetStop (G.design ground.old) (G.flat ground.old) net fault) }
     ensures same_design { G.design ground.new ≡ G.design ground.old }
 {

@@ -20,11 +20,13 @@ fn turns<A: Allocator + Copy, G: Ground<A>>(
     ground: &mut G,
     nets: u32,
 ) -> Result<Vec<Vec<Wire, A>, A>, RouteFault<A>>
+    requires ready { G.IsReady ground.old }
     requires count { nets ≡ length (G.design ground.old).nets }
     requires within { IsWithin (G.flat ground.old) }
     ensures run { IfOk result (λ lists. IsUnderway (G.design ground.old) (G.flat ground.old) nets (map (λ wires. wires.items) lists.items) (G.flat ground.new)) }
     ensures spelled { IfOk result (λ lists. All (λ wires. All (IsWire (G.design ground.old).library (G.design ground.old).vias false) wires.items) lists.items) }
     ensures within { OnOk result (IsWithin (G.flat ground.new)) }
+    ensures ready { OnOk result (G.IsReady ground.new) }
     ensures stop { IfErr result (λ fault. IsRunStop (G.design ground.old) (G.flat ground.old) fault) }
     ensures same_design { G.design ground.new ≡ G.design ground.old }
 {
@@ -46,6 +48,7 @@ pub fn route_nets<A: Allocator + Copy, G: Ground<A>>(
     ground: &mut G,
     nets: u32,
 ) -> Result<Vec<Vec<Wire, A>, A>, RouteFault<A>>
+    requires ready { G.IsReady ground.old }
     requires count { nets ≡ length (G.design ground.old).nets }
     requires comes { ComesToRun (G.design ground.old) (G.flat ground.old) }
     requires within { IsWithin (G.flat ground.old) }

@@ -11,7 +11,7 @@ use Rattle.leg_route.proofs.Turn.{all_at, take_next, split_at}
 use Rattle.leg_route.proofs.net_turn.add_wires.Goals as goal
 
 pub loop-wire-init : goal.loop-wire-init
-loop-wire-init g c = record { same = refl; within = c.requires.within; added = none }
+loop-wire-init g c = record { same = refl; within = c.requires.within; ready = c.requires.ready; added = none }
 
 pub add-requires-clause-in_range : goal.add-requires-clause-in_range
 add-requires-clause-in_range g c = rw c.loop-wire.invariant.same c.requires.in_range
@@ -32,6 +32,7 @@ loop-wire-preserved g c =
     record {
       same = c.in_ok-add.ensures.same_design ∙ c.loop-wire.invariant.same;
       within = c.in_ok-add.ensures.within;
+      ready = c.in_ok-add.ensures.ready;
       added = subst (λ ws. HasMoreWires design c.args.net ws first (ground.flat c.add.new.self)) (sym (take_next c.args.wires.now c.loop-wire.wire-index c.wire-item.result c.loop-wire-test.true c.wire-item.is)) more;
     }
 

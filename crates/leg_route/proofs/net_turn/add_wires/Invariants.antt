@@ -9,5 +9,6 @@ invariant-loop-wire g l =
     let ground = g.G.Ground in record {
       same : ground.design l.ground ≡ ground.design l.fn.ground;
       within : IsWithin (ground.flat l.ground);
+      ready : ground.IsReady l.ground;
       added : HasMoreWires (ground.design l.fn.ground) l.net (take l.wire-index l.wires) (ground.flat l.fn.ground) (ground.flat l.ground);
     }

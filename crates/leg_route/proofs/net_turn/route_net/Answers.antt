@@ -11,6 +11,7 @@ loop-wires-init g c =
     let ground = g.G.Ground in record {
       same = refl;
       within = c.requires.within;
+      ready = c.requires.ready;
       spelled = rw c.new-wires.ensures.items (All-nil (IsWire (ground.design c.args.ground.now).library (ground.design c.args.ground.now).vias false));
       run = subst (λ ws. NetRun (ground.design c.args.ground.now) c.args.net (ground.flat c.args.ground.now) ws (ground.flat c.args.ground.now)) (sym c.new-wires.ensures.items) begun;
     }
@@ -24,6 +25,7 @@ loop-wires-preserved g c =
     let after = c.add_wires.new.ground in record {
       same = c.in_ok-add_wires.ensures.same_design ∙ c.in_ok-more.ensures.same_design ∙ c.loop-wires.invariant.same;
       within = c.in_ok-add_wires.ensures.within;
+      ready = c.in_ok-add_wires.ensures.ready;
       spelled = spelled_more design (ground.design before) c.args.net (ground.flat before) c.loop-wires.wires.items c.in-Some.more.items c.extend_from_slice.new.self.items c.loop-wires.invariant.same
           (rw c.in-Some.is at c.in_ok-more.ensures.answer) (c.in_ok-extend_from_slice.ensures.items ∙ ap (λ ws. c.loop-wires.wires.items ++ ws) c.deref-in-loop-wires.ensures.value)
           c.loop-wires.invariant.spelled;

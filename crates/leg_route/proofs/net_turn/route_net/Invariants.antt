@@ -12,6 +12,7 @@ invariant-loop-wires g l =
     let ground = g.G.Ground in record {
       same : ground.design l.ground ≡ ground.design l.fn.ground;
       within : IsWithin (ground.flat l.ground);
+      ready : ground.IsReady l.ground;
       spelled : All (IsWire (ground.design l.fn.ground).library (ground.design l.fn.ground).vias false) l.wires.items;
       run : NetRun (ground.design l.fn.ground) l.net (ground.flat l.fn.ground) l.wires.items (ground.flat l.ground);
     }

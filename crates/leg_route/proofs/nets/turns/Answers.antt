@@ -12,6 +12,7 @@ loop-net-init g c =
     let ground = g.G.Ground in record {
       same = refl;
       within = c.requires.within;
+      ready = c.requires.ready;
       spelled = rw c.new-lists.ensures.items (All-nil (λ wires. All (IsWire (ground.design c.args.ground.now).library (ground.design c.args.ground.now).vias false) wires.items));
       run = rw c.new-lists.ensures.items (underway_first (ground.design c.args.ground.now) (ground.flat c.args.ground.now));
     }
@@ -23,6 +24,7 @@ loop-net-preserved g c =
     let after = c.route_net.new.ground in record {
       same = c.in_ok-wires.ensures.same_design ∙ c.loop-net.invariant.same;
       within = c.in_ok-wires.ensures.within;
+      ready = c.in_ok-wires.ensures.ready;
       spelled = all_last (λ wires. All (IsWire (ground.design c.args.ground.now).library (ground.design c.args.ground.now).vias false) wires.items) c.loop-net.lists.items c.push.new.self.items
           c.in_ok-wires.wires c.in_ok-push.ensures.items c.loop-net.invariant.spelled
           (subst (λ d. All (IsWire d.library d.vias false) c.in_ok-wires.wires.items) c.loop-net.invariant.same c.in_ok-wires.ensures.spelled);

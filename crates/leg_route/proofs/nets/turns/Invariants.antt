@@ -10,6 +10,7 @@ invariant-loop-net g l =
     let ground = g.G.Ground in record {
       same : ground.design l.ground ≡ ground.design l.fn.ground;
       within : IsWithin (ground.flat l.ground);
+      ready : ground.IsReady l.ground;
       spelled : All (λ wires. All (IsWire (ground.design l.fn.ground).library (ground.design l.fn.ground).vias false) wires.items) l.lists.items;
       run : IsUnderway (ground.design l.fn.ground) (ground.flat l.fn.ground) l.net (map (λ wires. wires.items) l.lists.items) (ground.flat l.ground);
     }

@@ -1,0 +1,81 @@
+-- A walk over slots, and the nodes in them.
+use Rattle.std.proofs.Common.{◌≡◌, ◌↔◌, ℕ, ◌<◌, List, [], ◌∷◌, All, Contains, Option, None, Some, IfSome, option_map, subst, sym, ap, ◌∙◌, refl}
+use Rattle.std.specs.List.{AllZip}
+use Rattle.leg_sweep.proofs.Lists.{Contains-nil}
+use Rattle.leg_block.specs.Records.{DesignContents}
+use Rattle.leg_flat.specs.Flat.{FlatSaid}
+use Rattle.leg_walk.specs.Walk.{IsStep, IsShortest, NoWalk, IsAnswer}
+use Rattle.leg_grid.specs.declared.node.Node.{Node}
+use Rattle.leg_grid.specs.declared.slot_box.SlotBox.{SlotBox}
+use Rattle.leg_grid.specs.Bound.{IsBesideNear}
+use Rattle.leg_grid.specs.Grid.{GridSaid, IsNumberOf, slot_total}
+use Rattle.leg_grid.specs.Meets.{MeetsJoined, MeetsRest}
+use Rattle.leg_grid.specs.OpenMetal.{IsOpenNode}
+use Rattle.leg_grid.specs.Numbered.{IsOneOf, IsOpenStepAt, IsNextWalkAt, HasNoWalkAt}
+use Rattle.leg_grid.specs.Run.{IsNextWalk}
+use Rattle.leg_route.specs.Steps.NetSlots.{IsNextAnswerAt}
+
+-- where a walk can't end, there is none
+pub no_ends : (grid : GridSaid) (flat : FlatSaid) (net : ℕ) (ends : List ℕ) → ((n : ℕ) → Contains ends n ↔ IsOneOf (IsNumberOf grid) (MeetsRest flat net) n)
+    → ends ≡ [] → HasNoWalkAt grid flat net
+no_ends grid flat net ends are none a b nodes start is_end walk = Contains-nil b (subst (λ xs. Contains xs b) none ((are b).1 is_end))
+
+-- where it can't begin, there is none either
+pub no_starts : (grid : GridSaid) (flat : FlatSaid) (net : ℕ) (starts : List ℕ) → ((n : ℕ) → Contains starts n ↔ IsOneOf (IsNumberOf grid) (MeetsJoined flat net) n)
+    → starts ≡ [] → HasNoWalkAt grid flat net
+no_starts grid flat net starts are none a b nodes start is_end walk = Contains-nil a (subst (λ xs. Contains xs a) none ((are a).1 start))
+
+-- what a search answers whose walks begin and end in these slots
+module _ (grid : GridSaid) (design : DesignContents) (flat : FlatSaid) (net : ℕ) (origin around : SlotBox) (starts ends : List ℕ) where
+  abbrev pub IsWalk : DesignContents → List ℕ → Type 0
+  IsWalk of numbers =
+      IsShortest (IsOneOf (IsNumberOf grid) (IsOpenNode of flat net)) (IsStep (IsBesideNear grid origin around) (IsOpenStepAt grid flat net)) (Contains starts) (Contains ends) numbers
+
+  abbrev pub IsNone : DesignContents → Type 0
+  IsNone of = NoWalk (IsOneOf (IsNumberOf grid) (IsOpenNode of flat net)) (IsStep (IsBesideNear grid origin around) (IsOpenStepAt grid flat net)) (Contains starts) (Contains ends)
+
+  abbrev pub IsFound : DesignContents → Option (List ℕ) → Type 0
+  IsFound of answer =
+      IsAnswer (IsOneOf (IsNumberOf grid) (IsOpenNode of flat net)) (IsStep (IsBesideNear grid origin around) (IsOpenStepAt grid flat net)) (Contains starts) (Contains ends) answer
+
+  of_grid : grid.design ≡ design → (answer : Option (List ℕ)) → IsFound design answer → IsFound grid.design answer
+  of_grid of_design answer found = subst (λ d. IsFound d answer) (sym of_design) found
+
+  -- it answers by numbers
+  pub answer_at : ((numbers : List ℕ) → IsWalk grid.design numbers → IsNextWalkAt grid flat net numbers) → (IsNone grid.design → HasNoWalkAt grid flat net)
+      → grid.design ≡ design → (answer : Option (List ℕ)) → IsFound design answer → IsNextAnswerAt grid flat net answer
+  answer_at walks none of_design answer found = by answer (of_grid of_design answer found) where
+    by : (answer : Option (List ℕ)) → IsFound grid.design answer → IsNextAnswerAt grid flat net answer
+    by None is = none is
+    by (Some numbers) is = walks numbers is
+
+  -- all of slots
+  pub answer_within : ((numbers : List ℕ) → IsWalk grid.design numbers → All (λ n. n < slot_total grid) numbers)
+      → grid.design ≡ design → {V : Type 0} (items : V → List ℕ) (walk : Option V) → IsFound design (option_map items walk)
+      → IfSome walk (λ v. All (λ n. n < slot_total grid) (items v))
+  answer_within walks of_design {V} items walk found = by walk (of_grid of_design (option_map items walk) found) where
+    by : (walk : Option V) → IsFound grid.design (option_map items walk) → IfSome walk (λ v. All (λ n. n < slot_total grid) (items v))
+    by None is = tt
+    by (Some v) is = walks (items v) is
+
+-- where a number has one node, numbers have one list of them
+same_nodes : (Number : ℕ → Node → Type 0) → ((n : ℕ) (a b : Node) → Number n a → Number n b → a ≡ b)
+    → (numbers : List ℕ) (a b : List Node) → AllZip Number numbers a → AllZip Number numbers b → a ≡ b
+same_nodes Number apart [] [] [] p q = refl
+same_nodes Number apart [] [] (y ∷ ys) p q = absurd q
+same_nodes Number apart [] (x ∷ xs) ys p q = absurd p
+same_nodes Number apart (n ∷ ns) [] ys p q = absurd p
+same_nodes Number apart (n ∷ ns) (x ∷ xs) [] p q = absurd q
+same_nodes Number apart (n ∷ ns) (x ∷ xs) (y ∷ ys) p q =
+    let first : x ≡ y = apart n x y p.0 q.0 in
+    let rest : xs ≡ ys = same_nodes Number apart ns xs ys p.1 q.1 in
+    ap (λ z. z ∷ xs) first ∙ ap (λ zs. y ∷ zs) rest
+
+-- the nodes of a shortest open walk of numbers are those of one
+pub walk_of : (grid : GridSaid) (design : DesignContents) (flat : FlatSaid) (net : ℕ) (numbers : List ℕ) (nodes : List Node) → grid.design ≡ design
+    → ((n : ℕ) (a b : Node) → IsNumberOf grid n a → IsNumberOf grid n b → a ≡ b)
+    → ((others : List Node) × AllZip (IsNumberOf grid) numbers others × IsNextWalk grid.design flat net others)
+    → AllZip (IsNumberOf grid) numbers nodes → IsNextWalk design flat net nodes
+walk_of grid design flat net numbers nodes of_design apart told each =
+    let same : told.0 ≡ nodes = same_nodes (IsNumberOf grid) apart numbers told.0 nodes told.1 each in
+    subst (λ d. IsNextWalk d flat net nodes) of_design (subst (λ ns. IsNextWalk grid.design flat net ns) same told.2)

@@ -1,0 +1,129 @@
+-- What is kept beside a flat, at first and when a net has got a wire.
+use Rattle.std.proofs.Common.{◌≡◌, ◌≢◌, ◌==◌, ◌+◌, ◌-◌, ◌<◌, ◌≤◌, ℕ, Bool, true, false, List, [], ◌∷◌, ◌++◌, length, map, take, drop, get_or, Contains, Some, slice_get, slice_set, IsTrue, ◌↔◌, refl, sym, ap, ◌∙◌, arith}
+use Rattle.std.specs.List.{range_with_len, IsAnyAnswer}
+use Rattle.std.specs.Cmp.{booleans_Decides}
+use Rattle.std.specs.Bool.{beq}
+use Rattle.std.proofs.lemmas.List.Elements.{Decides-contains, contains_decides}
+use Rattle.std.proofs.Math.Seq.{drop-append_seam}
+use Rattle.std.proofs.lemmas.Bool.{false≢true}
+use Rattle.std.proofs.lemmas.Bool.Decides.{nat_tests}
+use Rattle.std.proofs.lemmas.List.{map-append, length-append, length-drop, take_all, length-map, length-set, get_or-set_same, get_or-set_other}
+use Rattle.std.proofs.lemmas.List.FromFn.{length-map-range_with_len}
+use Rattle.std.proofs.lemmas.Option.{slice_get_read, slice_get-get_or, get_or_from_slice_get}
+use Rattle.leg_geom.specs.Plane.{Sides}
+use Rattle.leg_block.specs.declared.records.Wire.{Wire}
+use Rattle.leg_block.specs.Records.{DesignContents}
+use Rattle.leg_flat.specs.declared.shape.Shape.{Shape}
+use Rattle.leg_flat.specs.Nets.{pieces_of}
+use Rattle.leg_flat.specs.Flat.{FlatSaid, IsFlatOf, pieces_with}
+use Rattle.leg_flat.specs.MoreWires.{HasOneMoreWire}
+use Rattle.leg_wire.specs.NetShapes.{AreNumbersOf}
+use Rattle.leg_wire.specs.Touch.{piece_count, AreJoined, AreMarks}
+use Rattle.leg_walk.specs.declared.mark.Mark.{Mark}
+use Rattle.leg_grid.specs.Grid.{GridSaid}
+use Rattle.leg_grid.specs.Run.{IsOpenNet}
+use Rattle.leg_grown.specs.Growth.{Grows, of_net}
+use Rattle.leg_route.specs.Steps.Ready.{AreNumbersByNet, AreReady}
+use Rattle.leg_route.proofs.Noted.{rects_of}
+
+-- each entry of NETS has the pieces of its number in a flat of the design
+pub nets_within : (design : DesignContents) (flat : FlatSaid) → IsFlatOf design flat → length design.nets ≤ length flat.pieces
+nets_within design flat is =
+    let entries = length design.nets + length design.special in
+    let many : length (map (pieces_of design) (range_with_len 0 entries)) ≡ entries = length-map-range_with_len (pieces_of design) 0 entries in
+    rw is.pieces (omega (arith, many))
+
+-- a piece without a mark is one that isn't joined
+pub unmarked_is_open : (design : DesignContents) (flat : FlatSaid) (net : ℕ) (marks : List Bool) → net < length design.nets
+    → AreMarks (AreJoined flat net 0) (piece_count flat net) marks → Contains marks false → IsOpenNet design flat net
+unmarked_is_open design flat net marks entry are has =
+    let there : slice_get marks has.0 ≡ Some false = slice_get_read marks (length marks) has.0 false refl has.1 (sym has.2) in
+    let low : has.0 < piece_count flat net = rw (← are.count) has.1 in
+    (has.0, record { net = entry; piece = low; open_piece = λ joined. false≢true ((are.each has.0 false there).1 joined) })
+
+pub open_has_unmarked : (design : DesignContents) (flat : FlatSaid) (net : ℕ) (marks : List Bool)
+    → AreMarks (AreJoined flat net 0) (piece_count flat net) marks → IsOpenNet design flat net → Contains marks false
+open_has_unmarked design flat net marks are is_open =
+    let k = is_open.0 in
+    let low : k < length marks = rw are.count is_open.1.piece in
+    by k low (get_or marks k false) (slice_get-get_or marks k false low) is_open.1.open_piece where
+      by : (k : ℕ) → k < length marks → (mark : Bool) → slice_get marks k ≡ Some mark → ¬ AreJoined flat net 0 k → Contains marks false
+      by k low true there not_joined = absurd (not_joined ((are.each k true there).0 refl))
+      by k low false there not_joined = (k, low, get_or_from_slice_get marks k false false there)
+
+-- whether a mark is missing tells whether the net is open
+pub told_open : (design : DesignContents) (flat : FlatSaid) (net : ℕ) (marks : List Bool) (told : Bool) → net < length design.nets
+    → AreMarks (AreJoined flat net 0) (piece_count flat net) marks → IsAnyAnswer (λ y b. beq y false ≡ b) marks told → IsTrue told ↔ IsOpenNet design flat net
+told_open design flat net marks told entry are answer =
+    let decides = Decides-contains marks false told (contains_decides beq booleans_Decides marks false told answer) in
+    (λ t. unmarked_is_open design flat net marks entry are (decides.0 t), λ is_open. decides.1 (open_has_unmarked design flat net marks are is_open))
+
+abbrev pub OwnNumbersGrow : Type 0
+OwnNumbersGrow =
+    (design : DesignContents) (net : ℕ) (wires : List Wire) (before after : FlatSaid) (numbers : List ℕ)
+    → Grows design (of_net net wires) before after → AreNumbersOf before.shapes net numbers
+    → AreNumbersOf after.shapes net (numbers ++ range_with_len (length before.shapes) (length after.shapes - length before.shapes))
+
+abbrev pub OtherNumbersStay : Type 0
+OtherNumbersStay =
+    (design : DesignContents) (net other : ℕ) (wires : List Wire) (before after : FlatSaid) (numbers : List ℕ)
+    → Grows design (of_net net wires) before after → other ≢ net → AreNumbersOf before.shapes other numbers → AreNumbersOf after.shapes other numbers
+
+module _ (design : DesignContents) (net : ℕ) (wire : Wire) (before after : FlatSaid) (more : HasOneMoreWire design net wire before after) where
+  grows : Grows design (of_net net (wire ∷ [])) before after
+  grows = (after, more, refl)
+
+  -- the shapes that the wire has
+  added_are : drop (length before.shapes) after.shapes ≡ more.added
+  added_are = rw more.shapes (drop-append_seam before.shapes more.added)
+
+  added_count : length after.shapes - length before.shapes ≡ length more.added
+  added_count = let many = length-append before.shapes more.added in rw more.shapes (omega (arith, many))
+
+  -- the same, cut out of all shapes
+  rest_are : (all first : List Shape) → all ≡ after.shapes → first ≡ before.shapes → take (length all - length first) (drop (length first) all) ≡ more.added
+  rest_are all first all_is first_is =
+      rw (all_is, first_is)
+      (take_all (length after.shapes - length before.shapes) (drop (length before.shapes) after.shapes) (omega (arith, length-drop (length before.shapes) after.shapes)) ∙ added_are)
+
+  index_more : (index then : List Sides) → index ≡ rects_of before.shapes → then ≡ index ++ rects_of more.added → then ≡ rects_of after.shapes
+  index_more index then is grown =
+      grown ∙ ap (λ rects. rects ++ rects_of more.added) is ∙ sym (map-append (λ (shape : Shape). shape.rect) before.shapes more.added) ∙ ap rects_of (sym more.shapes)
+
+  module _ (own_law : OwnNumbersGrow) (other_law : OtherNumbersStay) (nets : ℕ) (lists : List (List ℕ)) (own : List ℕ) (low : net < nets)
+      (own_is : own ≡ get_or lists net [] ++ range_with_len (length before.shapes) (length after.shapes - length before.shapes))
+      (are : AreNumbersByNet nets before lists) where
+    numbers_of : (other : ℕ) → other < nets → (test : Bool) → (other == net) ≡ test → AreNumbersOf after.shapes other (get_or (slice_set lists net own) other [])
+    numbers_of other within true test =
+        let same : other ≡ net = grind (arith, nat_tests, test) in
+        rw (same, get_or-set_same lists net own [] (rw are.one_each low), own_is) (own_law design net (wire ∷ []) before after (get_or lists net []) grows (are.each net low))
+    numbers_of other within false test =
+        let differ : other ≢ net = grind (arith, nat_tests, test) in
+        rw (get_or-set_other lists net other own [] differ) (other_law design net other (wire ∷ []) before after (get_or lists other []) grows differ (are.each other within))
+
+    numbers_more : AreNumbersByNet nets after (slice_set lists net own)
+    numbers_more = record {
+      one_each = length-set lists net own ∙ are.one_each;
+      each = λ other within. numbers_of other within (other == net) refl;
+    }
+
+  -- all is ready still when the net has the wire, where the index and the net's numbers got what is new
+  pub ready_more : OwnNumbersGrow → OtherNumbersStay → (grid : GridSaid) (index index_then : List Sides) (lists : List (List ℕ)) (had own : List ℕ) (marks : List Mark) (touched : List ℕ)
+      (all first : List Shape) → all ≡ after.shapes → first ≡ before.shapes → net < length design.nets → AreReady design grid before index lists marks touched
+      → index_then ≡ index ++ rects_of (take (length all - length first) (drop (length first) all)) → had ≡ get_or lists net []
+      → own ≡ had ++ range_with_len (length index) (length (take (length all - length first) (drop (length first) all)))
+      → AreReady design grid after index_then (slice_set lists net own) marks touched
+  ready_more own_law other_law grid index index_then lists had own marks touched all first all_is first_is low ready index_is had_is own_is =
+      let rest = rest_are all first all_is first_is in
+      let size : length index ≡ length before.shapes = ap length ready.indexed ∙ length-map before.shapes (λ (shape : Shape). shape.rect) in
+      let own_then : own ≡ get_or lists net [] ++ range_with_len (length before.shapes) (length after.shapes - length before.shapes) =
+      own_is ∙ rw (size, rest, had_is, added_count) refl in
+      record {
+        of_design = ready.of_design;
+        indexed = index_more index index_then ready.indexed (rw rest at index_is);
+        within = rw (ap length more.pieces ∙ length-set before.pieces net (pieces_with more.terminals (more.wires + 1))) ready.within;
+        numbers = numbers_more own_law other_law (length design.nets) lists own low own_then ready.numbers;
+        count = ready.count;
+        unseen = ready.unseen;
+        untouched = ready.untouched;
+      }

@@ -1,0 +1,23 @@
+use Rattle.std.proofs.Common.{◌≡◌, length, ap, ◌∙◌, arith}
+use Rattle.leg_route.proofs.Noted.{rects_of}
+use Rattle.leg_route.proofs.Ready.{nets_within}
+use Rattle.leg_route.proofs.grid_ground.GridGround.new.Goals as goal
+
+pub returns-clause-ready : goal.returns-clause-ready
+returns-clause-ready g c =
+    let nets : length c.nets.result.now ≡ length c.args.design.now.nets = ap length c.nets.ensures.is in
+    record {
+      of_design = c.in_ok-grid.ensures.is;
+      indexed = c.in_ok-index.ensures ∙ ap rects_of c.shapes.ensures.is;
+      within = nets_within c.args.design.now c.args.flat c.requires.clean.judged.is_flat;
+      numbers = record {
+        one_each = omega (arith, nets, c.in_ok-numbers.ensures.long);
+        each = λ net low. rw (← c.shapes-2.ensures.is) (c.in_ok-numbers.ensures.each net (omega (arith, low, nets)));
+      };
+      count = c.in_ok-marks.ensures.count ∙ c.size.ensures.is;
+      unseen = c.in_ok-marks.ensures.unseen;
+      untouched = c.new-2.ensures.items;
+    }
+
+pub returns-clause-comes : goal.returns-clause-comes
+returns-clause-comes g c = record { clean = c.requires.clean; fits = c.in_ok-grid.ensures.fits }

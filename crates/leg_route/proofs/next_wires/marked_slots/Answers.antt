@@ -1,0 +1,33 @@
+-- One shape more, whose piece has the mark or hasn't.
+use Rattle.std.proofs.Common.{◌≡◌, ◌+◌, ◌++◌, ◌∷◌, [], ◌<◌, Some, slice_get, length, take, get_or, refl, true≢false, sym, ◌∙◌, arith}
+use Rattle.std.proofs.lemmas.List.{take_more}
+use Rattle.std.proofs.lemmas.List.Elements.{All-get_or}
+use Rattle.std.proofs.lemmas.Option.{slice_get_read}
+use Rattle.leg_route.proofs.NetSlots.{slots_more, slots_skip}
+use Rattle.leg_route.proofs.next_wires.marked_slots.Goals as goal
+use Rattle.leg_route.proofs.next_wires.marked_slots.Goals.{then-has_mark+in_ok-add_slots_in, else-has_mark}
+
+pub loop-number-preserved : goal.loop-number-preserved
+loop-number-preserved g c =
+    let grid = c.args.grid.now in
+    let shapes = c.args.shapes.now in
+    let marks = c.args.marks.now in
+    let mark = c.args.mark in
+    let numbers = c.args.numbers.now in
+    let slots = c.loop-number.slots.items in
+    let done = c.loop-number.invariant in
+    let i = c.loop-number.number-index in
+    let k = get_or numbers i 0 in
+    let shape = c.index-shapes-number.result in
+    let within : k < length shapes = All-get_or (λ k. k < length shapes) numbers i 0 (omega arith) c.requires in
+    let there : slice_get shapes k ≡ Some shape = slice_get_read shapes _ k shape refl within c.index-shapes-number.is in
+    let more : take (i + 1) numbers ≡ take i numbers ++ k ∷ [] = take_more numbers i 0 (omega arith) in
+    elim c.if-has_mark.branch [
+      | then-has_mark+in_ok-add_slots_in w ↦
+          rw (w.slots-is, more)
+          (slots_more grid shapes marks mark (take i numbers) slots done k shape there w.add_slots_in.new.slots.items (c.has_mark.ensures.0 w.if-has_mark.true)
+          w.in_ok-add_slots_in.ensures.added (rw w.in_ok-add_slots_in.was at (w.add_slots_in.ensures.within done.within)))
+      | else-has_mark w ↦
+          rw (w.slots-is, more)
+          (slots_skip grid shapes marks mark (take i numbers) slots done k shape there (λ has. true≢false (sym (c.has_mark.ensures.1 has) ∙ w.if-has_mark.false)))
+    ]

@@ -1,0 +1,71 @@
+use Rattle.std.proofs.Common.{true, false}
+use Rattle.std.specs.List.{AllZip}
+use Rattle.leg_grid.specs.Grid.{IsNumberOf}
+use Rattle.leg_grid.specs.Numbered.{IsNextWalkAt}
+use Rattle.leg_grid.specs.Run.{IsNextWalk}
+use Rattle.leg_route.specs.Steps.NetSlots.{AreMarkedSlots}
+use Rattle.leg_route.proofs.NetSlots.{numbers_within, starts_are, ends_are}
+use Rattle.leg_route.proofs.NextWalk.{walk_of}
+use Rattle.leg_route.proofs.next_wires.next_wires.Goals as goal
+
+pub marked_slots-requires : goal.marked_slots-requires
+marked_slots-requires g c = rw c.shapes-shapes.ensures.is (numbers_within c.args.flat.now.shapes c.args.net c.args.numbers.now c.requires.numbers)
+
+pub marked_slots-requires-2 : goal.marked_slots-requires-2
+marked_slots-requires-2 g c = rw c.shapes-shapes.ensures.is (numbers_within c.args.flat.now.shapes c.args.net c.args.numbers.now c.requires.numbers)
+
+pub next_walk-requires-clause-starts : goal.next_walk-requires-clause-starts
+next_walk-requires-clause-starts g c =
+    let grid = c.args.grid.now in
+    let flat = c.args.flat.now in
+    let net = c.args.net in
+    let numbers = c.args.numbers.now in
+    let joined = c.in_ok-joined.joined.items in
+    let starts = c.in_ok-starts.starts.items in
+    let told : AreMarkedSlots grid flat.shapes joined true numbers starts = rw (c.shapes-shapes.ensures.is, c.deref.ensures.value) at c.in_ok-starts.ensures in
+    rw c.deref-3.ensures.value (starts_are flat net numbers c.requires.numbers joined c.in_ok-joined.ensures grid starts told)
+
+pub next_walk-requires-clause-ends : goal.next_walk-requires-clause-ends
+next_walk-requires-clause-ends g c =
+    let grid = c.args.grid.now in
+    let flat = c.args.flat.now in
+    let net = c.args.net in
+    let numbers = c.args.numbers.now in
+    let joined = c.in_ok-joined.joined.items in
+    let ends = c.in_ok-ends.ends.items in
+    let told : AreMarkedSlots grid flat.shapes joined false numbers ends = rw (c.shapes-shapes.ensures.is, c.deref-2.ensures.value) at c.in_ok-ends.ensures in
+    rw c.deref-4.ensures.value (ends_are flat net numbers c.requires.numbers joined c.in_ok-joined.ensures grid ends told)
+
+pub wires_of-requires : goal.wires_of-requires
+wires_of-requires g c =
+    let grid = c.args.grid.now in
+    let design = c.args.design.now in
+    let flat = c.args.flat.now in
+    let net = c.args.net in
+    let numbers = c.in-Some.walk.items in
+    let nodes = c.in_ok-nodes.nodes.items in
+    let proper = c.grid_is_sound.ensures.proper in
+    let walk : IsNextWalkAt grid flat net numbers = rw c.in-Some.is at c.in_ok-found.ensures.answer in
+    let each : AllZip (IsNumberOf grid) numbers nodes = rw c.deref-5.ensures.value at c.in_ok-nodes.ensures in
+    let next : IsNextWalk design flat net nodes = walk_of grid design flat net numbers nodes c.requires.of_design (λ n a b. c.nodes_have_numbers.ensures.apart grid n a b proper)
+    (c.numbers_walk_as_nodes.ensures.shortest grid flat net numbers proper walk) each in
+    rw c.deref-6.ensures.value (c.open_walks_are_grid_walks.ensures design flat net nodes next)
+
+pub returns-clause-answer : goal.returns-clause-answer
+returns-clause-answer g c =
+    let grid = c.args.grid.now in
+    let design = c.args.design.now in
+    let flat = c.args.flat.now in
+    let net = c.args.net in
+    let numbers = c.in-Some.walk.items in
+    let nodes = c.in_ok-nodes.nodes.items in
+    let proper = c.grid_is_sound.ensures.proper in
+    let walk : IsNextWalkAt grid flat net numbers = rw c.in-Some.is at c.in_ok-found.ensures.answer in
+    let each : AllZip (IsNumberOf grid) numbers nodes = rw c.deref-5.ensures.value at c.in_ok-nodes.ensures in
+    record {
+      nodes = nodes;
+      walk = walk_of grid design flat net numbers nodes c.requires.of_design (λ n a b. c.nodes_have_numbers.ensures.apart grid n a b proper)
+          (c.numbers_walk_as_nodes.ensures.shortest grid flat net numbers proper walk) each;
+      are = rw c.deref-6.ensures.value at c.in_ok-wires.ensures.wires;
+      spelled = c.in_ok-wires.ensures.spelled;
+    }

@@ -1,0 +1,33 @@
+-- Which slots lie in the metal of a net, and what a search over slots answers.
+use Rattle.std.specs.Prelude.{◌≡◌, ◌↔◌, ◌<◌, ℕ, Bool, List, All, Contains, Option, None, Some, slice_get}
+use Rattle.leg_flat.specs.declared.shape.Shape.{Shape}
+use Rattle.leg_flat.specs.Flat.{FlatSaid}
+use Rattle.leg_grid.specs.declared.node.Node.{Node}
+use Rattle.leg_grid.specs.Grid.{GridSaid, IsNumberOf, slot_total}
+use Rattle.leg_grid.specs.Numbered.{IsOneOf, IsNextWalkAt, HasNoWalkAt}
+use Rattle.leg_grid.specs.InRect.{LiesInRect}
+
+-- the piece is one of those that have marks, and its mark is this one
+pub record HasMark (marks : List Bool) (mark : Bool) (piece : Option ℕ) : Type 0 where
+  pub number : ℕ
+  pub is : piece ≡ Some number
+  pub marked : slice_get marks number ≡ Some mark
+
+-- the node lies in one of the shapes of these numbers, whose piece has this mark
+pub record MeetsMarked (shapes : List Shape) (marks : List Bool) (mark : Bool) (numbers : List ℕ) (node : Node) : Type 0 where
+  pub number : ℕ
+  pub listed : Contains numbers number
+  pub shape : Shape
+  pub there : slice_get shapes number ≡ Some shape
+  pub marked : HasMark marks mark shape.piece
+  pub lies : LiesInRect shape.layer shape.rect node
+
+-- exactly the slots of such nodes
+pub record AreMarkedSlots (grid : GridSaid) (shapes : List Shape) (marks : List Bool) (mark : Bool) (numbers slots : List ℕ) : Type 0 where
+  pub are : (n : ℕ) → Contains slots n ↔ IsOneOf (IsNumberOf grid) (MeetsMarked shapes marks mark numbers) n
+  pub within : All (λ n. n < slot_total grid) slots
+
+-- the numbers of the slots of a shortest open walk from the net's joined part to the rest, or none where there is no such walk
+abbrev pub IsNextAnswerAt : GridSaid → FlatSaid → ℕ → Option (List ℕ) → Type 0
+IsNextAnswerAt grid flat net None = HasNoWalkAt grid flat net
+IsNextAnswerAt grid flat net (Some numbers) = IsNextWalkAt grid flat net numbers

@@ -1,0 +1,71 @@
+//! Routing a design.
+
+ghost use Rattle.std.specs.Prelude.{◌≡◌, ◌≤◌, false, All, length, map, IfOk, IfErr};
+ghost use Rattle.leg_block.specs.declared.limits.TheConstants.{PART_LIMIT};
+ghost use Rattle.leg_block.specs.WellFormedNets.{IsWire};
+ghost use Rattle.leg_flat.specs.Metal.{metal_of};
+ghost use Rattle.leg_route.specs.Legal.{IsLegal};
+ghost use Rattle.leg_route.specs.SameButForWires.{IsSameButForWires};
+ghost use Rattle.leg_route.specs.Routed.{IsRouted};
+ghost use Rattle.leg_route.specs.Refusal.{IsRefusal};
+ghost use Rattle.leg_route.specs.FinishedRun.{IsFinishedRun};
+
+use crate::clean_flat::clean_flat;
+use crate::fault::RouteFault;
+use crate::finish::finish;
+use crate::grid_ground::GridGround;
+use crate::nets::route_nets;
+use leg_block::{Design, Wire};
+use leg_cells::Library;
+use std::alloc::Allocator;
+
+/// The design with all its nets routed (own rules): each entry of `NETS` keeps its wires and gets further ones behind them, until
+/// all pieces of each net are joined. Nothing else changes, and the design is then legal.
+///
+/// As long as a net is open, the first such net gets the wires of a shortest walk on the grid of tracks, from the metal that is
+/// joined to its first piece to that of its other pieces. A walk's length is the number of its steps, whatever they measure in
+/// database units. All its metal keeps the spacing from shapes of other owners. Of several shortest walks one is taken whose end
+/// is least by layer, then y, then x; each node before the end is, of those from which a shortest walk can enter the next one, the
+/// first of west, east, south, north, below and above. A run along a layer becomes one wire of the layer's width, which reaches
+/// past both ends by half of it; a step between layers becomes the first default via that joins them, or where none is default
+/// the first via that does; a walk of a single node becomes a square patch.
+///
+/// The library is the one that the design was read with. On each refusal the design comes back unchanged: `TooMany` where it has
+/// more shapes than a flat may have, else `NotClean` with all violations of other kinds than open nets, else `GridTooLarge`, else
+/// where the run first stops: `Unroutable` with the number of the net whose turn it is and for which no such walk is left, or
+/// `TooMany` where a wire would pass the number of shapes. `Memory` is told wherever memory was refused.
+pub fn route<'a, A: Allocator + Copy>(
+    alloc: A,
+    library: &Library<'_, A>,
+    design: Design<'a, A>,
+) -> Result<Design<'a, A>, (Design<'a, A>, RouteFault<A>)>
+    requires { library.now ≡ design.library }
+    ensures legal { IfOk result (λ done. IsLegal done) }
+    ensures same { IfOk result (λ done. IsSameButForWires design.entry done) }
+    ensures run { IfOk result (λ done. IsRouted design.entry done) }
+    ensures few { IfOk result (λ done. length (metal_of done) ≤ PART_LIMIT) }
+    ensures unchanged { IfErr result (λ back. back.0 ≡ design.entry) }
+    ensures refused { IfErr result (λ back. IsRefusal design.entry back.1) }
+{
+    match wires_for(alloc, library, &design) {
+        Ok(lists) => finish(design, lists),
+        Err(fault) => Err((design, fault)),
+    }
+}
+
+/// For each entry of `NETS` the wires that it gets until no net is open, in their order.
+fn wires_for<A: Allocator + Copy>(
+    alloc: A,
+    library: &Library<'_, A>,
+    design: &Design<'_, A>,
+) -> Result<Vec<Vec<Wire, A>, A>, RouteFault<A>>
+    requires { library.now ≡ design.now.library }
+    ensures run { IfOk result (λ lists. IsFinishedRun design.now (map (λ wires. wires.items) lists.items)) }
+    ensures spelled { IfOk result (λ lists. All (λ wires. All (IsWire design.now.library design.now.vias false) wires.items) lists.items) }
+    ensures refused { IfErr result (λ fault. IsRefusal design.now fault) }
+{
+    let flat = clean_flat(alloc, library, design)?;
+    let mut ground = GridGround::new(alloc, design, flat)?;
+    let lists = route_nets(alloc, &mut ground, design.nets().len() as u32)?;
+    Ok(lists)
+}
