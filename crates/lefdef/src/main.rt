@@ -1,15 +1,17 @@
 //! lefdef: is a placed block of standard cells legal?
 //!
 //! `lefdef COMMAND DEF LEF...` reads the files, asks `leg_app` and writes its answer. With no words it
-//! reads one LEF and after it one DEF from standard input, and checks the block.
+//! reads one LEF and after it one DEF from standard input, and checks the block. `lefdef --help` prints help.
 #![tactic(auto)]
 
+mod help;
 mod input;
 
+use help::help_text;
 use input::{InputFault, read_all};
 use leg_app::{
-    Asked, FILE_LIMIT, Halt, Line, RunFault, STREAM_LIMIT, Status, asked_by, run, run_out,
-    run_stream,
+    Asked, FILE_LIMIT, Halt, Line, RunFault, STREAM_LIMIT, Status, asked_by, run, run_help,
+    run_out, run_stream,
 };
 use std::alloc::{AllocError, Allocator};
 use std::fs::File;
@@ -67,9 +69,16 @@ fn words<R: Runtime + AllocGlobal>(rt: &R) -> Result<Vec<String>, Stop<'static>>
 fn answered<'a, R: Runtime + AllocGlobal>(rt: &R, words: &'a [String]) -> Result<Status, Stop<'a>> {
     match asked_by(words) {
         Some(Asked::Stream) => on_stream(rt),
+        Some(Asked::Help) => on_help(rt),
         Some(Asked::Files(line)) => on_files(rt, &line),
         None => Err(Stop::Halt(Halt::Usage)),
     }
+}
+
+// The help on the program.
+fn on_help<R: Runtime + AllocGlobal>(rt: &R) -> Result<Status, Stop<'static>> {
+    let help = help_text(rt.alloc())?;
+    Ok(run_help(&mut io::writer(rt), help.as_bytes())?)
 }
 
 // The answer to files: the LEFs are read in turn and then the DEF, before any of them is judged.

@@ -1,5 +1,5 @@
 -- Answers of every command.
-use Rattle.std.proofs.Common.{◌≡◌, ℕ, false, List, Option, None, Some, is_some, option_map, Result, Ok, Err, IfOk, IfErr, OnErr, codes, inl, refl, sym, arith}
+use Rattle.std.proofs.Common.{◌≡◌, ℕ, false, List, Option, None, Some, is_some, option_map, Result, Ok, Err, IfOk, IfErr, OnErr, codes, inl, inr, refl, sym, arith}
 use Rattle.std.proofs.lemmas.Fmt.{decimal_digit}
 use Rattle.std.proofs.lemmas.Bool.{false≢true}
 use Rattle.leg_app.specs.declared.command.Command.{Command}
@@ -17,6 +17,7 @@ use Rattle.leg_app.specs.Say.{SayDesign}
 use Rattle.leg_app.specs.Lines.{no_library_text}
 use Rattle.leg_app.specs.Answer.{Lists, IsShown, IsAnswer}
 use Rattle.leg_app.specs.Answer.{IsListing}
+use Rattle.leg_app.specs.Steps.Making.{IsMaking}
 
 -- what is weaker holds of what is answered too
 pub ok_weaker : {T E : Type 0} (P Q : T → Type 0) (r : Result T E) → ((t : T) → P t → Q t) → IfOk r P → IfOk r Q
@@ -52,6 +53,14 @@ listed_answer command lefs def library design flat violations Violations text sa
 listed_answer command lefs def library design flat violations Refused text say shown list listed = absurd listed
 listed_answer command lefs def library design flat violations Unsolved text say shown list listed = absurd listed
 listed_answer command lefs def library design flat violations Memory text say shown list listed = absurd listed
+
+-- what is made of a design is an answer to texts that say the design, and so is the reason for which nothing is made of it
+pub made_answer : (command : Command) (lefs : List (List ℕ)) (def : List ℕ) (library : Contents) (design : DesignContents) (status : Status) (text : List ℕ) → SayDesign lefs def library design → IsMaking command design status text → IsAnswer command lefs def status text
+made_answer command lefs def library design Success text say made = inr (inr (record { library = library; design = design; say = say; made = made }))
+made_answer command lefs def library design Unsolved text say reason = record { library = library; design = design; say = say; reason = reason }
+made_answer command lefs def library design Violations text say made = absurd made
+made_answer command lefs def library design Refused text say made = absurd made
+made_answer command lefs def library design Memory text say made = absurd made
 
 -- the line of a stream in which no LEF ends
 pub no_library_is : no_library_text ≡ codes "REFUSED 0 1 UnexpectedEnd\n"

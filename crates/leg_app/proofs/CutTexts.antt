@@ -16,7 +16,7 @@ use Rattle.leg_app.specs.declared.command.Command.{Command}
 use Rattle.leg_app.specs.declared.status.Status.{Status}
 use Rattle.leg_app.specs.declared.status.Status.TheVariants.{Success, Violations, Refused, Unsolved, Memory}
 use Rattle.leg_app.specs.Say.{SayDesign}
-use Rattle.leg_app.specs.Legalised.{PrintsLegalised, TellsUnsolved}
+use Rattle.leg_app.specs.Made.{PrintsMade, TellsUnsolved}
 use Rattle.leg_app.specs.Answer.{ListsViolations, TellsWirelength, IsAnswer}
 
 -- a limit beyond that of texts
@@ -95,26 +95,16 @@ module _ (limit : ℕ) (beyond : TEXT_LIMIT < limit) where
       is = told.is;
     }
 
-    cut_legalises : (command : Command) (text : List ℕ) → PrintsLegalised command (map (take limit) lefs) (take limit def) text → PrintsLegalised command lefs def text
-    cut_legalises command text printed = record {
-      legalises = printed.legalises;
+    cut_made : (command : Command) (text : List ℕ) → PrintsMade command (map (take limit) lefs) (take limit def) text → PrintsMade command lefs def text
+    cut_made command text printed = record {
       library = printed.library;
       design = printed.design;
       say = cut_designs printed.library printed.design printed.say;
-      legalised = printed.legalised;
-      legal = printed.legal;
-      same = printed.same;
-      run = printed.run;
-      distances = printed.distances;
-      total = printed.total;
-      greatest = printed.greatest;
-      moves = printed.moves;
-      is = printed.is;
+      made = printed.made;
     }
 
     cut_unsolved : (command : Command) (text : List ℕ) → TellsUnsolved command (map (take limit) lefs) (take limit def) text → TellsUnsolved command lefs def text
     cut_unsolved command text told = record {
-      legalises = told.legalises;
       library = told.library;
       design = told.design;
       say = cut_designs told.library told.design told.say;
@@ -124,7 +114,7 @@ module _ (limit : ℕ) (beyond : TEXT_LIMIT < limit) where
     pub cut_answers : (command : Command) (status : Status) (text : List ℕ) → IsAnswer command (map (take limit) lefs) (take limit def) status text → IsAnswer command lefs def status text
     cut_answers command Success text (inl lists) = inl (cut_lists command Success text lists)
     cut_answers command Success text (inr (inl told)) = inr (inl (cut_measures command text told))
-    cut_answers command Success text (inr (inr printed)) = inr (inr (cut_legalises command text printed))
+    cut_answers command Success text (inr (inr printed)) = inr (inr (cut_made command text printed))
     cut_answers command Unsolved text told = cut_unsolved command text told
     cut_answers command Violations text answer = cut_lists command Violations text answer
     cut_answers command Memory text answer = answer

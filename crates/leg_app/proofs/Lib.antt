@@ -1,6 +1,7 @@
 -- What texts say
 mod Sayings
 mod SplitLemmas
+mod WordsAsked
 -- What is answered
 mod KindsJoined
 mod AnswerLemmas

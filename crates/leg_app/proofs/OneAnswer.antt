@@ -19,12 +19,13 @@ use Rattle.leg_flat.proofs.OneFlat.{one_flat}
 use Rattle.leg_print.specs.Wirelength.{IsWirelength}
 use Rattle.leg_print.proofs.OneWirelength.{one_wirelength}
 use Rattle.leg_app.specs.declared.command.Command.{Command}
-use Rattle.leg_app.specs.declared.command.Command.TheVariants.{PlaceCheck, Check, Measure, Legalise}
+use Rattle.leg_app.specs.declared.command.Command.TheVariants.{PlaceCheck, Check, Measure, Legalise, Route, Flow}
 use Rattle.leg_app.specs.declared.status.Status.{Status}
 use Rattle.leg_app.specs.declared.status.Status.TheVariants.{Success, Violations, Refused, Unsolved, Memory}
 use Rattle.leg_app.specs.Say.{SayLibraryFor, SayDesign}
 use Rattle.leg_app.specs.Violations.{IsViolation, IsJudgedBy, AreAllViolations, AreViolationsOf}
 use Rattle.leg_app.specs.Lines.{wirelength_text}
+use Rattle.leg_app.specs.Made.{IsTextMade, IsReason}
 use Rattle.leg_app.specs.Answer.{Lists, IsShown, IsListing, ListsViolations, TellsWirelength, IsAnswer}
 
 ComesBefore-irreflexive : (v : Fault) → ComesBefore v v → ⊥
@@ -100,6 +101,8 @@ one_shown Check design None g p q = absurd p
 one_shown Check design (Some f) None p q = absurd q
 one_shown Measure design f g p q = absurd p
 one_shown Legalise design f g p q = absurd p
+one_shown Route design f g p q = absurd p
+one_shown Flow design f g p q = absurd p
 one_shown Check design (Some f) (Some g) p q = (let same : f ≡ g = one_flat design f g p.is_flat q.is_flat in cc)
 
 -- one status and one text go with violations
@@ -117,6 +120,23 @@ one_listing design flat violations Violations Memory text words p q = absurd q
 one_listing design flat violations Refused other text words p q = absurd p
 one_listing design flat violations Unsolved other text words p q = absurd p
 one_listing design flat violations Memory other text words p q = absurd p
+
+-- a command that makes no design prints none, and has no reason to make none
+makes_nothing : (command : Command) (design : DesignContents) (text : List ℕ) → command ≢ Legalise → command ≢ Route → command ≢ Flow → IsTextMade command design text → ⊥
+makes_nothing PlaceCheck design text first second third made = made
+makes_nothing Check design text first second third made = made
+makes_nothing Measure design text first second third made = made
+makes_nothing Legalise design text first second third made = first refl
+makes_nothing Route design text first second third made = second refl
+makes_nothing Flow design text first second third made = third refl
+
+has_no_reason : (command : Command) (design : DesignContents) (text : List ℕ) → command ≢ Legalise → command ≢ Route → command ≢ Flow → IsReason command design text → ⊥
+has_no_reason PlaceCheck design text first second third reason = reason
+has_no_reason Check design text first second third reason = reason
+has_no_reason Measure design text first second third reason = reason
+has_no_reason Legalise design text first second third reason = first refl
+has_no_reason Route design text first second third reason = second refl
+has_no_reason Flow design text first second third reason = third refl
 
 module _ (command : Command) (lefs : List (List ℕ)) (def : List ℕ) (one : SayOneDesign lefs def) where
   one_judgement : (status other : Status) (text words : List ℕ) → ListsViolations command lefs def status text → ListsViolations command lefs def other words → (status ≡ other) × (text ≡ words)
@@ -162,18 +182,24 @@ module _ (command : Command) (lefs : List (List ℕ)) (def : List ℕ) (one : Sa
   measured_not_refused text words p (inl refusal) = refusal.nothing p.library p.design p.say
   measured_not_refused text words p (inr much) = (let both : ◌≡◌ {A = Command} Check Measure = sym much.flattens ∙ p.measures in cc)
 
-  -- of a command that doesn't legalise
-  module _ (judges : command ≢ Legalise) where
+  -- of a command that makes no design
+  module _ (first : command ≢ Legalise) (second : command ≢ Route) (third : command ≢ Flow) where
+    nothing_made : (design : DesignContents) (text : List ℕ) → IsTextMade command design text → ⊥
+    nothing_made design text made = makes_nothing command design text first second third made
+
+    no_reason : (design : DesignContents) (text : List ℕ) → IsReason command design text → ⊥
+    no_reason design text reason = has_no_reason command design text first second third reason
+
     pub one_answer : (status other : Status) (text words : List ℕ) → IsAnswer command lefs def status text → IsAnswer command lefs def other words
         → status ≢ Refused → status ≢ Memory → other ≢ Memory → (status ≡ other) × (text ≡ words)
     one_answer Refused other text words p q judged told told_too = absurd (judged refl)
     one_answer Memory other text words p q judged told told_too = absurd (told refl)
-    one_answer Unsolved other text words p q judged told told_too = absurd (judges p.legalises)
-    one_answer Success other text words (inr (inr p)) q judged told told_too = absurd (judges p.legalises)
-    one_answer Success Unsolved text words p q judged told told_too = absurd (judges q.legalises)
-    one_answer Violations Unsolved text words p q judged told told_too = absurd (judges q.legalises)
-    one_answer Success Success text words p (inr (inr q)) judged told told_too = absurd (judges q.legalises)
-    one_answer Violations Success text words p (inr (inr q)) judged told told_too = absurd (judges q.legalises)
+    one_answer Unsolved other text words p q judged told told_too = absurd (no_reason p.design text p.reason)
+    one_answer Success other text words (inr (inr p)) q judged told told_too = absurd (nothing_made p.design text p.made)
+    one_answer Success Unsolved text words p q judged told told_too = absurd (no_reason q.design words q.reason)
+    one_answer Violations Unsolved text words p q judged told told_too = absurd (no_reason q.design words q.reason)
+    one_answer Success Success text words p (inr (inr q)) judged told told_too = absurd (nothing_made q.design words q.made)
+    one_answer Violations Success text words p (inr (inr q)) judged told told_too = absurd (nothing_made q.design words q.made)
     one_answer Success Success text words (inl p) (inl q) judged told told_too = one_judgement Success Success text words p q
     one_answer Success Success text words (inl p) (inr (inl q)) judged told told_too = absurd (lists_nothing Success text words p q)
     one_answer Success Success text words (inr (inl p)) (inl q) judged told told_too = absurd (lists_nothing Success words text q p)

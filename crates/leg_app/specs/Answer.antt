@@ -6,7 +6,7 @@ use Rattle.leg_lex.specs.declared.read_fault.FaultKind.TheVariants as kinds
 use Rattle.leg_cells.specs.declared.scale_fault.ScaleKind.{ScaleKind}
 use Rattle.leg_cells.specs.declared.scale_fault.ScaleKind.TheVariants as scale
 use Rattle.leg_app.specs.declared.command.Command.{Command}
-use Rattle.leg_app.specs.declared.command.Command.TheVariants.{PlaceCheck, Check, Measure, Legalise}
+use Rattle.leg_app.specs.declared.command.Command.TheVariants.{PlaceCheck, Check, Measure, Legalise, Route, Flow}
 use Rattle.leg_app.specs.declared.status.Status.{Status}
 use Rattle.leg_app.specs.declared.status.Status.TheVariants.{Success, Violations, Refused, Unsolved, Memory}
 use Rattle.leg_cells.specs.Records.{Contents}
@@ -20,17 +20,19 @@ use Rattle.leg_app.specs.Say.{SayDesign, SayNothing, SayTooMany}
 use Rattle.leg_app.specs.Violations.{IsViolation, IsJudgedBy}
 use Rattle.leg_app.specs.Stream.{HasEndLibrary, IsSplit}
 use Rattle.leg_app.specs.Lines.{listing_text, legal_text, wirelength_text, memory_text, no_library_text, refused_text, scale_text, too_many_text}
-use Rattle.leg_app.specs.Legalised.{PrintsLegalised, TellsUnsolved}
+use Rattle.leg_app.specs.Made.{PrintsMade, TellsUnsolved}
 
--- the violations that the command lists: those of where components stand, or all; `measure` and `legalise` list none
+-- the violations that the command lists: those of where components stand, or all; the other commands list none
 abbrev pub Lists : Command → Contents → DesignContents → Fault → Type 0
 Lists PlaceCheck library design fault = Holds library design fault
 Lists Check library design fault = IsViolation library design fault
 Lists Measure library design fault = ⊥
 Lists Legalise library design fault = ⊥
+Lists Route library design fault = ⊥
+Lists Flow library design fault = ⊥
 
--- the flat that is judged, and whose shapes and pieces the lines name: none, or the design's own; `measure` and `legalise`
--- show none
+-- the flat that is judged, and whose shapes and pieces the lines name: none, or the design's own; the other commands show
+-- none
 abbrev pub IsShown : Command → DesignContents → Option FlatSaid → Type 0
 IsShown PlaceCheck design None = Unit {0}
 IsShown PlaceCheck design (Some flat) = ⊥
@@ -38,6 +40,8 @@ IsShown Check design None = ⊥
 IsShown Check design (Some flat) = IsJudgedBy design flat
 IsShown Measure design flat = ⊥
 IsShown Legalise design flat = ⊥
+IsShown Route design flat = ⊥
+IsShown Flow design flat = ⊥
 
 -- the status and the text for these violations: `legal` where there are none, and else a line for each and their number
 abbrev pub IsListing : DesignContents → Option FlatSaid → List Fault → Status → List ℕ → Type 0
@@ -94,7 +98,7 @@ pub record TellsTooMany (command : Command) (lefs : List (List ℕ)) (def text :
 -- The text and the status are an answer of the command to these texts.
 abbrev pub IsAnswer : Command → List (List ℕ) → List ℕ → Status → List ℕ → Type 0
 IsAnswer command lefs def Success text =
-    ListsViolations command lefs def Success text ⊎ (TellsWirelength command lefs def text ⊎ PrintsLegalised command lefs def text)
+    ListsViolations command lefs def Success text ⊎ (TellsWirelength command lefs def text ⊎ PrintsMade command lefs def text)
 IsAnswer command lefs def Violations text = ListsViolations command lefs def Violations text
 IsAnswer command lefs def Refused text = TellsRefusal lefs def text ⊎ TellsTooMany command lefs def text
 IsAnswer command lefs def Unsolved text = TellsUnsolved command lefs def text

@@ -1,2 +1,3 @@
 -- What the code knows on its way. No meaning of a public call speaks of it.
 pub mod SaidLibrary
+pub mod Making

@@ -10,8 +10,10 @@ ghost use Rattle.leg_app.specs.Answer.{IsListing};
 
 use crate::check::check_design;
 use crate::command::Command;
+use crate::flow_answer::flow_answer;
 use crate::legalise_answer::legalise_answer;
 use crate::lines::{listing_text, refused_text, scale_text, wirelength_text};
+use crate::route_answer::route_answer;
 use crate::status::Status;
 use crate::text_fault::TextFault;
 use crate::texts::{behind_lefs, library_for};
@@ -79,6 +81,8 @@ fn design_answer<A: Allocator + Copy>(
         Command::PlaceCheck => placement_answer(alloc, &design),
         Command::Measure => measure_answer(alloc, &design),
         Command::Legalise => legalise_answer(alloc, design),
+        Command::Route => route_answer(alloc, design),
+        Command::Flow => flow_answer(alloc, design),
     }
 }
 

@@ -11,4 +11,8 @@ pub enum Command {
     Measure,
     /// The block with each movable component at its best free position.
     Legalise,
+    /// The block with wires added to each net that is open, until all its pieces are joined.
+    Route,
+    /// The block legalised, and what came of it routed.
+    Flow,
 }

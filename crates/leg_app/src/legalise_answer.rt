@@ -1,11 +1,10 @@
 //! What `legalise` answers.
 
-ghost use Rattle.std.specs.Prelude.{◌≡◌, ℕ, List, IfOk};
+ghost use Rattle.std.specs.Prelude.{IfOk};
 ghost use Rattle.leg_legal.specs.Refusals.{IsRefusal};
 ghost use Rattle.leg_app.specs.declared.command.Command.TheVariants.{Legalise};
-ghost use Rattle.leg_app.specs.Say.{SayDesign};
-ghost use Rattle.leg_app.specs.Legalised.{TellsWhyNot};
-ghost use Rattle.leg_app.specs.Answer.{IsAnswer};
+ghost use Rattle.leg_app.specs.Legalised.{TellsNotLegalised};
+ghost use Rattle.leg_app.specs.Steps.Making.{IsMaking};
 
 use crate::answer::Answer;
 use crate::legalise_lines::{component_text, fixed_illegal_text, legalised_text};
@@ -14,14 +13,12 @@ use leg_block::Design;
 use leg_legal::{LegalFault, legalise};
 use std::alloc::{AllocError, Allocator};
 
-/// What is answered where texts say this design, which is to be legalised.
+/// What is answered where this design is to be legalised.
 pub(crate) fn legalise_answer<A: Allocator + Copy>(
     alloc: A,
     design: Design<'_, A>,
 ) -> Result<Answer<A>, AllocError>
-    ensures { IfOk result (λ answer. (lefs : List (List ℕ)) (def : List ℕ) →
-        SayDesign lefs def design.entry.library design.entry →
-        IsAnswer Legalise lefs def answer.status answer.text.items) }
+    ensures { IfOk result (λ answer. IsMaking Legalise design.entry answer.status answer.text.items) }
 {
     let library = design.library();
     match legalise(alloc, library, design) {
@@ -33,7 +30,7 @@ pub(crate) fn legalise_answer<A: Allocator + Copy>(
             })
         }
         Err((kept, fault)) => {
-            let text = unsolved_text(alloc, &kept, &fault)?;
+            let text = not_legalised_text(alloc, &kept, &fault)?;
             Ok(Answer {
                 status: Status::Unsolved,
                 text,
@@ -43,12 +40,12 @@ pub(crate) fn legalise_answer<A: Allocator + Copy>(
 }
 
 /// Why the design is not legalised. It fails where memory was the reason.
-fn unsolved_text<A: Allocator + Copy>(
+pub(crate) fn not_legalised_text<A: Allocator + Copy>(
     alloc: A,
     design: &Design<'_, A>,
     fault: &LegalFault<A>,
 ) -> Result<Vec<u8, A>, AllocError>
-    ensures { IfOk result (λ text. IsRefusal design.now fault.now → TellsWhyNot design.now text.items) }
+    ensures { IfOk result (λ text. IsRefusal design.now fault.now → TellsNotLegalised design.now text.items) }
 {
     match fault {
         LegalFault::FixedIllegal(violations) => fixed_illegal_text(

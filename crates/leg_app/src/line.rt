@@ -1,7 +1,7 @@
 //! The words of a command line.
 
-ghost use Rattle.std.specs.Prelude.{◌≡◌, ◌≢◌, [], None, map, option_map, string_bytes, IfSome, IfNone};
-ghost use Rattle.leg_app.specs.Line.{command_named, line_of, Asks};
+ghost use Rattle.std.specs.Prelude.{◌≡◌, map, option_map, string_bytes, IfSome, IfNone};
+ghost use Rattle.leg_app.specs.Line.{command_named, line_of, Asks, AsksNothing};
 
 use crate::command::Command;
 use std::alloc::Allocator;
@@ -11,6 +11,8 @@ use std::alloc::Allocator;
 pub enum Asked<'a, A: Allocator> {
     /// To check the block of standard input.
     Stream,
+    /// What the program can be asked.
+    Help,
     /// A command on files.
     Files(Line<'a, A>),
 }
@@ -26,16 +28,17 @@ pub struct Line<'a, A: Allocator> {
     pub lefs: &'a [String<A>],
 }
 
-/// What the words after the program's name ask: standard input where there are none, and else what `line_of` says. None
-/// where they ask for nothing. It takes no memory.
+/// What the words after the program's name ask: standard input where there are none, help where the one word is `--help`,
+/// and else what `line_of` says. None where they ask for nothing. It takes no memory.
 pub fn asked_by<A: Allocator>(words: &[String<A>]) -> Option<Asked<'_, A>>
     ensures found { IfSome result (λ asked. Asks (map string_bytes words.now) asked) }
-    ensures none { IfNone result (words.now ≢ [] × (line_of (map string_bytes words.now) ≡ None)) }
+    ensures none { IfNone result (AsksNothing (map string_bytes words.now)) }
 {
-    if words.is_empty() {
-        return Some(Asked::Stream);
+    match words {
+        [] => Some(Asked::Stream),
+        [word] if word.as_str() == "--help" => Some(Asked::Help),
+        _ => Some(Asked::Files(line_of(words)?)),
     }
-    Some(Asked::Files(line_of(words)?))
 }
 
 /// What the words after the program's name ask: a command's exact name, a DEF, and one LEF or more.
@@ -66,6 +69,10 @@ fn command_named(name: &str) -> Option<Command>
         Some(Command::Measure)
     } else if name == "legalise" {
         Some(Command::Legalise)
+    } else if name == "route" {
+        Some(Command::Route)
+    } else if name == "flow" {
+        Some(Command::Flow)
     } else {
         None
     }

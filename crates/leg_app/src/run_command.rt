@@ -2,7 +2,7 @@
 
 ghost use Rattle.std.specs.Prelude.{◌≡◌, map, IfOk, OnOk, OnErr};
 ghost use Rattle.std.specs.Io.KnownBytes.{Appends};
-ghost use Rattle.leg_app.specs.declared.status.Status.TheVariants.{Memory};
+ghost use Rattle.leg_app.specs.declared.status.Status.TheVariants.{Success, Memory};
 ghost use Rattle.leg_app.specs.Answer.{IsAnswer, IsStreamAnswer, TakesAnswer, TakesFront, TakesPart};
 ghost use Rattle.leg_app.specs.Lines.{memory_text};
 
@@ -73,6 +73,15 @@ pub fn run_out<W: Write>(out: &mut W) -> Result<Status, RunFault>
 {
     write_text(out, b"MEMORY\n")?;
     Ok(Status::Memory)
+}
+
+/// Writes this help whole.
+pub fn run_help<W: Write>(out: &mut W, help: &[u8]) -> Result<Status, RunFault>
+    ensures whole { IfOk result (λ status. (status ≡ Success) × Appends (W.contents out.old) (W.contents out.new) help.now) }
+    ensures cut { OnErr result (TakesFront help.now (W.contents out.old) (W.contents out.new)) }
+{
+    write_text(out, help)?;
+    Ok(Status::Success)
 }
 
 // Stops at the writer's first error, and where it takes no byte.

@@ -1,6 +1,6 @@
 use Rattle.leg_app.proofs.AnswerLemmas.{ok_weaker}
-use Rattle.leg_app.specs.Legalised.TellsWhyNot.{fixed_illegal, no_site, no_room}
-use Rattle.leg_app.proofs.legalise_answer.unsolved_text.Goals as goal
+use Rattle.leg_app.specs.Legalised.TellsNotLegalised.{fixed_illegal, no_site, no_room}
+use Rattle.leg_app.proofs.legalise_answer.not_legalised_text.Goals as goal
 
 pub returns-in-FixedIllegal : goal.returns-in-FixedIllegal
 returns-in-FixedIllegal g c =

@@ -1,0 +1,41 @@
+-- A design routed, and what `route` prints of a design: it routed, or why it is not.
+use Rattle.std.specs.Prelude.{◌≡◌, ◌≤◌, ℕ, List, length}
+use Rattle.leg_block.specs.declared.limits.TheConstants.{PART_LIMIT}
+use Rattle.leg_block.specs.Records.{DesignContents}
+use Rattle.leg_block.specs.declared.fault.Fault.{Fault}
+use Rattle.leg_flat.specs.Metal.{metal_of}
+use Rattle.leg_flat.specs.Flat.{FlatSaid}
+use Rattle.leg_grid.specs.GridSize.{IsGridTooLarge}
+use Rattle.leg_grid.specs.Refusals.{IsNotClean, IsUnroutable}
+use Rattle.leg_route.specs.Legal.{IsLegal}
+use Rattle.leg_route.specs.SameButForWires.{IsSameButForWires}
+use Rattle.leg_route.specs.Routed.{IsRouted}
+use Rattle.leg_route.specs.Refusal.{IsJudgedBy, IsCleanIn, ComesToRun, HasTooMany}
+use Rattle.leg_print.specs.Text.Whole.{design_text}
+use Rattle.leg_app.specs.Lines.{too_many_text}
+use Rattle.leg_app.specs.RouteLines.{not_clean_text, grid_too_large_text, unroutable_text}
+
+-- The second design is the first one, routed: legal, within the limit of shapes, and the same but for wires that entries of
+-- NETS got behind their own, which are those of a routing run.
+pub record Routes (before after : DesignContents) : Type 0 where
+  pub legal : IsLegal after
+  pub few : length (metal_of after) ≤ PART_LIMIT
+  pub same : IsSameButForWires before after
+  pub run : IsRouted before after
+
+-- What is printed is the design routed.
+pub record PrintsRouted (design : DesignContents) (text : List ℕ) : Type 0 where
+  pub routed : DesignContents
+  pub routes : Routes design routed
+  pub is : text ≡ design_text routed
+
+-- why a design is not routed: violations other than open nets, too large a grid, a net that no open walk leads on, or too
+-- many shapes
+pub data TellsNotRouted (design : DesignContents) : List ℕ → Type 0 where
+  not_clean : {flat : FlatSaid} {violations : List Fault} {text : List ℕ} → IsJudgedBy design flat
+      → IsNotClean design flat violations → text ≡ not_clean_text design flat violations → TellsNotRouted design text
+  grid_too_large : {flat : FlatSaid} {text : List ℕ} → IsCleanIn design flat → IsGridTooLarge design
+      → text ≡ grid_too_large_text → TellsNotRouted design text
+  unroutable : {flat : FlatSaid} {net : ℕ} {text : List ℕ} → ComesToRun design flat → IsUnroutable design flat net
+      → text ≡ unroutable_text design net → TellsNotRouted design text
+  too_many : {text : List ℕ} → HasTooMany design → text ≡ too_many_text → TellsNotRouted design text

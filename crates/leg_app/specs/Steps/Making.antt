@@ -1,0 +1,15 @@
+-- What is known of an answer that makes a design, before it is known which texts say the design that it is made of.
+use Rattle.std.specs.Prelude.{ℕ, List}
+use Rattle.leg_block.specs.Records.{DesignContents}
+use Rattle.leg_app.specs.declared.command.Command.{Command}
+use Rattle.leg_app.specs.declared.status.Status.{Status}
+use Rattle.leg_app.specs.declared.status.Status.TheVariants.{Success, Violations, Refused, Unsolved, Memory}
+use Rattle.leg_app.specs.Made.{IsTextMade, IsReason}
+
+-- what the command makes of the design is printed, or the reason for which it makes nothing of it
+abbrev pub IsMaking : Command → DesignContents → Status → List ℕ → Type 0
+IsMaking command design Success text = IsTextMade command design text
+IsMaking command design Violations text = ⊥
+IsMaking command design Refused text = ⊥
+IsMaking command design Unsolved text = IsReason command design text
+IsMaking command design Memory text = ⊥

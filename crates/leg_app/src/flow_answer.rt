@@ -1,0 +1,67 @@
+//! What `flow` answers.
+
+ghost use Rattle.std.specs.Prelude.{IfOk};
+ghost use Rattle.leg_block.specs.Records.{DesignContents};
+ghost use Rattle.leg_legal.specs.Moves.{AreMoves};
+ghost use Rattle.leg_app.specs.declared.command.Command.TheVariants.{Flow};
+ghost use Rattle.leg_app.specs.Legalised.{Legalises};
+ghost use Rattle.leg_app.specs.Steps.Making.{IsMaking};
+
+use crate::answer::Answer;
+use crate::legalise_answer::not_legalised_text;
+use crate::legalise_lines::legalised_text;
+use crate::route_answer::not_routed_text;
+use crate::status::Status;
+use leg_block::Design;
+use leg_legal::{Moves, legalise};
+use leg_route::route;
+use std::alloc::{AllocError, Allocator};
+
+/// What is answered where this design is to be legalised, and what comes of it is to be routed.
+pub(crate) fn flow_answer<A: Allocator + Copy>(
+    alloc: A,
+    design: Design<'_, A>,
+) -> Result<Answer<A>, AllocError>
+    ensures { IfOk result (λ answer. IsMaking Flow design.entry answer.status answer.text.items) }
+{
+    let library = design.library();
+    match legalise(alloc, library, design) {
+        Ok((legalised, moves)) => routing_answer(alloc, legalised, &moves),
+        Err((kept, fault)) => {
+            let text = not_legalised_text(alloc, &kept, &fault)?;
+            Ok(Answer {
+                status: Status::Unsolved,
+                text,
+            })
+        }
+    }
+}
+
+/// What is answered where a design was legalised, so that its components made these moves, and is to be routed.
+fn routing_answer<A: Allocator + Copy>(
+    alloc: A,
+    legalised: Design<'_, A>,
+    moves: &Moves<A>,
+) -> Result<Answer<A>, AllocError>
+    ensures { IfOk result (λ answer. (design : DesignContents) → Legalises design legalised.entry →
+        AreMoves design legalised.entry moves.now.per_component moves.now.total moves.now.greatest →
+        IsMaking Flow design answer.status answer.text.items) }
+{
+    let library = legalised.library();
+    match route(alloc, library, legalised) {
+        Ok(routed) => {
+            let text = legalised_text(alloc, &routed, moves)?;
+            Ok(Answer {
+                status: Status::Success,
+                text,
+            })
+        }
+        Err((kept, fault)) => {
+            let text = not_routed_text(alloc, &kept, &fault)?;
+            Ok(Answer {
+                status: Status::Unsolved,
+                text,
+            })
+        }
+    }
+}
