@@ -101,7 +101,12 @@ fn a_line_has_a_command_a_def_and_lefs(rt: HostRuntime) -> Result<(), Fail> {
         assert!(rt; line_of(&words).is_none(), "at {texts:?}");
     }
     assert!(rt; matches!(asked_by(&words(rt.alloc(), &[])?), Some(Asked::Stream)));
-    assert!(rt; matches!(asked_by(&words(rt.alloc(), &["--help"])?), Some(Asked::Help)));
+    assert!(rt;
+        matches!(
+            asked_by(&words(rt.alloc(), &["--help"])?),
+            Some(Asked::Help)
+        )
+    );
     assert!(rt; asked_by(&words(rt.alloc(), &["--help", "check"])?).is_none());
     assert!(rt; asked_by(&words(rt.alloc(), &["check"])?).is_none());
     let words = words(
