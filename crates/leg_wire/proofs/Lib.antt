@@ -7,6 +7,7 @@ mod WayUp
 mod SetsUnited
 -- Metal that may lie somewhere
 mod CleanMetal
+mod AccessBeside
 -- Pieces that touch
 mod SinglePoints
 mod SeenPoints

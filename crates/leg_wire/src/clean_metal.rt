@@ -26,7 +26,7 @@ fn net_metal(net: u32, layer: usize, rect: Rect) -> Shape
 }
 
 /// The spacing of the layer of this number; 0 where there is none.
-fn spacing_at(layers: &[Layer<'_>], layer: usize) -> u64
+pub(crate) fn spacing_at(layers: &[Layer<'_>], layer: usize) -> u64
     requires { All IsSoundLayer layers.now }
     ensures is { result ≡ spacing_at layers.now layer }
     ensures within { result < 2 ^ 32 }

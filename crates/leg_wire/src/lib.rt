@@ -3,9 +3,11 @@
 //!
 //! `spacing_faults` and `open_faults` list exactly the violations of these kinds, each once, in order; `joined` says which
 //! pieces of a net are joined to its first one, and `joined_among` the same where the numbers of the net's shapes are known,
-//! which `numbers_by_net` finds. `clean` says where metal of a net may lie, and `clean_indexed` says it by an index.
+//! which `numbers_by_net` finds. `clean` says where metal of a net may lie, `clean_indexed` says it by an index, and
+//! `access_beside` says which nets' metal may lie beside a shape.
 #![tactic(auto)]
 
+mod access;
 mod clean_metal;
 mod comparable;
 mod corner;
@@ -20,6 +22,7 @@ mod sets;
 mod spacing;
 mod too_close;
 
+pub use access::{Access, access_beside};
 pub use clean_metal::{clean, clean_indexed};
 pub use join::{joined, joined_among};
 pub use net_shapes::numbers_by_net;

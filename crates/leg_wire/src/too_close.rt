@@ -1,7 +1,8 @@
 //! Comparable shapes that share a point or stand nearer than their layer's spacing.
 
-ghost use Rattle.std.specs.Prelude.{◌≡◌, ◌≤◌, ◌<◌, ◌+◌, ◌^◌, ◌↔◌, length, min, All, IsTrue, unsigned_abs};
+ghost use Rattle.std.specs.Prelude.{◌≡◌, ◌≤◌, ◌<◌, ◌+◌, ◌^◌, ◌↔◌, ◌⊎◌, length, min, All, IsTrue, unsigned_abs};
 ghost use Rattle.std.proofs.Common.{ap};
+ghost use Rattle.leg_geom.specs.Plane.{SharePoint};
 ghost use Rattle.leg_cells.specs.Sound.{IsSoundLayer};
 ghost use Rattle.leg_wire.specs.Spacing.{AreNearer};
 ghost use Rattle.leg_wire.specs.Steps.TooCloseRule.{AreCloserThan, AreClose, limit_at, AreClose-symmetric, AreClose-near, AreClose-near_on_layer};
@@ -68,7 +69,15 @@ pub(crate) fn are_closer_than(distance: u64, a: &Shape, b: &Shape) -> bool
     requires { distance < 2 ^ 32 }
     ensures { IsTrue result ↔ AreCloserThan distance a.now b.now }
 {
-    are_comparable(a, b) && (a.rect.shares_point(&b.rect) || are_nearer(distance, &a.rect, &b.rect))
+    are_comparable(a, b) && are_close(distance, &a.rect, &b.rect)
+}
+
+/// Whether the rectangles share a point, or some points of them lie nearer to one another than this.
+pub(crate) fn are_close(distance: u64, a: &Rect, b: &Rect) -> bool
+    requires { distance < 2 ^ 32 }
+    ensures { IsTrue result ↔ (SharePoint a.now b.now ⊎ AreNearer distance a.now b.now) }
+{
+    a.shares_point(b) || are_nearer(distance, a, b)
 }
 
 /// Whether some points of the rectangles lie nearer to one another than this.
