@@ -1,7 +1,8 @@
 -- Steps come one nearer at most.
-use Rattle.std.proofs.Common.{◌≡◌, ℕ, ◌+◌, ◌*◌, ◌/◌, ◌%◌, ◌<◌, ◌≤◌, length, sym, ap, ◌∙◌, arith}
-use Rattle.std.proofs.Math.Nat.{mul-le-mul_left, mul-le-mul_right}
+use Rattle.std.proofs.Common.{◌≡◌, ℕ, suc, ◌+◌, ◌*◌, ◌/◌, ◌%◌, ◌<◌, ◌≤◌, inl, inr, List, [], ◌∷◌, ◌++◌, min, Contains, length, sym, ap, ◌∙◌, arith}
+use Rattle.std.proofs.Math.Nat.{mul-le-mul_left, mul-le-mul_right, min-le_left, min-le_right}
 use Rattle.std.proofs.lemmas.Nat.{div-mul-add}
+use Rattle.leg_sweep.proofs.Lists.{Contains-nil, Contains-cons_cases}
 use Rattle.leg_walk.specs.declared.side.Side.{Side}
 use Rattle.leg_walk.specs.Side.{opposite}
 use Rattle.leg_walk.specs.declared.side.Side.TheVariants.{West, East, South, North, Below, Above}
@@ -10,7 +11,8 @@ use Rattle.leg_grid.specs.declared.slot_box.SlotBox.{SlotBox}
 use Rattle.leg_grid.specs.Grid.{GridSaid, IsGrid, IsSlot}
 use Rattle.leg_grid.specs.Beside.{IsSlotBeside}
 use Rattle.leg_grid.specs.Numbered.{IsBesideAt}
-use Rattle.leg_grid.specs.Bound.{gap, slot_bound, bound_at, IsBoxOf, IsInBox, IsBesideNear}
+use Rattle.leg_grid.specs.declared.limits.TheConstants.{GRID_LIMIT}
+use Rattle.leg_grid.specs.Bound.{gap, slot_bound, nearest, bound_at, IsBoxOf, IsInBox, IsBesideNear}
 use Rattle.leg_grid.proofs.StepsAt.{step_from}
 
 -- the slot of a number is told by division
@@ -31,10 +33,10 @@ slot_is grid n k j i slot =
       column = ap (λ (m : ℕ). m % length grid.xs) slot.is ∙ rest_of (length grid.xs) (k * length grid.ys + j) i slot.column;
     }
 
-pub bound_is : (grid : GridSaid) (ends : SlotBox) (n : ℕ) (s : Slot) → IsSlot grid n s.layer s.row s.column → bound_at grid ends n ≡ slot_bound ends s
-bound_is grid ends n s slot =
+pub bound_is : (grid : GridSaid) (boxes : List SlotBox) (n : ℕ) (s : Slot) → IsSlot grid n s.layer s.row s.column → bound_at grid boxes n ≡ nearest boxes s
+bound_is grid boxes n s slot =
     let is = slot_is grid n s.layer s.row s.column slot in
-    λ i. slot_bound ends (record { layer = is.layer i; row = is.row i; column = is.column i })
+    λ i. nearest boxes (record { layer = is.layer i; row = is.row i; column = is.column i })
 
 -- no count of a grid's layers, rows and columns is above their product
 pub record AreFew (limit layers rows columns : ℕ) : Type 0 where
@@ -89,13 +91,20 @@ slots_near grid ends Above s t e =
     let r = same_gap ends.low.column ends.high.column s.column t.column (sym e.same_column) in
     omega (arith, n, l, r)
 
+least_near : (a b c d : ℕ) → a ≤ b + 1 → c ≤ d + 1 → min a c ≤ min b d + 1
+least_near a b c d first rest = grind arith
+
+nearest_near : (boxes : List SlotBox) (s t : Slot) → ((ends : SlotBox) → slot_bound ends s ≤ slot_bound ends t + 1) → nearest boxes s ≤ nearest boxes t + 1
+nearest_near [] s t each = omega arith
+nearest_near (ends ∷ boxes) s t each = least_near (slot_bound ends s) (slot_bound ends t) (nearest boxes s) (nearest boxes t) (each ends) (nearest_near boxes s t each)
+
 -- a step comes one nearer at most
-pub one_nearer : (grid : GridSaid) (ends : SlotBox) (side : Side) (n to : ℕ) → IsGrid grid → IsBesideAt grid side n to → bound_at grid ends n ≤ bound_at grid ends to + 1
-one_nearer grid ends side n to is_grid step =
+pub one_nearer : (grid : GridSaid) (boxes : List SlotBox) (side : Side) (n to : ℕ) → IsGrid grid → IsBesideAt grid side n to → bound_at grid boxes n ≤ bound_at grid boxes to + 1
+one_nearer grid boxes side n to is_grid step =
     let number = step.a_is in
     let s : Slot = record { layer = number.k; row = number.j; column = number.i } in
     let from = step_from grid side n s to is_grid number.slot step in
-    rw (bound_is grid ends n s number.slot, bound_is grid ends to from.t from.number) (slots_near grid ends side s from.t from.beside.beside)
+    rw (bound_is grid boxes n s number.slot, bound_is grid boxes to from.t from.number) (nearest_near boxes s from.t (λ ends. slots_near grid ends side s from.t from.beside.beside))
 
 gap_below : (n low high place : ℕ) → low < n → place < n → gap low high place < n
 gap_below n low high place l p = omega arith
@@ -111,13 +120,55 @@ bound_small grid ends n s is_grid box slot =
     let c = gap_below (length grid.xs) ends.low.column ends.high.column s.column box.low.column column in
     omega (arith, few.layers_few, few.rows_few, few.columns_few, l, r, c)
 
-pub in_box : (grid : GridSaid) (ends : SlotBox) (n : ℕ) (s : Slot) → IsSlot grid n s.layer s.row s.column → IsInBox ends s → bound_at grid ends n ≡ 0
-in_box grid ends n s slot inside =
+min_upto : (a b c : ℕ) → b ≤ c → min a b ≤ min a c
+min_upto a b c upto = grind arith
+
+min_turned : (a b : ℕ) → min a b ≡ min b a
+min_turned a b = grind arith
+
+min_grouped : (a b c : ℕ) → min a (min b c) ≡ min (min a b) c
+min_grouped a b c = grind arith
+
+pub none_upto : (a b : ℕ) → a ≤ b → b ≡ 0 → a ≡ 0
+none_upto a b upto none = omega arith
+
+pub nearest_few : (boxes : List SlotBox) (s : Slot) → nearest boxes s ≤ GRID_LIMIT
+nearest_few [] s = omega arith
+nearest_few (ends ∷ boxes) s = let few = nearest_few boxes s in let least = min-le_right (slot_bound ends s) (nearest boxes s) in omega (arith, few, least)
+
+-- a slot in a box doesn't lie outside
+pub in_box : (ends : SlotBox) (s : Slot) → IsInBox ends s → slot_bound ends s ≡ 0
+in_box ends s inside =
     let l : gap ends.low.layer ends.high.layer s.layer ≡ 0 = omega (arith, inside.low_layer, inside.high_layer) in
     let r : gap ends.low.row ends.high.row s.row ≡ 0 = omega (arith, inside.low_row, inside.high_row) in
     let c : gap ends.low.column ends.high.column s.column ≡ 0 = omega (arith, inside.low_column, inside.high_column) in
-    let sum : slot_bound ends s ≡ 0 = omega (arith, l, r, c) in
-    bound_is grid ends n s slot ∙ sum
+    omega (arith, l, r, c)
+
+-- the nearest box is no farther than each
+pub nearest_upto : (boxes : List SlotBox) (ends : SlotBox) (s : Slot) → Contains boxes ends → nearest boxes s ≤ slot_bound ends s
+nearest_upto [] ends s has = absurd (Contains-nil ends has)
+nearest_upto (first ∷ boxes) ends s has = elim (Contains-cons_cases first boxes ends has) [
+  | inl same ↦ rw (← same) (min-le_left (slot_bound first s) (nearest boxes s))
+  | inr rest ↦ let near = nearest_upto boxes ends s rest in let least = min-le_right (slot_bound first s) (nearest boxes s) in omega (arith, near, least)
+]
+
+-- with more boxes the nearest is no farther
+pub nearest_first : (boxes more : List SlotBox) (s : Slot) → nearest (boxes ++ more) s ≤ nearest boxes s
+nearest_first [] more s = nearest_few more s
+nearest_first (ends ∷ boxes) more s = min_upto (slot_bound ends s) (nearest (boxes ++ more) s) (nearest boxes s) (nearest_first boxes more s)
+
+-- one box more
+pub nearest_more : (boxes : List SlotBox) (ends : SlotBox) (s : Slot) → nearest (boxes ++ ends ∷ []) s ≡ min (nearest boxes s) (slot_bound ends s)
+nearest_more [] ends s = min_turned (slot_bound ends s) GRID_LIMIT
+nearest_more (first ∷ boxes) ends s =
+    ap (min (slot_bound first s)) (nearest_more boxes ends s) ∙ min_grouped (slot_bound first s) (nearest boxes s) (slot_bound ends s)
+
+pub in_boxes : (grid : GridSaid) (boxes : List SlotBox) (ends : SlotBox) (n : ℕ) (s : Slot) → IsSlot grid n s.layer s.row s.column → Contains boxes ends → IsInBox ends s → bound_at grid boxes n ≡ 0
+in_boxes grid boxes ends n s slot has inside =
+    let upto = nearest_upto boxes ends s has in
+    let none : slot_bound ends s ≡ 0 = in_box ends s inside in
+    let left : nearest boxes s ≡ 0 = none_upto (nearest boxes s) (slot_bound ends s) upto none in
+    bound_is grid boxes n s slot ∙ left
 
 -- what lies on a side of a node has it on the other
 turned_beside : (grid : GridSaid) (side : Side) (n to : ℕ) → IsBesideAt grid side n to → IsBesideAt grid (opposite side) to n
@@ -128,7 +179,7 @@ turned_beside grid North n to step = record { a = step.b; b = step.a; a_is = ste
 turned_beside grid Below n to step = record { a = step.b; b = step.a; a_is = step.b_is; b_is = step.a_is; step = step.step }
 turned_beside grid Above n to step = record { a = step.b; b = step.a; a_is = step.b_is; b_is = step.a_is; step = step.step }
 
-pub beside_near : (grid : GridSaid) (starts ends : SlotBox) (side : Side) (n to : ℕ) → IsGrid grid → IsBesideAt grid side n to → IsBesideNear grid starts ends side n to
+pub beside_near : (grid : GridSaid) (starts ends : List SlotBox) (side : Side) (n to : ℕ) → IsGrid grid → IsBesideAt grid side n to → IsBesideNear grid starts ends side n to
 beside_near grid starts ends side n to is_grid step =
     let back = turned_beside grid side n to step in record {
       beside = step;

@@ -24,6 +24,8 @@ pub mod SegmentPoints
 pub mod Strips
 pub mod OpenVias
 pub mod OpenSteps
+pub mod StepsAlong
+pub mod StepsUp
 pub mod Bounds
 pub mod Due
 pub mod GridWires
@@ -33,5 +35,14 @@ pub mod FirstSteps
 pub mod OpenWalks
 pub mod SlotRanges
 pub mod NumbersTold
-pub mod LeastBoxes
-pub mod BeyondSteps
+pub mod SlotBoxes
+pub mod GrownSlots
+pub mod FarMetal
+pub mod FarSlots
+pub mod FarAccess
+pub mod SlotsAdded
+pub mod Reached
+pub mod BareSlots
+pub mod TurnedSteps
+pub mod AdmittedSteps
+pub mod OneAdded

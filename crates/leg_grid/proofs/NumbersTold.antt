@@ -4,18 +4,23 @@ use Rattle.std.specs.List.{AllZip}
 use Rattle.std.proofs.lemmas.List.{take_more}
 use Rattle.std.proofs.lemmas.List.Elements.{All-cons}
 use Rattle.std.proofs.lemmas.Slice.Zip.{all_zipped_more}
+use Rattle.std.proofs.lemmas.Option.{slice_get_within}
+use Rattle.leg_cells.specs.Sound.{IsSound}
 use Rattle.leg_flat.specs.Flat.{FlatSaid}
 use Rattle.leg_walk.specs.Walk.{Walk, here, on, IsShortest, NoWalk, IsStep}
 use Rattle.leg_grid.specs.declared.node.Node.{Node}
+use Rattle.leg_grid.specs.declared.slot_access.SlotAccess.{SlotAccess}
 use Rattle.leg_grid.specs.declared.slot_box.SlotBox.{SlotBox}
 use Rattle.leg_grid.specs.Meets.{MeetsJoined, MeetsRest}
 use Rattle.leg_grid.specs.OpenMetal.{IsOpenNode, IsOpenStep}
 use Rattle.leg_grid.specs.Grid.{GridSaid, IsGrid, IsNumberOf, slot_total}
 use Rattle.leg_grid.specs.Bound.{IsBesideNear}
-use Rattle.leg_grid.specs.Numbered.{IsOneOf, IsStepOf, IsOpenStepAt, IsNextWalkAt, HasNoWalkAt}
+use Rattle.leg_grid.specs.Numbered.{IsOneOf, IsStepOf, IsNextWalkAt, HasNoWalkAt}
+use Rattle.leg_grid.specs.Told.{TellsSlots}
+use Rattle.leg_grid.specs.Admitted.{IsNodeAdmitted, IsStepAdmitted}
 use Rattle.leg_grid.proofs.Bounds.{beside_near}
 use Rattle.leg_grid.proofs.OpenSteps.{steps_have_sides}
-use Rattle.leg_grid.proofs.SlotRanges.{below_total}
+use Rattle.leg_grid.proofs.AdmittedSteps.{node_admitted, step_admitted}
 
 pub one_node_more : (grid : GridSaid) (numbers : List ℕ) (i n : ℕ) (nodes more : List Node) (node : Node) → i < length numbers → get_or numbers i n ≡ n
     → AllZip (IsNumberOf grid) (take i numbers) nodes → more ≡ nodes ++ node ∷ [] → IsNumberOf grid n node → AllZip (IsNumberOf grid) (take (i + 1) numbers) more
@@ -23,58 +28,72 @@ one_node_more grid numbers i n nodes more node within is told more_is number =
     let longer : take (i + 1) numbers ≡ take i numbers ++ n ∷ [] = take_more numbers i n within ∙ rw is refl in
     rw (longer, more_is) (all_zipped_more (IsNumberOf grid) (take i numbers) nodes n node told number)
 
-module _ {Node : Type 0} (Open : Node → Type 0) (Step Other : Node → Node → Type 0) (other : (a b : Node) → Step a b → Other a b) where
-  -- a walk of other steps
-  pub walk_as : {a b : Node} {nodes : List Node} → Walk Open Step a nodes b → Walk Open Other a nodes b
-  walk_as (here is_open) = here is_open
-  walk_as (on is_open step rest) = on is_open (other _ _ step) (walk_as rest)
+module _ {Node : Type 0} (Open Other : Node → Type 0) (Step Further : Node → Node → Type 0) (opens : (a : Node) → Open a → Other a) (steps : (a b : Node) → Step a b → Further a b) where
+  -- a walk of nodes and steps that are told otherwise
+  pub walk_as : {a b : Node} {nodes : List Node} → Walk Open Step a nodes b → Walk Other Further a nodes b
+  walk_as (here is_open) = here (opens _ is_open)
+  walk_as (on is_open step rest) = on (opens _ is_open) (steps _ _ step) (walk_as rest)
 
--- a shortest walk by starts, ends and steps that are told otherwise
-pub shortest_as : {Node : Type 0} (Open : Node → Type 0) (Step Other : Node → Node → Type 0) (Start End First Last : Node → Type 0) → ((a b : Node) → Step a b ↔ Other a b)
-    → ((a : Node) → Start a ↔ First a) → ((a : Node) → End a ↔ Last a) → (nodes : List Node) → IsShortest Open Step Start End nodes → IsShortest Open Other First Last nodes
-shortest_as Open Step Other Start End First Last steps starts ends nodes is = record {
-  from = is.from;
-  to = is.to;
-  start = (starts is.from).0 is.start;
-  is_end = (ends is.to).0 is.is_end;
-  walk = walk_as Open Step Other (λ a b step. (steps a b).0 step) is.walk;
-  least = λ a b others start end walk. is.least a b others ((starts a).1 start) ((ends b).1 end) (walk_as Open Other Step (λ a b step. (steps a b).1 step) walk);
-}
+-- a shortest walk by nodes, steps, starts and ends that are told otherwise
+module _ {Node : Type 0} (Open Other : Node → Type 0) (Step Further : Node → Node → Type 0) (Start End First Last : Node → Type 0) (opens : (a : Node) → Open a ↔ Other a)
+    (steps : (a b : Node) → Step a b ↔ Further a b) (starts : (a : Node) → Start a ↔ First a) (ends : (a : Node) → End a ↔ Last a) where
+  forth : {a b : Node} {nodes : List Node} → Walk Open Step a nodes b → Walk Other Further a nodes b
+  forth walk = walk_as Open Other Step Further (λ a is. (opens a).0 is) (λ a b step. (steps a b).0 step) walk
 
-pub none_as : {Node : Type 0} (Open : Node → Type 0) (Step Other : Node → Node → Type 0) (Start End First Last : Node → Type 0) → ((a b : Node) → Step a b ↔ Other a b)
-    → ((a : Node) → Start a ↔ First a) → ((a : Node) → End a ↔ Last a) → NoWalk Open Step Start End → NoWalk Open Other First Last
-none_as Open Step Other Start End First Last steps starts ends none a b nodes start end walk =
-    none a b nodes ((starts a).1 start) ((ends b).1 end) (walk_as Open Other Step (λ a b step. (steps a b).1 step) walk)
+  back : {a b : Node} {nodes : List Node} → Walk Other Further a nodes b → Walk Open Step a nodes b
+  back walk = walk_as Other Open Further Step (λ a is. (opens a).1 is) (λ a b step. (steps a b).1 step) walk
 
-module _ (grid : GridSaid) (origin box : SlotBox) (flat : FlatSaid) (net : ℕ) where
+  pub shortest_as : (nodes : List Node) → IsShortest Open Step Start End nodes → IsShortest Other Further First Last nodes
+  shortest_as nodes is = record {
+    from = is.from;
+    to = is.to;
+    start = (starts is.from).0 is.start;
+    is_end = (ends is.to).0 is.is_end;
+    walk = forth is.walk;
+    least = λ a b others start end walk. is.least a b others ((starts a).1 start) ((ends b).1 end) (back walk);
+  }
+
+  pub none_as : NoWalk Open Step Start End → NoWalk Other Further First Last
+  none_as none a b nodes start end walk = none a b nodes ((starts a).1 start) ((ends b).1 end) (back walk)
+
+module _ (grid : GridSaid) (origin around : List SlotBox) (flat : FlatSaid) (slots : List SlotAccess) (net : ℕ) where
+  abbrev pub Admitted : ℕ → Type 0
+  Admitted n = IsNodeAdmitted slots net n
+
+  abbrev pub StepAdmitted : ℕ → ℕ → Type 0
+  StepAdmitted m n = IsStep (IsBesideNear grid origin around) (IsStepAdmitted grid slots net) m n
+
   abbrev pub OpenAt : ℕ → Type 0
   OpenAt n = IsOneOf (IsNumberOf grid) (IsOpenNode grid.design flat net) n
-
-  abbrev pub StepNear : ℕ → ℕ → Type 0
-  StepNear m n = IsStep (IsBesideNear grid origin box) (IsOpenStepAt grid flat net) m n
 
   abbrev pub StepAt : ℕ → ℕ → Type 0
   StepAt m n = IsStepOf (IsNumberOf grid) (IsOpenStep grid.design flat net) m n
 
-  same_steps : IsGrid grid → (m n : ℕ) → StepNear m n ↔ StepAt m n
-  same_steps is_grid m n = (
-    λ step. (steps_have_sides grid flat net m n is_grid).1 (step.0, (step.1.0.beside, step.1.1)),
-    λ step.
-        let side = (steps_have_sides grid flat net m n is_grid).0 step in
-        (side.0, (beside_near grid origin box side.0 m n is_grid side.1.0, side.1.1)),
-  )
+  module _ (is_grid : IsGrid grid) (sound : IsSound grid.design.library) (told : TellsSlots grid flat slots) where
+    same_steps : (m n : ℕ) → StepAdmitted m n ↔ StepAt m n
+    same_steps m n = (
+      λ step. (steps_have_sides grid flat net m n is_grid).1 (step.0, (step.1.0.beside, (step_admitted grid is_grid sound flat slots told net m n step.0 step.1.0.beside).0 step.1.1)),
+      λ step.
+          let side = (steps_have_sides grid flat net m n is_grid).0 step in
+          (side.0, (beside_near grid origin around side.0 m n is_grid side.1.0, (step_admitted grid is_grid sound flat slots told net m n side.0 side.1.0).1 side.1.1)),
+    )
 
-  module _ (starts finish : List ℕ) (first : (n : ℕ) → Contains starts n ↔ IsOneOf (IsNumberOf grid) (MeetsJoined flat net) n) (last : (n : ℕ) → Contains finish n ↔ IsOneOf (IsNumberOf grid) (MeetsRest flat net) n) where
-    pub next_walk_at : (numbers : List ℕ) → IsGrid grid → IsShortest OpenAt StepNear (Contains starts) (Contains finish) numbers → IsNextWalkAt grid flat net numbers
-    next_walk_at numbers is_grid is =
-        shortest_as OpenAt StepNear StepAt (Contains starts) (Contains finish) (IsOneOf (IsNumberOf grid) (MeetsJoined flat net)) (IsOneOf (IsNumberOf grid) (MeetsRest flat net)) (same_steps is_grid) first last numbers is
+    module _ (starts finish : List ℕ) (first : (n : ℕ) → Contains starts n ↔ IsOneOf (IsNumberOf grid) (MeetsJoined flat net) n) (last : (n : ℕ) → Contains finish n ↔ IsOneOf (IsNumberOf grid) (MeetsRest flat net) n) where
+      pub next_walk_at : (numbers : List ℕ) → IsShortest Admitted StepAdmitted (Contains starts) (Contains finish) numbers → IsNextWalkAt grid flat net numbers
+      next_walk_at numbers is =
+          shortest_as Admitted OpenAt StepAdmitted StepAt (Contains starts) (Contains finish) (IsOneOf (IsNumberOf grid) (MeetsJoined flat net)) (IsOneOf (IsNumberOf grid) (MeetsRest flat net))
+          (node_admitted grid flat slots told net) same_steps first last numbers is
 
-    pub no_walk_at : IsGrid grid → NoWalk OpenAt StepNear (Contains starts) (Contains finish) → HasNoWalkAt grid flat net
-    no_walk_at is_grid none =
-        none_as OpenAt StepNear StepAt (Contains starts) (Contains finish) (IsOneOf (IsNumberOf grid) (MeetsJoined flat net)) (IsOneOf (IsNumberOf grid) (MeetsRest flat net)) (same_steps is_grid) first last none
+      pub no_walk_at : NoWalk Admitted StepAdmitted (Contains starts) (Contains finish) → HasNoWalkAt grid flat net
+      no_walk_at none =
+          none_as Admitted OpenAt StepAdmitted StepAt (Contains starts) (Contains finish) (IsOneOf (IsNumberOf grid) (MeetsJoined flat net)) (IsOneOf (IsNumberOf grid) (MeetsRest flat net))
+          (node_admitted grid flat slots told net) same_steps first last none
 
-module _ (grid : GridSaid) (flat : FlatSaid) (net : ℕ) where
+module _ (grid : GridSaid) (slots : List SlotAccess) (count : length slots ≡ slot_total grid) (net : ℕ) where
+  below : (n : ℕ) → IsNodeAdmitted slots net n → n < slot_total grid
+  below n is = omega (arith, count, slice_get_within slots n is.slot is.there)
+
   -- the numbers of an open walk are those of slots
-  pub walk_below : {Step : ℕ → ℕ → Type 0} {m n : ℕ} {numbers : List ℕ} → Walk (IsOneOf (IsNumberOf grid) (IsOpenNode grid.design flat net)) Step m numbers n → All (λ n. n < slot_total grid) numbers
-  walk_below {m = m} (here is_open) = All-cons (λ n. n < slot_total grid) m [] (below_total grid m is_open.node is_open.is) (λ k d within. absurd (omega (arith, within)))
-  walk_below {m = m} (on {nodes = nodes} is_open step rest) = All-cons (λ n. n < slot_total grid) m nodes (below_total grid m is_open.node is_open.is) (walk_below rest)
+  pub walk_below : {Step : ℕ → ℕ → Type 0} {m n : ℕ} {numbers : List ℕ} → Walk (IsNodeAdmitted slots net) Step m numbers n → All (λ n. n < slot_total grid) numbers
+  walk_below {m = m} (here is_open) = All-cons (λ n. n < slot_total grid) m [] (below m is_open) (λ k d within. absurd (omega (arith, within)))
+  walk_below {m = m} (on {nodes = nodes} is_open step rest) = All-cons (λ n. n < slot_total grid) m nodes (below m is_open) (walk_below rest)

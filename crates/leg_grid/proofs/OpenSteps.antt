@@ -1,5 +1,5 @@
 -- Steps that are open, by the metal that they add.
-use Rattle.std.proofs.Common.{◌≡◌, ℕ, ◌+◌, ◌<◌, ◌⊎◌, ◌↔◌, IsTrue, Bool, inl, inr, ℤ, Some, slice_get, refl, sym, ap, subst, ◌∙◌, arith}
+use Rattle.std.proofs.Common.{◌≡◌, ℕ, ◌+◌, ◌<◌, ◌⊎◌, ◌↔◌, inl, inr, ℤ, Some, slice_get, refl, sym, ap, subst, ◌∙◌, arith}
 use Rattle.leg_cells.specs.declared.records.Direction.{Direction}
 use Rattle.leg_cells.specs.Records.{Contents, ViaSaid}
 use Rattle.leg_block.specs.declared.records.Wire.{Wire}
@@ -40,7 +40,7 @@ pub other_layer : (design : DesignContents) (via : ℕ) (a b : Node) → IsOver 
 other_layer design via a b (inl up) same = let rises = via_rises design.library a.layer b.layer via up.via_is in omega (arith, rises, same)
 other_layer design via a b (inr down) same = let rises = via_rises design.library b.layer a.layer via down.via_is in omega (arith, rises, same)
 
-same_via : (design : DesignContents) (via other : ℕ) (a b : Node) → IsOver design via a b ⊎ IsOver design via b a → IsOver design other a b ⊎ IsOver design other b a → other ≡ via
+pub same_via : (design : DesignContents) (via other : ℕ) (a b : Node) → IsOver design via a b ⊎ IsOver design via b a → IsOver design other a b ⊎ IsOver design other b a → other ≡ via
 same_via design via other a b (inl up) (inl also) = one_via design.library a.layer b.layer other via also.via_is up.via_is
 same_via design via other a b (inr down) (inr also) = one_via design.library b.layer a.layer other via also.via_is down.via_is
 same_via design via other a b (inl up) (inr also) = absurd (let rises = via_rises design.library a.layer b.layer via up.via_is in let falls = via_rises design.library b.layer a.layer other also.via_is in omega (arith, rises, falls))
@@ -145,21 +145,21 @@ no_step grid is_grid side n flat net none open_step =
     let to = numbered grid is_grid open_step.b (ends_are_nodes grid.design side open_step.a open_step.b open_step.beside).1 in
     none to.0 (record { a = open_step.a; b = open_step.b; a_is = open_step.a_is; b_is = to.1; step = open_step.beside })
 
-module _ (grid : GridSaid) (is_grid : IsGrid grid) (side : Side) (n next : ℕ) (a b : Node) (a_is : IsNumberOf grid n a) (b_is : IsNumberOf grid next b) (step : IsBesideAt grid side n next) (design : DesignContents) (of_design : grid.design ≡ design) (flat : FlatSaid) (net : ℕ) (set : Bool) where
-  same_wire : (wire : Wire) → IsOpenStepAt grid flat net side n ↔ IsOpenWire grid.design flat net wire → IsTrue set ↔ IsOpenWire design flat net wire → IsTrue set ↔ IsOpenStepAt grid flat net side n
+module _ (grid : GridSaid) (is_grid : IsGrid grid) (side : Side) (n next : ℕ) (a b : Node) (a_is : IsNumberOf grid n a) (b_is : IsNumberOf grid next b) (step : IsBesideAt grid side n next) (design : DesignContents) (of_design : grid.design ≡ design) (flat : FlatSaid) (net : ℕ) (Answer : Type 0) where
+  same_wire : (wire : Wire) → IsOpenStepAt grid flat net side n ↔ IsOpenWire grid.design flat net wire → Answer ↔ IsOpenWire design flat net wire → Answer ↔ IsOpenStepAt grid flat net side n
   same_wire wire one other =
-      let P : DesignContents → Type 0 = λ design. IsTrue set ↔ IsOpenWire design flat net wire in
+      let P : DesignContents → Type 0 = λ design. Answer ↔ IsOpenWire design flat net wire in
       let says = subst P (sym of_design) other in
       (λ is. one.1 (says.0 is), λ is_open. says.1 (one.0 is_open))
 
   pub line_answer : (direction : Direction) (width : ℤ) → IsInLine grid.design a b → Runs grid.design.library a.layer direction width
-      → IsTrue set ↔ IsOpenWire design flat net (line_of design flat net a b width) → IsTrue set ↔ IsOpenStepAt grid flat net side n
+      → Answer ↔ IsOpenWire design flat net (line_of design flat net a b width) → Answer ↔ IsOpenStepAt grid flat net side n
   line_answer direction width in_line runs says =
       let here = open_at grid is_grid side n next a b a_is b_is flat net step in
       let line = open_line grid.design flat net a b direction width in_line runs in
       same_wire (line_of design flat net a b width) (λ is. line.0 (here.0 is), λ clean. here.1 (line.1 clean)) says
 
-  pub via_answer : (via : ℕ) → IsOver grid.design via a b ⊎ IsOver grid.design via b a → IsTrue set ↔ IsOpenWire design flat net (ViaAt via a.at) → IsTrue set ↔ IsOpenStepAt grid flat net side n
+  pub via_answer : (via : ℕ) → IsOver grid.design via a b ⊎ IsOver grid.design via b a → Answer ↔ IsOpenWire design flat net (ViaAt via a.at) → Answer ↔ IsOpenStepAt grid flat net side n
   via_answer via over says =
       let here = open_at grid is_grid side n next a b a_is b_is flat net step in
       let through = open_via grid.design flat net a b via over in

@@ -1,7 +1,7 @@
 -- Vias that are open, by their shapes.
 use Rattle.std.proofs.Common.{◌≡◌, ℕ, suc, zero, ◌+◌, ◌<◌, ◌↔◌, List, [], ◌∷◌, ◌++◌, All, Contains, length, take, get_or, map, Option, Some, slice_get, refl, sym, ap, subst, ◌∙◌, arith}
 use Rattle.std.proofs.lemmas.List.{take_more}
-use Rattle.std.proofs.lemmas.List.Elements.{All-append, All-contains, Contains-get_or}
+use Rattle.std.proofs.lemmas.List.Elements.{All-nil, All-cons, All-head, All-tail, All-push, All-contains, Contains-get_or}
 use Rattle.leg_geom.specs.Plane.{Spot, Sides, HasPoint}
 use Rattle.leg_cells.specs.declared.records.Shape.{Shape}
 use Rattle.leg_cells.specs.Records.{ViaSaid}
@@ -17,17 +17,22 @@ use Rattle.leg_grid.specs.OpenMetal.{IsOpenWire}
 use Rattle.leg_grid.proofs.Pushed.{read_old}
 
 module _ {X : Type 0} (P : X → Type 0) where
-  one_holds : (x : X) → P x → All P (x ∷ [])
-  one_holds x holds zero d within = holds
-  one_holds x holds (suc k) d within = absurd (omega (arith, within))
+  all_before : (xs ys : List X) → All P (xs ++ ys) → All P xs
+  all_before [] ys all = All-nil P
+  all_before (x ∷ xs) ys all = All-cons P x xs (All-head P x (xs ++ ys) all) (all_before xs ys (All-tail P x (xs ++ ys) all))
 
-  pub all_more : (xs : List X) (i : ℕ) (x : X) → i < length xs → get_or xs i x ≡ x → All P (take i xs) → P x → All P (take (i + 1) xs)
-  all_more xs i x within is all holds = rw longer (All-append P (take i xs) (x ∷ []) all (one_holds x holds)) where
+  last_holds : (xs : List X) (x : X) → All P (xs ++ x ∷ []) → P x
+  last_holds [] x all = All-head P x [] all
+  last_holds (y ∷ xs) x all = last_holds xs x (All-tail P y (xs ++ x ∷ []) all)
+
+  -- it holds of the first ones and one more just where it holds of those and of that one
+  pub all_and_more : (xs : List X) (i : ℕ) (x : X) → i < length xs → get_or xs i x ≡ x → All P (take (i + 1) xs) ↔ (All P (take i xs) × P x)
+  all_and_more xs i x within is = (
+    λ all. let all' = subst (λ (ys : List X). All P ys) longer all in (all_before (take i xs) (x ∷ []) all', last_holds (take i xs) x all'),
+    λ both. rw longer (All-push P (take i xs) x both.0 both.1),
+  ) where
     longer : take (i + 1) xs ≡ take i xs ++ x ∷ []
     longer = take_more xs i x within ∙ rw is refl
-
-  pub all_at : (xs : List X) (i : ℕ) (x : X) → i < length xs → get_or xs i x ≡ x → All P xs → P x
-  all_at xs i x within is all = rw is at (all i x within)
 
 -- a mapped list has only images of what the list has
 pub record IsImageOf {X Y : Type 0} (f : X → Y) (xs : List X) (y : Y) : Type 0 where
@@ -35,7 +40,7 @@ pub record IsImageOf {X Y : Type 0} (f : X → Y) (xs : List X) (y : Y) : Type 0
   pub there : Contains xs x
   pub is : f x ≡ y
 
-image_at : {X Y : Type 0} (f : X → Y) (xs : List X) (y : Y) (k : ℕ) → k < length (map f xs) → get_or (map f xs) k y ≡ y → IsImageOf f xs y
+pub image_at : {X Y : Type 0} (f : X → Y) (xs : List X) (y : Y) (k : ℕ) → k < length (map f xs) → get_or (map f xs) k y ≡ y → IsImageOf f xs y
 image_at f [] y k within is = absurd (omega (arith, within))
 image_at f (x ∷ xs) y zero within is = record { x = x; there = (0, omega arith, refl); is = is }
 image_at f (x ∷ xs) y (suc k) within is =

@@ -152,7 +152,7 @@ one_slot grid m k j i before after slot is n = rw is (
 )
 
 module _ (grid : GridSaid) (is_grid : IsGrid grid) (layer : ℕ) (rect : Sides) where
-  abbrev InRect : ℕ → Type 0
+  abbrev pub InRect : ℕ → Type 0
   InRect n = IsOneOf (IsNumberOf grid) (LiesInRect layer rect) n
 
   pub none_on_layer : (before : List ℕ) → ((k : ℕ) → ¬ IsLayerAt grid.layers layer k) → HaveGot InRect before before
@@ -165,7 +165,7 @@ module _ (grid : GridSaid) (is_grid : IsGrid grid) (layer : ℕ) (rect : Sides) 
   )
 
   module _ (k c0 c1 r0 r1 : ℕ) (on : IsLayerAt grid.layers layer k) (columns : ArePlaces grid.xs rect.x1 rect.x2 c0 c1) (rows : ArePlaces grid.ys rect.y1 rect.y2 r0 r1) where
-    in_rect : (n : ℕ) → IsInRows grid k (r0, r1) (c0, c1) n → InRect n
+    pub in_rect : (n : ℕ) → IsInRows grid k (r0, r1) (c0, c1) n → InRect n
     in_rect n row =
         let column = row.is in
         let slot = column.is in
@@ -186,7 +186,7 @@ module _ (grid : GridSaid) (is_grid : IsGrid grid) (layer : ℕ) (rect : Sides) 
           };
         }
 
-    from_rect : (n : ℕ) → InRect n → IsInRows grid k (r0, r1) (c0, c1) n
+    pub from_rect : (n : ℕ) → InRect n → IsInRows grid k (r0, r1) (c0, c1) n
     from_rect n one =
         let number = one.is in
         let lies = number.lies in

@@ -28,11 +28,11 @@ pub record HasPointIn (grid : GridSaid) (s : Slot) : Type 0 where
   pub node : Node
   pub lies : LiesAt grid s.layer s.row s.column node
 
-record HasValue {T : Type 0} (list : List T) (i : ℕ) : Type 0 where
+pub record HasValue {T : Type 0} (list : List T) (i : ℕ) : Type 0 where
   pub value : T
   pub there : slice_get list i ≡ Some value
 
-some_at : {T : Type 0} (list : List T) (i : ℕ) → i < length list → HasValue list i
+pub some_at : {T : Type 0} (list : List T) (i : ℕ) → i < length list → HasValue list i
 some_at list i within = elim (slice_get_cases list i).1 [
   | inl some ↦ record { value = some.0; there = some.2 }
   | inr none ↦ absurd (omega (arith, none.0, within))

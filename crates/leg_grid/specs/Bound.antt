@@ -1,8 +1,9 @@
--- How many steps are left at least from a slot of a grid to the slots of a box (own rule).
-use Rattle.std.specs.Prelude.{ℕ, ◌+◌, ◌-◌, ◌/◌, ◌%◌, ◌≤◌, List, length, All}
+-- How many steps are left at least from a slot of a grid to the slots of some boxes (own rule).
+use Rattle.std.specs.Prelude.{◌≡◌, ◌↔◌, ℕ, ◌+◌, ◌-◌, ◌/◌, ◌%◌, ◌≤◌, List, [], ◌∷◌, length, min, All}
 use Rattle.leg_grid.specs.declared.slot.Slot.{Slot}
 use Rattle.leg_grid.specs.declared.slot_box.SlotBox.{SlotBox}
-use Rattle.leg_grid.specs.Grid.{GridSaid}
+use Rattle.leg_grid.specs.declared.limits.TheConstants.{GRID_LIMIT}
+use Rattle.leg_grid.specs.Grid.{GridSaid, IsSlot}
 use Rattle.leg_walk.specs.declared.side.Side.{Side}
 use Rattle.leg_walk.specs.Side.{opposite, across_twice}
 use Rattle.leg_grid.specs.Beside.{IsWithin}
@@ -20,9 +21,14 @@ slot_bound ends s = gap ends.low.layer ends.high.layer s.layer + gap ends.low.ro
 abbrev pub slot_of : GridSaid → ℕ → Slot
 slot_of grid n = record { layer = n / length grid.xs / length grid.ys; row = n / length grid.xs % length grid.ys; column = n % length grid.xs }
 
+-- how many layers, rows and columns a slot lies outside of the nearest of the boxes; with no boxes, as many as a grid has slots at most
+abbrev pub nearest : List SlotBox → Slot → ℕ
+nearest [] s = GRID_LIMIT
+nearest (ends ∷ boxes) s = min (slot_bound ends s) (nearest boxes s)
+
 -- the same for the slot of this number
-abbrev pub bound_at : GridSaid → SlotBox → ℕ → ℕ
-bound_at grid ends n = slot_bound ends (slot_of grid n)
+abbrev pub bound_at : GridSaid → List SlotBox → ℕ → ℕ
+bound_at grid boxes n = nearest boxes (slot_of grid n)
 
 -- the corners of the box are slots of the grid
 pub record IsBoxOf (grid : GridSaid) (ends : SlotBox) : Type 0 where
@@ -38,14 +44,19 @@ pub record IsInBox (ends : SlotBox) (s : Slot) : Type 0 where
   pub low_column : ends.low.column ≤ s.column
   pub high_column : s.column ≤ ends.high.column
 
--- the box has all slots of these numbers, and each box that has them has both its corners
-pub record IsLeastBox (grid : GridSaid) (numbers : List ℕ) (ends : SlotBox) : Type 0 where
-  pub inside : All (λ n. IsInBox ends (slot_of grid n)) numbers
-  pub least : (other : SlotBox) → All (λ n. IsInBox other (slot_of grid n)) numbers → IsInBox other ends.low × IsInBox other ends.high
+-- the box is one of slots of the grid: just those of whose numbers this holds
+pub record HasJust (grid : GridSaid) (P : ℕ → Type 0) (ends : SlotBox) : Type 0 where
+  pub corners : IsBoxOf grid ends
+  pub each : (n : ℕ) (s : Slot) → IsSlot grid n s.layer s.row s.column → P n ↔ IsInBox ends s
+
+-- the boxes are of slots of the grid, and no slot of these numbers lies outside of all of them
+pub record AreBoxed (grid : GridSaid) (boxes : List SlotBox) (numbers : List ℕ) : Type 0 where
+  pub corners : All (IsBoxOf grid) boxes
+  pub inside : All (λ n. bound_at grid boxes n ≡ 0) numbers
 
 -- the node of the number b lies on this side of the node of the number a, and that of a across from it; each is one nearer at
 -- most to the starts and to the ends than the other, as all such nodes are
-pub record IsBesideNear (grid : GridSaid) (starts ends : SlotBox) (side : Side) (a b : ℕ) : Type 0 where
+pub record IsBesideNear (grid : GridSaid) (starts ends : List SlotBox) (side : Side) (a b : ℕ) : Type 0 where
   pub beside : IsBesideAt grid side a b
   pub across : IsBesideAt grid (opposite side) b a
   pub nearer : bound_at grid ends a ≤ bound_at grid ends b + 1
@@ -54,7 +65,7 @@ pub record IsBesideNear (grid : GridSaid) (starts ends : SlotBox) (side : Side) 
   pub further_across : bound_at grid starts a ≤ bound_at grid starts b + 1
 
 -- the same, seen from the other node
-pub turned_near : (grid : GridSaid) (starts ends : SlotBox) (side : Side) (a b : ℕ) → IsBesideNear grid starts ends side a b → IsBesideNear grid starts ends (opposite side) b a
+pub turned_near : (grid : GridSaid) (starts ends : List SlotBox) (side : Side) (a b : ℕ) → IsBesideNear grid starts ends side a b → IsBesideNear grid starts ends (opposite side) b a
 turned_near grid starts ends side a b near = record {
   beside = near.across;
   across = across_twice (λ (s : Side). IsBesideAt grid s a b) side near.beside;

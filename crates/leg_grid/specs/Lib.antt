@@ -16,4 +16,6 @@ pub mod Numbered
 pub mod Bound
 pub mod GridWalk
 pub mod InRect
+pub mod Told
+pub mod Admitted
 pub mod Steps

@@ -9,3 +9,5 @@ pub mod Towards
 pub mod FirstWire
 pub mod SlotRanges
 pub mod Boxes
+pub mod SlotsTold
+pub mod Reaches

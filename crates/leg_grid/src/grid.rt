@@ -1,6 +1,6 @@
 //! The grid of a design.
 
-ghost use Rattle.std.specs.Prelude.{◌≡◌, ◌↔◌, ◌<◌, IsTrue, Bool, List, Some, All, length, slice_get, IfOk, IfErr, OnOk};
+ghost use Rattle.std.specs.Prelude.{◌≡◌, ◌↔◌, ◌<◌, ◌^◌, IsTrue, Bool, List, Some, All, length, slice_get, IfOk, IfErr, OnOk};
 ghost use Rattle.leg_lex.specs.Number.{IsNumber};
 ghost use Rattle.leg_cells.specs.declared.records.Direction.{Direction};
 ghost use Rattle.leg_cells.specs.Sound.{IsWidth, IsSound};
@@ -330,9 +330,11 @@ fn widths_are_sound<A: Allocator + Copy>(design: &Design<'_, A>)
 }
 
 /// What holds of each grid, as its type says: nothing is done.
-pub(crate) fn grid_is_sound<A: Allocator + Copy>(grid: &Grid<'_, '_, A>)
+pub fn grid_is_sound<A: Allocator + Copy>(grid: &Grid<'_, '_, A>)
     ensures library { IsSound grid.now.design.library }
     ensures proper { IsGrid grid.now }
+    ensures few { slot_total grid.now < 2 ^ 32 }
 {
     widths_are_sound(grid.design);
+    let _slots = grid.size();
 }

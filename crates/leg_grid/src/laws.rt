@@ -1,23 +1,27 @@
 //! What follows from the definitions alone, as functions whose contracts say it.
 
-ghost use Rattle.std.specs.Prelude.{◌≡◌, ◌↔◌, ◌+◌, ◌<◌, ◌≤◌, ℕ, List, All, Contains};
+ghost use Rattle.std.specs.Prelude.{◌≡◌, ◌↔◌, ◌+◌, ◌<◌, ◌≤◌, ℕ, List, All, Contains, length};
 ghost use Rattle.std.specs.List.{AllZip};
+ghost use Rattle.leg_cells.specs.Sound.{IsSound};
 ghost use Rattle.leg_flat.specs.Flat.{FlatSaid};
 ghost use Rattle.leg_grid.specs.declared.node.Node.{Node};
 ghost use Rattle.leg_walk.specs.declared.side.Side.{Side};
 ghost use Rattle.leg_grid.specs.declared.slot.Slot.{Slot};
+ghost use Rattle.leg_grid.specs.declared.slot_access.SlotAccess.{SlotAccess};
 ghost use Rattle.leg_grid.specs.Nodes.{IsNode};
 ghost use Rattle.leg_grid.specs.Neighbours.{IsBeside};
 ghost use Rattle.leg_grid.specs.Beside.{IsSlotBeside};
 ghost use Rattle.leg_walk.specs.Walk.{IsStep, IsShortest, NoWalk};
 ghost use Rattle.leg_grid.specs.declared.slot_box.SlotBox.{SlotBox};
-ghost use Rattle.leg_grid.specs.OpenMetal.{IsOpenNode, IsOpenStep};
+ghost use Rattle.leg_grid.specs.OpenMetal.{IsOpenStep};
 ghost use Rattle.leg_grid.specs.Bound.{bound_at, IsInBox, IsBesideNear};
 ghost use Rattle.leg_grid.specs.GridWalk.{IsGridWalk};
 ghost use Rattle.leg_block.specs.Records.{DesignContents};
 ghost use Rattle.leg_grid.specs.Meets.{MeetsJoined, MeetsRest};
 ghost use Rattle.leg_grid.specs.Run.{IsNextWalk, HasNoWalk};
 ghost use Rattle.leg_grid.specs.Grid.{GridSaid, IsGrid, IsSlot, LiesAt, IsNumberOf, slot_total};
+ghost use Rattle.leg_grid.specs.Told.{TellsSlots};
+ghost use Rattle.leg_grid.specs.Admitted.{IsNodeAdmitted, IsStepAdmitted};
 ghost use Rattle.leg_grid.specs.Numbered.{IsOneOf, IsStepOf, IsBesideAt, IsOpenStepAt, IsNextWalkAt, HasNoWalkAt};
 
 /// Each node of the grid has a number, no two have one, and none has two.
@@ -28,19 +32,21 @@ pub fn nodes_have_numbers()
     ensures once { (grid : GridSaid) (m n : ℕ) (node : Node) → IsGrid grid → IsNumberOf grid m node → IsNumberOf grid n node → m ≡ n }
 {}
 
-/// What a search in the graph of a net answers, told by numbers, is an open walk of the net, where the numbers of its starts
-/// and of its ends are those of the slots at which walks of the net begin and end.
+/// What a search in the graph of a net answers, told by numbers, is an open walk of the net, where the table tells what is open in
+/// the flat, and the numbers of the starts and of the ends are those of the slots at which walks of the net begin and end.
 pub fn searches_walk_as_numbers()
-    ensures shortest { (grid : GridSaid) (origin ends : SlotBox) (flat : FlatSaid) (net : ℕ) (starts finish numbers : List ℕ) → IsGrid grid
+    ensures shortest { (grid : GridSaid) (origin around : List SlotBox) (flat : FlatSaid) (slots : List SlotAccess) (net : ℕ) (starts finish numbers : List ℕ) → IsGrid grid
+        → IsSound grid.design.library → TellsSlots grid flat slots
         → ((n : ℕ) → Contains starts n ↔ IsOneOf (IsNumberOf grid) (MeetsJoined flat net) n) → ((n : ℕ) → Contains finish n ↔ IsOneOf (IsNumberOf grid) (MeetsRest flat net) n)
-        → IsShortest (IsOneOf (IsNumberOf grid) (IsOpenNode grid.design flat net)) (IsStep (IsBesideNear grid origin ends) (IsOpenStepAt grid flat net)) (Contains starts) (Contains finish) numbers
+        → IsShortest (IsNodeAdmitted slots net) (IsStep (IsBesideNear grid origin around) (IsStepAdmitted grid slots net)) (Contains starts) (Contains finish) numbers
         → IsNextWalkAt grid flat net numbers }
-    ensures none { (grid : GridSaid) (origin ends : SlotBox) (flat : FlatSaid) (net : ℕ) (starts finish : List ℕ) → IsGrid grid
+    ensures none { (grid : GridSaid) (origin around : List SlotBox) (flat : FlatSaid) (slots : List SlotAccess) (net : ℕ) (starts finish : List ℕ) → IsGrid grid
+        → IsSound grid.design.library → TellsSlots grid flat slots
         → ((n : ℕ) → Contains starts n ↔ IsOneOf (IsNumberOf grid) (MeetsJoined flat net) n) → ((n : ℕ) → Contains finish n ↔ IsOneOf (IsNumberOf grid) (MeetsRest flat net) n)
-        → NoWalk (IsOneOf (IsNumberOf grid) (IsOpenNode grid.design flat net)) (IsStep (IsBesideNear grid origin ends) (IsOpenStepAt grid flat net)) (Contains starts) (Contains finish)
+        → NoWalk (IsNodeAdmitted slots net) (IsStep (IsBesideNear grid origin around) (IsStepAdmitted grid slots net)) (Contains starts) (Contains finish)
         → HasNoWalkAt grid flat net }
-    ensures within { (grid : GridSaid) (origin ends : SlotBox) (flat : FlatSaid) (net : ℕ) (starts finish numbers : List ℕ)
-        → IsShortest (IsOneOf (IsNumberOf grid) (IsOpenNode grid.design flat net)) (IsStep (IsBesideNear grid origin ends) (IsOpenStepAt grid flat net)) (Contains starts) (Contains finish) numbers
+    ensures within { (grid : GridSaid) (origin around : List SlotBox) (slots : List SlotAccess) (net : ℕ) (starts finish numbers : List ℕ) → length slots ≡ slot_total grid
+        → IsShortest (IsNodeAdmitted slots net) (IsStep (IsBesideNear grid origin around) (IsStepAdmitted grid slots net)) (Contains starts) (Contains finish) numbers
         → All (λ n. n < slot_total grid) numbers }
 {}
 
@@ -64,10 +70,10 @@ pub fn open_steps_have_sides()
         → (IsStepOf (IsNumberOf grid) (IsOpenStep grid.design flat net) m n ↔ IsStep (IsBesideAt grid) (IsOpenStepAt grid flat net) m n) }
 {}
 
-/// A step comes one nearer to a box at most, and slots in the box are at it.
+/// A step comes one nearer to the nearest of some boxes at most, and from the slots of each of them none is left.
 pub fn bounds_hold()
-    ensures nearer { (grid : GridSaid) (ends : SlotBox) (side : Side) (n to : ℕ) → IsGrid grid → IsBesideAt grid side n to → bound_at grid ends n ≤ bound_at grid ends to + 1 }
-    ensures inside { (grid : GridSaid) (ends : SlotBox) (n : ℕ) (s : Slot) → IsSlot grid n s.layer s.row s.column → IsInBox ends s → bound_at grid ends n ≡ 0 }
+    ensures nearer { (grid : GridSaid) (boxes : List SlotBox) (side : Side) (n to : ℕ) → IsGrid grid → IsBesideAt grid side n to → bound_at grid boxes n ≤ bound_at grid boxes to + 1 }
+    ensures inside { (grid : GridSaid) (boxes : List SlotBox) (ends : SlotBox) (n : ℕ) (s : Slot) → IsSlot grid n s.layer s.row s.column → Contains boxes ends → IsInBox ends s → bound_at grid boxes n ≡ 0 }
 {}
 
 /// An open walk is a walk over the grid.

@@ -1,11 +1,11 @@
 //! The grid on which nets are routed: its nodes and steps by the tracks of a design, and which of them are open to a net.
 #![tactic(auto)]
 
+mod added;
 mod fault;
 mod grid;
 pub mod laws;
 mod layers;
-mod least_box;
 mod limits;
 mod lines;
 mod neighbour;
@@ -14,9 +14,11 @@ mod node;
 mod open_node;
 mod open_step;
 mod patch;
+mod reach;
 mod sides;
 mod size;
 mod slot;
+mod slot_access;
 mod slot_box;
 mod slot_nodes;
 mod slots_in;
@@ -26,17 +28,16 @@ mod through;
 mod track_marks;
 mod via_patches;
 
+pub use added::{add_shape, slots_beside};
 pub use fault::GridFault;
-pub use grid::Grid;
+pub use grid::{Grid, grid_is_sound};
 pub use layers::RoutingLayer;
-pub use least_box::box_of;
 pub use limits::GRID_LIMIT;
 pub use net_graph::NetGraph;
 pub use node::Node;
-pub use open_node::is_open_node;
-pub use open_step::is_open_step;
 pub use slot::Slot;
-pub use slot_box::{SlotBox, bound};
+pub use slot_access::SlotAccess;
+pub use slot_box::{BoxedSlots, SlotBox, bound};
 pub use slot_nodes::nodes_of;
 pub use slots_in::add_slots_in;
 pub use spelling::wires_of;

@@ -7,7 +7,7 @@ ghost use Rattle.leg_grid.specs.Grid.{IsGrid, slot_total};
 ghost use Rattle.leg_grid.specs.Numbered.{IsBesideAt};
 ghost use Rattle.leg_grid.specs.Steps.SlotSides.{RunsAt, IsBesideIfAny};
 
-use crate::grid::Grid;
+use crate::grid::{Grid, grid_is_sound};
 use crate::slot::Slot;
 use leg_cells::Direction;
 use leg_walk::Side;
@@ -161,5 +161,37 @@ impl<'g, 'a, A: Allocator + Copy> Grid<'g, 'a, A> {
             }
             None => None,
         }
+    }
+
+    /// The number of the node to the west of that of this number, where one lies there.
+    pub(crate) fn number_to_west(&self, number: u32) -> u32
+        requires within { number < slot_total self.now }
+        requires there { (to : ℕ) × IsBesideAt self.now West number to }
+        ensures { IsBesideAt self.now West number result }
+    {
+        grid_is_sound(self);
+        number - 1
+    }
+
+    /// The number of the node to the south of that of this number, where one lies there.
+    pub(crate) fn number_to_south(&self, number: u32) -> u32
+        requires within { number < slot_total self.now }
+        requires there { (to : ℕ) × IsBesideAt self.now South number to }
+        ensures { IsBesideAt self.now South number result }
+    {
+        grid_is_sound(self);
+        let row = self.columns();
+        (number as usize - row) as u32
+    }
+
+    /// The number of the node below that of this number, where one lies there.
+    pub(crate) fn number_below(&self, number: u32) -> u32
+        requires within { number < slot_total self.now }
+        requires there { (to : ℕ) × IsBesideAt self.now Below number to }
+        ensures { IsBesideAt self.now Below number result }
+    {
+        grid_is_sound(self);
+        let layer = self.rows() * self.columns();
+        (number as usize - layer) as u32
     }
 }

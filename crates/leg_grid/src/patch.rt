@@ -1,6 +1,6 @@
-//! Patches of metal, and whether they are open to a net.
+//! Patches of metal, and which nets may have them beside a shape.
 
-ghost use Rattle.std.specs.Prelude.{◌≡◌, ◌↔◌, IsTrue, map};
+ghost use Rattle.std.specs.Prelude.{◌≡◌, ◌↔◌, IsTrue};
 ghost use Rattle.leg_geom.specs.Plane.{Spot, Sides, HasPoint};
 ghost use Rattle.leg_cells.specs.Sound.{IsWidth};
 ghost use Rattle.leg_block.specs.declared.records.Wire.TheVariants.{Patch};
@@ -8,14 +8,15 @@ ghost use Rattle.leg_block.specs.WellFormedParts.{IsPosition};
 ghost use Rattle.leg_flat.specs.Outline.{HasPointOf};
 ghost use Rattle.leg_flat.specs.Outline.Outline.{Shifted};
 ghost use Rattle.leg_grid.specs.Added.{half, square};
+ghost use Rattle.leg_wire.specs.Access.{alone};
 ghost use Rattle.leg_grid.specs.OpenMetal.{IsOpenWire};
+ghost use Rattle.leg_grid.specs.Told.{Tells};
 ghost use Rattle.leg_grid.specs.Steps.Squares.{IsSmall};
 
 use leg_block::Design;
-use leg_flat::Flat;
+use leg_flat::Shape;
 use leg_geom::{Orient, Place, Point, Rect};
-use leg_sweep::BinIndex;
-use leg_wire::clean_indexed;
+use leg_wire::{Access, access_beside};
 use std::alloc::Allocator;
 
 /// Half a width.
@@ -48,21 +49,18 @@ fn shifted(at: &Point, rect: &Rect) -> Rect
     place.rect(0, 0, rect)
 }
 
-/// Whether the patch, a rectangle that is given from a point, is open to the net.
-pub(crate) fn is_open_patch<A: Allocator + Copy>(
+/// Which nets may have the patch beside this shape, a rectangle that is given from a point.
+pub(crate) fn patch_beside<A: Allocator + Copy>(
     design: &Design<'_, A>,
-    flat: &Flat<A>,
-    index: &BinIndex<A>,
-    net: u32,
+    shape: &Shape,
     layer: usize,
     at: &Point,
     rect: &Rect,
-) -> bool
-    requires indexed { index.now ≡ map (λ shape. shape.rect) flat.now.shapes }
+) -> Access
     requires at { IsPosition at.now }
     requires rect { IsSmall rect.now }
-    ensures { IsTrue result ↔ IsOpenWire design.now flat.now net (Patch layer at.now rect.now) }
+    ensures { Tells result (λ net. IsOpenWire design.now (alone shape.now) net (Patch layer at.now rect.now)) }
 {
     let metal = shifted(at, rect);
-    clean_indexed(design.library(), flat, index, net, layer, metal)
+    access_beside(design.library(), shape, layer, &metal)
 }

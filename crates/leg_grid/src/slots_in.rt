@@ -1,19 +1,23 @@
-//! The slots whose points lie in a rectangle.
+//! The slots whose points lie in a rectangle, and their box.
 
 ghost use Rattle.std.specs.Prelude.{◌↔◌, ◌⊎◌, ◌<◌, ◌≤◌, ℕ, ◌<ℤ◌, length, All, AllPairs, Contains, OnOk};
 ghost use Rattle.leg_grid.specs.InRect.{LiesInRect};
 ghost use Rattle.leg_grid.specs.Grid.{slot_total, IsNumberOf};
 ghost use Rattle.leg_grid.specs.Numbered.{IsOneOf};
+ghost use Rattle.leg_grid.specs.declared.slot_box.SlotBox.{SlotBox};
+ghost use Rattle.leg_grid.specs.Bound.{HasJust, AreBoxed};
+ghost use Rattle.leg_grid.specs.Steps.Boxes.{HaveGotBox};
 ghost use Rattle.leg_grid.specs.Steps.SlotRanges.{ArePlaces, IsLayerIfAny, IsInRow, IsInRows, HaveGot};
 
 use crate::grid::Grid;
 use crate::layers::RoutingLayer;
 use crate::slot::Slot;
+use crate::slot_box::{BoxedSlots, SlotBox};
 use leg_geom::Rect;
 use std::alloc::{AllocError, Allocator};
 
 /// The places of the values from low to high: the first one, and the one behind the last.
-fn places_within(values: &[i64], low: i64, high: i64) -> (usize, usize)
+pub(crate) fn places_within(values: &[i64], low: i64, high: i64) -> (usize, usize)
     requires { AllPairs (λ a b. a <ℤ b) values.now }
     ensures { ArePlaces values.now low high result.0 result.1 }
 {
@@ -72,22 +76,51 @@ fn add_rows<A: Allocator + Copy>(
     Ok(())
 }
 
+/// Adds the box of these rows and columns on a layer, where there are any.
+fn add_box<A: Allocator>(
+    layer: usize,
+    rows: (usize, usize),
+    columns: (usize, usize),
+    boxes: &mut Vec<SlotBox, A>,
+) -> Result<(), AllocError>
+    ensures { OnOk result (HaveGotBox layer rows columns boxes.old.items boxes.new.items) }
+{
+    if rows.0 < rows.1 && columns.0 < columns.1 {
+        let low = Slot {
+            layer,
+            row: rows.0,
+            column: columns.0,
+        };
+        let high = Slot {
+            layer,
+            row: rows.1 - 1,
+            column: columns.1 - 1,
+        };
+        boxes.push(SlotBox { low, high })?;
+    }
+    Ok(())
+}
+
 /// Adds the slots whose points lie in the rectangle, its sides among them, on the layer of this number in the library: by
-/// their numbers. It fails only when out of memory.
+/// their numbers, and their box, where there are any. It fails only when out of memory.
 pub fn add_slots_in<A: Allocator + Copy>(
     grid: &Grid<'_, '_, A>,
     layer: usize,
     rect: &Rect,
-    slots: &mut Vec<u32, A>,
+    found: &mut BoxedSlots<A>,
 ) -> Result<(), AllocError>
-    ensures added { OnOk result ((n : ℕ) → Contains slots.new.items n ↔ (Contains slots.old.items n ⊎ IsOneOf (IsNumberOf grid.now) (LiesInRect layer rect.now) n)) }
-    ensures within { All (λ n. n < slot_total grid.now) slots.old.items → OnOk result (All (λ n. n < slot_total grid.now) slots.new.items) }
+    ensures added { OnOk result ((n : ℕ) → Contains found.new.slots.items n ↔ (Contains found.old.slots.items n ⊎ IsOneOf (IsNumberOf grid.now) (LiesInRect layer rect.now) n)) }
+    ensures boxes { OnOk result ((ends : SlotBox) → Contains found.new.boxes.items ends
+        → Contains found.old.boxes.items ends ⊎ HasJust grid.now (IsOneOf (IsNumberOf grid.now) (LiesInRect layer rect.now)) ends) }
+    ensures within { All (λ n. n < slot_total grid.now) found.old.slots.items → OnOk result (All (λ n. n < slot_total grid.now) found.new.slots.items) }
+    ensures boxed { AreBoxed grid.now found.old.boxes.items found.old.slots.items → OnOk result (AreBoxed grid.now found.new.boxes.items found.new.slots.items) }
 {
     let Some(k) = routing_layer_of(grid.layers(), layer) else {
         return Ok(());
     };
     let columns = places_within(grid.xs(), rect.x1(), rect.x2());
     let rows = places_within(grid.ys(), rect.y1(), rect.y2());
-    add_rows(grid, k, rows, columns, slots)?;
+    add_box(k, rows, columns, &mut found.boxes)?;
+    add_rows(grid, k, rows, columns, &mut found.slots)?;
     Ok(())
 }

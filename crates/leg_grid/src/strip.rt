@@ -1,21 +1,22 @@
-//! Steps along a layer, and whether they are open to a net.
+//! Steps along a layer, and which nets may have them beside a shape.
 
-ghost use Rattle.std.specs.Prelude.{◌≡◌, ◌↔◌, ◌-ℤ◌, ◌+ℤ◌, ◌≤ℤ◌, IsTrue, map};
+ghost use Rattle.std.specs.Prelude.{◌≡◌, ◌↔◌, ◌-ℤ◌, ◌+ℤ◌, ◌≤ℤ◌, IsTrue};
 ghost use Rattle.leg_lex.specs.Number.{IsNumber};
 ghost use Rattle.leg_geom.specs.Steps.Intervals.{IsSpan};
 ghost use Rattle.leg_cells.specs.Sound.{IsWidth};
 ghost use Rattle.leg_block.specs.declared.records.Wire.TheVariants.{Segment};
 ghost use Rattle.leg_block.specs.WellFormedParts.{IsPosition};
 ghost use Rattle.leg_grid.specs.Added.{half};
+ghost use Rattle.leg_wire.specs.Access.{alone};
 ghost use Rattle.leg_grid.specs.OpenMetal.{IsOpenWire};
+ghost use Rattle.leg_grid.specs.Told.{Tells};
 ghost use Rattle.leg_grid.specs.Steps.Squares.{IsStretch};
 
 use crate::patch::half;
 use leg_block::Design;
-use leg_flat::Flat;
+use leg_flat::Shape;
 use leg_geom::{Point, Rect};
-use leg_sweep::BinIndex;
-use leg_wire::clean_indexed;
+use leg_wire::{Access, access_beside};
 use std::alloc::Allocator;
 
 /// From the lower of two coordinates to the higher, and half this width past both.
@@ -45,26 +46,23 @@ fn strip(low: &Point, high: &Point, width: i64) -> Rect
     Rect::new(left, bottom, right, top).unwrap()
 }
 
-/// Whether a segment of this width between two points is open to the net, which reaches past both by half the width. It
-/// does not matter from which of them it is told.
-pub(crate) fn is_open_strip<A: Allocator + Copy>(
+/// Which nets may have a segment of this width between two points beside this shape, which reaches past both by half the width.
+/// It does not matter from which of them it is told.
+pub(crate) fn strip_beside<A: Allocator + Copy>(
     design: &Design<'_, A>,
-    flat: &Flat<A>,
-    index: &BinIndex<A>,
-    net: u32,
+    shape: &Shape,
     layer: usize,
     low: &Point,
     high: &Point,
     width: i64,
-) -> bool
-    requires indexed { index.now ≡ map (λ shape. shape.rect) flat.now.shapes }
+) -> Access
     requires width { IsWidth width }
     requires low { IsPosition low.now }
     requires high { IsPosition high.now }
     requires stretch { IsStretch low.now high.now }
-    ensures forth { IsTrue result ↔ IsOpenWire design.now flat.now net (Segment layer low.now high.now width (half width) (half width)) }
-    ensures back { IsTrue result ↔ IsOpenWire design.now flat.now net (Segment layer high.now low.now width (half width) (half width)) }
+    ensures forth { Tells result (λ net. IsOpenWire design.now (alone shape.now) net (Segment layer low.now high.now width (half width) (half width))) }
+    ensures back { Tells result (λ net. IsOpenWire design.now (alone shape.now) net (Segment layer high.now low.now width (half width) (half width))) }
 {
     let metal = strip(low, high, width);
-    clean_indexed(design.library(), flat, index, net, layer, metal)
+    access_beside(design.library(), shape, layer, &metal)
 }

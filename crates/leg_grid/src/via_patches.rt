@@ -1,58 +1,53 @@
-//! Vias, and whether they are open to a net.
+//! Vias, and which nets may have them beside a shape.
 
-ghost use Rattle.std.specs.Prelude.{◌≡◌, ◌↔◌, ℕ, IsTrue, All, Some, map, slice_get};
+ghost use Rattle.std.specs.Prelude.{◌≡◌, ◌↔◌, ℕ, All, Some, slice_get};
 ghost use Rattle.leg_lex.specs.declared.limits.TheConstants.{NUMBER_LIMIT};
 ghost use Rattle.leg_cells.specs.Sound.{AreShapesWithin};
 ghost use Rattle.leg_cells.specs.Records.{ViaSaid};
 ghost use Rattle.leg_block.specs.declared.records.Wire.TheVariants.{Patch, ViaAt};
 ghost use Rattle.leg_block.specs.WellFormedParts.{IsPosition};
+ghost use Rattle.leg_wire.specs.Access.{alone};
 ghost use Rattle.leg_grid.specs.OpenMetal.{IsOpenWire};
+ghost use Rattle.leg_grid.specs.Told.{Tells};
 
-use crate::patch::is_open_patch;
+use crate::patch::patch_beside;
 use leg_block::Design;
 use leg_cells::Shape;
-use leg_flat::Flat;
+use leg_flat as flat;
 use leg_geom::Point;
-use leg_sweep::BinIndex;
+use leg_wire::Access;
 use std::alloc::Allocator;
 
-/// Whether all these shapes, given from a point, are open to the net.
-fn are_open_patches<A: Allocator + Copy>(
+/// Which nets may have all these patches, given from a point, beside this shape.
+fn patches_beside<A: Allocator + Copy>(
     design: &Design<'_, A>,
-    flat: &Flat<A>,
-    index: &BinIndex<A>,
-    net: u32,
+    shape: &flat::Shape,
     at: &Point,
-    shapes: &[Shape],
-) -> bool
-    requires indexed { index.now ≡ map (λ shape. shape.rect) flat.now.shapes }
+    patches: &[Shape],
+) -> Access
     requires at { IsPosition at.now }
-    requires shapes { AreShapesWithin NUMBER_LIMIT shapes.now }
-    ensures { IsTrue result ↔ All (λ shape. IsOpenWire design.now flat.now net (Patch shape.layer at.now shape.rect)) shapes.now }
+    requires patches { AreShapesWithin NUMBER_LIMIT patches.now }
+    ensures { Tells result (λ net. All (λ patch. IsOpenWire design.now (alone shape.now) net (Patch patch.layer at.now patch.rect)) patches.now) }
 {
-    for shape in shapes {
-        if !is_open_patch(design, flat, index, net, shape.layer, at, &shape.rect) {
-            return false;
-        }
+    let mut access = Access::Free;
+    for patch in patches {
+        access = access.and(patch_beside(design, shape, patch.layer, at, &patch.rect));
     }
-    true
+    access
 }
 
-/// Whether the via of this number of the library, at a point, is open to the net.
-pub(crate) fn is_open_via<A: Allocator + Copy>(
+/// Which nets may have the via of this number of the library, at a point, beside this shape.
+pub(crate) fn via_beside<A: Allocator + Copy>(
     design: &Design<'_, A>,
-    flat: &Flat<A>,
-    index: &BinIndex<A>,
-    net: u32,
+    shape: &flat::Shape,
     via: usize,
     at: &Point,
-) -> bool
-    requires indexed { index.now ≡ map (λ shape. shape.rect) flat.now.shapes }
+) -> Access
     requires at { IsPosition at.now }
-    ensures { (said : ViaSaid) → slice_get design.now.library.vias via ≡ Some said → (IsTrue result ↔ IsOpenWire design.now flat.now net (ViaAt via at.now)) }
+    ensures { (said : ViaSaid) → slice_get design.now.library.vias via ≡ Some said → Tells result (λ net. IsOpenWire design.now (alone shape.now) net (ViaAt via at.now)) }
 {
     match design.library().vias().get(via) {
-        Some(via) => are_open_patches(design, flat, index, net, at, via.shapes.as_slice()),
-        None => false,
+        Some(via) => patches_beside(design, shape, at, via.shapes.as_slice()),
+        None => Access::Free,
     }
 }

@@ -1,16 +1,21 @@
--- Boxes of slots that get wider, slot by slot.
-use Rattle.std.specs.Prelude.{min, max}
-use Rattle.leg_grid.specs.declared.slot.Slot.{Slot}
+-- The box of some rows and columns of a layer.
+use Rattle.std.specs.Prelude.{◌≡◌, ℕ, ◌+◌, ◌<◌, List, ◌++◌, All, Contains}
 use Rattle.leg_grid.specs.declared.slot_box.SlotBox.{SlotBox}
 
--- the lower one along each axis
-abbrev pub lower : Slot → Slot → Slot
-lower s t = record { layer = min s.layer t.layer; row = min s.row t.row; column = min s.column t.column }
+-- there are such rows and columns, from the first to before the end, and the box is that of their slots
+pub record IsBoxAt (layer : ℕ) (rows columns : ℕ × ℕ) (ends : SlotBox) : Type 0 where
+  pub some_rows : rows.0 < rows.1
+  pub some_columns : columns.0 < columns.1
+  pub low_layer : ends.low.layer ≡ layer
+  pub high_layer : ends.high.layer ≡ layer
+  pub low_row : ends.low.row ≡ rows.0
+  pub high_row : ends.high.row + 1 ≡ rows.1
+  pub low_column : ends.low.column ≡ columns.0
+  pub high_column : ends.high.column + 1 ≡ columns.1
 
--- the higher one along each axis
-abbrev pub upper : Slot → Slot → Slot
-upper s t = record { layer = max s.layer t.layer; row = max s.row t.row; column = max s.column t.column }
-
--- the least box that has the slot and all slots of a box
-abbrev pub widened : SlotBox → Slot → SlotBox
-widened ends s = record { low = lower ends.low s; high = upper ends.high s }
+-- the boxes have got that of these rows and columns, where there are any
+pub record HaveGotBox (layer : ℕ) (rows columns : ℕ × ℕ) (before after : List SlotBox) : Type 0 where
+  pub more : List SlotBox
+  pub are : after ≡ before ++ more
+  pub each : All (IsBoxAt layer rows columns) more
+  pub some : rows.0 < rows.1 → columns.0 < columns.1 → (ends : SlotBox) × Contains more ends

@@ -1,0 +1,225 @@
+-- Slots that are kept while a shape is added, some of them after others.
+use Rattle.std.proofs.Common.{◌≡◌, ℕ, ◌+◌, ◌*◌, ◌<◌, ◌≤◌, ◌⊎◌, inl, inr, ℤ, pos, ◌+ℤ◌, ◌-ℤ◌, List, [], ◌∷◌, ◌++◌, ◌/◌, ◌%◌, length, take, get_or, None, Some, slice_get, refl, sym, subst, ◌∙◌, arith}
+use Rattle.std.specs.Prelude.{Option}
+use Rattle.std.proofs.lemmas.Bool.{cases_eq}
+use Rattle.std.proofs.lemmas.List.{take_more}
+use Rattle.std.proofs.lemmas.Option.{same_Some, slice_get_within}
+use Rattle.leg_cells.specs.Sound.{IsSound}
+use Rattle.leg_flat.specs.declared.shape.Shape.{Shape}
+use Rattle.leg_flat.specs.Flat.{FlatSaid}
+use Rattle.leg_wire.specs.Steps.LayerSpacing.{spacing_at}
+use Rattle.leg_grid.specs.declared.slot_access.SlotAccess.{SlotAccess}
+use Rattle.leg_grid.specs.Grid.{GridSaid, IsGrid, IsSlot, slot_total}
+use Rattle.leg_grid.specs.Told.{TellsSlot, TellsSlots}
+use Rattle.leg_grid.specs.Steps.Reaches.{ReachesMetal}
+use Rattle.leg_grid.specs.Steps.SlotRanges.{IsAmong, IsInRow, IsInRows}
+use Rattle.leg_grid.specs.Steps.SlotsTold.{HasShape, IsTold, AreTold, ArePlacesNear, IsOnLayer}
+use Rattle.leg_grid.proofs.Slots.{one_rest, by_division}
+use Rattle.leg_grid.proofs.StepsAt.{some_at}
+use Rattle.leg_grid.proofs.FarSlots.{IsPast, IsSlotPast}
+use Rattle.leg_grid.proofs.FarAccess.{far_access}
+use Rattle.leg_grid.proofs.GrownSlots.{tells_far}
+
+-- a number is that of one slot
+pub record IsSameSlot (k j i l r c : ℕ) : Type 0 where
+  pub layer : k ≡ l
+  pub row : j ≡ r
+  pub column : i ≡ c
+
+pub same_slot : (grid : GridSaid) (n k j i l r c : ℕ) → IsSlot grid n k j i → IsSlot grid n l r c → IsSameSlot k j i l r c
+same_slot grid n k j i l r c slot other =
+    let lines = one_rest (length grid.xs) (k * length grid.ys + j) (l * length grid.ys + r) i c slot.column other.column (sym slot.is ∙ other.is) in
+    let rows = one_rest (length grid.ys) k l j r slot.row other.row lines.0 in
+    record { layer = rows.0; row = rows.1; column = lines.1 }
+
+-- no place near, and past all that are
+record IsOut (values : List ℤ) (low high : ℤ) (first end i : ℕ) : Type 0 where
+  pub past : IsPast values i low high
+  pub out : first ≤ i → i < end → ⊥
+
+order : (k n : ℕ) → (k < n) ⊎ (n ≤ k)
+order k n = grind arith
+
+module _ (grid : GridSaid) (shape : Shape) where
+  abbrev Told : (ℕ → Type 0) → List SlotAccess → List SlotAccess → Type 0
+  Told P before after = AreTold grid shape P before after
+
+  -- none are told
+  pub none_told : (P : ℕ → Type 0) (slots : List SlotAccess) → ((n : ℕ) → ¬ P n) → Told P slots slots
+  none_told P slots none = record { count = refl; told = λ n is. absurd (none n is); others = λ n other. refl }
+
+  -- first those of P, and then those of Q
+  told_then : (P Q R : ℕ → Type 0) (a b c : List SlotAccess) → ((n : ℕ) → P n → Q n → ⊥) → ((n : ℕ) → R n → P n ⊎ Q n) → ((n : ℕ) → P n → R n) → ((n : ℕ) → Q n → R n) → Told P a b → Told Q b c → Told R a c
+  told_then P Q R a b c differ from left right first then = record {
+    count = then.count ∙ first.count;
+    told = λ n is. by n (from n is);
+    others = λ n other. then.others n (λ q. other (right n q)) ∙ first.others n (λ p. other (left n p));
+  } where
+    by : (n : ℕ) → P n ⊎ Q n → IsTold grid shape n a c
+    by n (inl p) = record { told = λ flat grown slot has at tells new there. (first.told n p).told flat grown slot has at tells new (sym (then.others n (λ q. differ n p q)) ∙ there) }
+    by n (inr q) = record { told = λ flat grown slot has at tells new there. (then.told n q).told flat grown slot has (first.others n (λ p. differ n p q) ∙ at) tells new there }
+
+  -- the same slots said otherwise
+  pub told_as : (P Q : ℕ → Type 0) (a b : List SlotAccess) → ((n : ℕ) → Q n → P n) → ((n : ℕ) → P n → Q n) → Told P a b → Told Q a b
+  told_as P Q a b from to are = record {
+    count = are.count;
+    told = λ n q. are.told n (from n q);
+    others = λ n other. are.others n (λ p. other (to n p));
+  }
+
+  module _ (At : ℕ → ℕ → Type 0) (first : ℕ) (before : List SlotAccess) where
+    pub none_among : Told (IsAmong At first first) before before
+    none_among = none_told (IsAmong At first first) before (λ n among. let from = among.from in let below = among.below in omega arith)
+
+    pub one_among : (k : ℕ) (mid after : List SlotAccess) → ((l m n : ℕ) → At l n → At m n → l ≡ m) → first ≤ k → Told (IsAmong At first k) before mid → Told (At k) mid after → Told (IsAmong At first (k + 1)) before after
+    one_among k mid after one_place from got more =
+        told_then (IsAmong At first k) (At k) (IsAmong At first (k + 1)) before mid after
+        (λ n among at_k. let below = among.below in let same : among.k ≡ k = one_place among.k k n among.is at_k in omega (arith, same))
+        (λ n among. elim (cases_eq among.k k) [
+          | inl same ↦ inr (rw same at among.is)
+          | inr differ ↦ inl (record { k = among.k; from = among.from; below = (let below = among.below in omega (arith, differ)); is = among.is })
+        ])
+        (λ n among. record { k = among.k; from = among.from; below = (let below = among.below in omega arith); is = among.is })
+        (λ n at_k. record { k = k; from = from; below = omega arith; is = at_k })
+        got more
+
+    pub all_among : (k end : ℕ) (after : List SlotAccess) → ¬ (k < end) → ((j : ℕ) → first ≤ j → j < k → j < end) → Told (IsAmong At first k) before after → Told (IsAmong At first end) before after
+    all_among k end after done inside got =
+        told_as (IsAmong At first k) (IsAmong At first end) before after
+        (λ n among. record { k = among.k; from = among.from; below = (let below = among.below in omega (arith, done)); is = among.is })
+        (λ n among. record { k = among.k; from = among.from; below = inside among.k among.from among.below; is = among.is })
+        got
+
+  module _ (is_grid : IsGrid grid) (sound : IsSound grid.design.library) (k : ℕ) (reach : Option ℤ) (reaches : ReachesMetal grid k shape.layer reach) where
+    abbrev distance : ℕ
+    distance = spacing_at grid.design.library.layers shape.layer
+
+    far_told : (before after : List SlotAccess) (n j i : ℕ) → IsSlot grid n k j i → IsSlotPast grid j i shape.rect reach distance → slice_get after n ≡ slice_get before n → IsTold grid shape n before after
+    far_told before after n j i slot past same = record {
+      told = λ flat grown old has at tells new there.
+          let is : old ≡ new = same_Some old new (sym at ∙ sym same ∙ there) in
+          let P : SlotAccess → Type 0 = λ s. TellsSlot grid grown n s in
+          subst P is (tells_far grid is_grid n shape flat grown has old (λ net. far_access grid is_grid sound shape n k j i slot reach reaches past flat net) tells);
+    }
+
+    -- where no metal of the layer's slots lies on the shape's layer
+    pub none_reached : (slots : List SlotAccess) → reach ≡ None → Told (IsOnLayer grid k) slots slots
+    none_reached slots none = record {
+      count = refl;
+      told = λ n on. far_told slots slots n on.j on.i on.slot (rw none tt) refl;
+      others = λ n other. refl;
+    }
+
+    module _ (r : ℤ) (c0 c1 r0 r1 : ℕ) (is : reach ≡ Some r)
+        (columns : ArePlacesNear grid.xs (shape.rect.x1 -ℤ (r +ℤ pos distance)) (shape.rect.x2 +ℤ (r +ℤ pos distance)) c0 c1)
+        (rows : ArePlacesNear grid.ys (shape.rect.y1 -ℤ (r +ℤ pos distance)) (shape.rect.y2 +ℤ (r +ℤ pos distance)) r0 r1) where
+      abbrev InRows : ℕ → Type 0
+      InRows = IsInRows grid k (r0, r1) (c0, c1)
+
+      past : (j i : ℕ) → IsPast grid.xs i (shape.rect.x1 -ℤ (r +ℤ pos distance)) (shape.rect.x2 +ℤ (r +ℤ pos distance)) ⊎ IsPast grid.ys j (shape.rect.y1 -ℤ (r +ℤ pos distance)) (shape.rect.y2 +ℤ (r +ℤ pos distance))
+          → IsSlotPast grid j i shape.rect reach distance
+      past j i far = rw is far
+
+      -- a place that isn't among those near
+      placed : (values : List ℤ) (low high : ℤ) (first end i : ℕ) → ArePlacesNear values low high first end → IsOut values low high first end i ⊎ ((first ≤ i) × (i < end))
+      placed values low high first end i near = elim (order i first) [
+        | inl before ↦ inl (record { past = inl (λ m z upto there. near.before i m z before upto there); out = λ from below. omega (arith, before, from) })
+        | inr from ↦ elim (order i end) [
+          | inl below ↦ inr (from, below)
+          | inr behind ↦ inl (record { past = inr (λ z there. near.behind i z behind there); out = λ from below. omega (arith, behind, below) })
+        ]
+      ]
+
+      in_rows : (n j i : ℕ) → IsSlot grid n k j i → (r0 ≤ j) × (j < r1) → (c0 ≤ i) × (i < c1) → InRows n
+      in_rows n j i slot row column = record { k = j; from = row.0; below = row.1; is = record { k = i; from = column.0; below = column.1; is = slot } }
+
+      -- a slot of those rows and columns, or one that is past them
+      near_or_past : (n j i : ℕ) → IsSlot grid n k j i → InRows n ⊎ ((¬ InRows n) × IsSlotPast grid j i shape.rect reach distance)
+      near_or_past n j i slot = elim (placed grid.xs (shape.rect.x1 -ℤ (r +ℤ pos distance)) (shape.rect.x2 +ℤ (r +ℤ pos distance)) c0 c1 i columns) [
+        | inl out ↦ inr (
+          λ row.
+              let same = same_slot grid n k row.k row.is.k k j i row.is.is slot in
+              let column = same.column in
+              let from = row.is.from in
+              let below = row.is.below in
+              out.out (omega (arith, column, from)) (omega (arith, column, below)),
+          past j i (inl out.past),
+        )
+        | inr column ↦ elim (placed grid.ys (shape.rect.y1 -ℤ (r +ℤ pos distance)) (shape.rect.y2 +ℤ (r +ℤ pos distance)) r0 r1 j rows) [
+          | inl out ↦ inr (
+            λ row.
+                let same = same_slot grid n k row.k row.is.k k j i row.is.is slot in
+                let line = same.row in
+                let from = row.from in
+                let below = row.below in
+                out.out (omega (arith, line, from)) (omega (arith, line, below)),
+            past j i (inr out.past),
+          )
+          | inr row ↦ inl (in_rows n j i slot row column)
+        ]
+      ]
+
+      on_layer : (n : ℕ) → InRows n → IsOnLayer grid k n
+      on_layer n row = record { j = row.k; i = row.is.k; slot = row.is.is }
+
+      pub rows_told : (before after : List SlotAccess) → Told InRows before after → Told (IsOnLayer grid k) before after
+      rows_told before after got = record {
+        count = got.count;
+        told = λ n on. by n on (near_or_past n on.j on.i on.slot);
+        others = λ n other. got.others n (λ row. other (on_layer n row));
+      } where
+        by : (n : ℕ) (on : IsOnLayer grid k n) → InRows n ⊎ ((¬ InRows n) × IsSlotPast grid on.j on.i shape.rect reach distance) → IsTold grid shape n before after
+        by n on (inl row) = got.told n row
+        by n on (inr far) = far_told before after n on.j on.i on.slot far.1 (got.others n far.0)
+
+-- in one slot
+pub told_at : (grid : GridSaid) (shape : Shape) (number : ℕ) (before after : List SlotAccess) → length after ≡ length before → IsTold grid shape number before after → ((n : ℕ) → ¬ (n ≡ number) → slice_get after n ≡ slice_get before n)
+    → AreTold grid shape (λ n. n ≡ number) before after
+told_at grid shape number before after count told others = record {
+  count = count;
+  told = λ n is. let P : ℕ → Type 0 = λ n. IsTold grid shape n before after in subst P (sym is) told;
+  others = others;
+}
+
+-- in all slots
+pub all_told : (grid : GridSaid) (shape : Shape) (before after : List SlotAccess) → length before ≡ slot_total grid → AreTold grid shape (IsAmong (IsOnLayer grid) 0 (length grid.layers)) before after → (flat grown : FlatSaid) → HasShape shape flat grown
+    → TellsSlots grid flat before → TellsSlots grid grown after
+all_told grid shape before after count got flat grown has tells = record {
+  count = got.count ∙ count;
+  each = λ n new there.
+      let within = slice_get_within after n new there in
+      let below : n < slot_total grid = omega (arith, within, got.count, count) in
+      let divided = by_division (length grid.layers) (length grid.ys) (length grid.xs) n below in
+      let layer = divided.layer in
+      let old = some_at before n (omega (arith, below, count)) in
+      let among : IsAmong (IsOnLayer grid) 0 (length grid.layers) n = record {
+        k = n / length grid.xs / length grid.ys;
+        from = omega arith;
+        below = layer;
+        is = record { j = n / length grid.xs % length grid.ys; i = n % length grid.xs; slot = record { layer = layer; row = divided.row; column = divided.column; is = divided.is } };
+      } in
+      (got.told n among).told flat grown old.value has old.there (tells.each n old.value old.there) new there;
+}
+
+-- one shape after another
+pub one_shape_more : (grid : GridSaid) (shapes : List Shape) (i : ℕ) (shape : Shape) (before after : List SlotAccess) → i < length shapes → get_or shapes i shape ≡ shape
+    → ((flat grown : FlatSaid) → HasShape shape flat grown → TellsSlots grid flat before → TellsSlots grid grown after)
+    → ((flat : FlatSaid) → flat.shapes ≡ take i shapes → TellsSlots grid flat before) → (flat : FlatSaid) → flat.shapes ≡ take (i + 1) shapes → TellsSlots grid flat after
+one_shape_more grid shapes i shape before after within is told so_far flat are =
+    let longer : take (i + 1) shapes ≡ take i shapes ++ shape ∷ [] = take_more shapes i shape within ∙ rw is refl in
+    told (record { shapes = take i shapes; pieces = [] }) flat (are ∙ longer) (so_far (record { shapes = take i shapes; pieces = [] }) refl)
+
+-- the one slot, by its place
+pub one_slot_told : (grid : GridSaid) (shape : Shape) (number k j i : ℕ) (before after : List SlotAccess) → IsSlot grid number k j i → AreTold grid shape (λ n. n ≡ number) before after → AreTold grid shape (λ n. IsSlot grid n k j i) before after
+one_slot_told grid shape number k j i before after slot got =
+    let P : ℕ → Type 0 = λ n. IsSlot grid n k j i in
+    told_as grid shape (λ n. n ≡ number) (λ n. IsSlot grid n k j i) before after (λ n other. other.is ∙ sym slot.is) (λ n same. subst P (sym same) slot) got
+
+pub one_column : (grid : GridSaid) (k j l m n : ℕ) → IsSlot grid n k j l → IsSlot grid n k j m → l ≡ m
+one_column grid k j l m n slot other = (same_slot grid n k j l k j m slot other).column
+
+pub one_row : (grid : GridSaid) (k : ℕ) (columns : ℕ × ℕ) (l m n : ℕ) → IsInRow grid k l columns n → IsInRow grid k m columns n → l ≡ m
+one_row grid k columns l m n row other = (same_slot grid n k l row.k k m other.k row.is other.is).row
+
+pub one_layer : (grid : GridSaid) (l m n : ℕ) → IsOnLayer grid l n → IsOnLayer grid m n → l ≡ m
+one_layer grid l m n on other = (same_slot grid n l on.j on.i m other.j other.i on.slot other.slot).layer

@@ -1,0 +1,9 @@
+use Rattle.std.proofs.Common.{arith}
+use Rattle.std.proofs.lemmas.Option.{slice_get-get_or}
+use Rattle.leg_grid.proofs.OneAdded.{told_here}
+use Rattle.leg_grid.proofs.added.add_at.Goals as goal
+
+pub returns : goal.returns
+returns g c =
+    told_here c.args.grid.now c.grid_is_sound.ensures.proper c.args.shape.now c.args.number c.args.slots.now _ c.slot_beside-beside.result c.and.result (let count = c.requires.count in let within = c.requires.within in omega (arith, count, within))
+    (slice_get-get_or c.args.slots.now c.args.number _ (let count = c.requires.count in let within = c.requires.within in omega (arith, count, within))) c.slot_beside-beside.ensures c.and.ensures.node c.and.ensures.along c.and.ensures.above

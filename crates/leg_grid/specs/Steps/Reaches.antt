@@ -1,0 +1,45 @@
+-- How far metal on a layer lies from the points of the slots that add it.
+use Rattle.std.specs.Prelude.{◌≡◌, ℕ, ℤ, pos, ◌-ℤ◌, ◌≤ℤ◌, Option, None, Some, slice_get, All}
+use Rattle.leg_lex.specs.declared.limits.TheConstants.{NUMBER_LIMIT}
+use Rattle.leg_geom.specs.Plane.{Sides}
+use Rattle.leg_cells.specs.declared.records.Shape.{Shape}
+use Rattle.leg_cells.specs.Records.{ViaSaid}
+use Rattle.leg_grid.specs.declared.layers.RoutingLayer.{RoutingLayer}
+use Rattle.leg_grid.specs.Added.{half}
+use Rattle.leg_grid.specs.Grid.{GridSaid}
+
+-- there is a reach, and it is this at least
+abbrev pub Reaches : Option ℤ → ℤ → Type 0
+Reaches None z = ⊥
+Reaches (Some reach) z = z ≤ℤ reach
+
+-- a reach is a number that a DEF may have, and not below 0
+pub record IsDistance (reach : ℤ) : Type 0 where
+  pub least : pos 0 ≤ℤ reach
+  pub most : reach ≤ℤ pos NUMBER_LIMIT
+
+abbrev pub IsReach : Option ℤ → Type 0
+IsReach None = Unit {0}
+IsReach (Some reach) = IsDistance reach
+
+-- no point of the rectangle lies farther from the point 0 0 than this, along x or y
+pub record ReachesAll (reach : Option ℤ) (rect : Sides) : Type 0 where
+  pub x1 : Reaches reach (pos 0 -ℤ rect.x1)
+  pub y1 : Reaches reach (pos 0 -ℤ rect.y1)
+  pub x2 : Reaches reach rect.x2
+  pub y2 : Reaches reach rect.y2
+
+-- the second reach is there where the first is, and no less
+abbrev pub IsWider : Option ℤ → Option ℤ → Type 0
+IsWider reach wider = (z : ℤ) → Reaches reach z → Reaches wider z
+
+-- the same of a shape, if it lies on the layer
+abbrev pub ReachesShape : Option ℤ → ℕ → Shape → Type 0
+ReachesShape reach layer shape = shape.layer ≡ layer → ReachesAll reach shape.rect
+
+-- no metal on the layer that a node of routing layer k, a step along it or a step up adds lies farther from their points
+pub record ReachesMetal (grid : GridSaid) (k layer : ℕ) (reach : Option ℤ) : Type 0 where
+  pub proper : IsReach reach
+  pub line : (own : RoutingLayer) → slice_get grid.layers k ≡ Some own → own.number ≡ layer → Reaches reach (half own.width)
+  pub via : (via : ℕ) (said : ViaSaid) → slice_get grid.vias k ≡ Some (Some via) → slice_get grid.design.library.vias via ≡ Some said
+      → All (ReachesShape reach layer) said.shapes

@@ -1,0 +1,50 @@
+-- What is kept of slots, while shapes are added one by one.
+use Rattle.std.specs.Prelude.{◌≡◌, ◌↔◌, ◌⊎◌, ℕ, ℤ, ◌+◌, ◌<◌, ◌≤◌, ◌<ℤ◌, List, ◌++◌, ◌∷◌, [], Some, Option, MatchOption, length, slice_get}
+use Rattle.leg_walk.specs.declared.side.Side.TheVariants.{East, North}
+use Rattle.leg_flat.specs.declared.shape.Shape.{Shape}
+use Rattle.leg_flat.specs.Flat.{FlatSaid}
+use Rattle.leg_wire.specs.declared.access.Access.{Access}
+use Rattle.leg_wire.specs.Access.{Admits}
+use Rattle.leg_grid.specs.declared.slot_access.SlotAccess.{SlotAccess}
+use Rattle.leg_grid.specs.Grid.{GridSaid, IsSlot}
+use Rattle.leg_grid.specs.Numbered.{IsBesideAt}
+use Rattle.leg_grid.specs.Told.{TellsSlot}
+
+-- the third admits what the first two both admit
+abbrev pub IsBoth : Access → Access → Access → Type 0
+IsBoth a b both = (net : ℕ) → Admits both net ↔ (Admits a net × Admits b net)
+
+-- the slot of the number m lies to the east or to the north of that of n
+abbrev pub IsNextAlong : GridSaid → ℕ → ℕ → Type 0
+IsNextAlong grid n m = IsBesideAt grid East n m ⊎ IsBesideAt grid North n m
+
+-- which slot that is, or that there is none
+abbrev pub IsNextIfAny : GridSaid → ℕ → Option ℕ → Type 0
+IsNextIfAny grid n next = MatchOption next ((m : ℕ) → ¬ IsNextAlong grid n m) (λ m. IsNextAlong grid n m)
+
+-- the second flat has the shapes of the first, and this one behind them
+abbrev pub HasShape : Shape → FlatSaid → FlatSaid → Type 0
+HasShape shape flat grown = grown.shapes ≡ flat.shapes ++ shape ∷ []
+
+-- whatever was kept of the slot for a flat without the shape is kept, after this, for the flat with it
+pub record IsTold (grid : GridSaid) (shape : Shape) (n : ℕ) (before after : List SlotAccess) : Type 0 where
+  pub told : (flat grown : FlatSaid) (slot : SlotAccess) → HasShape shape flat grown → slice_get before n ≡ Some slot → TellsSlot grid flat n slot
+      → (new : SlotAccess) → slice_get after n ≡ Some new → TellsSlot grid grown n new
+
+-- after this the slots of which P holds are kept with the shape, and all others are as before
+pub record AreTold (grid : GridSaid) (shape : Shape) (P : ℕ → Type 0) (before after : List SlotAccess) : Type 0 where
+  pub count : length after ≡ length before
+  pub told : (n : ℕ) → P n → IsTold grid shape n before after
+  pub others : (n : ℕ) → ¬ P n → slice_get after n ≡ slice_get before n
+
+-- the places of the values from the last one below low to the last one not above high
+pub record ArePlacesNear (values : List ℤ) (low high : ℤ) (first end : ℕ) : Type 0 where
+  pub within : end ≤ length values
+  pub before : (k m : ℕ) (z : ℤ) → k < first → m ≤ k + 1 → slice_get values m ≡ Some z → z <ℤ low
+  pub behind : (k : ℕ) (z : ℤ) → end ≤ k → slice_get values k ≡ Some z → high <ℤ z
+
+-- n is the number of a slot of routing layer k
+pub record IsOnLayer (grid : GridSaid) (k n : ℕ) : Type 0 where
+  pub j : ℕ
+  pub i : ℕ
+  pub slot : IsSlot grid n k j i

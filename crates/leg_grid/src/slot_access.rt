@@ -1,0 +1,56 @@
+//! To which nets a slot's node and the steps from it are open.
+
+ghost use Rattle.std.specs.Prelude.{◌≡◌, ◌<◌};
+ghost use Rattle.leg_wire.specs.Access.{alone};
+ghost use Rattle.leg_grid.specs.Grid.{slot_total};
+ghost use Rattle.leg_grid.specs.Told.{TellsSlot};
+ghost use Rattle.leg_grid.specs.Steps.SlotsTold.{IsBoth};
+
+use crate::grid::Grid;
+use crate::open_node::node_beside;
+use crate::open_step::{above_beside, along_beside};
+use leg_block::Design;
+use leg_flat::Shape;
+use leg_wire::Access;
+use std::alloc::Allocator;
+
+/// To which nets a slot's node is open, the step along its layer to the next slot, to the east or to the north, and the step up.
+#[derive(Clone, Copy, PartialEq, Eq, Debug)]
+pub struct SlotAccess {
+    pub node: Access,
+    pub along: Access,
+    pub above: Access,
+}
+
+impl SlotAccess {
+    /// What both admit.
+    pub(crate) fn and(self, other: SlotAccess) -> SlotAccess
+        ensures node { IsBoth self.node other.node result.node }
+        ensures along { IsBoth self.along other.along result.along }
+        ensures above { IsBoth self.above other.above result.above }
+    {
+        SlotAccess {
+            node: self.node.and(other.node),
+            along: self.along.and(other.along),
+            above: self.above.and(other.above),
+        }
+    }
+}
+
+/// What is told of the slot of this number where this shape alone lies.
+pub(crate) fn slot_beside<A: Allocator + Copy>(
+    grid: &Grid<'_, '_, A>,
+    design: &Design<'_, A>,
+    shape: &Shape,
+    number: u32,
+) -> SlotAccess
+    requires of_design { grid.now.design ≡ design.now }
+    requires within { number < slot_total grid.now }
+    ensures { TellsSlot grid.now (alone shape.now) number result }
+{
+    SlotAccess {
+        node: node_beside(grid, design, shape, number),
+        along: along_beside(grid, design, shape, number),
+        above: above_beside(grid, design, shape, number),
+    }
+}
