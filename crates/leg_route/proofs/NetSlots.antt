@@ -9,6 +9,8 @@ use Rattle.leg_flat.specs.Flat.{FlatSaid}
 use Rattle.leg_wire.specs.NetShapes.{AreNumbersOf}
 use Rattle.leg_wire.specs.Touch.{piece_count, LiesIn, AreJoined, AreMarks}
 use Rattle.leg_grid.specs.declared.node.Node.{Node}
+use Rattle.leg_grid.specs.declared.slot_box.SlotBox.{SlotBox}
+use Rattle.leg_grid.specs.Bound.{bound_at, IsBoxOf, AreBoxed}
 use Rattle.leg_grid.specs.Grid.{GridSaid, IsNumberOf, slot_total}
 use Rattle.leg_grid.specs.InRect.{LiesInRect}
 use Rattle.leg_grid.specs.Meets.{MeetsJoined, MeetsRest}
@@ -17,14 +19,15 @@ use Rattle.leg_route.specs.Steps.NetSlots.{HasMark, MeetsMarked, AreMarkedSlots}
 
 module _ (grid : GridSaid) (shapes : List Shape) (marks : List Bool) (mark : Bool) where
   -- no shape was looked at
-  pub slots_none : AreMarkedSlots grid shapes marks mark [] []
+  pub slots_none : AreMarkedSlots grid shapes marks mark [] [] []
   slots_none = record {
     are = λ n. (λ has. absurd (Contains-nil n has), λ one. absurd (Contains-nil one.holds.number one.holds.listed));
     within = All-nil (λ n. n < slot_total grid);
+    boxed = record { corners = All-nil (IsBoxOf grid); inside = All-nil (λ n. bound_at grid [] n ≡ 0) };
   }
 
   -- one shape more
-  module _ (numbers slots : List ℕ) (done : AreMarkedSlots grid shapes marks mark numbers slots) (k : ℕ) (shape : Shape) (read : slice_get shapes k ≡ Some shape) where
+  module _ (numbers : List ℕ) (boxes : List SlotBox) (slots : List ℕ) (done : AreMarkedSlots grid shapes marks mark numbers boxes slots) (k : ℕ) (shape : Shape) (read : slice_get shapes k ≡ Some shape) where
     same_shape : (other : Shape) → slice_get shapes k ≡ Some other → other ≡ shape
     same_shape other there = same_Some other shape (sym there ∙ read)
 
@@ -91,10 +94,10 @@ module _ (grid : GridSaid) (shapes : List Shape) (marks : List Bool) (mark : Boo
     }
 
     -- its piece has the mark
-    pub slots_more : (more : List ℕ) → HasMark marks mark shape.piece
+    pub slots_more : (boxes_more : List SlotBox) (more : List ℕ) → HasMark marks mark shape.piece
         → ((n : ℕ) → Contains more n ↔ (Contains slots n ⊎ IsOneOf (IsNumberOf grid) (LiesInRect shape.layer shape.rect) n))
-        → All (λ n. n < slot_total grid) more → AreMarkedSlots grid shapes marks mark (numbers ++ k ∷ []) more
-    slots_more more marked added within = record {
+        → All (λ n. n < slot_total grid) more → AreBoxed grid boxes_more more → AreMarkedSlots grid shapes marks mark (numbers ++ k ∷ []) boxes_more more
+    slots_more boxes_more more marked added within boxed = record {
       are = λ n. (
         λ has. elim ((added n).0 has) [
           | inl before ↦ still n ((done.are n).0 before)
@@ -106,10 +109,11 @@ module _ (grid : GridSaid) (shapes : List Shape) (marks : List Bool) (mark : Boo
         ],
       );
       within = within;
+      boxed = boxed;
     }
 
     -- it hasn't
-    pub slots_skip : (HasMark marks mark shape.piece → ⊥) → AreMarkedSlots grid shapes marks mark (numbers ++ k ∷ []) slots
+    pub slots_skip : (HasMark marks mark shape.piece → ⊥) → AreMarkedSlots grid shapes marks mark (numbers ++ k ∷ []) boxes slots
     slots_skip other = record {
       are = λ n. (
         λ has. still n ((done.are n).0 has),
@@ -119,6 +123,7 @@ module _ (grid : GridSaid) (shapes : List Shape) (marks : List Bool) (mark : Boo
         ],
       );
       within = done.within;
+      boxed = done.boxed;
     }
 
 -- The shapes of a net, and which of its pieces are joined.
@@ -168,9 +173,9 @@ module _ (flat : FlatSaid) (net : ℕ) (numbers : List ℕ) (are : AreNumbersOf 
         | inr is ↦ read ∙ ap Some is
       ]
 
-  module _ (grid : GridSaid) (slots : List ℕ) where
+  module _ (grid : GridSaid) (boxes : List SlotBox) (slots : List ℕ) where
     -- the slots in shapes of joined pieces
-    pub starts_are : AreMarkedSlots grid flat.shapes marks true numbers slots → (n : ℕ) → Contains slots n ↔ IsOneOf (IsNumberOf grid) (MeetsJoined flat net) n
+    pub starts_are : AreMarkedSlots grid flat.shapes marks true numbers boxes slots → (n : ℕ) → Contains slots n ↔ IsOneOf (IsNumberOf grid) (MeetsJoined flat net) n
     starts_are told n = (
       λ has.
           let one = (told.are n).0 has in
@@ -193,7 +198,7 @@ module _ (flat : FlatSaid) (net : ℕ) (numbers : List ℕ) (are : AreNumbersOf 
     )
 
     -- the slots in those of the others
-    pub ends_are : AreMarkedSlots grid flat.shapes marks false numbers slots → (n : ℕ) → Contains slots n ↔ IsOneOf (IsNumberOf grid) (MeetsRest flat net) n
+    pub ends_are : AreMarkedSlots grid flat.shapes marks false numbers boxes slots → (n : ℕ) → Contains slots n ↔ IsOneOf (IsNumberOf grid) (MeetsRest flat net) n
     ends_are told n = (
       λ has.
           let one = (told.are n).0 has in

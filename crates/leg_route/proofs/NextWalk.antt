@@ -1,17 +1,18 @@
 -- A walk over slots, and the nodes in them.
-use Rattle.std.proofs.Common.{◌≡◌, ◌↔◌, ℕ, ◌<◌, List, [], ◌∷◌, All, Contains, Option, None, Some, IfSome, option_map, subst, sym, ap, ◌∙◌, refl}
+use Rattle.std.proofs.Common.{◌≡◌, ◌↔◌, ℕ, ◌<◌, List, [], ◌∷◌, All, Contains, Option, None, Some, IfSome, option_map, subst, ap, ◌∙◌, refl}
 use Rattle.std.specs.List.{AllZip}
 use Rattle.leg_sweep.proofs.Lists.{Contains-nil}
 use Rattle.leg_block.specs.Records.{DesignContents}
 use Rattle.leg_flat.specs.Flat.{FlatSaid}
 use Rattle.leg_walk.specs.Walk.{IsStep, IsShortest, NoWalk, IsAnswer}
 use Rattle.leg_grid.specs.declared.node.Node.{Node}
+use Rattle.leg_grid.specs.declared.slot_access.SlotAccess.{SlotAccess}
 use Rattle.leg_grid.specs.declared.slot_box.SlotBox.{SlotBox}
 use Rattle.leg_grid.specs.Bound.{IsBesideNear}
 use Rattle.leg_grid.specs.Grid.{GridSaid, IsNumberOf, slot_total}
 use Rattle.leg_grid.specs.Meets.{MeetsJoined, MeetsRest}
-use Rattle.leg_grid.specs.OpenMetal.{IsOpenNode}
-use Rattle.leg_grid.specs.Numbered.{IsOneOf, IsOpenStepAt, IsNextWalkAt, HasNoWalkAt}
+use Rattle.leg_grid.specs.Admitted.{IsNodeAdmitted, IsStepAdmitted}
+use Rattle.leg_grid.specs.Numbered.{IsOneOf, IsNextWalkAt, HasNoWalkAt}
 use Rattle.leg_grid.specs.Run.{IsNextWalk}
 use Rattle.leg_route.specs.Steps.NetSlots.{IsNextAnswerAt}
 
@@ -26,37 +27,29 @@ pub no_starts : (grid : GridSaid) (flat : FlatSaid) (net : ℕ) (starts : List �
 no_starts grid flat net starts are none a b nodes start is_end walk = Contains-nil a (subst (λ xs. Contains xs a) none ((are a).1 start))
 
 -- what a search answers whose walks begin and end in these slots
-module _ (grid : GridSaid) (design : DesignContents) (flat : FlatSaid) (net : ℕ) (origin around : SlotBox) (starts ends : List ℕ) where
-  abbrev pub IsWalk : DesignContents → List ℕ → Type 0
-  IsWalk of numbers =
-      IsShortest (IsOneOf (IsNumberOf grid) (IsOpenNode of flat net)) (IsStep (IsBesideNear grid origin around) (IsOpenStepAt grid flat net)) (Contains starts) (Contains ends) numbers
+module _ (grid : GridSaid) (flat : FlatSaid) (slots : List SlotAccess) (net : ℕ) (origin around : List SlotBox) (starts ends : List ℕ) where
+  abbrev pub IsWalk : List ℕ → Type 0
+  IsWalk numbers =
+      IsShortest (IsNodeAdmitted slots net) (IsStep (IsBesideNear grid origin around) (IsStepAdmitted grid slots net)) (Contains starts) (Contains ends) numbers
 
-  abbrev pub IsNone : DesignContents → Type 0
-  IsNone of = NoWalk (IsOneOf (IsNumberOf grid) (IsOpenNode of flat net)) (IsStep (IsBesideNear grid origin around) (IsOpenStepAt grid flat net)) (Contains starts) (Contains ends)
+  abbrev pub IsNone : Type 0
+  IsNone = NoWalk (IsNodeAdmitted slots net) (IsStep (IsBesideNear grid origin around) (IsStepAdmitted grid slots net)) (Contains starts) (Contains ends)
 
-  abbrev pub IsFound : DesignContents → Option (List ℕ) → Type 0
-  IsFound of answer =
-      IsAnswer (IsOneOf (IsNumberOf grid) (IsOpenNode of flat net)) (IsStep (IsBesideNear grid origin around) (IsOpenStepAt grid flat net)) (Contains starts) (Contains ends) answer
-
-  of_grid : grid.design ≡ design → (answer : Option (List ℕ)) → IsFound design answer → IsFound grid.design answer
-  of_grid of_design answer found = subst (λ d. IsFound d answer) (sym of_design) found
+  abbrev pub IsFound : Option (List ℕ) → Type 0
+  IsFound answer =
+      IsAnswer (IsNodeAdmitted slots net) (IsStep (IsBesideNear grid origin around) (IsStepAdmitted grid slots net)) (Contains starts) (Contains ends) answer
 
   -- it answers by numbers
-  pub answer_at : ((numbers : List ℕ) → IsWalk grid.design numbers → IsNextWalkAt grid flat net numbers) → (IsNone grid.design → HasNoWalkAt grid flat net)
-      → grid.design ≡ design → (answer : Option (List ℕ)) → IsFound design answer → IsNextAnswerAt grid flat net answer
-  answer_at walks none of_design answer found = by answer (of_grid of_design answer found) where
-    by : (answer : Option (List ℕ)) → IsFound grid.design answer → IsNextAnswerAt grid flat net answer
-    by None is = none is
-    by (Some numbers) is = walks numbers is
+  pub answer_at : ((numbers : List ℕ) → IsWalk numbers → IsNextWalkAt grid flat net numbers) → (IsNone → HasNoWalkAt grid flat net)
+      → (answer : Option (List ℕ)) → IsFound answer → IsNextAnswerAt grid flat net answer
+  answer_at walks none None is = none is
+  answer_at walks none (Some numbers) is = walks numbers is
 
   -- all of slots
-  pub answer_within : ((numbers : List ℕ) → IsWalk grid.design numbers → All (λ n. n < slot_total grid) numbers)
-      → grid.design ≡ design → {V : Type 0} (items : V → List ℕ) (walk : Option V) → IsFound design (option_map items walk)
-      → IfSome walk (λ v. All (λ n. n < slot_total grid) (items v))
-  answer_within walks of_design {V} items walk found = by walk (of_grid of_design (option_map items walk) found) where
-    by : (walk : Option V) → IsFound grid.design (option_map items walk) → IfSome walk (λ v. All (λ n. n < slot_total grid) (items v))
-    by None is = tt
-    by (Some v) is = walks (items v) is
+  pub answer_within : ((numbers : List ℕ) → IsWalk numbers → All (λ n. n < slot_total grid) numbers)
+      → {V : Type 0} (items : V → List ℕ) (walk : Option V) → IsFound (option_map items walk) → IfSome walk (λ v. All (λ n. n < slot_total grid) (items v))
+  answer_within walks items None is = tt
+  answer_within walks items (Some v) is = walks (items v) is
 
 -- where a number has one node, numbers have one list of them
 same_nodes : (Number : ℕ → Node → Type 0) → ((n : ℕ) (a b : Node) → Number n a → Number n b → a ≡ b)

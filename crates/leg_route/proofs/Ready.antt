@@ -7,10 +7,9 @@ use Rattle.std.proofs.lemmas.List.Elements.{Decides-contains, contains_decides}
 use Rattle.std.proofs.Math.Seq.{drop-append_seam}
 use Rattle.std.proofs.lemmas.Bool.{false≢true}
 use Rattle.std.proofs.lemmas.Bool.Decides.{nat_tests}
-use Rattle.std.proofs.lemmas.List.{map-append, length-append, length-drop, take_all, length-map, length-set, get_or-set_same, get_or-set_other}
+use Rattle.std.proofs.lemmas.List.{length-append, length-drop, take_all, length-set, get_or-set_same, get_or-set_other}
 use Rattle.std.proofs.lemmas.List.FromFn.{length-map-range_with_len}
 use Rattle.std.proofs.lemmas.Option.{slice_get_read, slice_get-get_or, get_or_from_slice_get}
-use Rattle.leg_geom.specs.Plane.{Sides}
 use Rattle.leg_block.specs.declared.records.Wire.{Wire}
 use Rattle.leg_block.specs.Records.{DesignContents}
 use Rattle.leg_flat.specs.declared.shape.Shape.{Shape}
@@ -20,11 +19,11 @@ use Rattle.leg_flat.specs.MoreWires.{HasOneMoreWire}
 use Rattle.leg_wire.specs.NetShapes.{AreNumbersOf}
 use Rattle.leg_wire.specs.Touch.{piece_count, AreJoined, AreMarks}
 use Rattle.leg_walk.specs.declared.mark.Mark.{Mark}
+use Rattle.leg_grid.specs.declared.slot_access.SlotAccess.{SlotAccess}
 use Rattle.leg_grid.specs.Grid.{GridSaid}
 use Rattle.leg_grid.specs.Run.{IsOpenNet}
 use Rattle.leg_grown.specs.Growth.{Grows, of_net}
-use Rattle.leg_route.specs.Steps.Ready.{AreNumbersByNet, AreReady}
-use Rattle.leg_route.proofs.Noted.{rects_of}
+use Rattle.leg_route.specs.Steps.Ready.{AreNumbersByNet, TellsShapes, AreReady}
 
 -- each entry of NETS has the pieces of its number in a flat of the design
 pub nets_within : (design : DesignContents) (flat : FlatSaid) → IsFlatOf design flat → length design.nets ≤ length flat.pieces
@@ -86,10 +85,6 @@ module _ (design : DesignContents) (net : ℕ) (wire : Wire) (before after : Fla
       rw (all_is, first_is)
       (take_all (length after.shapes - length before.shapes) (drop (length before.shapes) after.shapes) (omega (arith, length-drop (length before.shapes) after.shapes)) ∙ added_are)
 
-  index_more : (index then : List Sides) → index ≡ rects_of before.shapes → then ≡ index ++ rects_of more.added → then ≡ rects_of after.shapes
-  index_more index then is grown =
-      grown ∙ ap (λ rects. rects ++ rects_of more.added) is ∙ sym (map-append (λ (shape : Shape). shape.rect) before.shapes more.added) ∙ ap rects_of (sym more.shapes)
-
   module _ (own_law : OwnNumbersGrow) (other_law : OtherNumbersStay) (nets : ℕ) (lists : List (List ℕ)) (own : List ℕ) (low : net < nets)
       (own_is : own ≡ get_or lists net [] ++ range_with_len (length before.shapes) (length after.shapes - length before.shapes))
       (are : AreNumbersByNet nets before lists) where
@@ -107,20 +102,19 @@ module _ (design : DesignContents) (net : ℕ) (wire : Wire) (before after : Fla
       each = λ other within. numbers_of other within (other == net) refl;
     }
 
-  -- all is ready still when the net has the wire, where the index and the net's numbers got what is new
-  pub ready_more : OwnNumbersGrow → OtherNumbersStay → (grid : GridSaid) (index index_then : List Sides) (lists : List (List ℕ)) (had own : List ℕ) (marks : List Mark) (touched : List ℕ)
-      (all first : List Shape) → all ≡ after.shapes → first ≡ before.shapes → net < length design.nets → AreReady design grid before index lists marks touched
-      → index_then ≡ index ++ rects_of (take (length all - length first) (drop (length first) all)) → had ≡ get_or lists net []
-      → own ≡ had ++ range_with_len (length index) (length (take (length all - length first) (drop (length first) all)))
-      → AreReady design grid after index_then (slice_set lists net own) marks touched
-  ready_more own_law other_law grid index index_then lists had own marks touched all first all_is first_is low ready index_is had_is own_is =
+  -- all is ready still when the net has the wire, where what is new was told to the slots and the net's numbers got its
+  pub ready_more : OwnNumbersGrow → OtherNumbersStay → (grid : GridSaid) (slots slots_then : List SlotAccess) (lists : List (List ℕ)) (had own : List ℕ) (marks : List Mark) (touched : List ℕ)
+      (all first : List Shape) → all ≡ after.shapes → first ≡ before.shapes → net < length design.nets → AreReady design grid before slots lists marks touched
+      → ((shapes : List Shape) → TellsShapes grid shapes slots → TellsShapes grid (shapes ++ take (length all - length first) (drop (length first) all)) slots_then)
+      → had ≡ get_or lists net [] → own ≡ had ++ range_with_len (length first) (length all - length first)
+      → AreReady design grid after slots_then (slice_set lists net own) marks touched
+  ready_more own_law other_law grid slots slots_then lists had own marks touched all first all_is first_is low ready told had_is own_is =
       let rest = rest_are all first all_is first_is in
-      let size : length index ≡ length before.shapes = ap length ready.indexed ∙ length-map before.shapes (λ (shape : Shape). shape.rect) in
-      let own_then : own ≡ get_or lists net [] ++ range_with_len (length before.shapes) (length after.shapes - length before.shapes) =
-      own_is ∙ rw (size, rest, had_is, added_count) refl in
+      let then : TellsShapes grid (before.shapes ++ more.added) slots_then = rw rest at (told before.shapes ready.told) in
+      let own_then : own ≡ get_or lists net [] ++ range_with_len (length before.shapes) (length after.shapes - length before.shapes) = rw (all_is, first_is, had_is) at own_is in
       record {
         of_design = ready.of_design;
-        indexed = index_more index index_then ready.indexed (rw rest at index_is);
+        told = rw more.shapes then;
         within = rw (ap length more.pieces ∙ length-set before.pieces net (pieces_with more.terminals (more.wires + 1))) ready.within;
         numbers = numbers_more own_law other_law (length design.nets) lists own low own_then ready.numbers;
         count = ready.count;

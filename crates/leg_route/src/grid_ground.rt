@@ -1,10 +1,12 @@
 //! The grid of a design as the router's ground.
 
-ghost use Rattle.std.specs.Prelude.{◌≡◌, ◌↔◌, ◌<◌, ◌^◌, ◌+◌, ◌++◌, IsTrue, false, length, map, Contains, IfOk, IfErr, OnOk};
+ghost use Rattle.std.specs.Prelude.{◌≡◌, ◌↔◌, ◌-◌, ◌++◌, List, IsTrue, false, length, Contains, IfOk, IfErr, OnOk};
 ghost use Rattle.std.specs.List.{range_with_len};
+ghost use Rattle.leg_flat.specs.declared.shape.Shape.{Shape};
 ghost use Rattle.leg_flat.specs.Flat.{IsWithin};
+ghost use Rattle.leg_grid.specs.Grid.{slot_total};
 ghost use Rattle.leg_route.specs.Refusal.{IsCleanIn, ComesToRun, IsRefusal};
-ghost use Rattle.leg_route.specs.Steps.Ready.{AreReady};
+ghost use Rattle.leg_route.specs.Steps.Ready.{TellsShapes, AreReady};
 
 use crate::fault::RouteFault;
 use crate::ground::Ground;
@@ -12,22 +14,20 @@ use crate::next_wires::next_wires;
 use leg_block::{Design, Wire};
 use leg_cells::Items;
 use leg_flat::{Flat, FlatFault, Shape};
-use leg_geom::Rect;
-use leg_grid::Grid;
+use leg_grid::{Grid, SlotAccess, add_shape, slots_beside};
 use leg_grown::laws::{other_numbers_stay, own_numbers_grow};
-use leg_sweep::BinIndex;
 use leg_walk::{Mark, unseen_marks};
 use leg_wire::{joined_among, numbers_by_net};
 use std::alloc::{AllocError, Allocator};
 
-/// The ground of a design: its grid, its flat as that grows, an index of the rectangles of the flat's shapes, for each net of
-/// `NETS` the numbers of its shapes, and room for marks in the slots of the grid.
+/// The ground of a design: its grid, its flat as that grows, to which nets each slot of the grid and the steps from it are open in
+/// the flat, for each net of `NETS` the numbers of its shapes, and room for marks in the slots.
 #[derive(Drop)]
 pub(crate) struct GridGround<'g, 'a, A: Allocator + Copy> {
     design: &'g Design<'a, A>,
     grid: Grid<'g, 'a, A>,
     flat: Flat<A>,
-    index: BinIndex<A>,
+    slots: Vec<SlotAccess, A>,
     numbers: Vec<Items<u32, A>, A>,
     marks: Vec<Mark, A>,
     touched: Vec<u32, A>,
@@ -42,14 +42,14 @@ impl<'g, 'a, A: Allocator + Copy> GridGround<'g, 'a, A> {
         flat: Flat<A>,
     ) -> Result<GridGround<'g, 'a, A>, RouteFault<A>>
         requires clean { IsCleanIn design.now flat }
-        ensures ready { IfOk result (λ ground. AreReady design.now ground.grid ground.flat ground.index ground.numbers.items ground.marks.items ground.touched.items) }
+        ensures ready { IfOk result (λ ground. AreReady design.now ground.grid ground.flat ground.slots.items ground.numbers.items ground.marks.items ground.touched.items) }
         ensures same_design { IfOk result (λ ground. ground.design.now ≡ design.now) }
         ensures comes { IfOk result (λ ground. ComesToRun design.now ground.flat) }
         ensures within { IfOk result (λ ground. IsWithin ground.flat) }
         ensures refused { IfErr result (λ fault. IsRefusal design.now fault) }
     {
         let grid = Grid::new(alloc, design)?;
-        let index = index_of(alloc, flat.shapes())?;
+        let slots = slots_beside(alloc, &grid, design, flat.shapes())?;
         let nets = design.nets().len() as u32;
         let numbers = numbers_by_net(alloc, flat.shapes(), nets)?;
         let marks = unseen_marks(alloc, grid.size() as usize)?;
@@ -57,7 +57,7 @@ impl<'g, 'a, A: Allocator + Copy> GridGround<'g, 'a, A> {
             design,
             grid,
             flat,
-            index,
+            slots,
             numbers,
             marks,
             touched: Vec::new(alloc),
@@ -72,7 +72,7 @@ impl<'g, 'a, A: Allocator + Copy> Ground<A> for GridGround<'g, 'a, A> {
 
     ghost flat = { λ g. g.flat };
 
-    ghost IsReady = { λ g. AreReady g.design.now g.grid g.flat g.index g.numbers.items g.marks.items g.touched.items };
+    ghost IsReady = { λ g. AreReady g.design.now g.grid g.flat g.slots.items g.numbers.items g.marks.items g.touched.items };
 
     fn is_open(&self, alloc: A, net: u32) -> Result<bool, AllocError> {
         let numbers = self.numbers[net as usize].as_slice();
@@ -86,7 +86,7 @@ impl<'g, 'a, A: Allocator + Copy> Ground<A> for GridGround<'g, 'a, A> {
             &self.grid,
             self.design,
             &self.flat,
-            &self.index,
+            &self.slots,
             net,
             self.numbers[net as usize].as_slice(),
             &mut self.marks,
@@ -101,40 +101,43 @@ impl<'g, 'a, A: Allocator + Copy> Ground<A> for GridGround<'g, 'a, A> {
         let before = self.flat.shapes().len();
         self.flat
             .add_wire(self.design.library(), self.design, net, &wire)?;
-        let added = &self.flat.shapes()[before..];
-        note_shapes(added, &mut self.index, &mut self.numbers[net as usize])?;
+        let shapes = self.flat.shapes();
+        add_shapes(&self.grid, self.design, &shapes[before..], &mut self.slots);
+        note_numbers(
+            before as u32,
+            shapes.len() as u32,
+            &mut self.numbers[net as usize],
+        )?;
         Ok(())
     }
 }
 
-/// An index of the rectangles of these shapes.
-fn index_of<A: Allocator + Copy>(alloc: A, shapes: &[Shape]) -> Result<BinIndex<A>, AllocError>
-    requires { length shapes.now < 2 ^ 32 }
-    ensures { IfOk result (λ index. index ≡ map (λ shape. shape.rect) shapes.now) }
-{
-    let rects = rects_of(alloc, shapes)?;
-    BinIndex::build(alloc, &rects)
-}
-
-/// The rectangles of these shapes.
-fn rects_of<A: Allocator>(alloc: A, shapes: &[Shape]) -> Result<Vec<Rect, A>, AllocError>
-    ensures { IfOk result (λ rects. rects.items ≡ map (λ shape. shape.rect) shapes.now) }
-{
-    shapes.iter().map(|shape| shape.rect).collect(alloc)
-}
-
-/// Adds the rectangles of these shapes to the index, and the numbers that they get to a net's numbers.
-fn note_shapes<A: Allocator + Copy>(
+/// What is told of the slots where these shapes lie too, behind the others: those near them are told anew.
+fn add_shapes<A: Allocator + Copy>(
+    grid: &Grid<'_, '_, A>,
+    design: &Design<'_, A>,
     shapes: &[Shape],
-    index: &mut BinIndex<A>,
-    numbers: &mut Items<u32, A>,
-) -> Result<(), AllocError>
-    requires { length index.old + length shapes.now < 2 ^ 32 }
-    ensures indexed { OnOk result (index.new ≡ index.old ++ map (λ shape. shape.rect) shapes.now) }
-    ensures numbered { OnOk result (numbers.new ≡ numbers.old ++ range_with_len (length index.old) (length shapes.now)) }
+    slots: &mut [SlotAccess],
+)
+    requires of_design { grid.now.design ≡ design.now }
+    requires count { length slots.old ≡ slot_total grid.now }
+    ensures count { length slots.new ≡ length slots.old }
+    ensures told { (before : List Shape) → TellsShapes grid.now before slots.old → TellsShapes grid.now (before ++ shapes.now) slots.new }
 {
     for shape in shapes {
-        let number = index.add(shape.rect)?;
+        add_shape(grid, design, shape, slots);
+    }
+}
+
+/// Adds the numbers from the first to before the end to a net's numbers.
+fn note_numbers<A: Allocator + Copy>(
+    first: u32,
+    end: u32,
+    numbers: &mut Items<u32, A>,
+) -> Result<(), AllocError>
+    ensures { OnOk result (numbers.new ≡ numbers.old ++ range_with_len first (end - first)) }
+{
+    for number in first..end {
         numbers.push(number)?;
     }
     Ok(())

@@ -1,12 +1,14 @@
 //! The wires of a shortest open walk from the joined part of a net to the rest.
 
-ghost use Rattle.std.specs.Prelude.{◌≡◌, ◌↔◌, ◌<◌, ◌^◌, ℕ, [], IsTrue, All, Contains, length, map, IfOk, IfSome};
+ghost use Rattle.std.specs.Prelude.{◌≡◌, ◌↔◌, ◌<◌, ◌^◌, ℕ, [], IsTrue, All, Contains, length, IfOk, IfSome};
 ghost use Rattle.std.specs.Option.{option_map};
 ghost use Rattle.leg_walk.specs.Marks.{AreUnseen};
 ghost use Rattle.leg_wire.specs.NetShapes.{AreNumbersOf};
-ghost use Rattle.leg_grid.specs.Grid.{IsGrid, IsNumberOf, slot_total};
+ghost use Rattle.leg_grid.specs.Grid.{IsNumberOf, slot_total};
+ghost use Rattle.leg_grid.specs.Bound.{AreBoxed};
 ghost use Rattle.leg_grid.specs.Meets.{MeetsJoined, MeetsRest};
 ghost use Rattle.leg_grid.specs.Numbered.{IsOneOf};
+ghost use Rattle.leg_grid.specs.Told.{TellsSlots};
 ghost use Rattle.leg_route.specs.Steps.NetSlots.{HasMark, AreMarkedSlots, IsNextAnswerAt};
 ghost use Rattle.leg_route.specs.Steps.NextWires.{IsNextAnswer};
 
@@ -15,8 +17,9 @@ use leg_flat::{Flat, Shape};
 use leg_grid::laws::{
     nodes_have_numbers, numbers_walk_as_nodes, open_walks_are_grid_walks, searches_walk_as_numbers,
 };
-use leg_grid::{Grid, NetGraph, add_slots_in, box_of, nodes_of, wires_of};
-use leg_sweep::BinIndex;
+use leg_grid::{
+    BoxedSlots, Grid, NetGraph, SlotAccess, add_slots_in, grid_is_sound, nodes_of, wires_of,
+};
 use leg_walk::{Mark, shortest};
 use leg_wire::joined_among;
 use std::alloc::{AllocError, Allocator};
@@ -31,7 +34,8 @@ fn has_mark(piece: Option<u32>, marks: &[bool], mark: bool) -> bool
     }
 }
 
-/// The slots that lie in shapes whose pieces have this mark, of the shapes of these numbers.
+/// The slots that lie in shapes whose pieces have this mark, of the shapes of these numbers, and for each shape in which some lie
+/// their box.
 fn marked_slots<A: Allocator + Copy>(
     alloc: A,
     grid: &Grid<'_, '_, A>,
@@ -39,48 +43,43 @@ fn marked_slots<A: Allocator + Copy>(
     numbers: &[u32],
     marks: &[bool],
     mark: bool,
-) -> Result<Vec<u32, A>, AllocError>
+) -> Result<BoxedSlots<A>, AllocError>
     requires { All (λ k. k < length shapes.now) numbers.now }
-    ensures { IfOk result (λ slots. AreMarkedSlots grid.now shapes.now marks.now mark numbers.now slots.items) }
+    ensures { IfOk result (λ found. AreMarkedSlots grid.now shapes.now marks.now mark numbers.now found.boxes.items found.slots.items) }
 {
-    let mut slots = Vec::new(alloc);
+    let mut found = BoxedSlots {
+        slots: Vec::new(alloc),
+        boxes: Vec::new(alloc),
+    };
     for number in numbers {
         let shape = &shapes[*number as usize];
         if has_mark(shape.piece, marks, mark) {
-            add_slots_in(grid, shape.layer, &shape.rect, &mut slots)?;
+            add_slots_in(grid, shape.layer, &shape.rect, &mut found)?;
         }
     }
-    Ok(slots)
-}
-
-/// What holds of every grid, as its type says: nothing is done.
-fn grid_is_sound<A: Allocator + Copy>(grid: &Grid<'_, '_, A>)
-    ensures proper { IsGrid grid.now }
-    ensures few { slot_total grid.now < 2 ^ 32 }
-{
-    let _slots = grid.size();
+    Ok(found)
 }
 
 /// The numbers of the slots of a shortest open walk of the net, whose walks begin and end in these slots, or `None` where there
-/// is no such walk.
+/// is no such walk. `slots` tells what is open in the flat.
 fn next_walk<A: Allocator + Copy>(
     alloc: A,
     grid: &Grid<'_, '_, A>,
-    design: &Design<'_, A>,
     flat: &Flat<A>,
-    index: &BinIndex<A>,
+    slots: &[SlotAccess],
     net: u32,
-    starts: &[u32],
-    ends: &[u32],
+    starts: &BoxedSlots<A>,
+    ends: &BoxedSlots<A>,
     marks: &mut [Mark],
     touched: &mut Vec<u32, A>,
 ) -> Result<Option<Vec<u32, A>>, AllocError>
-    requires of_design { grid.now.design ≡ design.now }
-    requires indexed { index.now ≡ map (λ shape. shape.rect) flat.now.shapes }
-    requires starts { (n : ℕ) → Contains starts.now n ↔ IsOneOf (IsNumberOf grid.now) (MeetsJoined flat.now net) n }
-    requires ends { (n : ℕ) → Contains ends.now n ↔ IsOneOf (IsNumberOf grid.now) (MeetsRest flat.now net) n }
-    requires starts_within { All (λ n. n < slot_total grid.now) starts.now }
-    requires ends_within { All (λ n. n < slot_total grid.now) ends.now }
+    requires told { TellsSlots grid.now flat.now slots.now }
+    requires starts { (n : ℕ) → Contains starts.now.slots.items n ↔ IsOneOf (IsNumberOf grid.now) (MeetsJoined flat.now net) n }
+    requires ends { (n : ℕ) → Contains ends.now.slots.items n ↔ IsOneOf (IsNumberOf grid.now) (MeetsRest flat.now net) n }
+    requires starts_within { All (λ n. n < slot_total grid.now) starts.now.slots.items }
+    requires ends_within { All (λ n. n < slot_total grid.now) ends.now.slots.items }
+    requires starts_boxed { AreBoxed grid.now starts.now.boxes.items starts.now.slots.items }
+    requires ends_boxed { AreBoxed grid.now ends.now.boxes.items ends.now.slots.items }
     requires count { length marks.old ≡ slot_total grid.now }
     requires unseen { AreUnseen marks.old }
     requires untouched { touched.old.items ≡ [] }
@@ -90,29 +89,27 @@ fn next_walk<A: Allocator + Copy>(
     ensures untouched { touched.new.items ≡ [] }
 {
     grid_is_sound(grid);
-    let Some(origin) = box_of(grid, starts) else {
+    if starts.slots.is_empty() {
         return Ok(None);
-    };
-    let Some(around) = box_of(grid, ends) else {
+    }
+    if ends.slots.is_empty() {
         return Ok(None);
-    };
+    }
     let graph = NetGraph {
         grid,
-        design,
-        flat,
-        index,
+        slots,
         net,
-        starts: origin,
-        ends: around,
+        starts: starts.boxes.as_slice(),
+        ends: ends.boxes.as_slice(),
     };
     searches_walk_as_numbers();
-    let walk = shortest(alloc, &graph, starts, ends, marks, touched)?;
+    let walk = shortest(alloc, &graph, &starts.slots, &ends.slots, marks, touched)?;
     Ok(walk)
 }
 
-/// The wires of a shortest open walk from the joined part of the net to the rest, or `None` where there is no such walk. The
-/// index is that of the rectangles of the flat's shapes, and `numbers` are those of the net's. `marks` has one for each slot of
-/// the grid. `touched` is room to work in. Of several such walks one is taken as `shortest` of `leg_walk` says.
+/// The wires of a shortest open walk from the joined part of the net to the rest, or `None` where there is no such walk. `slots`
+/// tells of each slot of the grid what is open in the flat, and `numbers` are those of the net's shapes. `marks` has one for each
+/// slot. `touched` is room to work in. Of several such walks one is taken as `shortest` of `leg_walk` says.
 ///
 /// It fails only when out of memory.
 pub(crate) fn next_wires<A: Allocator + Copy>(
@@ -120,14 +117,14 @@ pub(crate) fn next_wires<A: Allocator + Copy>(
     grid: &Grid<'_, '_, A>,
     design: &Design<'_, A>,
     flat: &Flat<A>,
-    index: &BinIndex<A>,
+    slots: &[SlotAccess],
     net: u32,
     numbers: &[u32],
     marks: &mut [Mark],
     touched: &mut Vec<u32, A>,
 ) -> Result<Option<Vec<Wire, A>>, AllocError>
     requires of_design { grid.now.design ≡ design.now }
-    requires indexed { index.now ≡ map (λ shape. shape.rect) flat.now.shapes }
+    requires told { TellsSlots grid.now flat.now slots.now }
     requires in_range { net < length flat.now.pieces }
     requires numbers { AreNumbersOf flat.now.shapes net numbers.now }
     requires count { length marks.old ≡ slot_total grid.now }
@@ -143,7 +140,7 @@ pub(crate) fn next_wires<A: Allocator + Copy>(
     let starts = marked_slots(alloc, grid, shapes, numbers, &joined, true)?;
     let ends = marked_slots(alloc, grid, shapes, numbers, &joined, false)?;
     let found = next_walk(
-        alloc, grid, design, flat, index, net, &starts, &ends, marks, touched,
+        alloc, grid, flat, slots, net, &starts, &ends, marks, touched,
     )?;
     grid_is_sound(grid);
     nodes_have_numbers();

@@ -3,6 +3,8 @@ use Rattle.std.specs.Prelude.{◌≡◌, ◌↔◌, ◌<◌, ℕ, Bool, List, Al
 use Rattle.leg_flat.specs.declared.shape.Shape.{Shape}
 use Rattle.leg_flat.specs.Flat.{FlatSaid}
 use Rattle.leg_grid.specs.declared.node.Node.{Node}
+use Rattle.leg_grid.specs.declared.slot_box.SlotBox.{SlotBox}
+use Rattle.leg_grid.specs.Bound.{AreBoxed}
 use Rattle.leg_grid.specs.Grid.{GridSaid, IsNumberOf, slot_total}
 use Rattle.leg_grid.specs.Numbered.{IsOneOf, IsNextWalkAt, HasNoWalkAt}
 use Rattle.leg_grid.specs.InRect.{LiesInRect}
@@ -22,10 +24,11 @@ pub record MeetsMarked (shapes : List Shape) (marks : List Bool) (mark : Bool) (
   pub marked : HasMark marks mark shape.piece
   pub lies : LiesInRect shape.layer shape.rect node
 
--- exactly the slots of such nodes
-pub record AreMarkedSlots (grid : GridSaid) (shapes : List Shape) (marks : List Bool) (mark : Bool) (numbers slots : List ℕ) : Type 0 where
+-- exactly the slots of such nodes, which lie in these boxes
+pub record AreMarkedSlots (grid : GridSaid) (shapes : List Shape) (marks : List Bool) (mark : Bool) (numbers : List ℕ) (boxes : List SlotBox) (slots : List ℕ) : Type 0 where
   pub are : (n : ℕ) → Contains slots n ↔ IsOneOf (IsNumberOf grid) (MeetsMarked shapes marks mark numbers) n
   pub within : All (λ n. n < slot_total grid) slots
+  pub boxed : AreBoxed grid boxes slots
 
 -- the numbers of the slots of a shortest open walk from the net's joined part to the rest, or none where there is no such walk
 abbrev pub IsNextAnswerAt : GridSaid → FlatSaid → ℕ → Option (List ℕ) → Type 0

@@ -1,23 +1,29 @@
 -- What is kept beside a flat that grows, so that nets can be searched in it.
-use Rattle.std.specs.Prelude.{◌≡◌, ◌<◌, ◌≤◌, ℕ, List, [], length, map, get_or}
-use Rattle.leg_geom.specs.Plane.{Sides}
+use Rattle.std.specs.Prelude.{◌≡◌, ◌<◌, ◌≤◌, ℕ, List, [], length, get_or}
 use Rattle.leg_block.specs.Records.{DesignContents}
+use Rattle.leg_flat.specs.declared.shape.Shape.{Shape}
 use Rattle.leg_flat.specs.Flat.{FlatSaid}
 use Rattle.leg_wire.specs.NetShapes.{AreNumbersOf}
 use Rattle.leg_walk.specs.declared.mark.Mark.{Mark}
 use Rattle.leg_walk.specs.Marks.{AreUnseen}
+use Rattle.leg_grid.specs.declared.slot_access.SlotAccess.{SlotAccess}
 use Rattle.leg_grid.specs.Grid.{GridSaid, slot_total}
+use Rattle.leg_grid.specs.Told.{TellsSlots}
 
 -- for each of the first so many nets the numbers of its shapes
 pub record AreNumbersByNet (nets : ℕ) (flat : FlatSaid) (lists : List (List ℕ)) : Type 0 where
   pub one_each : length lists ≡ nets
   pub each : (net : ℕ) → net < nets → AreNumbersOf flat.shapes net (get_or lists net [])
 
--- the grid is that of the design, the index has the rectangles of the flat's shapes, each net of NETS has the numbers of its
--- shapes, and no slot is marked
-pub record AreReady (design : DesignContents) (grid : GridSaid) (flat : FlatSaid) (index : List Sides) (lists : List (List ℕ)) (marks : List Mark) (touched : List ℕ) : Type 0 where
+-- this is told of all slots for each flat of these shapes
+abbrev pub TellsShapes : GridSaid → List Shape → List SlotAccess → Type 0
+TellsShapes grid shapes slots = (flat : FlatSaid) → flat.shapes ≡ shapes → TellsSlots grid flat slots
+
+-- the grid is that of the design, each slot tells what is open in the flat, each net of NETS has the numbers of its shapes,
+-- and no slot is marked
+pub record AreReady (design : DesignContents) (grid : GridSaid) (flat : FlatSaid) (slots : List SlotAccess) (lists : List (List ℕ)) (marks : List Mark) (touched : List ℕ) : Type 0 where
   pub of_design : grid.design ≡ design
-  pub indexed : index ≡ map (λ shape. shape.rect) flat.shapes
+  pub told : TellsShapes grid flat.shapes slots
   pub within : length design.nets ≤ length flat.pieces
   pub numbers : AreNumbersByNet (length design.nets) flat lists
   pub count : length marks ≡ slot_total grid

@@ -14,7 +14,8 @@ loop-number-preserved g c =
     let marks = c.args.marks.now in
     let mark = c.args.mark in
     let numbers = c.args.numbers.now in
-    let slots = c.loop-number.slots.items in
+    let boxes = c.loop-number.found.boxes.items in
+    let slots = c.loop-number.found.slots.items in
     let done = c.loop-number.invariant in
     let i = c.loop-number.number-index in
     let k = get_or numbers i 0 in
@@ -24,10 +25,10 @@ loop-number-preserved g c =
     let more : take (i + 1) numbers ≡ take i numbers ++ k ∷ [] = take_more numbers i 0 (omega arith) in
     elim c.if-has_mark.branch [
       | then-has_mark+in_ok-add_slots_in w ↦
-          rw (w.slots-is, more)
-          (slots_more grid shapes marks mark (take i numbers) slots done k shape there w.add_slots_in.new.slots.items (c.has_mark.ensures.0 w.if-has_mark.true)
-          w.in_ok-add_slots_in.ensures.added (rw w.in_ok-add_slots_in.was at (w.add_slots_in.ensures.within done.within)))
+          rw (w.found-is, more)
+          (slots_more grid shapes marks mark (take i numbers) boxes slots done k shape there w.add_slots_in.new.found.boxes.items w.add_slots_in.new.found.slots.items (c.has_mark.ensures.0 w.if-has_mark.true)
+          w.in_ok-add_slots_in.ensures.added (rw w.in_ok-add_slots_in.was at (w.add_slots_in.ensures.within done.within)) (rw w.in_ok-add_slots_in.was at (w.add_slots_in.ensures.boxed done.boxed)))
       | else-has_mark w ↦
-          rw (w.slots-is, more)
-          (slots_skip grid shapes marks mark (take i numbers) slots done k shape there (λ has. true≢false (sym (c.has_mark.ensures.1 has) ∙ w.if-has_mark.false)))
+          rw (w.found-is, more)
+          (slots_skip grid shapes marks mark (take i numbers) boxes slots done k shape there (λ has. true≢false (sym (c.has_mark.ensures.1 has) ∙ w.if-has_mark.false)))
     ]

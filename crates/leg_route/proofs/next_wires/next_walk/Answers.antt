@@ -1,38 +1,52 @@
-use Rattle.std.proofs.Common.{refl}
+use Rattle.std.proofs.Common.{◌≡◌, ◌↔◌, ℕ, Contains, length, arith}
+use Rattle.std.proofs.lemmas.Bool.Decides.{nat_tests}
+use Rattle.std.proofs.lemmas.List.{nil_from_length}
+use Rattle.leg_grid.specs.Grid.{IsNumberOf}
+use Rattle.leg_grid.specs.Meets.{MeetsJoined, MeetsRest}
+use Rattle.leg_grid.specs.Numbered.{IsOneOf}
 use Rattle.leg_route.proofs.NextWalk.{no_starts, no_ends, answer_at, answer_within}
 use Rattle.leg_route.proofs.next_wires.next_walk.Goals as goal
-
-pub returns-in_default-clause-answer : goal.returns-in_default-clause-answer
-returns-in_default-clause-answer g c a b nodes start is_end walk =
-    no_starts c.args.grid.now c.args.flat.now c.args.net c.args.starts.now c.requires.starts (c.in_default.ensures.none refl) a b nodes start is_end walk
-
-pub returns-in_default-box_of-clause-answer : goal.returns-in_default-box_of-clause-answer
-returns-in_default-box_of-clause-answer g c a b nodes start is_end walk =
-    no_ends c.args.grid.now c.args.flat.now c.args.net c.args.ends.now c.requires.ends (c.in_default-box_of.ensures.none refl) a b nodes start is_end walk
 
 pub returns-clause-answer : goal.returns-clause-answer
 returns-clause-answer g c =
     let grid = c.args.grid.now in
     let flat = c.args.flat.now in
+    let slots = c.args.slots.now in
     let net = c.args.net in
-    let starts = c.args.starts.now in
-    let ends = c.args.ends.now in
-    let origin = c.in-Some.origin in
-    let around = c.in-Some-box_of.around in
+    let starts = c.deref.result.now in
+    let ends = c.deref-2.result.now in
+    let first : (n : ℕ) → Contains starts n ↔ IsOneOf (IsNumberOf grid) (MeetsJoined flat net) n = rw c.deref.ensures.value c.requires.starts in
+    let last : (n : ℕ) → Contains ends n ↔ IsOneOf (IsNumberOf grid) (MeetsRest flat net) n = rw c.deref-2.ensures.value c.requires.ends in
+    let origin = c.as_slice.result.now in
+    let around = c.as_slice-2.result.now in
     let law = c.searches_walk_as_numbers.ensures in
     let proper = c.grid_is_sound.ensures.proper in
-    answer_at grid c.args.design.now flat net origin around starts ends (λ numbers is. law.shortest grid origin around flat net starts ends numbers proper c.requires.starts c.requires.ends is)
-    (λ none. law.none grid origin around flat net starts ends proper c.requires.starts c.requires.ends none) c.requires.of_design _ c.in_ok-walk.ensures.found
+    let sound = c.grid_is_sound.ensures.library in
+    let told = c.requires.told in
+    answer_at grid flat slots net origin around starts ends (λ numbers is. law.shortest grid origin around flat slots net starts ends numbers proper sound told first last is)
+    (λ none. law.none grid origin around flat slots net starts ends proper sound told first last none) _ c.in_ok-walk.ensures.found
 
 pub returns-clause-within : goal.returns-clause-within
 returns-clause-within g c =
     let grid = c.args.grid.now in
-    let flat = c.args.flat.now in
+    let slots = c.args.slots.now in
     let net = c.args.net in
-    let starts = c.args.starts.now in
-    let ends = c.args.ends.now in
-    let origin = c.in-Some.origin in
-    let around = c.in-Some-box_of.around in
-    answer_within grid c.args.design.now flat net origin around starts ends
-    (λ numbers is. c.searches_walk_as_numbers.ensures.within grid origin around flat net starts ends numbers is) c.requires.of_design (λ v. v.items)
+    let starts = c.deref.result.now in
+    let ends = c.deref-2.result.now in
+    let origin = c.as_slice.result.now in
+    let around = c.as_slice-2.result.now in
+    answer_within grid c.args.flat.now slots net origin around starts ends
+    (λ numbers is. c.searches_walk_as_numbers.ensures.within grid origin around slots net starts ends numbers c.requires.told.count is) (λ v. v.items)
     c.in_ok-walk.walk c.in_ok-walk.ensures.found
+
+pub returns-then-is_empty-clause-answer : goal.returns-then-is_empty-clause-answer
+returns-then-is_empty-clause-answer g c =
+    let starts = c.args.starts.now.slots in
+    let empty : length starts.items ≡ 0 = grind (arith, nat_tests, c.is_empty.ensures, c.if-is_empty.true, starts.ok.0) in
+    no_starts c.args.grid.now c.args.flat.now c.args.net starts.items c.requires.starts (nil_from_length starts.items empty)
+
+pub returns-then-is_empty-2-clause-answer : goal.returns-then-is_empty-2-clause-answer
+returns-then-is_empty-2-clause-answer g c =
+    let ends = c.args.ends.now.slots in
+    let empty : length ends.items ≡ 0 = grind (arith, nat_tests, c.is_empty-2.ensures, c.if-is_empty-2.true, ends.ok.0) in
+    no_ends c.args.grid.now c.args.flat.now c.args.net ends.items c.requires.ends (nil_from_length ends.items empty)

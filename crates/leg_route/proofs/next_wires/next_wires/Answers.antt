@@ -21,9 +21,10 @@ next_walk-requires-clause-starts g c =
     let net = c.args.net in
     let numbers = c.args.numbers.now in
     let joined = c.in_ok-joined.joined.items in
-    let starts = c.in_ok-starts.starts.items in
-    let told : AreMarkedSlots grid flat.shapes joined true numbers starts = rw (c.shapes-shapes.ensures.is, c.deref.ensures.value) at c.in_ok-starts.ensures in
-    rw c.deref-3.ensures.value (starts_are flat net numbers c.requires.numbers joined c.in_ok-joined.ensures grid starts told)
+    let boxes = c.in_ok-starts.starts.boxes.items in
+    let starts = c.in_ok-starts.starts.slots.items in
+    let told : AreMarkedSlots grid flat.shapes joined true numbers boxes starts = rw (c.shapes-shapes.ensures.is, c.deref.ensures.value) at c.in_ok-starts.ensures in
+    starts_are flat net numbers c.requires.numbers joined c.in_ok-joined.ensures grid boxes starts told
 
 pub next_walk-requires-clause-ends : goal.next_walk-requires-clause-ends
 next_walk-requires-clause-ends g c =
@@ -32,9 +33,10 @@ next_walk-requires-clause-ends g c =
     let net = c.args.net in
     let numbers = c.args.numbers.now in
     let joined = c.in_ok-joined.joined.items in
-    let ends = c.in_ok-ends.ends.items in
-    let told : AreMarkedSlots grid flat.shapes joined false numbers ends = rw (c.shapes-shapes.ensures.is, c.deref-2.ensures.value) at c.in_ok-ends.ensures in
-    rw c.deref-4.ensures.value (ends_are flat net numbers c.requires.numbers joined c.in_ok-joined.ensures grid ends told)
+    let boxes = c.in_ok-ends.ends.boxes.items in
+    let ends = c.in_ok-ends.ends.slots.items in
+    let told : AreMarkedSlots grid flat.shapes joined false numbers boxes ends = rw (c.shapes-shapes.ensures.is, c.deref-2.ensures.value) at c.in_ok-ends.ensures in
+    ends_are flat net numbers c.requires.numbers joined c.in_ok-joined.ensures grid boxes ends told
 
 pub wires_of-requires : goal.wires_of-requires
 wires_of-requires g c =
@@ -46,10 +48,10 @@ wires_of-requires g c =
     let nodes = c.in_ok-nodes.nodes.items in
     let proper = c.grid_is_sound.ensures.proper in
     let walk : IsNextWalkAt grid flat net numbers = rw c.in-Some.is at c.in_ok-found.ensures.answer in
-    let each : AllZip (IsNumberOf grid) numbers nodes = rw c.deref-5.ensures.value at c.in_ok-nodes.ensures in
+    let each : AllZip (IsNumberOf grid) numbers nodes = rw c.deref-3.ensures.value at c.in_ok-nodes.ensures in
     let next : IsNextWalk design flat net nodes = walk_of grid design flat net numbers nodes c.requires.of_design (λ n a b. c.nodes_have_numbers.ensures.apart grid n a b proper)
     (c.numbers_walk_as_nodes.ensures.shortest grid flat net numbers proper walk) each in
-    rw c.deref-6.ensures.value (c.open_walks_are_grid_walks.ensures design flat net nodes next)
+    rw c.deref-4.ensures.value (c.open_walks_are_grid_walks.ensures design flat net nodes next)
 
 pub returns-clause-answer : goal.returns-clause-answer
 returns-clause-answer g c =
@@ -61,11 +63,11 @@ returns-clause-answer g c =
     let nodes = c.in_ok-nodes.nodes.items in
     let proper = c.grid_is_sound.ensures.proper in
     let walk : IsNextWalkAt grid flat net numbers = rw c.in-Some.is at c.in_ok-found.ensures.answer in
-    let each : AllZip (IsNumberOf grid) numbers nodes = rw c.deref-5.ensures.value at c.in_ok-nodes.ensures in
+    let each : AllZip (IsNumberOf grid) numbers nodes = rw c.deref-3.ensures.value at c.in_ok-nodes.ensures in
     record {
       nodes = nodes;
       walk = walk_of grid design flat net numbers nodes c.requires.of_design (λ n a b. c.nodes_have_numbers.ensures.apart grid n a b proper)
           (c.numbers_walk_as_nodes.ensures.shortest grid flat net numbers proper walk) each;
-      are = rw c.deref-6.ensures.value at c.in_ok-wires.ensures.wires;
+      are = rw c.deref-4.ensures.value at c.in_ok-wires.ensures.wires;
       spelled = c.in_ok-wires.ensures.spelled;
     }

@@ -1,5 +1,4 @@
-use Rattle.std.proofs.Common.{◌≡◌, length, ap, ◌∙◌, arith}
-use Rattle.leg_route.proofs.Noted.{rects_of}
+use Rattle.std.proofs.Common.{◌≡◌, length, ap, sym, ◌∙◌, arith}
 use Rattle.leg_route.proofs.Ready.{nets_within}
 use Rattle.leg_route.proofs.grid_ground.GridGround.new.Goals as goal
 
@@ -8,7 +7,7 @@ returns-clause-ready g c =
     let nets : length c.nets.result.now ≡ length c.args.design.now.nets = ap length c.nets.ensures.is in
     record {
       of_design = c.in_ok-grid.ensures.is;
-      indexed = c.in_ok-index.ensures ∙ ap rects_of c.shapes.ensures.is;
+      told = λ flat is. c.in_ok-slots.ensures flat (is ∙ sym c.shapes.ensures.is);
       within = nets_within c.args.design.now c.args.flat c.requires.clean.judged.is_flat;
       numbers = record {
         one_each = omega (arith, nets, c.in_ok-numbers.ensures.long);
