@@ -5,8 +5,8 @@ ghost use Rattle.std.specs.Prelude.{◌≡◌, ◌≤◌, take, IfOk, IfSome, ve
 use std::alloc::{AllocError, Allocator};
 use std::io::Read;
 
-// How many bytes are asked for at once.
-const CHUNK: usize = 65_536;
+// How many bytes are asked for at once. They stand on the stack, whose growth can be refused too, and then ends the program.
+const CHUNK: usize = 8_192;
 
 /// Why an input has no bytes.
 #[derive(Clone, Copy, PartialEq, Eq, Debug)]

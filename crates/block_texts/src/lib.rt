@@ -1,0 +1,100 @@
+//! The texts of a small block, for tests: two inverters in a row, and what goes between them.
+#![tactic(auto)]
+
+/// The cells, a form in a line: two routing layers, a via between them, a site, an inverter, and two blocks with obstructions.
+pub fn cells() -> &'static [u8] {
+    b"LAYER m1 TYPE ROUTING ; DIRECTION HORIZONTAL ; WIDTH 0.1 ; SPACING 0.1 ; END m1
+LAYER v1 TYPE CUT ; SPACING 0.1 ; END v1
+LAYER m2 TYPE ROUTING ; DIRECTION VERTICAL ; WIDTH 0.1 ; SPACING 0.1 ; END m2
+VIA V12 DEFAULT LAYER m1 ; RECT -0.05 -0.05 0.05 0.05 ; LAYER v1 ; RECT -0.05 -0.05 0.05 0.05 ; LAYER m2 ; RECT -0.05 -0.05 0.05 0.05 ; END V12
+SITE core CLASS CORE ; SIZE 0.2 BY 2.0 ; END core
+MACRO INV CLASS CORE ; ORIGIN 0 0 ; SIZE 0.4 BY 2.0 ; SYMMETRY X Y ; SITE core ;
+PIN A DIRECTION INPUT ; PORT LAYER m1 ; RECT 0.05 0.85 0.15 1.05 ; END END A
+PIN Y DIRECTION OUTPUT ; PORT LAYER m1 ; RECT 0.25 0.85 0.35 1.05 ; END END Y
+PIN VDD USE POWER ; PORT LAYER m1 ; RECT 0 1.9 0.4 2.1 ; END END VDD
+PIN VSS USE GROUND ; PORT LAYER m1 ; RECT 0 -0.1 0.4 0.1 ; END END VSS
+END INV
+MACRO BLK CLASS BLOCK ; SIZE 0.4 BY 2.0 ; OBS LAYER m1 ; RECT 0.1 0.7 0.3 1.2 ; END END BLK
+MACRO BLK2 CLASS BLOCK ; SIZE 0.4 BY 2.0 ; OBS LAYER m1 ; RECT 0.1 0.7 0.3 1.2 ; LAYER m2 ; RECT -0.3 0 0.7 2 ; END END BLK2
+END LIBRARY
+"
+}
+
+/// Two inverters that both stand at the lower left corner of the die.
+pub fn two_at_one_place() -> &'static [u8] {
+    b"VERSION 5.8 ;
+DESIGN top ;
+UNITS DISTANCE MICRONS 1000 ;
+DIEAREA ( 0 0 ) ( 800 2000 ) ;
+ROW r0 core 0 0 N DO 4 BY 1 STEP 200 0 ;
+TRACKS X 100 DO 4 STEP 200 LAYER m2 ;
+TRACKS Y 100 DO 10 STEP 200 LAYER m1 ;
+COMPONENTS 2 ;
+- u1 INV + PLACED ( 0 0 ) N ;
+- u2 INV + PLACED ( 0 0 ) N ;
+END COMPONENTS
+END DESIGN
+"
+}
+
+/// The same, in a net.
+pub fn net_at_one_place() -> &'static [u8] {
+    b"VERSION 5.8 ;
+DESIGN top ;
+UNITS DISTANCE MICRONS 1000 ;
+DIEAREA ( 0 0 ) ( 800 2000 ) ;
+ROW r0 core 0 0 N DO 4 BY 1 STEP 200 0 ;
+TRACKS X 100 DO 4 STEP 200 LAYER m2 ;
+TRACKS Y 100 DO 10 STEP 200 LAYER m1 ;
+COMPONENTS 2 ;
+- u1 INV + PLACED ( 0 0 ) N ;
+- u2 INV + PLACED ( 0 0 ) N ;
+END COMPONENTS
+NETS 1 ;
+- n1 ( u1 Y ) ( u2 A ) ;
+END NETS
+END DESIGN
+"
+}
+
+/// Two inverters in a net, and a block with an obstruction between them.
+pub fn around_an_obstruction() -> &'static [u8] {
+    b"VERSION 5.8 ;
+DESIGN top ;
+UNITS DISTANCE MICRONS 1000 ;
+DIEAREA ( 0 0 ) ( 1200 2000 ) ;
+ROW r0 core 0 0 N DO 6 BY 1 STEP 200 0 ;
+TRACKS X 100 DO 6 STEP 200 LAYER m2 ;
+TRACKS Y 100 DO 10 STEP 200 LAYER m1 ;
+COMPONENTS 3 ;
+- u1 INV + PLACED ( 0 0 ) N ;
+- b1 BLK + FIXED ( 400 0 ) N ;
+- u2 INV + PLACED ( 800 0 ) N ;
+END COMPONENTS
+NETS 1 ;
+- n1 ( u1 Y ) ( u2 A ) ;
+END NETS
+END DESIGN
+"
+}
+
+/// Two inverters in a net with its wire, in the bytes that are printed of it.
+pub fn wired() -> &'static [u8] {
+    b"VERSION 5.8 ;
+DESIGN top ;
+UNITS DISTANCE MICRONS 1000 ;
+DIEAREA ( 0 0 ) ( 800 2000 ) ;
+ROW r0 core 0 0 N DO 4 BY 1 STEP 200 0 ;
+TRACKS X 100 DO 4 STEP 200 LAYER m2 ;
+TRACKS Y 100 DO 10 STEP 200 LAYER m1 ;
+COMPONENTS 2 ;
+- u1 INV + PLACED ( 0 0 ) N ;
+- u2 INV + PLACED ( 400 0 ) N ;
+END COMPONENTS
+NETS 1 ;
+- n1 ( u1 Y ) ( u2 A )
+  + ROUTED m1 ( 300 900 ) ( 500 900 ) ;
+END NETS
+END DESIGN
+"
+}
