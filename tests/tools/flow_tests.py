@@ -1,0 +1,367 @@
+"""Tests of tools/from-qflow, ease-routing, plain-vias and drop-fillers, and of examples/from-verilog/run as far as it needs no other program."""
+import os
+import subprocess
+import sys
+import tempfile
+import unittest
+
+TOP = os.path.normpath(os.path.join(os.path.dirname(os.path.abspath(__file__)), '..', '..'))
+sys.path.insert(0, os.path.join(TOP, 'tools'))
+
+from lefdef_text import Segment, ViaAt, read_design, read_library
+
+STANDARD = os.path.join(TOP, 'examples', 'standard.lef')
+HEAD = 'VERSION 5.8 ;\nDESIGN d ;\nUNITS DISTANCE MICRONS 1000 ;\nDIEAREA ( 0 0 ) ( 2000 4000 ) ;\n'
+TRACKS = 'TRACKS X 100 DO 10 STEP 200 LAYER m2 ;\nTRACKS Y 100 DO 20 STEP 200 LAYER m1 ;\n'
+QFLOW = HEAD + '''TRACKS X 100.0 DO 10 STEP 200.00 LAYER m2 ;
+TRACKS Y 100 DO 20 STEP 200 LAYER m1 ;
+COMPONENTS 3 ;
+- u1.0 INV + PLACED ( 200 0 ) FN ;
+- u2 INV + PLACED ( 1000.0 0 ) N ;
+- u3 INV + PLACED ( 0 2000 ) FS ;
+END COMPONENTS
+NETS 1 ;
+- n.0 ( u1.0 Y ) ( u2 A )
++ ROUTED m1 ( 300. 900 ) ( 500 * ) ;
+END NETS
+SPECIALNETS 4 ;
+- VDD
++ FIXED m1 40.0 ( 0 2000 ) ( 400 * ) ;
+- n.0
++ ROUTED m1 40 ( 300 900 ) ( 400 * ) ;
+- vss
++ FIXED m1 40 ( 0 0 ) ( 400 * ) ;
+- n.0
++ ROUTED m1 40 ( 500 900 ) ( 600 * ) ;
+END SPECIALNETS
+END DESIGN
+'''
+FILLERS = '''SITE core CLASS CORE ; SIZE 0.2 BY 2.0 ; END core
+MACRO FILL CLASS CORE SPACER ; SIZE 0.2 BY 2.0 ; SITE core ; PIN VDD USE POWER ; END VDD PIN VSS USE GROUND ; END VSS END FILL
+MACRO GAP CLASS CORE SPACER ; SIZE 0.2 BY 2.0 ; SITE core ; END GAP
+END LIBRARY
+'''
+FILLED = HEAD + '''COMPONENTS 5 ;
+- u1 INV + PLACED ( 0 0 ) N ;
+- f1 FILL + PLACED ( 400 0 ) N ; - f2 FILL + FIXED ( 600 0 ) N ;
+- f3 FILL + PLACED ( 800 0 ) N ;
+- g1 GAP
+  + PLACED ( 1000 0 ) N ;
+END COMPONENTS
+SPECIALNETS 1 ;
+- VDD ( f3 VDD ) ;
+END SPECIALNETS
+END DESIGN
+'''
+GENERATED = HEAD + '''VIAS 3 ;
+- kept + RECT m1 ( -50 -50 ) ( 50 50 ) ;
+- made + VIARULE rule + CUTSIZE 20 40 + LAYERS m1 v1 m2 + CUTSPACING 10 30
+  + ENCLOSURE 5 6 7 8 + ROWCOL 2 3 + ORIGIN 10 0 + OFFSET 1 2 3 4 ;
+- one + VIARULE rule + CUTSIZE 20 40 + LAYERS m1 v1 m2 + CUTSPACING 10 30 + ENCLOSURE 5 6 7 8 ;
+END VIAS
+END DESIGN
+'''
+
+
+class FlowCase(unittest.TestCase):
+    """A test with a folder of its own, in which the tools run."""
+
+    def setUp(self):
+        room = tempfile.TemporaryDirectory()
+        self.addCleanup(room.cleanup)
+        self.room = room.name
+
+    def file(self, name, text):
+        path = os.path.join(self.room, name)
+        with open(path, 'w', encoding='utf-8') as file:
+            file.write(text)
+        return path
+
+    def run_tool(self, tool, *words):
+        """Returns the status of a tool, what it wrote, and its messages."""
+        done = subprocess.run([sys.executable, os.path.join(TOP, 'tools', tool), *words], capture_output=True, text=True, cwd=self.room, timeout=60)
+        return done.returncode, done.stdout, done.stderr
+
+    def edited(self, tool, text, *libraries):
+        status, out, err = self.run_tool(tool, self.file('in.def', text), *libraries)
+        self.assertEqual(status, 0, err)
+        return out, err
+
+    def refused(self, tool, text, *libraries):
+        status, out, err = self.run_tool(tool, self.file('in.def', text), *libraries)
+        self.assertEqual((status, out), (2, ''), err)
+        return err.strip().replace(self.room + os.sep, '')
+
+    def design(self, text, *libraries):
+        return read_design(self.file('read.def', text), read_library(libraries or [STANDARD]))
+
+
+class FromQflowTests(FlowCase):
+    def test_numbers_are_written_whole_and_names_stay(self):
+        out, err = self.edited('from-qflow', QFLOW, STANDARD)
+        self.assertIn('TRACKS X 100 DO 10 STEP 200 LAYER m2 ;', out)
+        self.assertIn('- u1.0 INV + PLACED ( 200 0 ) FN ;', out)
+        self.assertIn('- u2 INV + PLACED ( 1000 0 ) N ;', out)
+        self.assertIn('- n.0 ( u1.0 Y ) ( u2 A )\n+ ROUTED m1 ( 300 900 ) ( 500 * ) ', out)
+        self.assertIn('+ FIXED m1 40 ( 0 2000 )', out)
+        self.assertIn('5 numbers written whole, the first in line 5', err)
+
+    def test_rows_are_made_where_components_stand(self):
+        out, err = self.edited('from-qflow', QFLOW, STANDARD)
+        rows = self.design(out).rows
+        self.assertEqual([tuple(row)[1:] for row in rows], [('core', 200, 0, 'N', 6), ('core', 0, 2000, 'S', 2)])
+        self.assertIn('2 rows made', err)
+
+    def test_rows_that_are_there_stay_alone(self):
+        text = QFLOW.replace('TRACKS X', 'ROW r core 0 0 N DO 3 BY 1 STEP 200 0 ;\nTRACKS X')
+        out, err = self.edited('from-qflow', text, STANDARD)
+        self.assertEqual([row.name for row in self.design(out).rows], ['r'])
+        self.assertNotIn('made', err)
+
+    def test_power_nets_get_the_pins_of_all_cells(self):
+        out, err = self.edited('from-qflow', QFLOW, STANDARD)
+        special = self.design(out).special
+        self.assertEqual(list(special['VDD'].terminals), [('u1.0', 'VDD'), ('u2', 'VDD'), ('u3', 'VDD')])
+        self.assertEqual(list(special['vss'].terminals), [('u1.0', 'VSS'), ('u2', 'VSS'), ('u3', 'VSS')])
+        self.assertIn('added ( * VDD ) to VDD, ( * VSS ) to vss', err)
+
+    def test_a_power_pin_that_a_net_names_is_not_given_to_another(self):
+        text = QFLOW.replace('( u2 A )', '( u2 A ) ( u3 VDD )')
+        out, _ = self.edited('from-qflow', text, STANDARD)
+        self.assertEqual(list(self.design(out).special['VDD'].terminals), [])
+
+    def test_a_net_twice_is_joined(self):
+        out, err = self.edited('from-qflow', QFLOW, STANDARD)
+        design = self.design(out)
+        self.assertEqual([(wire.x1, wire.x2) for wire in design.special['n.0'].wires], [(300, 400), (500, 600)])
+        self.assertEqual(list(design.special), ['VDD', 'n.0', 'vss'])
+        self.assertIn('SPECIALNETS 3 ;', out)
+        self.assertIn('1 entry of SPECIALNETS joined to the net\'s first: n.0', err)
+
+    def test_a_second_time_changes_nothing(self):
+        once, _ = self.edited('from-qflow', QFLOW, STANDARD)
+        twice, err = self.edited('from-qflow', once, STANDARD)
+        self.assertEqual(once, twice)
+        self.assertIn('need no change', err)
+
+    def test_a_part_of_a_unit_is_refused(self):
+        self.assertEqual(self.refused('from-qflow', QFLOW.replace('1000.0', '1000.5'), STANDARD),
+                         'in.def:9: 1000.5 is no whole number of database units')
+
+    def test_two_entries_with_terminals_are_refused(self):
+        text = QFLOW.replace('- n.0\n+ ROUTED m1 40 ( 500', '- n.0 ( u3 A )\n+ ROUTED m1 40 ( 500')
+        self.assertEqual(self.refused('from-qflow', text, STANDARD), 'in.def:23: net n.0 stands twice in SPECIALNETS, the second time with more than wiring')
+
+    def test_refusals_tell_the_line_of_the_text_as_it_was(self):
+        text = QFLOW.replace('END SPECIALNETS', '- w\n+ ROUTED m1 40 ( 0 0 ) ( 5 5 ) ;\nEND SPECIALNETS')
+        self.assertEqual(self.refused('from-qflow', text, STANDARD), 'in.def:26: a wire is neither horizontal nor vertical')
+
+    def test_what_lefdef_refuses_besides_is_refused(self):
+        self.assertEqual(self.refused('from-qflow', QFLOW.replace('u3 INV', 'u3 NOT'), STANDARD), 'in.def:10: there is no macro NOT')
+
+
+class EaseRoutingTests(FlowCase):
+    BLOCK = HEAD + TRACKS + '''COMPONENTS 3 ;
+- u1 INV + PLACED ( 0 0 ) N ;
+- u2 INV + PLACED ( 400 0 ) N ;
+- u3 INV + PLACED ( 1200 0 ) N ;
+END COMPONENTS
+NETS 3 ;
+- far ( u1 Y ) ( u3 A ) + USE SIGNAL ;
+- near ( u2 A ) ( u1 A ) ;
+- wired ( u3 Y ) + ROUTED m1 ( 1500 900 ) V12 ;
+END NETS
+END DESIGN
+'''
+
+    def test_each_terminal_has_a_via_and_a_stub_on_it(self):
+        out, err = self.edited('ease-routing', self.BLOCK, STANDARD)
+        nets = self.design(out).nets
+        vias = {name: [(wire.x, wire.y) for wire in net.wires if isinstance(wire, ViaAt)] for name, net in nets.items()}
+        self.assertEqual(vias, {'far': [(300, 900), (1300, 900)], 'near': [(500, 900), (100, 900)], 'wired': [(1500, 900)]})
+        stubs = [wire[:5] for wire in nets['far'].wires if isinstance(wire, Segment)]
+        self.assertEqual(stubs, [('m2', 300, 700, 300, 1100), ('m2', 1300, 700, 1300, 1100)])
+        self.assertIn('4 of 4 terminals given a via and a stub', err)
+
+    def test_nets_come_in_the_order_of_their_length_and_keep_what_they_had(self):
+        out, _ = self.edited('ease-routing', self.BLOCK, STANDARD)
+        before, after = self.design(self.BLOCK), self.design(out)
+        self.assertEqual(list(after.nets), ['wired', 'near', 'far'])
+        self.assertEqual({name: list(net.terminals) for name, net in after.nets.items()}, {name: list(net.terminals) for name, net in before.nets.items()})
+        self.assertEqual(after.nets['far'].use, 'SIGNAL')
+        self.assertEqual(after.nets['wired'].wires, before.nets['wired'].wires)
+
+    def test_nets_that_are_named_come_first(self):
+        text = self.file('in.def', self.BLOCK)
+        status, out, _ = self.run_tool('ease-routing', text, STANDARD, '--first', 'far', '--first', 'near')
+        self.assertEqual((status, list(self.design(out).nets)), (0, ['far', 'near', 'wired']))
+        status, out, err = self.run_tool('ease-routing', text, STANDARD, '--first', 'none')
+        self.assertEqual((status, out), (2, ''))
+        self.assertIn('in.def:12: there is no net none in NETS', err)
+
+    def test_all_but_the_nets_stays(self):
+        out, _ = self.edited('ease-routing', self.BLOCK, STANDARD)
+        self.assertEqual(out.split('NETS')[0], self.BLOCK.split('NETS')[0])
+        self.assertTrue(out.endswith(' ;\nEND NETS\nEND DESIGN\n'))
+
+    def test_a_second_time_adds_nothing(self):
+        once, _ = self.edited('ease-routing', self.BLOCK, STANDARD)
+        twice, err = self.edited('ease-routing', once, STANDARD)
+        self.assertEqual({name: net.wires for name, net in self.design(once).nets.items()}, {name: net.wires for name, net in self.design(twice).nets.items()})
+        self.assertIn('3 nets with wires left as they were', err)
+
+    def test_new_metal_keeps_its_distance(self):
+        strap = '- s + ROUTED m2 100 ( 300 0 ) ( 300 2000 ) ;\n'
+        text = self.BLOCK.replace('END NETS\n', f'END NETS\nSPECIALNETS 1 ;\n{strap}END SPECIALNETS\n')
+        out, err = self.edited('ease-routing', text, STANDARD)
+        self.assertIn('no room for a via at u1 Y of net far', err)
+        self.assertIn('3 of 4 terminals', err)
+        self.assertNotIn('( 300 900 ) V12', out)
+
+    def test_spacing_of_exactly_the_layers_is_enough_and_less_is_not(self):
+        for right, is_free in ((150, True), (152, False)):
+            with self.subTest(right=right):
+                strap = f'- s + ROUTED m2 100 ( {right - 50} 0 ) ( {right - 50} 2000 ) ;\n'
+                text = self.BLOCK.replace('END NETS\n', f'END NETS\nSPECIALNETS 1 ;\n{strap}END SPECIALNETS\n')
+                out, _ = self.edited('ease-routing', text, STANDARD)
+                self.assertEqual('( 300 900 ) V12' in out, is_free)
+
+    def test_half_a_stub_where_a_whole_one_has_no_room(self):
+        strap = '- s + ROUTED m2 100 ( 250 520 ) ( 350 520 ) ;\n'
+        text = self.BLOCK.replace('END NETS\n', f'END NETS\nSPECIALNETS 1 ;\n{strap}END SPECIALNETS\n')
+        out, err = self.edited('ease-routing', text, STANDARD)
+        stubs = [wire[:5] for wire in self.design(out).nets['far'].wires if isinstance(wire, Segment) and wire.x1 == 300]
+        self.assertEqual(stubs, [('m2', 300, 900, 300, 1100)])
+        self.assertIn('4 of 4 terminals', err)
+
+    def test_a_library_of_one_layer_is_refused(self):
+        library = self.file('one.lef', 'LAYER m1 TYPE ROUTING ; DIRECTION HORIZONTAL ; WIDTH 0.1 ; END m1\n')
+        self.assertEqual(self.refused('ease-routing', HEAD + 'END DESIGN\n', library), 'in.def:1: the library has fewer than two routing layers')
+
+    def test_a_pin_that_is_not_there_is_refused(self):
+        self.assertEqual(self.refused('ease-routing', self.BLOCK.replace('( u2 A )', '( u2 B )'), STANDARD), 'in.def:14: macro INV has no pin B')
+
+
+class PlainViasTests(FlowCase):
+    def test_generated_vias_become_rectangles(self):
+        out, err = self.edited('plain-vias', GENERATED)
+        # Three cuts of 20 with gaps of 10 are 80 wide, two of 40 with a gap of 30 are 110 high; their middle is at 10 0.
+        vias = self.design(out).vias
+        self.assertEqual([(layer, tuple(rect)) for layer, rect in vias['made'].shapes], [
+            ('m1', (-34, -59, 56, 63)), ('m2', (-34, -59, 60, 67)),
+            ('v1', (-30, -55, -10, -15)), ('v1', (0, -55, 20, -15)), ('v1', (30, -55, 50, -15)),
+            ('v1', (-30, 15, -10, 55)), ('v1', (0, 15, 20, 55)), ('v1', (30, 15, 50, 55))])
+        self.assertTrue(vias['made'].is_good())
+        self.assertEqual([(layer, tuple(rect)) for layer, rect in vias['one'].shapes],
+                         [('m1', (-15, -26, 15, 26)), ('m2', (-17, -28, 17, 28)), ('v1', (-10, -20, 10, 20))])
+        self.assertTrue(vias['one'].is_good())
+        self.assertIn('- kept + RECT m1 ( -50 -50 ) ( 50 50 ) ;', out)
+        self.assertIn('2 generated vias written out', err)
+
+    def test_what_can_not_be_written_out_is_refused(self):
+        for old, new, why in (
+                ('+ ROWCOL 2 3', '+ ROWCOL 2 3 + PATTERN 2_F', 'in.def:8: a via with + PATTERN can not be written out'),
+                ('+ CUTSIZE 20 40 + LAYERS m1 v1 m2 + CUTSPACING 10 30\n', '+ CUTSIZE 20 40 + LAYERS m1 v1 m2\n', 'in.def:7: via made has no + CUTSPACING'),
+                ('+ CUTSIZE 20 40 + LAYERS m1 v1 m2 + CUTSPACING 10 30\n', '+ CUTSIZE 21 40 + LAYERS m1 v1 m2 + CUTSPACING 10 30\n',
+                 'in.def:7: via made: its middle lies between two database units'),
+                ('+ ORIGIN 10 0', '+ ORIGIN 10', 'in.def:8: 2 numbers should stand here'),
+                ('+ ORIGIN 10 0', '+ ORIGIN 10 x', 'in.def:8: a whole number was expected, not x')):
+            with self.subTest(new=new):
+                self.assertEqual(self.refused('plain-vias', GENERATED.replace(old, new)), why)
+
+
+class DropFillersTests(FlowCase):
+    def components(self, out, library):
+        return list(self.design(out, STANDARD, library).components)
+
+    def test_macros_with_power_pins_alone_are_taken_out(self):
+        library = self.file('fill.lef', FILLERS)
+        out, err = self.edited('drop-fillers', FILLED, STANDARD, library)
+        self.assertEqual(self.components(out, library), ['u1', 'f2', 'f3', 'g1'])
+        self.assertIn('COMPONENTS 4 ;', out)
+        for line in ('f2 stays: it is FIXED', 'f3 stays: a net names it', '1 filler taken out, 1 of FILL'):
+            self.assertIn(line, err)
+
+    def test_macros_by_their_names(self):
+        library = self.file('fill.lef', FILLERS)
+        status, out, err = self.run_tool('drop-fillers', self.file('in.def', FILLED), STANDARD, library, '--macro', 'G*')
+        self.assertEqual(status, 0, err)
+        self.assertEqual(self.components(out, library), ['u1', 'f1', 'f2', 'f3'])
+        self.assertNotIn('( 1000 0 )', out)
+
+    def test_a_component_without_a_macro_is_refused(self):
+        self.assertEqual(self.refused('drop-fillers', FILLED.replace('u1 INV + PLACED ( 0 0 ) N', 'u1'), STANDARD), 'in.def:6: a component has a name and a macro')
+
+
+class OutputTests(FlowCase):
+    """What holds of all four tools."""
+    TOOLS = (('from-qflow', [STANDARD]), ('ease-routing', [STANDARD]), ('plain-vias', []), ('drop-fillers', [STANDARD]))
+
+    def test_nothing_is_overwritten_unasked(self):
+        for tool, libraries in self.TOOLS:
+            with self.subTest(tool=tool):
+                text, out = self.file('in.def', EaseRoutingTests.BLOCK), self.file('out.def', 'kept')
+                status, _, err = self.run_tool(tool, text, *libraries, '-o', out)
+                self.assertEqual(status, 5)
+                self.assertIn('out.def is there already', err)
+                self.assertEqual(open(out, encoding='utf-8').read(), 'kept')
+                self.assertEqual(self.run_tool(tool, text, *libraries, '-o', out, '--force')[0], 0)
+                self.assertIn('END DESIGN', open(out, encoding='utf-8').read())
+
+    def test_a_text_that_is_read_is_never_overwritten(self):
+        for tool, libraries in self.TOOLS:
+            with self.subTest(tool=tool):
+                text = self.file('in.def', EaseRoutingTests.BLOCK)
+                status, _, err = self.run_tool(tool, text, *libraries, '-o', text, '--force')
+                self.assertEqual(status, 5)
+                self.assertIn('is read: it is not overwritten', err)
+                self.assertEqual(open(text, encoding='utf-8').read(), EaseRoutingTests.BLOCK)
+
+    def test_a_refused_text_leaves_no_output(self):
+        for tool, libraries in self.TOOLS:
+            with self.subTest(tool=tool):
+                out = os.path.join(self.room, 'new.def')
+                status, _, err = self.run_tool(tool, self.file('in.def', HEAD + 'COMPONENTS 1 ;\n- u1 "'), *libraries, '-o', out)
+                self.assertEqual(status, 2)
+                self.assertIn('in.def:6: a quoted word is not closed', err)
+                self.assertFalse(os.path.exists(out))
+
+    def test_a_file_that_is_missing(self):
+        for tool, libraries in self.TOOLS:
+            with self.subTest(tool=tool):
+                self.assertEqual(self.run_tool(tool, os.path.join(self.room, 'none.def'), *libraries)[0], 5)
+
+    def test_help_and_words_that_say_nothing(self):
+        for tool, _ in self.TOOLS:
+            with self.subTest(tool=tool):
+                status, out, _ = self.run_tool(tool, '--help')
+                self.assertEqual(status, 0)
+                self.assertIn('Exit status', out)
+                self.assertEqual(self.run_tool(tool)[0], 64)
+
+
+class ExampleTests(FlowCase):
+    RUN = os.path.join(TOP, 'examples', 'from-verilog', 'run')
+
+    def test_the_missing_packages_are_named(self):
+        done = subprocess.run(['/bin/sh', self.RUN], capture_output=True, text=True, cwd=self.room, timeout=60, env={'PATH': self.commands('dirname', 'sed')})
+        self.assertEqual(done.returncode, 5)
+        self.assertIn('missing Debian packages: qflow yosys graywolf qrouter python3', done.stderr)
+
+    def commands(self, *names):
+        """Returns a folder with these commands alone."""
+        folder = os.path.join(self.room, 'commands')
+        os.mkdir(folder)
+        for name in names:
+            found = next(os.path.join(at, name) for at in ('/usr/bin', '/bin') if os.path.exists(os.path.join(at, name)))
+            os.symlink(found, os.path.join(folder, name))
+        return folder
+
+    def test_help(self):
+        done = subprocess.run(['/bin/sh', self.RUN, '--help'], capture_output=True, text=True, timeout=60)
+        self.assertEqual(done.returncode, 0)
+        self.assertIn('From Verilog to a block', done.stdout)
+
+
+if __name__ == '__main__':
+    unittest.main()

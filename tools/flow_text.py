@@ -1,0 +1,157 @@
+"""What the tools for flows share: a DEF text that is edited at its words, and where the edited text goes.
+
+    text = DefText(path)                     its words, and its statements with the sections in which they stand
+    text.replace(at, word), text.put_before(at, words), text.take_out(begin, end)
+    text.edited()                            the text with these edits; all else stays byte for byte
+"""
+import argparse
+import os
+import sys
+from typing import NamedTuple
+
+from lefdef_text import Refused, Words
+from lefdef_text.words import WORD
+
+REFUSED, NO_FILE, USAGE = 2, 5, 64
+STATUSES = ('Exit status: 0: written; 2: a text is refused, with its file and line; 5: a file can not be read or written, or is there already; '
+            '64: the words say nothing. Messages go to standard error.')
+ENTRY_SECTIONS = ('VIAS', 'COMPONENTS', 'PINS', 'BLOCKAGES', 'SPECIALNETS', 'NETS', 'GROUPS', 'REGIONS', 'FILLS', 'SLOTS', 'STYLES', 'SCANCHAINS',
+                  'NONDEFAULTRULES', 'PINPROPERTIES', 'PROPERTYDEFINITIONS')
+
+
+class Statement(NamedTuple):
+    """The words `begin` to `end`, of which the last is the semicolon, and the section in which they stand ('' outside of one)."""
+    section: str
+    begin: int
+    end: int
+
+
+class DefText(Words):
+    """A DEF text, its statements, and edits of it."""
+
+    def __init__(self, path, text=None):
+        super().__init__(path, text)
+        self.spans = [found.span(1) for found in WORD.finditer(self.text) if found[1]]
+        self.edits = []
+        self.section_at, self.end_at = {}, {}
+        self.statements = list(self.split())
+
+    def split(self):
+        section = ''
+        while self.more():
+            begin = self.at
+            word = self.keyword()
+            if word == 'END':
+                self.end_at[section] = begin
+                self.take()
+                section = ''
+            elif word == 'BEGINEXT':
+                while self.keyword() != 'ENDEXT':
+                    pass
+            elif word != ';':
+                self.skip_statement()
+                if not section and word in ENTRY_SECTIONS:
+                    section = word
+                    self.section_at[word] = begin
+                else:
+                    yield Statement(section, begin, self.at - 1)
+
+    def of(self, section, keyword='-'):
+        """Returns the statements of a section that begin with a keyword."""
+        return [it for it in self.statements if it.section == section and self.words[it.begin].upper() == keyword]
+
+    def clauses(self, statement):
+        """Returns the places of the words after a statement's `+` signs, each with the place where its clause ends."""
+        starts = [at + 1 for at in range(statement.begin, statement.end) if self.words[at] == '+' and self.words[at - 1] != '+']
+        return [(at, (starts[k + 1] - 1 if k + 1 < len(starts) else statement.end)) for k, at in enumerate(starts)]
+
+    def replace(self, at, word):
+        self.edits.append((*self.spans[at], word))
+
+    def put_before(self, at, words):
+        start = self.spans[at][0]
+        self.edits.append((start, start, words))
+
+    def take_out(self, begin, end):
+        """Takes out the words `begin` to `end` with the rest of their line, where nothing else stands on it."""
+        start, stop = self.spans[begin][0], self.spans[end][1]
+        line_start = self.text.rfind('\n', 0, start) + 1
+        line_stop = self.text.find('\n', stop)
+        line_stop = len(self.text) if line_stop < 0 else line_stop + 1
+        if not self.text[line_start:start].strip() and not self.text[stop:line_stop].strip():
+            start, stop = line_start, line_stop
+        self.edits.append((start, stop, ''))
+
+    def blank(self, begin, end):
+        """Takes out the words `begin` to `end` and keeps their line feeds, so that all that follows stands on the line where it stood."""
+        start, stop = self.spans[begin][0], self.spans[end][1]
+        self.edits.append((start, stop, '\n' * self.text.count('\n', start, stop)))
+
+    def edited(self):
+        parts, done = [], 0
+        for start, stop, words in sorted(self.edits, key=lambda edit: edit[:2]):
+            parts += self.text[done:start], words
+            done = stop
+        return ''.join(parts) + self.text[done:]
+
+
+class Arguments(argparse.ArgumentParser):
+    """Words of a command line: a DEF, LEFs where the tool wants them, and where the answer goes."""
+
+    def __init__(self, prog, doc, libraries=None):
+        super().__init__(prog=prog, description=doc, formatter_class=argparse.RawDescriptionHelpFormatter, epilog=STATUSES)
+        self.add_argument('design', metavar='DEF', help='the block')
+        if libraries:
+            self.add_argument('libraries', metavar='LEF', nargs=libraries, help='its libraries, in the order in which lefdef is given them')
+        self.add_argument('-o', '--output', metavar='FILE', help='write the block there, in place of standard output')
+        self.add_argument('--force', action='store_true', help='overwrite FILE if it is there')
+
+    def error(self, message):
+        self.print_usage(sys.stderr)
+        self.exit(USAGE, f'{self.prog}: {message}\n')
+
+
+def check_output(asked):
+    """Says why the output can't be written, or nothing: a text that is read is never overwritten, another file only with --force."""
+    if asked.output is None or not os.path.exists(asked.output):
+        return None
+    inputs = [asked.design, *getattr(asked, 'libraries', ())]
+    if any(os.path.exists(path) and os.path.samefile(path, asked.output) for path in inputs):
+        return f'{asked.output} is read: it is not overwritten'
+    return None if asked.force else f'{asked.output} is there already; with --force it is overwritten'
+
+
+def write(path, text):
+    data = text.encode('utf-8', 'surrogateescape')
+    if path is None:
+        sys.stdout.buffer.write(data)
+        sys.stdout.buffer.flush()
+    else:
+        with open(path, 'wb') as file:
+            file.write(data)
+
+
+def run(parser, words, edit):
+    """Runs a tool: `edit` takes the arguments and a function that notes a line, and returns the edited text. What it noted is told once
+    the text is written: nothing is told of a text that is refused but why."""
+    asked, notes = parser.parse_args(words), []
+    why = check_output(asked)
+    status = NO_FILE
+    if why:
+        notes = [why]
+    else:
+        try:
+            write(asked.output, edit(asked, notes.append))
+            status = 0
+        except Refused as refused:
+            print(refused, file=sys.stderr)
+            return REFUSED
+        except OSError as error:
+            notes = [error]
+    for line in notes:
+        print(f'{parser.prog}: {line}', file=sys.stderr)
+    return status
+
+
+def counted(number, one, many=None):
+    return f'{number} {one if number == 1 else many or one + "s"}'

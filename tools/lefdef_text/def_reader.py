@@ -1,0 +1,260 @@
+"""Reading a DEF text (docs/FORMATS.md, "DEF"); nets and their wiring are read by the module beside this one."""
+from .design import Component, Design, Pin, Place, Port, Row, Tracks
+from .library import Via, joined_layers
+from .entries import EntryReader
+from .net_reader import NetReader
+from .rects import ORIENTATIONS
+from .words import GREATEST_NUMBER, Words
+
+GREATEST_UNITS = 20_000
+
+
+def read_design(path, library):
+    """Returns the design that a DEF text says under a library in millionths of a micron."""
+    text = Words(path)
+    units = units_of(text)
+    return DefReader(text, Design(library.at(units), units)).read()
+
+
+def units_of(text):
+    """Returns the number after the first place where UNITS DISTANCE MICRONS stand in a row."""
+    for at, word in enumerate(text.words):
+        if len(word) == 5 and [it.upper() for it in text.words[at:at + 3]] == ['UNITS', 'DISTANCE', 'MICRONS']:
+            text.at = at + 3
+            units = text.whole()
+            if not 1 <= units <= GREATEST_UNITS:
+                text.refuse(f'the units a micron are 1 to {GREATEST_UNITS}')
+            text.expect(';')
+            text.at = 0
+            return units
+    return text.refuse('UNITS DISTANCE MICRONS stands nowhere', text.count)
+
+
+SKIPPED_LINES = ('VERSION', 'NAMESCASESENSITIVE', 'TECHNOLOGY', 'HISTORY', 'GCELLGRID')
+SKIPPED_SECTIONS = ('PROPERTYDEFINITIONS', 'NONDEFAULTRULES', 'REGIONS', 'FILLS', 'SLOTS', 'STYLES', 'SCANCHAINS', 'GROUPS', 'PINPROPERTIES')
+
+
+class DefReader(EntryReader):
+    """Reads a DEF text into a design."""
+
+    def __init__(self, text, design):
+        super().__init__(text, design)
+        self.seen = set()
+
+    def read(self):
+        text, nets = self.text, NetReader(self.text, self.design)
+        forms = {'DIVIDERCHAR': self.kept_word, 'BUSBITCHARS': self.kept_word, 'DESIGN': self.design_name, 'UNITS': self.units,
+                 'DIEAREA': self.die, 'ROW': self.row, 'TRACKS': self.tracks}
+        sections = {'VIAS': self.via, 'COMPONENTS': self.component, 'PINS': self.pin, 'SPECIALNETS': nets.special_net, 'NETS': nets.net}
+        while (word := text.keyword()) != 'END':
+            if word in forms or word in sections:
+                if word in self.seen and word not in ('ROW', 'TRACKS'):
+                    text.refuse(f'{word} stands twice')
+                self.seen.add(word)
+            if word in forms:
+                forms[word]()
+            elif word in sections:
+                self.section(word, sections[word])
+            elif word in SKIPPED_LINES:
+                text.skip_statement()
+            elif word in SKIPPED_SECTIONS:
+                text.skip_block(word)
+            elif word == 'BEGINEXT':
+                while text.keyword() != 'ENDEXT':
+                    pass
+            else:
+                text.refuse('BLOCKAGES are not read' if word == 'BLOCKAGES' else f'{text.words[text.at - 1]} is no form of a DEF')
+        self.end()
+        return self.design
+
+    def end(self):
+        text = self.text
+        at = text.at - 1
+        text.expect('DESIGN')
+        for word in ('DESIGN', 'UNITS', 'DIEAREA'):
+            if word not in self.seen:
+                text.refuse(f'{word} is missing', at)
+        if text.more():
+            text.refuse('nothing may follow END DESIGN', text.at)
+        listed = self.design.net_of
+        for pin in self.design.pins.values():
+            entry = self.design.nets.get(pin.net) or self.design.special.get(pin.net)
+            if ('PIN', pin.name) not in listed and entry:
+                entry.terminals['PIN', pin.name] = None
+                listed['PIN', pin.name] = entry.name
+
+    def kept_word(self):
+        text = self.text
+        text.word('a word')
+        text.expect(';')
+
+    def design_name(self):
+        self.design.name = self.text.name('the name of the design')
+        self.text.expect(';')
+
+    def units(self):
+        text = self.text
+        text.expect('DISTANCE')
+        text.expect('MICRONS')
+        if text.whole() != self.design.units:
+            text.refuse('the units differ from those that stand first')
+        text.expect(';')
+
+    def die(self):
+        text, begin, points = self.text, self.text.at, []
+        while text.peek() != ';':
+            points.append(self.point())
+        text.expect(';')
+        if len(points) == 4:
+            (a, b), (c, d), (e, f), (g, h) = points
+            if not (a == c and d == f and e == g and h == b or b == d and c == e and f == h and g == a) or a == e or b == f:
+                text.refuse('a die area that is no rectangle is not read', begin)
+            points = [points[0], points[2]]
+        if len(points) != 2:
+            text.refuse('a die area of other than two or four points is not read', begin)
+        self.design.die = text.with_area(points[0] + points[1], begin)
+
+    def row(self):
+        text = self.text
+        name, site_name = text.name('the name of a row'), text.name('the name of a site')
+        site = self.library.sites.get(site_name) or text.refuse(f'there is no site {site_name}')
+        at = text.at
+        x, y, orientation, count = text.whole(), text.whole(), self.orientation(), 1
+        if orientation in ('W', 'E', 'FW', 'FE'):
+            text.refuse(f'a row of orientation {orientation} is not read')
+        if text.peek() == 'DO':
+            count = self.row_sites(site)
+        if x + count * site.width > GREATEST_NUMBER:
+            text.refuse(f'the row ends beyond {GREATEST_NUMBER}', at)
+        if text.peek() == '+':
+            text.skip_statement()
+        else:
+            text.expect(';')
+        self.design.rows.append(Row(name, site_name, x, y, orientation, count))
+
+    def row_sites(self, site):
+        text = self.text
+        text.expect('DO')
+        if (count := text.whole()) < 1:
+            text.refuse('a row has no site')
+        text.expect('BY')
+        if text.whole() != 1:
+            text.refuse('a row is one site high')
+        if text.peek() == 'STEP':
+            text.expect('STEP')
+            step, at = text.whole(), text.at - 1
+            text.whole()
+            if step != site.width and count != 1:
+                text.refuse(f'the step of a row is the width of its site, {site.width}', at)
+        return count
+
+    def tracks(self):
+        text, layers = self.text, []
+        if (axis := text.keyword()) not in ('X', 'Y'):
+            text.unexpected('X or Y')
+        at = text.at
+        start = text.whole()
+        text.expect('DO')
+        if (count := text.whole()) < 1:
+            text.refuse('there is no track')
+        text.expect('STEP')
+        if (step := text.whole()) < 1:
+            text.refuse('the step of tracks is too small')
+        if start + (count - 1) * step > GREATEST_NUMBER:
+            text.refuse(f'the last track is beyond {GREATEST_NUMBER}', at)
+        if text.peek() == 'MASK':
+            text.refuse('MASK is not read', text.at)
+        if text.peek() == 'LAYER':
+            text.expect('LAYER')
+            layers.append(self.layer().name)
+            while text.peek() != ';':
+                layers.append(self.layer().name)
+        text.expect(';')
+        self.design.tracks.append(Tracks(axis, start, count, step, layers))
+
+    def orientation(self):
+        word = self.text.keyword()
+        if word not in ORIENTATIONS:
+            self.text.unexpected('an orientation')
+        return word
+
+    def via(self):
+        text, shapes = self.text, []
+        name = self.new_name('via', self.design.vias)
+
+        def clause(word):
+            if word == 'RECT':
+                layer = self.layer()
+                if text.peek() == '+':
+                    text.refuse('a mask is not read', text.at)
+                rect = text.corners(self.point)
+                if layer.has_metal():
+                    shapes.append((layer.name, rect))
+            elif word in ('VIARULE', 'POLYGON', 'PATTERNNAME', 'MASK'):
+                text.refuse(f'{word} of a via is not read')
+            else:
+                self.skip_clause()
+
+        self.clauses(clause)
+        self.design.vias[name] = Via(name, False, *joined_layers(self.library.layers, name, shapes), shapes)
+
+    def component(self):
+        text, given = self.text, []
+        name = self.new_name('component', self.design.components)
+        if name.upper() == 'PIN':
+            text.refuse('no component is named PIN')
+        macro_name = text.name('the name of a macro')
+        macro = self.library.macros.get(macro_name) or text.refuse(f'there is no macro {macro_name}')
+
+        def clause(word):
+            if word in ('PLACED', 'FIXED', 'COVER', 'UNPLACED'):
+                self.twice(word, given)
+                given.extend((word, None if word == 'UNPLACED' else self.place()))
+            else:
+                self.skip_clause()
+
+        self.clauses(clause)
+        status, place = given or ('UNPLACED', None)
+        self.design.components[name] = Component(name, macro, status, place)
+
+    def place(self):
+        return Place(*self.point(), self.orientation())
+
+    def pin(self):
+        text, words, ports = self.text, {}, []
+        name = self.new_name('pin', self.design.pins)
+
+        def port():
+            return ports[-1] if ports else ports.append(Port([], None, None)) or ports[-1]
+
+        def clause(word):
+            if word in ('NET', 'DIRECTION', 'USE'):
+                self.twice(word, word in words)
+                words[word] = text.name('the name of a net') if word == 'NET' else text.word('a word')
+            elif word == 'PORT':
+                ports.append(Port([], None, None))
+            elif word == 'LAYER':
+                self.port_layer(port())
+            elif word in ('PLACED', 'FIXED', 'COVER'):
+                self.twice(word, port().place)
+                ports[-1] = ports[-1]._replace(status=word, place=self.place())
+            elif word in ('POLYGON', 'VIA', 'MASK'):
+                text.refuse(f'{word} of a pin is not read')
+            else:
+                self.skip_clause()
+
+        self.clauses(clause)
+        self.design.pins[name] = Pin(name, words.get('NET'), words.get('DIRECTION'), words.get('USE'), ports)
+
+    def port_layer(self, port):
+        text = self.text
+        layer = self.layer()
+        for word in ('SPACING', 'DESIGNRULEWIDTH'):
+            if text.peek() == word:
+                text.expect(word)
+                text.whole()
+        if text.peek() == 'MASK':
+            text.refuse('MASK is not read', text.at)
+        rect = text.corners(self.point)
+        if layer.has_metal():
+            port.shapes.append((layer.name, rect))

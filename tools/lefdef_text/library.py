@@ -1,0 +1,135 @@
+"""Libraries as records: layers, sites, vias and macros, in millionths of a micron or in database units."""
+from typing import Dict, List, NamedTuple, Optional, Tuple
+
+from .rects import ORIENTATIONS, Rect, moved
+from .words import GREATEST_NUMBER
+
+WIRING_WORDS = frozenset(('NEW', 'RECT', 'TAPER', 'TAPERRULE', 'STYLE', 'MASK', 'VIRTUAL', 'DO') + ORIENTATIONS)
+LayerRect = Tuple[str, Rect]
+
+
+class Layer(NamedTuple):
+    """A layer. Its kind is the word after TYPE in capitals; a routing layer has a direction and a width."""
+    name: str
+    kind: str
+    direction: Optional[str]
+    width: Optional[int]
+    spacing: int
+
+    def is_routing(self):
+        return self.kind == 'ROUTING'
+
+    def has_metal(self):
+        return self.kind in ('ROUTING', 'CUT')
+
+
+class Site(NamedTuple):
+    name: str
+    width: int
+    height: int
+
+
+class Via(NamedTuple):
+    """A via. One that isn't good can't be used by a wire; a good one has a lower and an upper routing layer."""
+    name: str
+    is_default: bool
+    lower: Optional[str]
+    upper: Optional[str]
+    shapes: List[LayerRect]
+
+    def is_good(self):
+        return self.lower is not None
+
+
+class MacroPin(NamedTuple):
+    """A pin of a macro. Its use is the word after USE in capitals, or ''."""
+    name: str
+    use: str
+    shapes: List[LayerRect]
+
+
+class Macro(NamedTuple):
+    name: str
+    width: int
+    height: int
+    origin: Tuple[int, int]
+    has_y_symmetry: bool
+    site: Optional[str]
+    pins: Dict[str, MacroPin]
+    obstructions: List[LayerRect]
+
+
+class Library:
+    """Layers (bottom up), sites, vias and macros by their names, in the order in which they were defined."""
+
+    def __init__(self):
+        self.layers: Dict[str, Layer] = {}
+        self.sites: Dict[str, Site] = {}
+        self.vias: Dict[str, Via] = {}
+        self.macros: Dict[str, Macro] = {}
+        self.places = {}
+
+    def routing(self):
+        return [layer for layer in self.layers.values() if layer.is_routing()]
+
+    def at(self, units):
+        """Returns the library in database units, so many a micron, with each macro's origin added to its shapes."""
+        library = Library()
+        scale = Scale(self, units)
+        for layer in self.layers.values():
+            width = scale.of(layer.width, layer) if layer.is_routing() else None
+            if width is not None and width % 2:
+                scale.refuse(layer, f'the width of {layer.name} is odd: {width} database units')
+            library.layers[layer.name] = layer._replace(width=width, spacing=scale.of(layer.spacing, layer))
+        for site in self.sites.values():
+            library.sites[site.name] = Site(site.name, scale.of(site.width, site), scale.of(site.height, site))
+        for macro in self.macros.values():
+            library.macros[macro.name] = scale.macro(macro)
+        for via in self.vias.values():
+            library.vias[via.name] = via._replace(shapes=scale.shapes(via.shapes, via, (0, 0)))
+        return library
+
+
+class Scale:
+    """Lengths of a library, exactly, in database units."""
+
+    def __init__(self, library, units):
+        self.library, self.units = library, units
+
+    def refuse(self, record, why):
+        text, at = self.library.places[type(record), record.name]
+        text.refuse(why, at)
+
+    def of(self, millionths, record):
+        units, rest = divmod(millionths * self.units, 10 ** 6)
+        if rest:
+            self.refuse(record, f'a length of {record.name} is no whole number of database units: {millionths / 10 ** 6:g} microns at {self.units} units a micron')
+        if abs(units) > GREATEST_NUMBER:
+            self.refuse(record, f'a length of {record.name} is beyond {GREATEST_NUMBER} database units')
+        return units
+
+    def shapes(self, shapes, record, origin):
+        return [(layer, moved(Rect(*(self.of(side, record) for side in rect)), *origin)) for layer, rect in shapes]
+
+    def macro(self, macro):
+        origin = tuple(self.of(length, macro) for length in macro.origin)
+        pins = {pin.name: pin._replace(shapes=self.shapes(pin.shapes, macro, origin)) for pin in macro.pins.values()}
+        return macro._replace(
+            width=self.of(macro.width, macro), height=self.of(macro.height, macro), origin=origin, pins=pins,
+            obstructions=self.shapes(macro.obstructions, macro, origin))
+
+
+def joined_layers(layers, name, shapes):
+    """Returns the lower and the upper routing layer of a good via of these shapes, or None and None."""
+    order = list(layers)
+    used = sorted({order.index(layer) for layer, _ in shapes})
+    routing = [order.index(layer.name) for layer in layers.values() if layer.is_routing()]
+    if name.upper() in WIRING_WORDS or len(used) != 3 or [at in routing for at in used] != [True, False, True]:
+        return None, None
+    low, _, high = used
+    if routing.index(high) != routing.index(low) + 1:
+        return None, None
+    for layer, rect in shapes:
+        if order.index(layer) != used[1] and not (rect.x1 < 0 < rect.x2 and rect.y1 < 0 < rect.y2):
+            return None, None
+    return order[low], order[high]
