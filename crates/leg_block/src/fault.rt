@@ -6,11 +6,11 @@
 pub enum Fault {
     /// The component has no place.
     Unplaced(u32),
-    /// A cell of the component lies outside the die.
+    /// A unit square of the component lies outside the die.
     Outside(u32),
     /// The component doesn't stand on consecutive sites of a row that its orientation fits.
     OffSite(u32),
-    /// The two components share a cell.
+    /// The two components share a unit square.
     Overlap(u32, u32),
     /// The two shapes, of different owners, share a point.
     Short(u32, u32),

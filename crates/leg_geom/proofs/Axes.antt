@@ -1,7 +1,7 @@
 -- Rectangles by their two intervals.
 use Rattle.std.proofs.Common.{◌↔◌, ℕ, arith}
 use Rattle.std.proofs.lemmas.Int.{ints}
-use Rattle.leg_geom.specs.Plane.{Sides, IsRect, ShareCell, SharePoint, HasAllPoints}
+use Rattle.leg_geom.specs.Plane.{Sides, IsRect, ShareSquare, SharePoint, HasAllPoints}
 use Rattle.leg_geom.specs.Line.{Interval}
 use Rattle.leg_geom.specs.Steps.Intervals.{IsSpan, ShareNumber, ShareStep, HasAllNumbers, IsGap}
 use Rattle.leg_geom.specs.Gap.{IsXGap, IsYGap}
@@ -19,22 +19,22 @@ IsSpan-x_ends r p = record { low = p.x1; high = p.x2; long = p.wide }
 pub IsSpan-y_ends : (r : Sides) → IsRect r → IsSpan (y_ends r)
 IsSpan-y_ends r p = record { low = p.y1; high = p.y2; long = p.high }
 
--- rectangles share a cell just where their intervals share a step along each axis
-pub ShareCell-steps : (a b : Sides) → (ShareStep (x_ends a) (x_ends b) × ShareStep (y_ends a) (y_ends b)) ↔ ShareCell a b
-ShareCell-steps a b = (
+-- rectangles share a unit square just where their intervals share a step along each axis
+pub ShareSquare-steps : (a b : Sides) → (ShareStep (x_ends a) (x_ends b) × ShareStep (y_ends a) (y_ends b)) ↔ ShareSquare a b
+ShareSquare-steps a b = (
   λ s. record {
-    cell = record { x = s.0.step; y = s.1.step };
+    square = record { x = s.0.step; y = s.1.step };
     in_a = record { left = s.0.in_a.above; right = s.0.in_a.below; bottom = s.1.in_a.above; top = s.1.in_a.below };
     in_b = record { left = s.0.in_b.above; right = s.0.in_b.below; bottom = s.1.in_b.above; top = s.1.in_b.below };
   },
   λ s. (
     record {
-      step = s.cell.x;
+      step = s.square.x;
       in_a = record { above = s.in_a.left; below = s.in_a.right };
       in_b = record { above = s.in_b.left; below = s.in_b.right };
     },
     record {
-      step = s.cell.y;
+      step = s.square.y;
       in_a = record { above = s.in_a.bottom; below = s.in_a.top };
       in_b = record { above = s.in_b.bottom; below = s.in_b.top };
     },

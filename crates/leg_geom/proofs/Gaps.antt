@@ -1,19 +1,19 @@
--- What rules over pairs of rectangles need to know of cells and gaps.
+-- What rules over pairs of rectangles need to know of unit squares and gaps.
 use Rattle.std.proofs.Common.{◌≡◌, ℕ, ◌+◌, ◌*◌, ◌<◌, ◌≤◌, ℤ, inl, inr, refl, arith}
 use Rattle.std.proofs.lemmas.Int.{ints}
 use Rattle.std.proofs.lemmas.Nat.{mul-le}
 use Rattle.std.proofs.lemmas.Bool.{cases_lt}
-use Rattle.leg_geom.specs.Plane.{Spot, Sides, HasPoint, IsRect, ShareCell, SharePoint}
+use Rattle.leg_geom.specs.Plane.{Spot, Sides, HasPoint, IsRect, ShareSquare, SharePoint}
 use Rattle.leg_geom.specs.Gap.{apart, square_distance, x_gap, y_gap, IsXGap, IsYGap, IsSquareGap}
 use Rattle.leg_geom.proofs.Axes.{IsSpan-x_ends, IsSpan-y_ends, IsXGap-ends, IsYGap-ends}
 use Rattle.leg_geom.proofs.Intervals.{IsGap-gap_between}
 
-pub ShareCell-symmetric : (a b : Sides) → ShareCell a b → ShareCell b a
-ShareCell-symmetric a b s = record { cell = s.cell; in_a = s.in_b; in_b = s.in_a }
+pub ShareSquare-symmetric : (a b : Sides) → ShareSquare a b → ShareSquare b a
+ShareSquare-symmetric a b s = record { square = s.square; in_a = s.in_b; in_b = s.in_a }
 
--- rectangles that share a cell have no gap along either axis: they are within any reach
-pub ShareCell-gaps : (a b : Sides) → ShareCell a b → (x_gap a b ≤ 0) × (y_gap a b ≤ 0)
-ShareCell-gaps a b s =
+-- rectangles that share a unit square have no gap along either axis: they are within any reach
+pub ShareSquare-gaps : (a b : Sides) → ShareSquare a b → (x_gap a b ≤ 0) × (y_gap a b ≤ 0)
+ShareSquare-gaps a b s =
     let in_a = s.in_a in
     let in_b = s.in_b in
     (grind (arith, ints), grind (arith, ints))

@@ -1,4 +1,4 @@
--- Points, cells and rectangles of the plane, in database units.
+-- Points, unit squares and rectangles of the plane, in database units.
 use Rattle.std.specs.Prelude.{◌≢◌, ◌≤◌, ℤ, pos, ◌+ℤ◌, ◌≤ℤ◌, ◌<ℤ◌, unsigned_abs}
 use Rattle.std.specs.Int.{int_div_euclid}
 use Rattle.leg_geom.specs.declared.limits.TheConstants.{COORDINATE_LIMIT}
@@ -40,18 +40,18 @@ pub record HasPoint (r : Sides) (p : Spot) : Type 0 where
   pub bottom : r.y1 ≤ℤ p.y
   pub top : p.y ≤ℤ r.y2
 
--- the cell, a square of one unit whose lower left corner is the point, lies in the rectangle
-pub record HasCell (r : Sides) (p : Spot) : Type 0 where
+-- the unit square whose lower left corner is the point lies in the rectangle
+pub record HasSquare (r : Sides) (p : Spot) : Type 0 where
   pub left : r.x1 ≤ℤ p.x
   pub right : p.x <ℤ r.x2
   pub bottom : r.y1 ≤ℤ p.y
   pub top : p.y <ℤ r.y2
 
--- some cell lies in both rectangles
-pub record ShareCell (a b : Sides) : Type 0 where
-  pub cell : Spot
-  pub in_a : HasCell a cell
-  pub in_b : HasCell b cell
+-- some unit square lies in both rectangles
+pub record ShareSquare (a b : Sides) : Type 0 where
+  pub square : Spot
+  pub in_a : HasSquare a square
+  pub in_b : HasSquare b square
 
 -- some point lies in both rectangles
 pub record SharePoint (a b : Sides) : Type 0 where

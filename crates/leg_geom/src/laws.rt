@@ -1,14 +1,14 @@
 //! Laws of rectangles and orientations: each holds by the contract of a function that does nothing.
 
 ghost use Rattle.std.specs.Prelude.{◌≡◌, ℤ};
-ghost use Rattle.leg_geom.specs.Plane.{Spot, Sides, IsRect, ShareCell, HasAllPoints};
+ghost use Rattle.leg_geom.specs.Plane.{Spot, Sides, IsRect, ShareSquare, HasAllPoints};
 ghost use Rattle.leg_geom.specs.Orientation.{turned, placed, placed_rect, IsImage};
 ghost use Rattle.leg_geom.specs.declared.orient.Orient.{Orient};
 ghost use Rattle.leg_geom.specs.Gap.{x_gap, y_gap, IsXGap, IsYGap};
 
-/// Rectangles share a cell in either order.
+/// Rectangles share a unit square in either order.
 pub fn sharing_is_symmetric()
-    ensures { (a b : Sides) → ShareCell a b → ShareCell b a }
+    ensures { (a b : Sides) → ShareSquare a b → ShareSquare b a }
 {}
 
 /// A rectangle is determined by its points: two with the same points have the same corners.

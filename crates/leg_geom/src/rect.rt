@@ -1,7 +1,7 @@
 //! A rectangle of the plane.
 
 ghost use Rattle.std.specs.Prelude.{◌≡◌, ◌≢◌, ◌↔◌, ◌≤◌, ◌*◌, ℕ, pos, IsTrue, SomeIff};
-ghost use Rattle.leg_geom.specs.Plane.{IsRect, ShareCell, SharePoint, ShareTwoPoints, HasAllPoints, IsCentre, centre};
+ghost use Rattle.leg_geom.specs.Plane.{IsRect, ShareSquare, SharePoint, ShareTwoPoints, HasAllPoints, IsCentre, centre};
 ghost use Rattle.leg_geom.specs.Line.{between};
 ghost use Rattle.leg_geom.specs.Gap.{x_gap, y_gap, IsXGap, IsYGap, IsSquareGap};
 
@@ -96,9 +96,9 @@ impl Rect {
         self.y.high()
     }
 
-    /// Whether some cell lies in both rectangles. Rectangles that only abut do not overlap.
+    /// Whether some unit square lies in both rectangles. Rectangles that only abut do not overlap.
     pub fn overlaps(&self, other: &Rect) -> bool
-        ensures { IsTrue result ↔ ShareCell self.now other.now }
+        ensures { IsTrue result ↔ ShareSquare self.now other.now }
     {
         self.x.shares_step(&other.x) && self.y.shares_step(&other.y)
     }

@@ -22,7 +22,7 @@ module _ (library : Contents) (design : DesignContents) (lists : List (List Wire
 
   pub placement_then : (fault : Fault) → Holds library design fault → Holds library done fault
   placement_then fault (unplaced h) = unplaced (record { component = h.component; there = h.there; unplaced = h.unplaced })
-  placement_then fault (outside {c = c} h) = outside (record { box = h.box; stands = stands_then c h.box h.stands; cell = h.cell; inside = h.inside; outside = h.outside })
+  placement_then fault (outside {c = c} h) = outside (record { box = h.box; stands = stands_then c h.box h.stands; square = h.square; inside = h.inside; outside = h.outside })
   placement_then fault (off_site h) = off_site (record {
     component = h.component;
     there = h.there;
@@ -45,7 +45,7 @@ module _ (library : Contents) (design : DesignContents) (lists : List (List Wire
 
   pub placement_before : (fault : Fault) → Holds library done fault → Holds library design fault
   placement_before fault (unplaced h) = unplaced (record { component = h.component; there = h.there; unplaced = h.unplaced })
-  placement_before fault (outside {c = c} h) = outside (record { box = h.box; stands = stands_before c h.box h.stands; cell = h.cell; inside = h.inside; outside = h.outside })
+  placement_before fault (outside {c = c} h) = outside (record { box = h.box; stands = stands_before c h.box h.stands; square = h.square; inside = h.inside; outside = h.outside })
   placement_before fault (off_site h) = off_site (record {
     component = h.component;
     there = h.there;

@@ -2,9 +2,9 @@
 use Rattle.std.proofs.Common.{◌≡◌, ℕ, List, [], ◌∷◌, ◌++◌, Some, slice_get, sym, ◌∙◌, inl, inr, arith}
 use Rattle.std.proofs.lemmas.Bool.{cases_eq}
 use Rattle.std.proofs.lemmas.Option.{same_Some, none-some}
-use Rattle.leg_geom.specs.Plane.{Sides, ShareCell}
+use Rattle.leg_geom.specs.Plane.{Sides, ShareSquare}
 use Rattle.leg_geom.specs.declared.place.Place.{Place}
-use Rattle.leg_geom.proofs.Gaps.{ShareCell-symmetric}
+use Rattle.leg_geom.proofs.Gaps.{ShareSquare-symmetric}
 use Rattle.leg_block.specs.Records.{DesignContents}
 use Rattle.leg_block.specs.declared.fault.Fault.{Fault}
 use Rattle.leg_block.specs.declared.fault.Fault.TheVariants.{Unplaced, Outside, OffSite, Overlap, Short, TooNear, OpenNet}
@@ -61,7 +61,7 @@ module _ (now : DesignContents) (sound : HasSoundRows now) (done : List ℕ) (c 
   inside_here : IsOutside now.library after c → ⊥
   inside_here h =
       let is : h.box ≡ placed_box free.stands.master.size place = box_here now c component place at free.stands.master h.box is_master h.stands in
-      h.outside (free.clear.inside h.cell (rw is at h.inside))
+      h.outside (free.clear.inside h.square (rw is at h.inside))
 
   -- it stands on sites
   on_site_here : IsOffSite now.library after c → ⊥
@@ -74,8 +74,8 @@ module _ (now : DesignContents) (sound : HasSoundRows now) (done : List ℕ) (c 
       h.none free.stands.row (contains_at now.rows position.row free.stands.row free.stands.is_row)
       (rw (same_master, same_number, same_place) (stands_on_row now sound c position place free.stands))
 
-  -- no other settled component shares a cell with it
-  alone_here : (d : ℕ) (box other : Sides) → (d ≡ c → ⊥) → IsSettled after more d → StandsIn now.library after c box → StandsIn now.library after d other → ShareCell other box → ⊥
+  -- no other settled component shares a unit square with it
+  alone_here : (d : ℕ) (box other : Sides) → (d ≡ c → ⊥) → IsSettled after more d → StandsIn now.library after c box → StandsIn now.library after d other → ShareSquare other box → ⊥
   alone_here d box other apart settled stands_c stands_d shared =
       let is : box ≡ placed_box free.stands.master.size place = box_here now c component place at free.stands.master box is_master stands_c in
       free.clear.alone other (taken_before now c component place at movable done d other apart settled stands_d) (rw is at shared)
@@ -94,7 +94,7 @@ module _ (now : DesignContents) (sound : HasSoundRows now) (done : List ℕ) (c 
         | inl same ↦ inside_here (rw same at h)
         | inr apart ↦
             before.none (Outside d)
-            (outside (record { box = h.box; stands = box_elsewhere now c component place at d h.box apart h.stands; cell = h.cell; inside = h.inside; outside = h.outside }))
+            (outside (record { box = h.box; stands = box_elsewhere now c component place at d h.box apart h.stands; square = h.square; inside = h.inside; outside = h.outside }))
             (settled_before now c component place at movable done d apart settled)
       ]
   none_after v (off_site {c = d} h) settled =
@@ -119,7 +119,7 @@ module _ (now : DesignContents) (sound : HasSoundRows now) (done : List ℕ) (c 
       elim (cases_eq a c) [
         | inl a_is ↦
             alone_here b h.box_a h.box_b (λ b_is. omega (arith, h.in_order)) settled.1 (rw a_is at h.stands_a) h.stands_b
-            (ShareCell-symmetric h.box_a h.box_b h.shared)
+            (ShareSquare-symmetric h.box_a h.box_b h.shared)
         | inr a_apart ↦ elim (cases_eq b c) [
           | inl b_is ↦ alone_here a h.box_b h.box_a a_apart settled.0 (rw b_is at h.stands_b) h.stands_a h.shared
           | inr b_apart ↦

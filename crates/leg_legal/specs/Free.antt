@@ -20,7 +20,7 @@ pub record IsTaken (design : DesignContents) (done : List ℕ) (box : Sides) : T
   pub settled : IsSettled design done d
   pub stands : StandsIn design.library design d box
 
--- With this place component c stands at the position, and its box is clear: it lies in the die, and shares no cell with
+-- With this place component c stands at the position, and its box is clear: it lies in the die, and shares no unit square with
 -- one that is taken.
 pub record IsFree (design : DesignContents) (done : List ℕ) (c : ℕ) (position : Candidate) (place : Place) : Type 0 where
   pub stands : StandsAt design c position place

@@ -13,7 +13,7 @@ use Rattle.leg_place.specs.Box.{box_of, StandsIn}
 use Rattle.leg_place.specs.Faults.{IsOutside}
 use Rattle.leg_place.specs.Among.{IsMarked}
 use Rattle.leg_place.specs.Steps.ListPrefix.{AreBoxesBelow, HasLowerNumber, IsMarkedBox}
-use Rattle.leg_place.proofs.Cells.{HasCell-points, CellOutside-points}
+use Rattle.leg_place.proofs.Squares.{HasSquare-points, SquareOutside-points}
 
 module _ (library : Contents) (design : DesignContents) where
   -- the box of the component at a number is the one in which it stands
@@ -27,11 +27,11 @@ module _ (library : Contents) (design : DesignContents) where
     IsOutside-points : (rect : Sides) → box_of library component ≡ Some rect → IsRect rect → (HasAllPoints design.die rect → ⊥) ↔ IsOutside library design c
     IsOutside-points rect is proper = (
       λ missed.
-          let lost = CellOutside-points design.die rect proper missed in
-          record { box = rect; stands = record { component = component; there = at; placed = is }; cell = lost.cell; inside = lost.inside; outside = lost.outside },
+          let lost = SquareOutside-points design.die rect proper missed in
+          record { box = rect; stands = record { component = component; there = at; placed = is }; square = lost.square; inside = lost.inside; outside = lost.outside },
       λ out points.
           let same : out.box ≡ rect = same_Some out.box rect (sym (StandsIn-is c component out.box at out.stands) ∙ is) in
-          out.outside (HasCell-points design.die rect points out.cell (rw same at out.inside)),
+          out.outside (HasSquare-points design.die rect points out.square (rw same at out.inside)),
     )
 
     -- the same by a test whether the die has them all

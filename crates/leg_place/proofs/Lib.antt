@@ -1,6 +1,6 @@
 -- Boxes of components
 mod Places
-mod Cells
+mod Squares
 mod Boxes
 -- Sites of rows
 mod Mirrors

@@ -1,11 +1,11 @@
--- The rectangles whose cells are those of consecutive sites of a row.
+-- The rectangles whose unit squares are those of consecutive sites of a row.
 use Rattle.std.proofs.Common.{◌≡◌, ℕ, ◌+◌, ◌-◌, ◌*◌, ◌/◌, ◌<◌, ◌≤◌, ℤ, pos, ◌+ℤ◌, ◌-ℤ◌, ◌*ℤ◌, ◌≤ℤ◌, ◌<ℤ◌, unsigned_abs, inl, inr, arith}
 use Rattle.std.proofs.Math.IntN.{pos-*ℤ-pos}
 use Rattle.std.proofs.Math.Nat.{div-mul-le_self, lt-div-mul-add, mul-le-mul_right}
 use Rattle.std.proofs.lemmas.Bool.{cases_lt}
 use Rattle.std.proofs.lemmas.Grind.{common_steps}
 use Rattle.std.proofs.lemmas.Int.{ints}
-use Rattle.leg_geom.specs.Plane.{Spot, Sides, HasCell}
+use Rattle.leg_geom.specs.Plane.{Spot, Sides, HasSquare}
 use Rattle.leg_cells.specs.Measure.{Lengths, HasArea}
 use Rattle.leg_block.specs.declared.records.Row.{Row}
 use Rattle.leg_place.specs.Sites.{SitesHave, IsOnSites}
@@ -63,11 +63,11 @@ module _ (row : Row) (size : Lengths) (box : Sides) (n : ℕ) (width : size.widt
 
   module _ (f l : ℕ) (left : box.x1 ≡ row.at.x +ℤ pos (f * n)) (right : box.x2 ≡ row.at.x +ℤ pos (l * n))
       (bottom : box.y1 ≡ row.at.y) (top : box.y2 ≡ row.at.y +ℤ size.height) (order : f < l) where
-    -- a cell of the rectangle is one of a site
-    site_of_cell : (cell : Spot) → HasCell box cell → SitesHave row size f (l - f) cell
-    site_of_cell cell c =
-        let d = unsigned_abs (cell.x -ℤ row.at.x) in
-        let apart : cell.x ≡ row.at.x +ℤ pos d = omega (arith, ints, c.left, left) in
+    -- a unit square of the rectangle is one of a site
+    site_of_square : (square : Spot) → HasSquare box square → SitesHave row size f (l - f) square
+    site_of_square square c =
+        let d = unsigned_abs (square.x -ℤ row.at.x) in
+        let apart : square.x ≡ row.at.x +ℤ pos d = omega (arith, ints, c.left, left) in
         let from : f * n ≤ d = omega (arith, ints, c.left, left, apart) in
         let upto : d < l * n = omega (arith, ints, c.right, right, apart) in
         let k = d / n in
@@ -84,8 +84,8 @@ module _ (row : Row) (size : Lengths) (box : Sides) (n : ℕ) (width : size.widt
         }
 
     -- and the other way round
-    cell_of_site : (cell : Spot) → SitesHave row size f (l - f) cell → HasCell box cell
-    cell_of_site cell s =
+    square_of_site : (square : Spot) → SitesHave row size f (l - f) square → HasSquare box square
+    square_of_site square s =
         let inside_left = rw (edge_is s.k) at s.inside.left in
         let inside_right = rw (edge_is (s.k + 1)) at s.inside.right in
         let last : s.k + 1 ≤ l = omega (arith, s.below, order) in
@@ -102,7 +102,7 @@ module _ (row : Row) (size : Lengths) (box : Sides) (n : ℕ) (width : size.widt
     first = f;
     many = l - f;
     within = let all : f + (l - f) ≡ l = omega arith in rw all within;
-    cells = λ cell. (site_of_cell f l left right bottom top order cell, cell_of_site f l left right bottom top order cell);
+    squares = λ square. (site_of_square f l left right bottom top order square, square_of_site f l left right bottom top order square);
   }
 
   module _ (proper : IsWide box) (on : IsOnSites row size box) where
@@ -113,22 +113,22 @@ module _ (row : Row) (size : Lengths) (box : Sides) (n : ℕ) (width : size.widt
     opposite = record { x = box.x2 -ℤ pos 1; y = box.y2 -ℤ pos 1 }
 
     in_sites : SitesHave row size on.first on.many corner
-    in_sites = (on.cells corner).0 (record { left = omega (arith, ints); right = proper.wide; bottom = omega (arith, ints); top = proper.high })
+    in_sites = (on.squares corner).0 (record { left = omega (arith, ints); right = proper.wide; bottom = omega (arith, ints); top = proper.high })
 
     last_in_sites : SitesHave row size on.first on.many opposite
     last_in_sites =
-        (on.cells opposite).0 (record {
+        (on.squares opposite).0 (record {
           left = omega (arith, ints, proper.wide);
           right = omega (arith, ints);
           bottom = omega (arith, ints, proper.high);
           top = omega (arith, ints);
         })
 
-    -- the first cell of the first site, and the last one of the last
-    first_cell : HasCell box (record { x = row.at.x +ℤ pos (on.first * n); y = row.at.y })
-    first_cell =
+    -- the first unit square of the first site, and the last one of the last
+    first_square : HasSquare box (record { x = row.at.x +ℤ pos (on.first * n); y = row.at.y })
+    first_square =
         let s = in_sites in
-        (on.cells (record { x = row.at.x +ℤ pos (on.first * n); y = row.at.y })).1 (record {
+        (on.squares (record { x = row.at.x +ℤ pos (on.first * n); y = row.at.y })).1 (record {
           k = on.first;
           from = omega arith;
           below = omega (arith, s.from, s.below);
@@ -140,10 +140,10 @@ module _ (row : Row) (size : Lengths) (box : Sides) (n : ℕ) (width : size.widt
           };
         })
 
-    last_cell : (l : ℕ) → on.first + on.many ≡ l + 1 → HasCell box (record { x = row.at.x +ℤ pos (l * n) +ℤ pos n -ℤ pos 1; y = row.at.y +ℤ size.height -ℤ pos 1 })
-    last_cell l is =
+    last_square : (l : ℕ) → on.first + on.many ≡ l + 1 → HasSquare box (record { x = row.at.x +ℤ pos (l * n) +ℤ pos n -ℤ pos 1; y = row.at.y +ℤ size.height -ℤ pos 1 })
+    last_square l is =
         let s = in_sites in
-        (on.cells (record { x = row.at.x +ℤ pos (l * n) +ℤ pos n -ℤ pos 1; y = row.at.y +ℤ size.height -ℤ pos 1 })).1 (record {
+        (on.squares (record { x = row.at.x +ℤ pos (l * n) +ℤ pos n -ℤ pos 1; y = row.at.y +ℤ size.height -ℤ pos 1 })).1 (record {
           k = l;
           from = omega (arith, s.from, s.below, is);
           below = omega (arith, is);
@@ -159,14 +159,14 @@ module _ (row : Row) (size : Lengths) (box : Sides) (n : ℕ) (width : size.widt
     left_is =
         let s = in_sites in
         let inside = rw (edge_is s.k) at s.inside.left in
-        omega (arith, ints, inside, product_up on.first s.k n s.from, first_cell.left)
+        omega (arith, ints, inside, product_up on.first s.k n s.from, first_square.left)
 
     right_is : (l : ℕ) → on.first + on.many ≡ l + 1 → box.x2 ≡ row.at.x +ℤ pos ((l + 1) * n)
     right_is l is =
         let s = last_in_sites in
         let inside = rw (edge_is (s.k + 1)) at s.inside.right in
         let last : s.k + 1 ≤ l + 1 = omega (arith, s.below, is) in
-        omega (arith, ints, inside, product_up (s.k + 1) (l + 1) n last, product_more l n, (last_cell l is).right)
+        omega (arith, ints, inside, product_up (s.k + 1) (l + 1) n last, product_more l n, (last_square l is).right)
 
     pub left_edge : IsEdge row size box.x1
     left_edge =
@@ -188,16 +188,16 @@ module _ (row : Row) (size : Lengths) (box : Sides) (n : ℕ) (width : size.widt
         let s = in_sites in
         let l = on.first + on.many - 1 in
         let is : on.first + on.many ≡ l + 1 = omega (arith, s.from, s.below) in
-        omega (arith, ints, last_in_sites.inside.top, (last_cell l is).top)
+        omega (arith, ints, last_in_sites.inside.top, (last_square l is).top)
 
 -- the lower edges are the same
 pub bottom_is : (row : Row) (size : Lengths) (box : Sides) → IsWide box → IsOnSites row size box → box.y1 ≡ row.at.y
 bottom_is row size box proper on =
     let s =
-    (on.cells (record { x = box.x1; y = box.y1 })).0
+    (on.squares (record { x = box.x1; y = box.y1 })).0
     (record { left = omega (arith, ints); right = proper.wide; bottom = omega (arith, ints); top = proper.high }) in
     let lower =
-    (on.cells (record { x = box.x1; y = row.at.y })).1 (record {
+    (on.squares (record { x = box.x1; y = row.at.y })).1 (record {
       k = s.k;
       from = s.from;
       below = s.below;

@@ -1,10 +1,10 @@
--- Overlaps by the pairs of boxes that share a cell.
+-- Overlaps by the pairs of boxes that share a unit square.
 use Rattle.std.proofs.Common.{◌≡◌, ℕ, Bool, true, replicate, ◌<◌, List, ◌++◌, map, Option, Some, None, slice_get, length, Contains, refl, sym, ap, ◌∙◌, inl, inr, All, ◌+◌, ◌∷◌, [], get_or, take, arith}
 use Rattle.std.proofs.lemmas.Bool.{cases_lt}
 use Rattle.std.proofs.lemmas.List.{take_more, map-append, append_assoc}
 use Rattle.std.proofs.lemmas.List.Elements.{All-append, All-map, All-weaker, Contains-append_left, Contains-append_right}
 use Rattle.std.proofs.lemmas.Option.{same_Some, slice_get_within, slice_get-get_or, get_or_from_slice_get}
-use Rattle.leg_geom.specs.Plane.{ShareCell}
+use Rattle.leg_geom.specs.Plane.{ShareSquare}
 use Rattle.leg_sweep.specs.Pairs.{Before, IsPair, ArePairs, TakesAll, TookPairs}
 use Rattle.leg_sweep.specs.Pairs.TakesAll.{none, more}
 use Rattle.leg_sweep.proofs.Lists.{AllPairs-append_by, AllPairs-map_where, Contains-map, Contains-nil}
@@ -22,9 +22,9 @@ use Rattle.leg_place.specs.Steps.ListPrefix.{HoldsBefore, IsListBefore, AreBoxes
 use Rattle.leg_place.proofs.PlaceFaults.{overlap_there, marked_by_all}
 use Rattle.leg_place.proofs.Places.{place_of_contained, All-at, AllPairs-at, lower_first, same_place}
 
--- two boxes share a cell
+-- two boxes share a unit square
 abbrev pub Share : PlacedBox → PlacedBox → Type 0
-Share a b = ShareCell a.rect b.rect
+Share a b = ShareSquare a.rect b.rect
 
 -- the component in the box at a place
 abbrev number_of : Option PlacedBox → ℕ
@@ -149,8 +149,8 @@ module _ (library : Contents) (design : DesignContents) (marks : List Bool) (fou
           (slice_get_within design.components a h.stands_a.component h.stands_a.there)
           (slice_get_within design.components b h.stands_b.component h.stands_b.there) marked.0 marked.1)
 
--- two boxes at places in order that share a cell
-pub pair_at : (boxes : List PlacedBox) (a b : ℕ) (first second : PlacedBox) → a < b → b < length boxes → ShareCell (get_or boxes a first).rect (get_or boxes b second).rect → HasPair boxes
+-- two boxes at places in order that share a unit square
+pub pair_at : (boxes : List PlacedBox) (a b : ℕ) (first second : PlacedBox) → a < b → b < length boxes → ShareSquare (get_or boxes a first).rect (get_or boxes b second).rect → HasPair boxes
 pair_at boxes a b first second lower within shared =
     record {
       numbers = (a, b);

@@ -1,7 +1,7 @@
 -- What is not legal about where components stand (own rules): without a place, outside the die, off the sites of the
--- rows, and on one another. A component is the box of its macro, of which the cells count.
+-- rows, and on one another. A component is the box of its macro, whose unit squares count.
 use Rattle.std.specs.Prelude.{◌≡◌, ℕ, ◌<◌, None, Some, slice_get}
-use Rattle.leg_geom.specs.Plane.{Spot, Sides, HasCell, ShareCell}
+use Rattle.leg_geom.specs.Plane.{Spot, Sides, HasSquare, ShareSquare}
 use Rattle.leg_cells.specs.Records.{Contents}
 use Rattle.leg_block.specs.Records.{DesignContents}
 use Rattle.leg_block.specs.declared.records.Component.{Component}
@@ -16,22 +16,22 @@ pub record IsUnplaced (design : DesignContents) (c : ℕ) : Type 0 where
   pub there : slice_get design.components c ≡ Some component
   pub unplaced : component.place ≡ None
 
--- a cell of the placed component c isn't a cell of the die
+-- a unit square of the placed component c isn't one of the die
 pub record IsOutside (library : Contents) (design : DesignContents) (c : ℕ) : Type 0 where
   pub box : Sides
   pub stands : StandsIn library design c box
-  pub cell : Spot
-  pub inside : HasCell box cell
-  pub outside : ¬ HasCell design.die cell
+  pub square : Spot
+  pub inside : HasSquare box square
+  pub outside : ¬ HasSquare design.die square
 
--- two placed components share a cell; the lower number is told first
+-- two placed components share a unit square; the lower number is told first
 pub record DoOverlap (library : Contents) (design : DesignContents) (a b : ℕ) : Type 0 where
   pub in_order : a < b
   pub box_a : Sides
   pub box_b : Sides
   pub stands_a : StandsIn library design a box_a
   pub stands_b : StandsIn library design b box_b
-  pub shared : ShareCell box_a box_b
+  pub shared : ShareSquare box_a box_b
 
 -- a violation holds that speaks of where components stand
 pub data Holds (library : Contents) (design : DesignContents) : Fault → Type 0 where

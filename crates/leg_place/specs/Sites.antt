@@ -1,6 +1,6 @@
 -- Whether a component stands on sites of a row (LEF/DEF 5.8, "Rows", "Site"; which orientations fit a row is an own rule).
 use Rattle.std.specs.Prelude.{◌≡◌, ◌↔◌, ◌⊎◌, ℕ, pos, Bool, ◌+◌, ◌<◌, ◌≤◌, ◌≤ℤ◌, ◌+ℤ◌, ◌*ℤ◌, Some, slice_get, Contains, IsTrue}
-use Rattle.leg_geom.specs.Plane.{Spot, Sides, HasCell}
+use Rattle.leg_geom.specs.Plane.{Spot, Sides, HasSquare}
 use Rattle.leg_geom.specs.Orientation.{IsMirrored}
 use Rattle.leg_geom.specs.declared.orient.Orient.{Orient}
 use Rattle.leg_geom.specs.declared.place.Place.{Place}
@@ -17,19 +17,19 @@ abbrev pub site_box : Row → Lengths → ℕ → Sides
 site_box row size k =
     record { x1 = row.at.x +ℤ pos k *ℤ size.width; y1 = row.at.y; x2 = row.at.x +ℤ pos (k + 1) *ℤ size.width; y2 = row.at.y +ℤ size.height }
 
--- one of so many consecutive sites of the row, from the first on, has the cell
-pub record SitesHave (row : Row) (size : Lengths) (first many : ℕ) (cell : Spot) : Type 0 where
+-- one of so many consecutive sites of the row, from the first on, has the unit square
+pub record SitesHave (row : Row) (size : Lengths) (first many : ℕ) (square : Spot) : Type 0 where
   pub k : ℕ
   pub from : first ≤ k
   pub below : k < first + many
-  pub inside : HasCell (site_box row size k) cell
+  pub inside : HasSquare (site_box row size k) square
 
--- consecutive sites of the row have together exactly the cells of the box
+-- consecutive sites of the row have together exactly the unit squares of the box
 pub record IsOnSites (row : Row) (size : Lengths) (box : Sides) : Type 0 where
   pub first : ℕ
   pub many : ℕ
   pub within : pos (first + many) ≤ℤ row.count
-  pub cells : (cell : Spot) → HasCell box cell ↔ SitesHave row size first many cell
+  pub squares : (square : Spot) → HasSquare box square ↔ SitesHave row size first many square
 
 -- an orientation fits a row if it is the row's, or for a macro with Y symmetry the row's mirrored on the y axis
 abbrev pub Fits : Orient → Bool → Orient → Type 0

@@ -95,7 +95,7 @@ fn push_outside<A: Allocator + Copy>(
     Ok(())
 }
 
-/// Whether a cell of the component lies outside the die.
+/// Whether a unit square of the component lies outside the die.
 pub(crate) fn is_outside<A: Allocator + Copy>(design: &Design<'_, A>, number: usize) -> bool
     requires { number < length design.now.components }
     ensures { IsTrue result ↔ IsOutside design.now.library design.now number }

@@ -2,8 +2,8 @@
 
 ghost use Rattle.std.specs.Prelude.{◌≡◌, ◌^◌, ◌↔◌, IsTrue, IfOk, OnOk};
 ghost use Rattle.std.proofs.Common.{refl};
-ghost use Rattle.leg_geom.specs.Plane.{ShareCell};
-ghost use Rattle.leg_geom.proofs.Gaps.{ShareCell-symmetric, ShareCell-gaps};
+ghost use Rattle.leg_geom.specs.Plane.{ShareSquare};
+ghost use Rattle.leg_geom.proofs.Gaps.{ShareSquare-symmetric, ShareSquare-gaps};
 ghost use Rattle.leg_block.specs.Violation.{IsListOf};
 ghost use Rattle.leg_place.specs.Among.{HoldsAmong};
 ghost use Rattle.leg_place.specs.Steps.ListPrefix.{IsListBefore, DoSomeOverlap, HasPair};
@@ -14,7 +14,7 @@ use leg_block::{Design, Fault};
 use leg_sweep::{LayeredRule, PairRule, PairSink, each_pair, pairs_in_bands};
 use std::alloc::{AllocError, Allocator};
 
-/// Holds of boxes that share a cell.
+/// Holds of boxes that share a unit square.
 #[derive(Drop)]
 struct OnOneAnother {
     tests: u64,
@@ -26,7 +26,7 @@ impl PairRule for OnOneAnother {
 
     ghost fixed = { λ r. record { tests = 0; looks = 0 } };
 
-    ghost Holds = { λ r a b. ShareCell a.rect b.rect };
+    ghost Holds = { λ r a b. ShareSquare a.rect b.rect };
 
     ghost rect_of = { λ r a. a.rect };
 
@@ -62,9 +62,9 @@ impl PairRule for OnOneAnother {
         self.looks
     }
 
-    ghost symmetric = { λ r a b h. ShareCell-symmetric _ _ h };
+    ghost symmetric = { λ r a b h. ShareSquare-symmetric _ _ h };
 
-    ghost near = { λ r a b h. ShareCell-gaps _ _ h };
+    ghost near = { λ r a b h. ShareSquare-gaps _ _ h };
 }
 
 // All boxes lie on one layer.
@@ -97,10 +97,10 @@ impl LayeredRule for OnOneAnother {
 
     ghost layered = { λ r a b h. refl };
 
-    ghost near_on_layer = { λ r a b h. ShareCell-gaps _ _ h };
+    ghost near_on_layer = { λ r a b h. ShareSquare-gaps _ _ h };
 }
 
-/// Adds the pairs of marked components that share a cell to the violations of the other kinds.
+/// Adds the pairs of marked components that share a unit square to the violations of the other kinds.
 pub(crate) fn push_overlaps<A: Allocator + Copy>(
     alloc: A,
     design: &Design<'_, A>,
@@ -138,7 +138,7 @@ impl PairSink for FirstPair {
     }
 }
 
-/// Whether two placed components share a cell. It ends at the first two that do.
+/// Whether two placed components share a unit square. It ends at the first two that do.
 pub(crate) fn do_some_overlap<A: Allocator + Copy>(
     alloc: A,
     design: &Design<'_, A>,
@@ -160,7 +160,7 @@ pub(crate) fn do_some_overlap<A: Allocator + Copy>(
     }
 }
 
-/// Whether there is a pair, of two boxes that share a cell.
+/// Whether there is a pair, of two boxes that share a unit square.
 fn has_pair(boxes: &[PlacedBox], first: &FirstPair) -> bool
     ensures { IsTrue result → HasPair boxes.now }
 {

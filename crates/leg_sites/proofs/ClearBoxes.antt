@@ -1,33 +1,33 @@
 -- Consecutive sites are free just where the box of them all is clear.
 use Rattle.std.proofs.Common.{◌≡◌, ◌↔◌, ℕ, ◌+◌, ◌-◌, ◌<◌, ◌≤◌, pos, ◌≤ℤ◌, List, arith}
 use Rattle.std.proofs.lemmas.Int.{ints}
-use Rattle.leg_geom.specs.Plane.{Spot, Sides, HasCell}
+use Rattle.leg_geom.specs.Plane.{Spot, Sides, HasSquare}
 use Rattle.leg_cells.specs.Measure.{Lengths, HasArea}
 use Rattle.leg_block.specs.declared.records.Row.{Row}
 use Rattle.leg_place.specs.Sites.{site_box}
 use Rattle.leg_sites.specs.declared.stretch.Stretch.{Stretch}
 use Rattle.leg_sites.specs.Stretches.{AreFreeSites}
 use Rattle.leg_sites.specs.Known.{IsClear, IsKnown, sites_box}
-use Rattle.leg_sites.proofs.SiteCells.{site_of_cell, cell_of_site}
+use Rattle.leg_sites.proofs.SiteSquares.{site_of_square, square_of_site}
 
 module _ (row : Row) (size : Lengths) (area : HasArea size) (die : Sides) (Taken : Sides → Type 0) where
   module _ (first many : ℕ) where
     -- a box of sites that are each clear is clear
     pub clear_from_sites : ((k : ℕ) → first ≤ k → k < first + many → IsClear die Taken (site_box row size k)) → IsClear die Taken (sites_box row size first many)
     clear_from_sites each = record {
-      inside = λ cell c. let s = site_of_cell row size area first many cell c in (each s.k s.from s.below).inside cell s.inside;
+      inside = λ square c. let s = site_of_square row size area first many square c in (each s.k s.from s.below).inside square s.inside;
       alone = λ other taken shared.
-          let s = site_of_cell row size area first many shared.cell shared.in_b in
-          (each s.k s.from s.below).alone other taken (record { cell = shared.cell; in_a = shared.in_a; in_b = s.inside });
+          let s = site_of_square row size area first many shared.square shared.in_b in
+          (each s.k s.from s.below).alone other taken (record { square = shared.square; in_a = shared.in_a; in_b = s.inside });
     }
 
     -- and the other way round
     pub site_from_clear : IsClear die Taken (sites_box row size first many) → (k : ℕ) → first ≤ k → k < first + many → IsClear die Taken (site_box row size k)
     site_from_clear clear k from below =
-        let in_box : (cell : Spot) → HasCell (site_box row size k) cell → HasCell (sites_box row size first many) cell = λ cell c. cell_of_site row size area first many cell (record { k = k; from = from; below = below; inside = c }) in
+        let in_box : (square : Spot) → HasSquare (site_box row size k) square → HasSquare (sites_box row size first many) square = λ square c. square_of_site row size area first many square (record { k = k; from = from; below = below; inside = c }) in
         record {
-          inside = λ cell c. clear.inside cell (in_box cell c);
-          alone = λ other taken shared. clear.alone other taken (record { cell = shared.cell; in_a = shared.in_a; in_b = in_box shared.cell shared.in_b });
+          inside = λ square c. clear.inside square (in_box square c);
+          alone = λ other taken shared. clear.alone other taken (record { square = shared.square; in_a = shared.in_a; in_b = in_box shared.square shared.in_b });
         }
 
   module _ (free : List Stretch) (known : IsKnown row size die Taken free) (many first : ℕ) (some : 1 ≤ many) where
@@ -46,6 +46,6 @@ module _ (row : Row) (size : Lengths) (area : HasArea size) (die : Sides) (Taken
     pub free_from_clear : pos (first + many) ≤ℤ row.count → IsClear die Taken (sites_box row size first many) → AreFreeSites free many first
     free_from_clear within clear k from below = (known k).1 (omega (arith, ints, within, below), site_from_clear first many clear k from below)
 
-    -- so many sites, from the first on, are free just where the row has them and no cell of their box is taken
+    -- so many sites, from the first on, are free just where the row has them and no unit square of their box is taken
     pub free_just_where_clear : AreFreeSites free many first ↔ ((pos (first + many) ≤ℤ row.count) × IsClear die Taken (sites_box row size first many))
     free_just_where_clear = (λ sites. (free_sites_within sites, free_sites_clear sites), λ both. free_from_clear both.0 both.1)

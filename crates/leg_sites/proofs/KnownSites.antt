@@ -3,13 +3,13 @@ use Rattle.std.proofs.Common.{◌↔◌, ◌⊎◌, ℕ, ◌<◌, ◌≤◌, pos
 use Rattle.std.proofs.lemmas.Bool.{cases_lt}
 use Rattle.std.proofs.lemmas.Int.{ints}
 use Rattle.std.proofs.lemmas.Option.{slice_get-get_or}
-use Rattle.leg_geom.specs.Plane.{Sides, ShareCell}
+use Rattle.leg_geom.specs.Plane.{Sides, ShareSquare}
 use Rattle.leg_cells.specs.Measure.{Lengths}
 use Rattle.leg_block.specs.declared.records.Row.{Row}
 use Rattle.leg_place.specs.Sites.{site_box}
 use Rattle.leg_sites.specs.declared.stretch.Stretch.{Stretch}
 use Rattle.leg_sites.specs.Stretches.{IsFreeSite, AreStretches, IsWithout}
-use Rattle.leg_sites.specs.RowSites.{IsAmong, HasAllCells, AreSitesMet, AreSitesInside}
+use Rattle.leg_sites.specs.RowSites.{IsAmong, HasAllSquares, AreSitesMet, AreSitesInside}
 use Rattle.leg_sites.specs.Known.{IsClear, IsKnown, NoneTaken, TakenAnd}
 
 -- a site before the stretch or behind it is none of it
@@ -29,8 +29,8 @@ beside sites k never =
     ]
 
 module _ (row : Row) (size : Lengths) (die : Sides) where
-  -- with nothing taken, a site is clear where the die has its cells
-  clear_inside : (box : Sides) → HasAllCells die box → IsClear die NoneTaken box
+  -- with nothing taken, a site is clear where the die has its unit squares
+  clear_inside : (box : Sides) → HasAllSquares die box → IsClear die NoneTaken box
   clear_inside box inside = record { inside = inside; alone = λ other never. absurd never }
 
   -- a row begins with its sites in the die
@@ -45,7 +45,7 @@ module _ (row : Row) (size : Lengths) (die : Sides) where
 
   module _ (Taken : Sides → Type 0) (rect : Sides) where
     -- a box that is clear of what was taken and of this rectangle is clear of both
-    clear_more : (box : Sides) → IsClear die Taken box → ¬ ShareCell rect box → IsClear die (TakenAnd Taken rect) box
+    clear_more : (box : Sides) → IsClear die Taken box → ¬ ShareSquare rect box → IsClear die (TakenAnd Taken rect) box
     clear_more box clear apart = record {
       inside = clear.inside;
       alone = λ other taken shared. elim taken [
@@ -57,7 +57,7 @@ module _ (row : Row) (size : Lengths) (die : Sides) where
     clear_before : (box : Sides) → IsClear die (TakenAnd Taken rect) box → IsClear die Taken box
     clear_before box clear = record { inside = clear.inside; alone = λ other taken. clear.alone other (inl taken) }
 
-    clear_of_this : (box : Sides) → IsClear die (TakenAnd Taken rect) box → ¬ ShareCell rect box
+    clear_of_this : (box : Sides) → IsClear die (TakenAnd Taken rect) box → ¬ ShareSquare rect box
     clear_of_this box clear = clear.alone rect (inr refl)
 
     module _ (free : List Stretch) (known : IsKnown row size die Taken free) where
@@ -74,7 +74,7 @@ module _ (row : Row) (size : Lengths) (die : Sides) where
       )
 
       -- a row of which the rectangle meets no site keeps its list
-      pub known_unmet : ((k : ℕ) → ¬ ShareCell rect (site_box row size k)) → IsKnown row size die (TakenAnd Taken rect) free
+      pub known_unmet : ((k : ℕ) → ¬ ShareSquare rect (site_box row size k)) → IsKnown row size die (TakenAnd Taken rect) free
       known_unmet unmet k = (
         λ site. let was = (known k).0 site in (was.0, clear_more (site_box row size k) was.1 (unmet k)),
         λ clear. (known k).1 (clear.0, clear_before (site_box row size k) clear.1),

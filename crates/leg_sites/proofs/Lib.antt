@@ -18,8 +18,8 @@ mod RowCandidates
 mod BestSoFar
 -- Sites by their edges
 mod SiteEdges
-mod SharedCells
-mod SiteCells
+mod SharedSquares
+mod SiteSquares
 -- What the proofs of other crates cite: which sites are met, free sites and clear boxes
 pub mod MetSites
 pub mod KnownSites

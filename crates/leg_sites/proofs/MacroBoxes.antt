@@ -15,7 +15,7 @@ use Rattle.leg_place.specs.Box.{placed_box}
 use Rattle.leg_place.specs.Sites.{IsOnSites, Fits}
 use Rattle.leg_sites.specs.Known.{sites_box}
 use Rattle.leg_sites.proofs.SiteEdges.{edge_is}
-use Rattle.leg_sites.proofs.SiteCells.{on_sites}
+use Rattle.leg_sites.proofs.SiteSquares.{on_sites}
 
 less_is : (a b : ℤ) → a <ℤ b → int_lt a b ≡ true
 less_is a b below = grind (arith, ints)

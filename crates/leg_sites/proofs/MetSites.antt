@@ -2,14 +2,14 @@
 use Rattle.std.proofs.Common.{◌≡◌, ◌↔◌, ◌⊎◌, ℕ, ◌+◌, ◌<◌, ◌≤◌, min, ℤ, pos, ◌+ℤ◌, ◌*ℤ◌, ◌<ℤ◌, ◌≤ℤ◌, w64, to_z, of_z, inl, inr, arith}
 use Rattle.std.proofs.lemmas.Bool.{cases_lt}
 use Rattle.std.proofs.lemmas.Int.{ints, by_lt_z, to_z-of_z, fits_signed_from_abs}
-use Rattle.leg_geom.specs.Plane.{Sides, ShareCell, IsCoordinate}
+use Rattle.leg_geom.specs.Plane.{Sides, ShareSquare, IsCoordinate}
 use Rattle.leg_cells.specs.Measure.{Lengths, HasArea, IsProper}
 use Rattle.leg_block.specs.declared.records.Row.{Row}
 use Rattle.leg_place.specs.Sites.{site_box}
 use Rattle.leg_sites.specs.declared.stretch.Stretch.{Stretch}
 use Rattle.leg_sites.specs.RowSites.{AreSitesMet, AreSitesInside}
-use Rattle.leg_sites.proofs.SharedCells.{overlap_from_shared, shared_from_overlap, all_cells_from_bounds, bounds_from_all_cells}
-use Rattle.leg_sites.proofs.SiteCells.{site_proper}
+use Rattle.leg_sites.proofs.SharedSquares.{overlap_from_shared, shared_from_overlap, all_squares_from_bounds, bounds_from_all_squares}
+use Rattle.leg_sites.proofs.SiteSquares.{site_proper}
 
 -- a coordinate is passed as it is
 pub coordinate_passed : (z : ℤ) → IsCoordinate z → to_z w64 (of_z w64 z) ≡ z
@@ -25,13 +25,13 @@ DoEnd row size x many = (k : ℕ) → k < many ↔ ((row.at.x +ℤ pos (k + 1) *
 
 module _ (row : Row) (size : Lengths) where
   -- a rectangle below a row or above it meets no site of it
-  pub unmet_along_y : (rect : Sides) → ((row.at.y +ℤ size.height) ≤ℤ rect.y1) ⊎ (rect.y2 ≤ℤ row.at.y) → (k : ℕ) → ¬ ShareCell rect (site_box row size k)
+  pub unmet_along_y : (rect : Sides) → ((row.at.y +ℤ size.height) ≤ℤ rect.y1) ⊎ (rect.y2 ≤ℤ row.at.y) → (k : ℕ) → ¬ ShareSquare rect (site_box row size k)
   unmet_along_y rect beside k shared =
       let both = overlap_from_shared rect (site_box row size k) shared in
       elim beside [ inl below ↦ absurd (omega (arith, ints, below, both.bottom)) | inr above ↦ absurd (omega (arith, ints, above, both.top)) ]
 
   -- nor one for which the stretch of what it meets is empty
-  pub unmet_from_none : (rect : Sides) (sites : Stretch) → AreSitesMet row size rect sites → sites.end ≤ sites.from → (k : ℕ) → ¬ ShareCell rect (site_box row size k)
+  pub unmet_from_none : (rect : Sides) (sites : Stretch) → AreSitesMet row size rect sites → sites.end ≤ sites.from → (k : ℕ) → ¬ ShareSquare rect (site_box row size k)
   unmet_from_none rect sites met none k shared = let among = (met k).1 shared in absurd (omega (arith, among.above, among.below, none))
 
   abbrev none : Stretch
@@ -67,7 +67,7 @@ module _ (row : Row) (size : Lengths) where
     none_inside die beside k = (
       λ among. absurd (omega (arith, among.below)),
       λ inside.
-          let bounds = bounds_from_all_cells die (site_box row size k) (site_proper row size area k) inside.1 in
+          let bounds = bounds_from_all_squares die (site_box row size k) (site_proper row size area k) inside.1 in
           elim beside [ inl below ↦ absurd (omega (arith, ints, below, bounds.bottom)) | inr above ↦ absurd (omega (arith, ints, above, bounds.top)) ],
     )
 
@@ -78,7 +78,7 @@ module _ (row : Row) (size : Lengths) where
           let in_row : k < count = omega (arith, among.below) in
           let by : k < ended = omega (arith, among.below) in (
             (counted k).0 in_row,
-            all_cells_from_bounds die (site_box row size k) (record {
+            all_squares_from_bounds die (site_box row size k) (record {
               left = by_lt_z (row.at.x +ℤ pos k *ℤ size.width) die.x1 (λ before. let out = (begun k).1 before in absurd (omega (arith, out, among.above))) (λ left. left);
               right = (end k).0 by;
               bottom = bottom;
@@ -86,7 +86,7 @@ module _ (row : Row) (size : Lengths) where
             }),
           ),
       λ inside.
-          let bounds = bounds_from_all_cells die (site_box row size k) (site_proper row size area k) inside.1 in
+          let bounds = bounds_from_all_squares die (site_box row size k) (site_proper row size area k) inside.1 in
           let in_row = (counted k).1 inside.0 in
           let by = (end k).1 bounds.right in
           record {

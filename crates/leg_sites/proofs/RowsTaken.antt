@@ -6,7 +6,7 @@ use Rattle.std.proofs.lemmas.Grind.{get_or-set_at}
 use Rattle.std.proofs.lemmas.List.{length-take-le}
 use Rattle.std.proofs.lemmas.Option.{same_Some, slice_get-get_or, slice_get_within, get_or_from_slice_get, slice_get_read}
 use Rattle.std.proofs.lemmas.List.Elements.{All-take, All-drop, Contains-append_left, Contains-append_right, Contains-append_cases}
-use Rattle.leg_geom.specs.Plane.{Sides, ShareCell}
+use Rattle.leg_geom.specs.Plane.{Sides, ShareSquare}
 use Rattle.leg_cells.specs.Measure.{Lengths}
 use Rattle.leg_cells.specs.declared.records.Site.{Site}
 use Rattle.leg_block.specs.declared.records.Row.{Row}
@@ -58,7 +58,7 @@ module _ (design : DesignContents) (rect : Sides) (number : ℕ) where
           λ both. (without.sites k).1 (both.0, beside sites k (λ among. both.1 ((met k).0 among))),
         )
 
-    pub loses_unmet : (list : List Stretch) → ((k : ℕ) → ¬ ShareCell rect (site_box row site.size k)) → (k : ℕ) → IsFreeSite list k ↔ (IsFreeSite list k × ¬ ShareCell rect (site_box row site.size k))
+    pub loses_unmet : (list : List Stretch) → ((k : ℕ) → ¬ ShareSquare rect (site_box row site.size k)) → (k : ℕ) → IsFreeSite list k ↔ (IsFreeSite list k × ¬ ShareSquare rect (site_box row site.size k))
     loses_unmet list unmet k = (λ free. (free, unmet k), λ both. both.0)
 
   pub loses_twice : (old mid new : List Stretch) → LosesMet design rect number old mid → LosesMet design rect number mid new → LosesMet design rect number old new
@@ -154,7 +154,7 @@ near_from_splits rect tallest order first end low high least proper = record {
 
 module _ (design : DesignContents) (rect : Sides) (free : RowLists) (rows : AreRowsOf design free) where
   -- a row is one of those near the rectangle, or meets it nowhere
-  unmet_beside : (number : ℕ) (row : Row) (site : Site) (first end place : ℕ) (key : RowKey) → AreNear rect free.tallest free.order first end → IsRowAt design number row site → key.y ≡ row.at.y → slice_get free.order place ≡ Some key → (place < first) ⊎ (end ≤ place) → (k : ℕ) → ¬ ShareCell rect (site_box row site.size k)
+  unmet_beside : (number : ℕ) (row : Row) (site : Site) (first end place : ℕ) (key : RowKey) → AreNear rect free.tallest free.order first end → IsRowAt design number row site → key.y ≡ row.at.y → slice_get free.order place ≡ Some key → (place < first) ⊎ (end ≤ place) → (k : ℕ) → ¬ ShareSquare rect (site_box row site.size k)
   unmet_beside number row site first end place key near there level at beside =
       let tall = rows.tallest.each number row site there in
       unmet_along_y row site.size rect (elim beside [
@@ -171,7 +171,7 @@ module _ (design : DesignContents) (rect : Sides) (free : RowLists) (rows : AreR
         let place : ℕ = found.0 in
         let at : slice_get free.order place ≡ Some key = slice_get-get_or free.order place key found.1 ∙ ap Some found.2 in
         let unmet = λ (beside : (place < first) ⊎ (end ≤ place)). unmet_beside number row site first end place key near there refl at beside in
-        let kept = λ (beside : (place < first) ⊎ (end ≤ place)). elim (taken.each number a b before now) as (λ v. (k : ℕ) → IsFreeSite b k ↔ (IsFreeSite a k × ¬ ShareCell rect (site_box row site.size k))) [
+        let kept = λ (beside : (place < first) ⊎ (end ≤ place)). elim (taken.each number a b before now) as (λ v. (k : ℕ) → IsFreeSite b k ↔ (IsFreeSite a k × ¬ ShareSquare rect (site_box row site.size k))) [
           | inl loses ↦ loses row site there
           | inr same ↦ rw same (loses_unmet design rect number row site there a (unmet beside))
         ] in
@@ -193,8 +193,8 @@ only_box rect other (place, below, is) =
     sym (rw first at is)
 
 module _ (design : DesignContents) (rect : Sides) (boxes : List Sides) (old new : RowLists) (known : AreKnown design boxes old) (taken : AreTaken design rect old.lists new.lists) where
-  -- what was clear of the boxes, and shares no cell with this one, is clear of all
-  clear_of_all : (box : Sides) → IsClear design.die (Contains boxes) box → ¬ ShareCell rect box → IsClear design.die (Contains (boxes ++ rect ∷ [])) box
+  -- what was clear of the boxes, and shares no unit square with this one, is clear of all
+  clear_of_all : (box : Sides) → IsClear design.die (Contains boxes) box → ¬ ShareSquare rect box → IsClear design.die (Contains (boxes ++ rect ∷ [])) box
   clear_of_all box clear apart = record {
     inside = clear.inside;
     alone = λ other has shared. elim (Contains-append_cases boxes (rect ∷ []) other has) [
@@ -209,7 +209,7 @@ module _ (design : DesignContents) (rect : Sides) (boxes : List Sides) (old new 
     alone = λ other has. clear.alone other (Contains-append_left boxes (rect ∷ []) other has);
   }
 
-  clear_of_rect : (box : Sides) → IsClear design.die (Contains (boxes ++ rect ∷ [])) box → ¬ ShareCell rect box
+  clear_of_rect : (box : Sides) → IsClear design.die (Contains (boxes ++ rect ∷ [])) box → ¬ ShareSquare rect box
   clear_of_rect box clear = clear.alone rect (Contains-append_right boxes (rect ∷ []) rect (0, omega arith, refl))
 
   pub known_once_taken : AreRowsOf design new → AreKnown design (boxes ++ rect ∷ []) new

@@ -1,17 +1,17 @@
 -- What a row's list of free stretches means: it has exactly the sites of the row that are clear (own rule).
 use Rattle.std.specs.Prelude.{◌≡◌, ◌↔◌, ◌⊎◌, ℕ, pos, ◌+◌, ◌+ℤ◌, ◌*ℤ◌, ◌<ℤ◌, List}
-use Rattle.leg_geom.specs.Plane.{Sides, ShareCell}
+use Rattle.leg_geom.specs.Plane.{Sides, ShareSquare}
 use Rattle.leg_cells.specs.Measure.{Lengths}
 use Rattle.leg_block.specs.declared.records.Row.{Row}
 use Rattle.leg_place.specs.Sites.{site_box}
-use Rattle.leg_sites.specs.RowSites.{HasAllCells}
+use Rattle.leg_sites.specs.RowSites.{HasAllSquares}
 use Rattle.leg_sites.specs.Stretches.{IsFreeSite}
 use Rattle.leg_sites.specs.declared.stretch.Stretch.{Stretch}
 
--- each cell of the box is a cell of the die, and no box that stands in the way shares a cell with it
+-- each unit square of the box is one of the die, and no box that stands in the way shares one with it
 pub record IsClear (die : Sides) (Taken : Sides → Type 0) (box : Sides) : Type 0 where
-  pub inside : HasAllCells die box
-  pub alone : (other : Sides) → Taken other → ¬ ShareCell other box
+  pub inside : HasAllSquares die box
+  pub alone : (other : Sides) → Taken other → ¬ ShareSquare other box
 
 -- the free stretches have exactly the sites of the row that are clear
 abbrev pub IsKnown : Row → Lengths → Sides → (Sides → Type 0) → List Stretch → Type 0

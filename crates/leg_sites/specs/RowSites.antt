@@ -1,6 +1,6 @@
 -- Which sites of a row a rectangle meets, and which lie in the die (LEF/DEF 5.8, "Rows", "Site").
 use Rattle.std.specs.Prelude.{◌↔◌, ℕ, pos, ◌<◌, ◌≤◌, ◌<ℤ◌}
-use Rattle.leg_geom.specs.Plane.{Spot, Sides, HasCell, ShareCell}
+use Rattle.leg_geom.specs.Plane.{Spot, Sides, HasSquare, ShareSquare}
 use Rattle.leg_cells.specs.Measure.{Lengths}
 use Rattle.leg_block.specs.declared.records.Row.{Row}
 use Rattle.leg_place.specs.Sites.{site_box}
@@ -11,14 +11,14 @@ pub record IsAmong (sites : Stretch) (k : ℕ) : Type 0 where
   pub above : sites.from ≤ k
   pub below : k < sites.end
 
--- each cell of the box is a cell of the die
-abbrev pub HasAllCells : Sides → Sides → Type 0
-HasAllCells die box = (cell : Spot) → HasCell box cell → HasCell die cell
+-- each unit square of the box is one of the die
+abbrev pub HasAllSquares : Sides → Sides → Type 0
+HasAllSquares die box = (square : Spot) → HasSquare box square → HasSquare die square
 
--- the stretch has exactly the sites that share a cell with the rectangle, of a row that goes on without end
+-- the stretch has exactly the sites that share a unit square with the rectangle, of a row that goes on without end
 abbrev pub AreSitesMet : Row → Lengths → Sides → Stretch → Type 0
-AreSitesMet row size rect sites = (k : ℕ) → IsAmong sites k ↔ ShareCell rect (site_box row size k)
+AreSitesMet row size rect sites = (k : ℕ) → IsAmong sites k ↔ ShareSquare rect (site_box row size k)
 
--- the stretch has exactly the sites of the row of which each cell is a cell of the die
+-- the stretch has exactly the sites of the row of which each unit square is a unit square of the die
 abbrev pub AreSitesInside : Row → Lengths → Sides → Stretch → Type 0
-AreSitesInside row size die sites = (k : ℕ) → IsAmong sites k ↔ ((pos k <ℤ row.count) × HasAllCells die (site_box row size k))
+AreSitesInside row size die sites = (k : ℕ) → IsAmong sites k ↔ ((pos k <ℤ row.count) × HasAllSquares die (site_box row size k))

@@ -59,7 +59,7 @@ impl<A: Allocator + Copy> FreeRows<A> {
         self.order.as_slice()
     }
 
-    /// Takes the sites that share a cell with the rectangle away from those of each row. It fails only when out of
+    /// Takes the sites that share a unit square with the rectangle away from those of each row. It fails only when out of
     /// memory, and then some rows may have lost them and others not.
     pub fn take_box(&mut self, design: &Design<'_, A>, rect: &Rect) -> Result<(), AllocError>
         requires { AreRowsOf design.now self.old }

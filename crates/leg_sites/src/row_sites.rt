@@ -8,7 +8,7 @@ use leg_block::Row;
 use leg_cells::Extent;
 use leg_geom::Rect;
 
-/// The sites that share a cell with the rectangle, of a row of sites of this size that goes on without end to the
+/// The sites that share a unit square with the rectangle, of a row of sites of this size that goes on without end to the
 /// right. A rectangle that only abuts a site does not meet it. Where none is met, the stretch is empty: its end is not
 /// above its beginning.
 pub fn sites_met(row: &Row<'_>, size: &Extent, rect: &Rect) -> Stretch
@@ -25,7 +25,7 @@ pub fn sites_met(row: &Row<'_>, size: &Extent, rect: &Rect) -> Stretch
     }
 }
 
-/// The sites of the row, which are of this size, of which each cell is a cell of the die. Where there are none, the
+/// The sites of the row, which are of this size, of which each unit square is a unit square of the die. Where there are none, the
 /// stretch is empty: its end is not above its beginning.
 pub fn sites_inside(row: &Row<'_>, size: &Extent, die: &Rect) -> Stretch
     ensures { AreSitesInside row.now size.now die.now result }

@@ -34,7 +34,7 @@ fn first_from(order: &[RowKey], y: i64) -> usize
     order.partition_point(|key| key.y < y)
 }
 
-/// Takes the sites that share a cell with the rectangle away from those of the rows of these keys.
+/// Takes the sites that share a unit square with the rectangle away from those of the rows of these keys.
 pub(crate) fn take_from_rows<A: Allocator + Copy>(
     lists: &mut [FreeSites<A>],
     keys: &[RowKey],
@@ -53,7 +53,7 @@ pub(crate) fn take_from_rows<A: Allocator + Copy>(
     Ok(())
 }
 
-/// Takes the sites that share a cell with the rectangle away from those of one row, which are of this size.
+/// Takes the sites that share a unit square with the rectangle away from those of one row, which are of this size.
 fn take_from_row<A: Allocator>(
     lists: &mut [FreeSites<A>],
     number: usize,

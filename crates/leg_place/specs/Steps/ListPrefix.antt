@@ -1,6 +1,6 @@
 -- What a walk over a design has found so far.
 use Rattle.std.specs.Prelude.{ℕ, ◌<◌, Bool, Option, Some, None, List, All, AllPairs, Contains}
-use Rattle.leg_geom.specs.Plane.{Sides, ShareCell}
+use Rattle.leg_geom.specs.Plane.{Sides, ShareSquare}
 use Rattle.leg_sweep.specs.Pairs.{IsPair}
 use Rattle.leg_cells.specs.Records.{Contents}
 use Rattle.leg_block.specs.Records.{DesignContents}
@@ -55,7 +55,7 @@ pub record DoSomeOverlap (library : Contents) (design : DesignContents) : Type 0
   pub b : ℕ
   pub overlap : DoOverlap library design a b
 
--- two boxes share a cell
+-- two boxes share a unit square
 pub record HasPair (boxes : List PlacedBox) : Type 0 where
   pub numbers : ℕ × ℕ
-  pub pair : IsPair (λ a b. ShareCell a.rect b.rect) boxes numbers
+  pub pair : IsPair (λ a b. ShareSquare a.rect b.rect) boxes numbers

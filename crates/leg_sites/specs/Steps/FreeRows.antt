@@ -1,6 +1,6 @@
 -- Rows of which the lists of free sites are made, or lose the sites that a rectangle meets.
 use Rattle.std.specs.Prelude.{◌≡◌, ◌↔◌, ◌⊎◌, ℕ, ◌<◌, ◌≤◌, ℤ, ◌≤ℤ◌, ◌+ℤ◌, List, [], length, Some, slice_get, slice_set, Contains}
-use Rattle.leg_geom.specs.Plane.{Sides, ShareCell}
+use Rattle.leg_geom.specs.Plane.{Sides, ShareSquare}
 use Rattle.leg_cells.specs.Measure.{Lengths}
 use Rattle.leg_cells.specs.declared.records.Site.{Site}
 use Rattle.leg_block.specs.declared.records.Row.{Row}
@@ -18,10 +18,10 @@ pub record AreInside (design : DesignContents) (end : ℕ) (lists : List (List S
   pub count : length lists ≡ end
   pub each : (number : ℕ) (row : Row) (site : Site) (list : List Stretch) → IsRowAt design number row site → slice_get lists number ≡ Some list → IsKnown row site.size design.die (Contains []) list
 
--- of the row of this number those of the free sites are left that share no cell with the rectangle
+-- of the row of this number those of the free sites are left that share no unit square with the rectangle
 abbrev pub LosesMet : DesignContents → Sides → ℕ → List Stretch → List Stretch → Type 0
 LosesMet design rect number old new =
-    (row : Row) (site : Site) → IsRowAt design number row site → (k : ℕ) → IsFreeSite new k ↔ (IsFreeSite old k × ¬ ShareCell rect (site_box row site.size k))
+    (row : Row) (site : Site) → IsRowAt design number row site → (k : ℕ) → IsFreeSite new k ↔ (IsFreeSite old k × ¬ ShareSquare rect (site_box row site.size k))
 
 -- the list at this number has lost the sites of its row that the rectangle meets
 pub record IsTakenAt (row : Row) (size : Lengths) (rect : Sides) (number : ℕ) (old new : List (List Stretch)) : Type 0 where

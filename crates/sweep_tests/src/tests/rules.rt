@@ -7,7 +7,7 @@ use leg_geom::Rect;
 use leg_sweep::{LayeredRule, PairRule};
 use std::cell::Cell;
 
-/// Holds of rectangles that share a cell.
+/// Holds of rectangles that share a unit square.
 #[derive(Drop)]
 pub(crate) struct Overlap {
     tests: u64,
@@ -23,14 +23,14 @@ impl Overlap {
 }
 
 impl PairRule for Overlap {
-    ghost use Rattle.leg_geom.specs.Plane.{ShareCell};
-    ghost use Rattle.leg_geom.proofs.Gaps.{ShareCell-symmetric, ShareCell-gaps};
+    ghost use Rattle.leg_geom.specs.Plane.{ShareSquare};
+    ghost use Rattle.leg_geom.proofs.Gaps.{ShareSquare-symmetric, ShareSquare-gaps};
 
     type Item = Rect;
 
     ghost fixed = { λ r. record r { tests = 0; looks = 0 } };
 
-    ghost Holds = { λ r a b. ShareCell a b };
+    ghost Holds = { λ r a b. ShareSquare a b };
 
     ghost rect_of = { λ r a. a };
 
@@ -66,15 +66,15 @@ impl PairRule for Overlap {
         self.looks
     }
 
-    ghost symmetric = { λ r a b. ShareCell-symmetric a b };
+    ghost symmetric = { λ r a b. ShareSquare-symmetric a b };
 
-    ghost near = { λ r a b. ShareCell-gaps a b };
+    ghost near = { λ r a b. ShareSquare-gaps a b };
 }
 
 // All rectangles lie on one layer.
 impl LayeredRule for Overlap {
     ghost use Rattle.std.proofs.Common.{refl};
-    ghost use Rattle.leg_geom.proofs.Gaps.{ShareCell-gaps};
+    ghost use Rattle.leg_geom.proofs.Gaps.{ShareSquare-gaps};
 
     ghost layers_of = { λ r. 1 };
 
@@ -104,7 +104,7 @@ impl LayeredRule for Overlap {
 
     ghost layered = { λ r a b h. refl };
 
-    ghost near_on_layer = { λ r a b. ShareCell-gaps a b };
+    ghost near_on_layer = { λ r a b. ShareSquare-gaps a b };
 }
 
 /// A rectangle on a layer, with its number.

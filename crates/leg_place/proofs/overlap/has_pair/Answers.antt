@@ -1,4 +1,4 @@
--- Two boxes that share a cell, the lower number first, are a pair.
+-- Two boxes that share a unit square, the lower number first, are a pair.
 use Rattle.std.proofs.Common.{rules, arith}
 use Rattle.leg_place.proofs.Overlaps.{pair_at}
 use Rattle.leg_place.proofs.overlap.has_pair.Goals as goal

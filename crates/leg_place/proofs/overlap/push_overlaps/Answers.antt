@@ -1,4 +1,4 @@
--- Each pair of boxes that share a cell is one more overlap.
+-- Each pair of boxes that share a unit square is one more overlap.
 use Rattle.std.proofs.Common.{arith}
 use Rattle.std.proofs.lemmas.List.{take_all}
 use Rattle.leg_sweep.specs.Pairs.{ArePairs}

@@ -1,8 +1,8 @@
--- The cells of consecutive sites of a row are those of one box.
+-- The unit squares of consecutive sites of a row are those of one box.
 use Rattle.std.proofs.Common.{◌≡◌, ℕ, ◌+◌, ◌*◌, ◌/◌, ◌<◌, ◌≤◌, pos, ◌+ℤ◌, ◌-ℤ◌, ◌*ℤ◌, ◌≤ℤ◌, unsigned_abs, arith}
 use Rattle.std.proofs.Math.Nat.{div-mul-le_self, lt-div-mul-add, le-div_iff_mul-le, div-lt_iff_lt-mul}
 use Rattle.std.proofs.lemmas.Int.{ints}
-use Rattle.leg_geom.specs.Plane.{Spot, HasCell}
+use Rattle.leg_geom.specs.Plane.{Spot, HasSquare}
 use Rattle.leg_cells.specs.Measure.{Lengths, HasArea, IsProper}
 use Rattle.leg_block.specs.declared.records.Row.{Row}
 use Rattle.leg_place.specs.Sites.{site_box, SitesHave, IsOnSites}
@@ -30,14 +30,14 @@ module _ (row : Row) (size : Lengths) (area : HasArea size) where
     high = omega (arith, ints, area.high);
   }
 
-  module _ (first many : ℕ) (cell : Spot) where
-    -- a cell of the box is one of a site
-    pub site_of_cell : HasCell (sites_box row size first many) cell → SitesHave row size first many cell
-    site_of_cell c =
+  module _ (first many : ℕ) (square : Spot) where
+    -- a unit square of the box is one of a site
+    pub site_of_square : HasSquare (sites_box row size first many) square → SitesHave row size first many square
+    site_of_square c =
         let left = rw (edge first) at c.left in
         let right = rw (edge (first + many)) at c.right in
-        let d = unsigned_abs (cell.x -ℤ row.at.x) in
-        let apart : cell.x ≡ row.at.x +ℤ pos d = omega (arith, ints, left) in
+        let d = unsigned_abs (square.x -ℤ row.at.x) in
+        let apart : square.x ≡ row.at.x +ℤ pos d = omega (arith, ints, left) in
         let from : first * n ≤ d = omega (arith, ints, left, apart) in
         let upto : d < (first + many) * n = omega (arith, ints, right, apart) in
         record {
@@ -53,8 +53,8 @@ module _ (row : Row) (size : Lengths) (area : HasArea size) where
         }
 
     -- and the other way round
-    pub cell_of_site : SitesHave row size first many cell → HasCell (sites_box row size first many) cell
-    cell_of_site s =
+    pub square_of_site : SitesHave row size first many square → HasSquare (sites_box row size first many) square
+    square_of_site s =
         let left = rw (edge s.k) at s.inside.left in
         let right = rw (edge (s.k + 1)) at s.inside.right in
         let last : s.k + 1 ≤ first + many = omega (arith, s.below) in
@@ -71,5 +71,5 @@ module _ (row : Row) (size : Lengths) (area : HasArea size) where
     first = first;
     many = many;
     within = within;
-    cells = λ cell. (site_of_cell first many cell, cell_of_site first many cell);
+    squares = λ square. (site_of_square first many square, square_of_site first many square);
   }

@@ -1,10 +1,10 @@
--- Rectangles by their sides: whether two of them share a cell, and whether one has all cells of another.
+-- Rectangles by their sides: whether two of them share a unit square, and whether one has all unit squares of another.
 use Rattle.std.proofs.Common.{◌<ℤ◌, ◌≤ℤ◌, pos, ◌-ℤ◌, arith}
 use Rattle.std.specs.Int.{int_max}
 use Rattle.std.proofs.lemmas.Int.{ints, clamps}
-use Rattle.leg_geom.specs.Plane.{Sides, ShareCell}
+use Rattle.leg_geom.specs.Plane.{Sides, ShareSquare}
 use Rattle.leg_cells.specs.Measure.{IsProper}
-use Rattle.leg_sites.specs.RowSites.{HasAllCells}
+use Rattle.leg_sites.specs.RowSites.{HasAllSquares}
 
 -- each of the two begins before the other one ends, along both axes
 pub record DoOverlap (a b : Sides) : Type 0 where
@@ -13,7 +13,7 @@ pub record DoOverlap (a b : Sides) : Type 0 where
   pub bottom : a.y1 <ℤ b.y2
   pub top : b.y1 <ℤ a.y2
 
-pub overlap_from_shared : (a b : Sides) → ShareCell a b → DoOverlap a b
+pub overlap_from_shared : (a b : Sides) → ShareSquare a b → DoOverlap a b
 overlap_from_shared a b shared = record {
   left = omega (arith, ints, shared.in_a.left, shared.in_b.right);
   right = omega (arith, ints, shared.in_b.left, shared.in_a.right);
@@ -22,9 +22,9 @@ overlap_from_shared a b shared = record {
 }
 
 -- the lower left corner of what they have in common
-pub shared_from_overlap : (a b : Sides) → IsProper a → IsProper b → DoOverlap a b → ShareCell a b
+pub shared_from_overlap : (a b : Sides) → IsProper a → IsProper b → DoOverlap a b → ShareSquare a b
 shared_from_overlap a b is_a is_b overlap = record {
-  cell = record { x = int_max a.x1 b.x1; y = int_max a.y1 b.y1 };
+  square = record { x = int_max a.x1 b.x1; y = int_max a.y1 b.y1 };
   in_a = record {
     left = omega (arith, ints, clamps);
     right = omega (arith, ints, clamps, is_a.wide, overlap.right);
@@ -46,17 +46,17 @@ pub record IsBounded (die box : Sides) : Type 0 where
   pub bottom : die.y1 ≤ℤ box.y1
   pub top : box.y2 ≤ℤ die.y2
 
-pub all_cells_from_bounds : (die box : Sides) → IsBounded die box → HasAllCells die box
-all_cells_from_bounds die box bounds cell c = record {
+pub all_squares_from_bounds : (die box : Sides) → IsBounded die box → HasAllSquares die box
+all_squares_from_bounds die box bounds square c = record {
   left = omega (arith, ints, bounds.left, c.left);
   right = omega (arith, ints, bounds.right, c.right);
   bottom = omega (arith, ints, bounds.bottom, c.bottom);
   top = omega (arith, ints, bounds.top, c.top);
 }
 
--- by the cells at its lower left and its upper right corner
-pub bounds_from_all_cells : (die box : Sides) → IsProper box → HasAllCells die box → IsBounded die box
-bounds_from_all_cells die box proper all =
+-- by the unit squares at its lower left and its upper right corner
+pub bounds_from_all_squares : (die box : Sides) → IsProper box → HasAllSquares die box → IsBounded die box
+bounds_from_all_squares die box proper all =
     let low =
     all (record { x = box.x1; y = box.y1 })
     (record { left = omega (arith, ints); right = proper.wide; bottom = omega (arith, ints); top = proper.high }) in
