@@ -5,13 +5,11 @@
 #![tactic(auto)]
 
 mod help;
-mod input;
 
 use help::help_text;
-use input::{InputFault, read_all};
 use leg_app::{
-    Asked, FILE_LIMIT, Halt, Line, RunFault, STREAM_LIMIT, Status, asked_by, run, run_help,
-    run_out, run_stream,
+    Asked, FILE_LIMIT, Halt, InputFault, Line, RunFault, STREAM_LIMIT, Status, asked_by, read_all,
+    run, run_help, run_out, run_stream,
 };
 use std::alloc::{AllocError, Allocator};
 use std::fs::File;

@@ -5,7 +5,7 @@ ghost use Rattle.std.specs.Prelude.{◌≡◌, ◌≤◌, take, IfOk, IfSome, ve
 use std::alloc::{AllocError, Allocator};
 use std::io::Read;
 
-// How many bytes are asked for at once. They stand on the stack, whose growth can be refused too, and then ends the program.
+// How many bytes are asked for at once. They are on the stack, and where the stack can't grow the program ends.
 const CHUNK: usize = 8_192;
 
 /// Why an input has no bytes.
@@ -13,7 +13,7 @@ const CHUNK: usize = 8_192;
 pub enum InputFault {
     /// It can't be read.
     Unreadable,
-    /// A growth was refused.
+    /// An allocation failed.
     Memory,
 }
 
