@@ -1,4 +1,4 @@
-//! What no clause says: the words of lines, cuts of streams, and that writing goes on and stops.
+//! What no clause states: the words of lines, cuts of streams, and that writing goes on and stops.
 
 mod metal;
 mod tool;

@@ -1,7 +1,8 @@
 //! The texts of a small block, for tests: two inverters in a row, and what goes between them.
 #![tactic(auto)]
 
-/// The cells, a form in a line: two routing layers, a via between them, a site, an inverter, and two blocks with obstructions.
+/// The library, a form in a line: two routing layers, a via between them, a site, an inverter, and two blocks with
+/// obstructions.
 pub fn cells() -> &'static [u8] {
     b"LAYER m1 TYPE ROUTING ; DIRECTION HORIZONTAL ; WIDTH 0.1 ; SPACING 0.1 ; END m1
 LAYER v1 TYPE CUT ; SPACING 0.1 ; END v1
@@ -20,7 +21,7 @@ END LIBRARY
 "
 }
 
-/// Two inverters that both stand at the lower left corner of the die.
+/// Two inverters that are both at the lower left corner of the die.
 pub fn two_at_one_place() -> &'static [u8] {
     b"VERSION 5.8 ;
 DESIGN top ;

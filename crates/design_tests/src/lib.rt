@@ -1,4 +1,4 @@
-//! What DEF texts say, field by field: tests of `leg_design` over texts.
+//! What DEF texts denote, field by field: tests of `leg_design` over texts.
 #![tactic(auto)]
 
 #[cfg(test)]

@@ -1,4 +1,4 @@
--- The names and kept words that lines and entries of a design text print as they stand.
+-- The names and kept words that lines and entries of a design text print unchanged.
 use Rattle.std.specs.Prelude.{ℕ, List, [], ◌∷◌, ◌++◌, map, Option, None, Some, IsTrue}
 use Rattle.std.specs.List.{flat_map, list_all}
 use Rattle.leg_lex.specs.Words.{Words}

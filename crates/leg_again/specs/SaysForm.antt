@@ -1,10 +1,10 @@
--- What a line or an entry of a text says.
+-- What a line or an entry of a text denotes.
 use Rattle.std.specs.Prelude.{◌≡◌, ℕ, List, ◌++◌, Option, Some}
 use Rattle.leg_lex.specs.Word.{Word, texts}
 use Rattle.leg_lex.specs.Words.{Words}
 use Rattle.leg_lex.specs.Tokens.{AreTokens}
 
--- the tokens of the bytes say this, whatever words come after them
+-- the tokens of the bytes denote this, whatever words come after them
 pub record SaysForm {Said : Type 0} (form : Words → Option (Said × Words)) (bytes : List ℕ) (said : Said) : Type 0 where
   pub tokens : List Word
   pub are : AreTokens bytes tokens

@@ -41,7 +41,7 @@ ghost use Rattle.leg_again.specs.PrintedNames.{StayOne, row_names, track_names, 
 use leg_block::Design;
 use std::alloc::Allocator;
 
-/// The printed text of a design says exactly this design, and the units of its library.
+/// The printed text of a design denotes exactly this design, and the units of its library.
 pub fn printed_text_says_its_design()
     ensures design { (design : DesignContents) → IsSound design.library → IsWellFormed design → StayOne (printed_names design)
         → length (design_text design) ≤ TEXT_LIMIT → Says (design_in design.library) (design_text design) design }
@@ -49,7 +49,7 @@ pub fn printed_text_says_its_design()
         → length (design_text design) ≤ TEXT_LIMIT → Says units_in (design_text design) design.library.units }
 {}
 
-/// The printed text of a design says no other design, so that what is read of it is printed as the same bytes again.
+/// The printed text of a design denotes no other design, so that what is read of it is printed as the same bytes again.
 pub fn printed_text_says_no_other()
     ensures same { (design other : DesignContents) → IsSound design.library → IsWellFormed design → StayOne (printed_names design)
         → length (design_text design) ≤ TEXT_LIMIT → Says (design_in design.library) (design_text design) other → other ≡ design }
@@ -70,7 +70,7 @@ pub fn printed_design_is_read_again<A: Allocator + Copy>(design: &Design<'_, A>)
     let _die = design.die();
 }
 
-/// The lines of the divider and of the brackets of bus bits say these words.
+/// The lines of the divider and of the brackets of bus bits contain these words.
 pub fn naming_lines_are_read()
     ensures divider { (word : List ℕ) → IsTrue (is_word word) → IsTrue (stays_one word)
         → SaysForm (word_after (codes "DIVIDERCHAR")) (line (word_words (codes "DIVIDERCHAR") word)) word }
@@ -78,57 +78,57 @@ pub fn naming_lines_are_read()
         → SaysForm (word_after (codes "BUSBITCHARS")) (line (word_words (codes "BUSBITCHARS") word)) word }
 {}
 
-/// The line of the design says its name.
+/// The line of the design contains its name.
 pub fn name_line_is_read()
     ensures { (name : List ℕ) → IsTrue (is_name name) → IsTrue (stays_one name)
         → SaysForm design_name_at (line (word_words (codes "DESIGN") name)) name }
 {}
 
-/// The line of the units says how many a micron has.
+/// The line of the units contains the number of units in a micron.
 pub fn units_line_is_read()
     ensures { (n : ℕ) → 1 ≤ n → n ≤ UNITS_LIMIT → SaysForm units_at (line (units_words n)) n }
 {}
 
-/// The line of the die area says this rectangle.
+/// The line of the die area denotes this rectangle.
 pub fn die_line_is_read()
     ensures { (die : Sides) → IsArea die → SaysForm die_at (line (die_words die)) die }
 {}
 
-/// The line of a row says this row.
+/// The line of a row denotes this row.
 pub fn row_line_is_read()
     ensures { (design : DesignContents) (row : Row) → IsSound design.library → IsRow design.library row
         → StayOne (row_names design row) → SaysForm (row_at design.library) (line (row_words design row)) row }
 {}
 
-/// The line of tracks says these tracks.
+/// The line of tracks denotes these tracks.
 pub fn track_line_is_read()
     ensures { (design : DesignContents) (track : TrackSaid) → IsSound design.library → IsTrack design.library track
         → StayOne (track_names design track) → SaysForm (track_at design.library) (line (track_words design track)) track }
 {}
 
-/// The entry of a via says this via, behind those before it.
+/// The entry of a via denotes this via, after those before it.
 pub fn via_entry_is_read()
     ensures { (design : DesignContents) (before after : List ViaSaid) (via : ViaSaid) → IsSound design.library → IsWellFormed design
         → design.vias ≡ before ++ (via ∷ after) → StayOne (via_entry_names design via)
         → SaysForm (via_entry design.library before) (line (via_words design via)) (before ++ via ∷ []) }
 {}
 
-/// The entry of a component says this component, behind those before it.
+/// The entry of a component denotes this component, after those before it.
 pub fn component_entry_is_read()
     ensures { (design : DesignContents) (before after : List Component) (component : Component) → IsSound design.library → IsWellFormed design
         → design.components ≡ before ++ (component ∷ after) → StayOne (component_entry_names design component)
         → SaysForm (component_entry design.library before) (line (component_words design component)) (before ++ component ∷ []) }
 {}
 
-/// The entry of a pin says this pin, behind those before it.
+/// The entry of a pin denotes this pin, after those before it.
 pub fn pin_entry_is_read()
     ensures { (design : DesignContents) (before after : List PinSaid) (pin : PinSaid) → IsSound design.library → IsWellFormed design
         → design.pins ≡ before ++ (pin ∷ after) → StayOne (pin_entry_names design pin)
         → SaysForm (pin_entry design.library before) (line (pin_words design pin)) (before ++ pin ∷ []) }
 {}
 
-/// The entry of a net says this net, with its terminals and its wires, behind those before it: an entry of SPECIALNETS
-/// where NETS has none yet, and one of NETS where SPECIALNETS has all of its entries.
+/// The entry of a net denotes this net, with its terminals and its wires, after those before it: an entry of
+/// SPECIALNETS where NETS has none yet, and one of NETS where SPECIALNETS has all of its entries.
 pub fn net_entry_is_read()
     ensures special { (design : DesignContents) (before after : List NetSaid) (net : NetSaid) → IsSound design.library → IsWellFormed design
         → design.special ≡ before ++ (net ∷ after) → StayOne (net_entry_names design net)

@@ -22,7 +22,7 @@ use Rattle.leg_app.specs.Stream.{HasEndLibrary, IsSplit}
 use Rattle.leg_app.specs.Lines.{listing_text, legal_text, wirelength_text, memory_text, no_library_text, refused_text, scale_text, too_many_text}
 use Rattle.leg_app.specs.Made.{PrintsMade, TellsUnsolved}
 
--- the violations that the command lists: those of where components stand, or all; the other commands list none
+-- the violations that the command lists: those of placement, or all; the other commands list none
 abbrev pub Lists : Command → Contents → DesignContents → Fault → Type 0
 Lists PlaceCheck library design fault = Holds library design fault
 Lists Check library design fault = IsViolation library design fault
@@ -51,7 +51,7 @@ IsListing design flat violations Refused text = ⊥
 IsListing design flat violations Unsolved text = ⊥
 IsListing design flat violations Memory text = ⊥
 
--- the texts say a design, and the status and the text list its violations
+-- the texts denote a design, and the status and the text list its violations
 pub record ListsViolations (command : Command) (lefs : List (List ℕ)) (def : List ℕ) (status : Status) (text : List ℕ) : Type 0 where
   pub library : Contents
   pub design : DesignContents
@@ -62,7 +62,7 @@ pub record ListsViolations (command : Command) (lefs : List (List ℕ)) (def : L
   pub list : IsListOf (Lists command library design) violations
   pub is : IsListing design flat violations status text
 
--- the texts say a design, and its wirelength is told
+-- the texts denote a design, and its wirelength is printed
 pub record TellsWirelength (command : Command) (lefs : List (List ℕ)) (def text : List ℕ) : Type 0 where
   pub measures : command ≡ Measure
   pub library : Contents
@@ -72,7 +72,7 @@ pub record TellsWirelength (command : Command) (lefs : List (List ℕ)) (def tex
   pub measured : IsWirelength design length
   pub is : text ≡ wirelength_text length
 
--- a fault of the texts is told
+-- a fault of the texts is printed
 pub record TellsFault (text : List ℕ) : Type 0 where
   pub fault : ReadFault
   pub not_memory : fault.kind ≢ kinds.Memory
@@ -84,12 +84,12 @@ pub record TellsScale (text : List ℕ) : Type 0 where
   pub not_memory : kind ≢ scale.Memory
   pub is : text ≡ scale_text name kind
 
--- the texts say no design, and a reason is told
+-- the texts denote no design, and a reason is printed
 pub record TellsRefusal (lefs : List (List ℕ)) (def text : List ℕ) : Type 0 where
   pub nothing : SayNothing lefs def
   pub reason : TellsFault text ⊎ TellsScale text
 
--- they say one with more shapes than a flat may have
+-- they denote one with more shapes than a flat may have
 pub record TellsTooMany (command : Command) (lefs : List (List ℕ)) (def text : List ℕ) : Type 0 where
   pub flattens : command ≡ Check
   pub many : SayTooMany lefs def
@@ -110,7 +110,7 @@ pub record TakesAnswer (Answers : Status → List ℕ → Type 0) (status : Stat
   pub answer : Answers status text
   pub appends : Appends before after text
 
--- it took a front of the text, and a byte at least is left over
+-- it took a prefix of the text, and a byte at least is left over
 pub record TakesFront (text : List ℕ) (before after : Option (List ℕ)) : Type 0 where
   pub front : List ℕ
   pub left : List ℕ
@@ -118,7 +118,7 @@ pub record TakesFront (text : List ℕ) (before after : Option (List ℕ)) : Typ
   pub some : left ≢ []
   pub appends : Appends before after front
 
--- A writer took a front of an answer.
+-- A writer took a prefix of an answer.
 pub record TakesPart (Answers : Status → List ℕ → Type 0) (before after : Option (List ℕ)) : Type 0 where
   pub status : Status
   pub text : List ℕ

@@ -1,4 +1,4 @@
--- How the program ends where no run answers (own rules; 64 is the exit status of a usage error in sysexits.h).
+-- How the program ends where no run answers (lefdef's own rules; 64 is the exit status of a usage error in sysexits.h).
 use Rattle.std.specs.Prelude.{ℕ}
 use Rattle.leg_app.specs.declared.end.Halt.{Halt}
 use Rattle.leg_app.specs.declared.end.Halt.TheVariants.{NotRead, NotWritten, Usage}

@@ -1,4 +1,4 @@
--- What `legalise` prints (own rules): the text of the legalised design and how far components have moved, or why there is none.
+-- What `legalise` prints (lefdef's own rules): the text of the legalised design and how far components have moved, or why there is none.
 use Rattle.std.specs.Prelude.{ℕ, ℤ, pos, List, [], ◌++◌, length, None, codes, decimal, int_lt, if◌then◌else◌}
 use Rattle.std.specs.List.{flat_map, zip}
 use Rattle.std.specs.Fmt.{signed_decimal}
@@ -38,7 +38,7 @@ abbrev pub fixed_illegal_text : DesignContents → List Fault → List ℕ
 fixed_illegal_text design violations =
     violations_text design None violations ++ codes "FIXEDILLEGAL " ++ decimal (length violations) ++ codes "\n"
 
--- a component that can stand on no row
+-- a component that fits no row
 abbrev pub no_site_text : DesignContents → ℕ → List ℕ
 no_site_text design c = codes "NOSITE " ++ component_name design c ++ codes "\n"
 

@@ -26,7 +26,7 @@ pub record PrintsLegalised (design : DesignContents) (text : List ℕ) : Type 0 
   pub moves : AreMoves design legalised distances total greatest
   pub is : text ≡ legalised_text legalised distances total greatest
 
--- why a design is not legalised: violations of components that stay, a component that can stand on no row, or one for
+-- why a design is not legalised: violations of components that stay, a component that fits no row, or one for
 -- which no position was free
 pub data TellsNotLegalised (design : DesignContents) : List ℕ → Type 0 where
   fixed_illegal : {violations : List Fault} {text : List ℕ} → IsListOf (HoldsOfStaying design) violations → violations ≢ []

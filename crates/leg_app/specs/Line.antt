@@ -25,7 +25,7 @@ line_of words = None
 abbrev pub help_words : List (List ℕ)
 help_words = codes "--help" ∷ []
 
--- no words ask for standard input, one word for help, and others for what their line says
+-- no words ask for standard input, one word for help, and others for what their line denotes
 abbrev pub Asks : {A : Type 0} → List (List ℕ) → Asked A → Type 0
 Asks words Stream = words ≡ []
 Asks words Help = words ≡ help_words

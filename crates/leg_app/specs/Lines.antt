@@ -11,7 +11,7 @@ use Rattle.leg_block.specs.declared.fault.Fault.{Fault}
 use Rattle.leg_flat.specs.Flat.{FlatSaid}
 use Rattle.leg_print.specs.Lines.{violations_text}
 
--- the lines of violations, and their number; those that speak of metal tell the shapes and pieces of the flat
+-- the lines of violations, and their number; those of metal name the shapes and pieces of the flat
 abbrev pub listing_text : DesignContents → Option FlatSaid → List Fault → List ℕ
 listing_text design flat violations =
     violations_text design flat violations ++ codes "violations " ++ decimal (length violations) ++ codes "\n"
@@ -64,6 +64,6 @@ scale_kind_name scale.TooLarge = codes "TooLarge"
 scale_kind_name scale.OddWidth = codes "OddWidth"
 scale_kind_name scale.Memory = codes "Memory"
 
--- a length that the DEF's units don't say: the name of what has it, and why
+-- a length that the DEF's units can't express: the name of what has it, and why
 abbrev pub scale_text : List ℕ → ScaleKind → List ℕ
 scale_text name kind = codes "SCALE " ++ name ++ codes " " ++ scale_kind_name kind ++ codes "\n"

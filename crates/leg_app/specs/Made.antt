@@ -1,4 +1,4 @@
--- What the commands answer that make a design of the one that texts say.
+-- What the commands answer that make a design of the one that texts denote.
 use Rattle.std.specs.Prelude.{ℕ, List}
 use Rattle.leg_cells.specs.Records.{Contents}
 use Rattle.leg_block.specs.Records.{DesignContents}
@@ -18,7 +18,7 @@ IsTextMade Legalise design text = PrintsLegalised design text
 IsTextMade Route design text = PrintsRouted design text
 IsTextMade Flow design text = PrintsFlow design text
 
--- the text tells why the command makes nothing of the design
+-- the text states why the command makes nothing of the design
 abbrev pub IsReason : Command → DesignContents → List ℕ → Type 0
 IsReason PlaceCheck design text = ⊥
 IsReason Check design text = ⊥
@@ -27,14 +27,14 @@ IsReason Legalise design text = TellsNotLegalised design text
 IsReason Route design text = TellsNotRouted design text
 IsReason Flow design text = TellsFlowStopped design text
 
--- The texts say a design, and what the command makes of it is printed.
+-- The texts denote a design, and what the command makes of it is printed.
 pub record PrintsMade (command : Command) (lefs : List (List ℕ)) (def text : List ℕ) : Type 0 where
   pub library : Contents
   pub design : DesignContents
   pub say : SayDesign lefs def library design
   pub made : IsTextMade command design text
 
--- The texts say a design, and the reason is told for which the command makes nothing of it.
+-- The texts denote a design, and the reason why the command makes nothing of it is printed.
 pub record TellsUnsolved (command : Command) (lefs : List (List ℕ)) (def text : List ℕ) : Type 0 where
   pub library : Contents
   pub design : DesignContents

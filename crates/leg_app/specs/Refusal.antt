@@ -12,7 +12,7 @@ abbrev pub of_flat : FlatFault → TextFault
 of_flat flat.TooMany = TooMany
 of_flat flat.Memory = Memory
 
--- What is true where texts are refused so: they say nothing, or too much. Want of memory tells nothing of them.
+-- What is true where texts are refused so: they denote nothing, or too much. Being out of memory implies nothing about them.
 abbrev pub Refuses : Type 0 → Type 0 → TextFault → Type 0
 Refuses nothing much (Read fault) = fault.kind ≢ kinds.Memory → nothing
 Refuses nothing much (Scale fault) = fault.kind ≢ scale.Memory → nothing

@@ -1,4 +1,4 @@
--- What `route` prints (own rules): the text of the routed design, or why there is none.
+-- What `route` prints (lefdef's own rules): the text of the routed design, or why there is none.
 use Rattle.std.specs.Prelude.{ℕ, List, ◌++◌, length, Some, codes, decimal}
 use Rattle.leg_block.specs.Records.{DesignContents}
 use Rattle.leg_block.specs.declared.fault.Fault.{Fault}
@@ -6,7 +6,7 @@ use Rattle.leg_flat.specs.Flat.{FlatSaid}
 use Rattle.leg_print.specs.Names.{net_name}
 use Rattle.leg_print.specs.Lines.{violations_text}
 
--- the violations of all kinds but Open, whose lines tell shapes of this flat, and their number
+-- the violations of all kinds but Open, whose lines name shapes of this flat, and their number
 abbrev pub not_clean_text : DesignContents → FlatSaid → List Fault → List ℕ
 not_clean_text design flat violations =
     violations_text design (Some flat) violations ++ codes "NOTCLEAN " ++ decimal (length violations) ++ codes "\n"

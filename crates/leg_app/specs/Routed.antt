@@ -16,7 +16,7 @@ use Rattle.leg_app.specs.Lines.{too_many_text}
 use Rattle.leg_app.specs.RouteLines.{not_clean_text, grid_too_large_text, unroutable_text}
 
 -- The second design is the first one, routed: legal, within the limit of shapes, and the same but for wires that entries of
--- NETS got behind their own, which are those of a routing run.
+-- NETS got after their own, which are those of a routing run.
 pub record Routes (before after : DesignContents) : Type 0 where
   pub legal : IsLegal after
   pub few : length (metal_of after) ≤ PART_LIMIT

@@ -1,14 +1,14 @@
--- A LEF and a DEF in one stream of bytes: the LEF goes up to its END LIBRARY (own rule).
+-- A LEF and a DEF in one stream of bytes: the LEF goes up to its END LIBRARY (lefdef's own rule).
 use Rattle.std.specs.Prelude.{◌≡◌, ℕ, ◌≤◌, List, ◌++◌, length, codes}
 
 abbrev pub end_library : List ℕ
 end_library = codes "END LIBRARY"
 
--- END LIBRARY stands in the text behind these bytes
+-- END LIBRARY appears in the text after these bytes
 abbrev pub StandsBehind : List ℕ → List ℕ → Type 0
 StandsBehind before text = (after : List ℕ) × (text ≡ before ++ end_library ++ after)
 
--- END LIBRARY stands in the text
+-- END LIBRARY appears in the text
 abbrev pub HasEndLibrary : List ℕ → Type 0
 HasEndLibrary text = (before : List ℕ) × StandsBehind before text
 

@@ -1,4 +1,4 @@
--- Everything that is not legal about a design (own rules).
+-- Everything that is not legal about a design (lefdef's own rules).
 use Rattle.std.specs.Prelude.{ℕ, ◌≤◌, List, ◌⊎◌, length}
 use Rattle.leg_cells.specs.Records.{Contents}
 use Rattle.leg_block.specs.declared.limits.TheConstants.{PART_LIMIT}
@@ -12,14 +12,14 @@ use Rattle.leg_wire.specs.Spacing as spacing
 use Rattle.leg_wire.specs.Open as joins
 use Rattle.leg_app.specs.Say.{SayDesign}
 
--- in a flat of the design, which has exactly the points of its metal, two shapes share a point or stand too near one
+-- in a flat of the design, which has exactly the points of its metal, two shapes share a point or are too near one
 -- another, or a piece of a net is open
 pub record IsOfMetal (library : Contents) (design : DesignContents) (fault : Fault) : Type 0 where
   pub flat : FlatSaid
   pub is_flat : IsFlatOf design flat
   pub holds : spacing.Holds library flat fault ⊎ joins.Holds design flat fault
 
--- A violation holds: it speaks of where components stand, or of metal.
+-- A violation holds: it is one of placement, or of metal.
 abbrev pub IsViolation : Contents → DesignContents → Fault → Type 0
 IsViolation library design fault = place.Holds library design fault ⊎ IsOfMetal library design fault
 
@@ -34,7 +34,7 @@ pub record AreAllViolations (library : Contents) (design : DesignContents) (viol
   pub judged : IsJudgedBy design flat
   pub list : IsListOf (IsViolation library design) violations
 
--- The texts say a design, and these are its violations.
+-- The texts denote a design, and these are its violations.
 pub record AreViolationsOf (lefs : List (List ℕ)) (def : List ℕ) (violations : List Fault) : Type 0 where
   pub library : Contents
   pub design : DesignContents

@@ -49,7 +49,7 @@ pub(crate) fn answer_to<'a, A: Allocator + Copy>(
     }
 }
 
-// What is answered to a DEF behind so many LEFs, where the texts say this library and no other.
+// What is answered to a DEF after this many LEFs, where the texts denote this library and no other.
 fn library_answer<A: Allocator + Copy>(
     alloc: A,
     command: Command,
@@ -66,7 +66,7 @@ fn library_answer<A: Allocator + Copy>(
     }
 }
 
-// What is answered to texts that say this design.
+// What is answered to texts that denote this design.
 fn design_answer<A: Allocator + Copy>(
     alloc: A,
     command: Command,
@@ -130,7 +130,7 @@ fn measure_answer<A: Allocator + Copy>(
     })
 }
 
-// The violations are listed, or told to be none.
+// The violations are listed, or there are none.
 fn listing<A: Allocator + Copy>(
     alloc: A,
     design: &Design<'_, A>,

@@ -29,11 +29,11 @@ pub struct Checked<A: Allocator> {
     pub violations: Vec<Fault, A>,
 }
 
-/// Everything that is not legal about the design that the texts of the LEFs, in order, and of the DEF say: all violations
-/// that hold, each once, in order; so the block is legal just when there are none (own rules).
+/// Everything that is not legal about the design that the texts of the LEFs, in order, and of the DEF denote: all
+/// violations that hold, each once, in order; so the block is legal if and only if there are none (lefdef's own rules).
 ///
-/// `Read` and `Scale` tell a text that isn't read, or for another cause than memory, only where the texts say no design;
-/// `TooMany` only where they say one with more than `leg_design::PART_LIMIT` shapes.
+/// `Read` and `Scale` are returned, for another cause than memory, only where the texts denote no design;
+/// `TooMany` only where they denote one with more than `leg_design::PART_LIMIT` shapes.
 pub fn check_texts<'a, A: Allocator + Copy>(
     alloc: A,
     lefs: &[&'a [u8]],
@@ -47,7 +47,7 @@ pub fn check_texts<'a, A: Allocator + Copy>(
     check_def(alloc, lefs.len(), &library, text)
 }
 
-/// The violations of the design that a DEF behind so many LEFs says under the library.
+/// The violations of the design that a DEF after this many LEFs denotes under the library.
 fn check_def<'e, A: Allocator + Copy>(
     alloc: A,
     count: usize,
@@ -78,9 +78,9 @@ fn violations_of<'e, A: Allocator + Copy>(
 }
 
 /// The flat of the design, and everything that is not legal about it: all violations that hold, each once, in order
-/// (own rules). `leg_print::print_faults` has a line for each.
+/// (lefdef's own rules). `leg_print::print_faults` has a line for each.
 ///
-/// `TooMany` tells that the design has more than `leg_design::PART_LIMIT` shapes.
+/// `TooMany` means that the design has more than `leg_design::PART_LIMIT` shapes.
 pub fn check_design<A: Allocator + Copy>(
     alloc: A,
     design: &Design<'_, A>,

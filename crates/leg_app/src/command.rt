@@ -3,9 +3,9 @@
 /// What lefdef is asked.
 #[derive(Clone, Copy, PartialEq, Eq, Debug)]
 pub enum Command {
-    /// What is not legal about the block: where components stand, and its metal.
+    /// What is not legal about the block: its placement and its metal.
     Check,
-    /// Which components are unplaced, outside the die, off the sites of the rows, or on one another.
+    /// Which components are unplaced, outside the die, off the sites of the rows, or overlapping.
     PlaceCheck,
     /// How long the nets are at least: the half-perimeter wirelength.
     Measure,

@@ -14,7 +14,7 @@ ghost use Rattle.leg_app.specs.Say.{SayLibraryFor, SayDesign};
 ghost use Rattle.leg_app.specs.Violations.{AreAllViolations, AreViolationsOf};
 ghost use Rattle.leg_app.specs.Answer.{IsAnswer, IsStreamAnswer};
 
-/// LEF texts say one library at most, at the units of a DEF.
+/// LEF texts denote one library at most, at the units of a DEF.
 pub fn texts_say_one_library()
     ensures { (lefs : List (List ℕ)) (def : List ℕ) (a b : Contents) → SayLibraryFor lefs def a → SayLibraryFor lefs def b → a ≡ b }
 {
@@ -22,7 +22,7 @@ pub fn texts_say_one_library()
     leg_lib::laws::one_library_at_units();
 }
 
-/// Texts say one design at most.
+/// Texts denote one design at most.
 pub fn texts_say_one_design()
     ensures { (lefs : List (List ℕ)) (def : List ℕ) (library other : Contents) (a b : DesignContents)
         → SayDesign lefs def library a → SayDesign lefs def other b → (library ≡ other) × (a ≡ b) }

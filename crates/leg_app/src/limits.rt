@@ -1,4 +1,4 @@
-//! How much of an input is read (own rules).
+//! How much of an input is read (lefdef's own rules).
 
 use leg_lex::TEXT_LIMIT;
 

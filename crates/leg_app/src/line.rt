@@ -22,14 +22,14 @@ pub enum Asked<'a, A: Allocator> {
 pub struct Line<'a, A: Allocator> {
     /// The command.
     pub command: Command,
-    /// The word that tells the DEF.
+    /// The word that names the DEF.
     pub def: &'a str,
-    /// The words that tell the LEFs, in order: one at least.
+    /// The words that name the LEFs, in order: one at least.
     pub lefs: &'a [String<A>],
 }
 
 /// What the words after the program's name ask: standard input where there are none, help where the one word is `--help`,
-/// and else what `line_of` says. None where they ask for nothing. It takes no memory.
+/// and else what `line_of` returns. None where they ask for nothing. It takes no memory.
 pub fn asked_by<A: Allocator>(words: &[String<A>]) -> Option<Asked<'_, A>>
     ensures found { IfSome result (λ asked. Asks (map string_bytes words.now) asked) }
     ensures none { IfNone result (AsksNothing (map string_bytes words.now)) }

@@ -12,7 +12,7 @@ use leg_lex::{FaultKind, ReadFault};
 use leg_print::print_faults;
 use std::alloc::{AllocError, Allocator};
 
-/// A line for each violation, and their number. The flat tells the shapes and pieces that violations speak of.
+/// A line for each violation, and their number. The flat has the shapes and pieces that violations name.
 pub(crate) fn listing_text<A: Allocator + Copy>(
     alloc: A,
     design: &Design<'_, A>,
@@ -58,7 +58,7 @@ pub(crate) fn refused_text<A: Allocator + Copy>(
     Ok(text)
 }
 
-/// The line for a length that the DEF's units don't say.
+/// The line for a length that the DEF's units can't express.
 pub(crate) fn scale_text<A: Allocator + Copy>(
     alloc: A,
     fault: &ScaleFault<'_>,

@@ -25,7 +25,7 @@ pub(crate) fn not_clean_text<A: Allocator + Copy>(
 {
     let flat = match flatten(alloc, design.library(), design) {
         Ok(flat) => flat,
-        // There are not too many shapes, so memory was refused.
+        // There are not too many shapes, so an allocation failed.
         Err(_refusal) => return Err(AllocError),
     };
     shown_text(alloc, design, &flat, violations)

@@ -25,9 +25,9 @@ pub enum RunFault {
     Write,
 }
 
-/// Writes what the command answers to the texts of the LEFs, in order, and of the DEF, and says how it
+/// Writes what the command answers to the texts of the LEFs, in order, and of the DEF, and returns how it
 /// ended. The answer's text is made whole before its first byte is written, and nothing is flushed. After
-/// a fault the writer has taken a front of it and no more.
+/// a fault the writer has taken a proper prefix of it.
 pub fn run<W: Write, A: Allocator + Copy>(
     alloc: A,
     command: Command,

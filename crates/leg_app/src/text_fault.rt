@@ -14,11 +14,11 @@ use std::alloc::AllocError;
 pub enum TextFault<'a> {
     /// A text isn't read. The DEF is numbered after the LEFs.
     Read(ReadFault),
-    /// A length of the library isn't said in the DEF's units.
+    /// A length of the library can't be given in the DEF's units.
     Scale(ScaleFault<'a>),
     /// The design has more shapes than a flat may have.
     TooMany,
-    /// A growth was refused.
+    /// An allocation failed.
     Memory,
 }
 

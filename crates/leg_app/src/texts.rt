@@ -1,4 +1,4 @@
-//! What LEF and DEF texts say together.
+//! What LEF and DEF texts denote together.
 
 ghost use Rattle.std.specs.Prelude.{◌≡◌, map, IfOk, IfErr};
 ghost use Rattle.leg_cells.specs.Records.{Contents};
@@ -13,7 +13,7 @@ use leg_lex::ReadFault;
 use leg_lib::{file_number, read_lefs};
 use std::alloc::Allocator;
 
-/// The fault of a DEF, as the text that comes after so many LEFs.
+/// The fault of a DEF, as the text that comes after this many LEFs.
 pub(crate) fn behind_lefs(lefs: usize, fault: ReadFault) -> ReadFault
     ensures { result.kind ≡ fault.kind }
 {
@@ -23,14 +23,14 @@ pub(crate) fn behind_lefs(lefs: usize, fault: ReadFault) -> ReadFault
     }
 }
 
-/// The library that the LEFs say, at the DEF's own units, and the DEF with its words.
+/// The library that the LEFs denote, at the DEF's own units, and the DEF with its words.
 pub(crate) fn library_for<'a, 'd, A: Allocator + Copy>(
     alloc: A,
     lefs: &[&'a [u8]],
     def: &'d [u8],
 ) -> Result<(Library<'a, A>, DefText<'d, A>), TextFault<'a>>
     ensures found { IfOk result (λ both. SayLibraryFor (map (λ t. t.now) lefs.now) def.now both.0) }
-    // The texts say no other library.
+    // The texts denote no other library.
     ensures only { IfOk result (λ both. (said : Contents)
         → SayLibraryFor (map (λ t. t.now) lefs.now) def.now said → said ≡ both.0) }
     ensures text { IfOk result (λ both. both.1 ≡ def.now) }

@@ -1,5 +1,5 @@
--- What the layers of a library are for (LEF/DEF 5.8, "Layer"; that only routing and cut layers carry metal is an own
--- rule).
+-- What the layers of a library are for (LEF/DEF 5.8, "Layer"; that only routing and cut layers carry metal is lefdef's
+-- own rule).
 use Rattle.std.specs.Prelude.{ℕ, ℤ, Bool, true, false, Option, None, Some, is_some, slice_get}
 use Rattle.leg_lex.specs.Words.{◌>>=◌}
 use Rattle.leg_cells.specs.declared.records.LayerKind.{LayerKind}

@@ -1,4 +1,4 @@
--- What a DEF text says, as records.
+-- What a DEF text denotes, as records.
 use Rattle.std.specs.Prelude.{ℕ, ℤ, List, [], ◌∷◌, ◌+◌, length, map, Option}
 use Rattle.leg_geom.specs.Plane.{Sides}
 use Rattle.leg_geom.specs.declared.place.Place.{Place}

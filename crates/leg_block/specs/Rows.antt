@@ -1,4 +1,4 @@
--- How rows may lie (own rule, after LEF/DEF 5.8, "Rows").
+-- How rows may lie (lefdef's own rule, after LEF/DEF 5.8, "Rows").
 use Rattle.std.specs.Prelude.{Bool, true, false}
 use Rattle.leg_geom.specs.declared.orient.Orient.{Orient}
 use Rattle.leg_geom.specs.declared.orient.Orient.TheVariants.{N, S, W, E, FN, FS, FW, FE}

@@ -1,4 +1,4 @@
--- Violations in order (own rules): by kind, and within a kind by number or by pair of numbers.
+-- Violations in order (lefdef's own rules): by kind, and within a kind by number or by pair of numbers.
 use Rattle.std.specs.Prelude.{◌≡◌, ℕ, ◌≤◌, ◌<◌, List, All, AllPairs, Contains}
 use Rattle.leg_block.specs.declared.fault.Fault.{Fault}
 use Rattle.leg_block.specs.declared.fault.Fault.TheVariants.{Unplaced, Outside, OffSite, Overlap, Short, TooNear, OpenNet}
@@ -13,7 +13,7 @@ kind_number (Short a b) = 4
 kind_number (TooNear a b) = 5
 kind_number (OpenNet n k) = 6
 
--- the numbers that it tells; where there is one alone, the second is 0
+-- the numbers that it names; where there is only one, the second is 0
 abbrev pub numbers_of : Fault → ℕ × ℕ
 numbers_of (Unplaced c) = (c, 0)
 numbers_of (Outside c) = (c, 0)
@@ -23,7 +23,7 @@ numbers_of (Short a b) = (a, b)
 numbers_of (TooNear a b) = (a, b)
 numbers_of (OpenNet n k) = (n, k)
 
--- the first violation stands before the second in a list
+-- the first violation comes before the second in a list
 pub record ComesBefore (v w : Fault) : Type 0 where
   pub kind : kind_number v ≤ kind_number w
   pub first : kind_number v ≡ kind_number w → (numbers_of v).0 ≤ (numbers_of w).0

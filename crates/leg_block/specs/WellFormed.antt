@@ -1,4 +1,4 @@
--- What holds of every design that a DEF says under a library (own rules, after LEF/DEF 5.8, "DEF Syntax").
+-- What holds of every design that a DEF denotes under a library (lefdef's own rules, after LEF/DEF 5.8, "DEF Syntax").
 use Rattle.std.specs.Prelude.{All, IsTrue}
 use Rattle.leg_lex.specs.Words.{is_name}
 use Rattle.leg_block.specs.WellFormedParts.{IsKept, IsArea, AreComponents, IsRow, IsTrack, AreVias, ArePins}

@@ -1,4 +1,4 @@
--- What holds of the nets of a design that a DEF says under a library (own rules, after LEF/DEF 5.8, "Nets", "Special
+-- What holds of the nets of a design that a DEF denotes under a library (lefdef's own rules, after LEF/DEF 5.8, "Nets", "Special
 -- Nets").
 use Rattle.std.specs.Prelude.{◌≡◌, ◌≢◌, ℕ, ℤ, pos, ◌+◌, ◌<◌, ◌≤◌, ◌⊎◌, ◌≤ℤ◌, ◌<ℤ◌, Bool, true, false, List, ◌++◌, length, All, AllPairs, Contains, Option, None, Some, slice_get, codes, IsTrue}
 use Rattle.leg_lex.specs.Words.{is_name, is_keyword}

@@ -1,4 +1,4 @@
--- What holds of the parts of a design that a DEF says under a library (own rules, after LEF/DEF 5.8, "DEF Syntax").
+-- What holds of the parts of a design that a DEF denotes under a library (lefdef's own rules, after LEF/DEF 5.8, "DEF Syntax").
 use Rattle.std.specs.Prelude.{◌≡◌, ℕ, pos, ◌<◌, ◌≤◌, ◌≤ℤ◌, ◌+ℤ◌, ◌-ℤ◌, ◌*ℤ◌, false, List, length, All, Option, None, Some, slice_get, codes, IsTrue}
 use Rattle.leg_lex.specs.Words.{is_name, is_word, is_keyword}
 use Rattle.leg_lex.specs.Number.{IsNumber}
@@ -32,7 +32,7 @@ pub record IsArea (r : Sides) : Type 0 where
   pub y2 : IsNumber r.y2
   pub proper : IsProper r
 
--- a place stands exactly where a status other than unplaced does
+-- there is a place exactly where there is a status other than unplaced
 abbrev pub IsPlaced : Status → Option Place → Type 0
 IsPlaced Unplaced None = Unit {0}
 IsPlaced Unplaced (Some place) = ⊥
@@ -43,7 +43,7 @@ IsPlaced Fixed (Some place) = IsPosition place.at
 IsPlaced Cover None = ⊥
 IsPlaced Cover (Some place) = IsPosition place.at
 
--- A component of a macro of the library. It isn't named PIN, by which nets tell the pins of the design.
+-- A component of a macro of the library. It isn't named PIN, by which nets mark the pins of the design.
 pub record IsComponent (library : Contents) (component : Component) : Type 0 where
   pub name : IsTrue (is_name component.name)
   pub no_pin : is_keyword (codes "PIN") component.name ≡ false
@@ -82,7 +82,7 @@ pub record IsMetalShape (library : Contents) (shape : Shape) : Type 0 where
   pub metal : IsTrue (has_metal library shape.layer)
   pub rect : IsArea shape.rect
 
--- a via of the design is no default via, and is marked good just where it is
+-- a via of the design is no default via, and is marked good if and only if it is
 pub record IsDesignVia (library : Contents) (via : ViaSaid) : Type 0 where
   pub name : IsTrue (is_name via.name)
   pub new : place_of via.name (via_names library) ≡ None

@@ -10,7 +10,8 @@ use leg_lex::Name;
 use std::alloc::Allocator;
 use std::marker::Model;
 
-/// The parts of a design, in file order, of which nothing is known yet as a whole. What each is, `Design` says.
+/// The parts of a design, in file order, of which nothing is known yet as a whole. See `Design` for the meaning of
+/// each.
 #[derive(Drop)]
 pub struct DesignFields<'a, A: Allocator + Copy> {
     pub library: &'a Library<'a, A>,
@@ -93,7 +94,7 @@ impl<'a, A: Allocator + Copy> Design<'a, A> {
         self.library
     }
 
-    /// Whether the design can stand with this library: it says the same as the one that the design was read with.
+    /// Whether this is the library of the design: it is equal to the one that the design was read with.
     pub fn fits(&self, library: &Library<'_, A>) -> bool
         ensures { IsTrue result ↔ (library.now ≡ self.now.library) }
     {
@@ -107,14 +108,14 @@ impl<'a, A: Allocator + Copy> Design<'a, A> {
         self.name.bytes()
     }
 
-    /// The word after `DIVIDERCHAR`, which stands between the parts of a hierarchical name.
+    /// The word after `DIVIDERCHAR`, which is between the parts of a hierarchical name.
     pub fn divider(&self) -> Option<&[u8]>
         ensures is { option_map (λ word. word.now) result ≡ self.now.divider }
     {
         self.divider.as_ref().map(|word| word.bytes())
     }
 
-    /// The word after `BUSBITCHARS`, which stands around the number of a bus bit.
+    /// The word after `BUSBITCHARS`, which is around the number of a bus bit.
     pub fn bus(&self) -> Option<&[u8]>
         ensures is { option_map (λ word. word.now) result ≡ self.now.bus }
     {

@@ -31,7 +31,7 @@ impl<'a, A: Allocator + Copy> Design<'a, A> {
         self
     }
 
-    /// The same design with these wires after those of the entry of `NETS` of this number. Where memory is refused, the
+    /// The same design with these wires after those of the entry of `NETS` of this number. If an allocation fails, the
     /// design comes back as it was, and the wires are dropped.
     pub fn with_wires(
         mut self,
@@ -54,7 +54,7 @@ impl<'a, A: Allocator + Copy> Design<'a, A> {
     }
 
     /// The same design with the wires of each list after those of one entry of `NETS`: the first list's for the first entry,
-    /// and so on. Where memory is refused, the design comes back as it was, and all the lists are dropped.
+    /// and so on. If an allocation fails, the design comes back as it was, and all the lists are dropped.
     pub fn with_all_wires(
         mut self,
         lists: Vec<Vec<Wire, A>, A>,
@@ -108,7 +108,7 @@ fn counts_of_wires<A: Allocator + Copy>(
     Ok(counts)
 }
 
-/// Adds the wires of each list to one entry, in turn, until memory is refused.
+/// Adds the wires of each list to one entry, in turn, until an allocation fails.
 fn append_in_turn<'a, A: Allocator + Copy>(
     nets: &mut [Net<'a, A>],
     lists: Vec<Vec<Wire, A>, A>,
@@ -126,7 +126,7 @@ fn append_in_turn<'a, A: Allocator + Copy>(
     Ok(())
 }
 
-/// Leaves of each entry so many first wires.
+/// Keeps the given number of first wires of each entry.
 fn keep_first_wires<'a, A: Allocator + Copy>(nets: &mut [Net<'a, A>], counts: &[usize])
     requires { length counts.now ≡ length nets.old }
     ensures { nets.new ≡ with_first_wires nets.old counts.now }

@@ -1,4 +1,4 @@
-//! The limits of designs (own rules).
+//! The limits of designs (lefdef's own rules).
 
 /// A design has at most this many components, as many pins, and as many entries of nets, those of both sections taken
 /// together.

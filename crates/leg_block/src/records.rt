@@ -1,5 +1,5 @@
-//! The records of a design. Numbers tell layers, sites, masters and vias in the library, and components and pins in the
-//! design; lengths are in database units.
+//! The records of a design. Numbers denote layers, sites, masters and vias in the library, and components and pins in
+//! the design; lengths are in database units.
 
 use leg_cells::{Items, Shape};
 use leg_geom::{Orient, Place, Point, Rect};
@@ -43,7 +43,7 @@ pub struct Row<'a> {
     pub count: i64,
 }
 
-/// Tracks at `start`, `start + step` and so on, as many as `count` says (LEF/DEF 5.8, "Tracks").
+/// Tracks at `start`, `start + step` and so on, as many as `count` (LEF/DEF 5.8, "Tracks").
 #[derive(Drop)]
 pub struct Track<A: Allocator> {
     pub axis: Axis,

@@ -1,4 +1,4 @@
--- Good vias by their names and shapes: in millionths of a micron (raw), and in database units (own rule).
+-- Good vias by their names and shapes: in millionths of a micron (raw), and in database units (lefdef's own rule).
 use Rattle.std.specs.Prelude.{ℕ, pos, Bool, not, ◌&&◌, int_lt, List, map}
 use Rattle.leg_geom.specs.Plane.{Sides}
 use Rattle.leg_cells.specs.declared.raw.RawKind.{RawKind}

@@ -1,4 +1,4 @@
--- The three layers that the parts of a good via join, in facts (own rule).
+-- The three layers that the parts of a good via join, in facts (lefdef's own rule).
 use Rattle.std.specs.Prelude.{◌≡◌, ℕ, ◌<◌, ◌⊎◌, pos, ◌<ℤ◌, false, List, IsTrue}
 use Rattle.std.specs.List.{All, Any}
 use Rattle.leg_geom.specs.Plane.{Sides}

@@ -1,4 +1,4 @@
--- Good vias, which join two routing layers (own rule).
+-- Good vias, which join two routing layers (lefdef's own rule).
 use Rattle.std.specs.Prelude.{ℕ, ◌+◌, Bool, true, false, not, ◌&&◌, ◌||◌, ◌==◌, nat_lt, List, [], ◌∷◌, codes, Option, None, Some, slice_get}
 use Rattle.std.specs.List.{list_any, list_all, slice_range}
 use Rattle.leg_lex.specs.Words.{is_keyword}

@@ -25,11 +25,11 @@ pub record IsProper (r : Sides) : Type 0 where
   pub wide : r.x1 <ℤ r.x2
   pub high : r.y1 <ℤ r.y2
 
--- the rectangle between two corners, which stand in any order
+-- the rectangle between two corners, which are in any order
 abbrev pub sides_between : Spot → Spot → Sides
 sides_between p q = record { x1 = int_min p.x q.x; y1 = int_min p.y q.y; x2 = int_max p.x q.x; y2 = int_max p.y q.y }
 
--- nothing is said by corners between which there is no area
+-- corners without area between them denote nothing
 unfoldable pub rect_between : Spot → Spot → Option Sides
 rect_between p q =
     let sides = sides_between p q in

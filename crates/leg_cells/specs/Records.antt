@@ -1,4 +1,4 @@
--- What LEF texts say, as records: in millionths of a micron (raw), and in database units (LEF/DEF 5.8,
+-- What LEF texts denote, as records: in millionths of a micron (raw), and in database units (LEF/DEF 5.8,
 -- "LEF Syntax").
 use Rattle.std.specs.Prelude.{ℕ, Bool, List, [], map, Option}
 use Rattle.leg_geom.specs.Plane.{Spot}
@@ -11,7 +11,7 @@ use Rattle.leg_cells.specs.declared.records.Layer.{Layer}
 use Rattle.leg_cells.specs.declared.records.Site.{Site}
 use Rattle.leg_cells.specs.declared.records.Shape.{Shape}
 
--- a via: `good` tells whether a wire may name it, and one that isn't good has no shapes
+-- a via: `good` is whether a wire may name it, and one that isn't good has no shapes
 pub record RawViaSaid : Type 0 where
   pub name : List ℕ
   pub default_via : Bool
@@ -24,7 +24,7 @@ pub record RawPinSaid : Type 0 where
   pub supply : Supply
   pub shapes : List RawShape
 
--- a macro; its site is told by the site's number, and its origin is not yet added to its shapes
+-- a macro; its site is given by its number, and its origin is not yet added to its shapes
 pub record RawMasterSaid : Type 0 where
   pub name : List ℕ
   pub size : Lengths
@@ -64,7 +64,7 @@ pub record MasterSaid : Type 0 where
   pub pins : List MasterPinSaid
   pub obstructions : List Shape
 
--- a library at so many database units a micron
+-- a library at this many database units a micron
 pub record Contents : Type 0 where
   pub units : ℕ
   pub layers : List Layer

@@ -1,5 +1,5 @@
 -- What the records of a library refer to: shapes are on layers that it has, a macro has a site that it has, and a via is
--- good just where its name and its shapes are those of a good via (own rules; LEF/DEF 5.8, "Via" and "Macro").
+-- good if and only if its name and its shapes are those of a good via (lefdef's own rules; LEF/DEF 5.8, "Via" and "Macro").
 use Rattle.std.specs.Prelude.{◌≡◌, ℕ, ◌<◌, List, length, map, All, IfSome}
 use Rattle.leg_cells.specs.declared.raw.RawLayer.{RawLayer}
 use Rattle.leg_cells.specs.declared.raw.RawSite.{RawSite}
@@ -9,7 +9,7 @@ use Rattle.leg_cells.specs.Records.{RawViaSaid, RawMasterSaid, RawContents, ViaS
 use Rattle.leg_cells.specs.GoodVia.{is_raw_good_via, is_good_via}
 use Rattle.leg_cells.specs.LibraryNames.{AreNames}
 
--- each shape is on one of so many layers
+-- each shape is on one of this many layers
 abbrev pub AreRawShapesOn : ℕ → List RawShape → Type 0
 AreRawShapesOn layers shapes = All (λ shape. shape.layer < layers) shapes
 

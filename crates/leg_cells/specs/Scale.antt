@@ -1,5 +1,5 @@
--- A library in database units: each length is replaced by what says it exactly, and a macro's origin is
--- added to its shapes (own rules; LEF/DEF 5.8, "Macro", on ORIGIN).
+-- A library in database units: each length is replaced by what denotes it exactly, and a macro's origin is
+-- added to its shapes (lefdef's own rules; LEF/DEF 5.8, "Macro", on ORIGIN).
 use Rattle.std.specs.Prelude.{◌≡◌, ℕ, ℤ, pos, ◌+ℤ◌, ◌-ℤ◌, List, [], ◌∷◌}
 use Rattle.leg_lex.specs.Number.{IsNumber, IsUnits}
 use Rattle.leg_geom.specs.Plane.{Spot, Sides}

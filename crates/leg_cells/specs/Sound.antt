@@ -1,4 +1,4 @@
--- What holds of every library, so that upper crates can compute with its lengths (own rules; LEF/DEF 5.8,
+-- What holds of every library, so that upper crates can compute with its lengths (lefdef's own rules; LEF/DEF 5.8,
 -- "Layer (Routing)", on WIDTH and SPACING).
 use Rattle.std.specs.Prelude.{ℕ, ◌*◌, ◌≤◌, ℤ, pos, ◌≤ℤ◌, ◌<ℤ◌, List, All, unsigned_abs}
 use Rattle.leg_lex.specs.declared.limits.TheConstants.{NUMBER_LIMIT, UNITS_LIMIT}

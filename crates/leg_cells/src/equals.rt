@@ -1,4 +1,4 @@
-//! Libraries that say the same.
+//! Libraries that are equal.
 
 ghost use Rattle.std.specs.Prelude.{◌≡◌, ◌↔◌, IsTrue};
 
@@ -6,7 +6,7 @@ use crate::library::Library;
 use std::alloc::Allocator;
 
 impl<'a, A: Allocator + Copy> Library<'a, A> {
-    /// Whether both libraries say the same.
+    /// Whether both libraries are equal.
     pub fn equals(&self, other: &Library<'_, A>) -> bool
         ensures { IsTrue result ↔ (self.now ≡ other.now) }
     {

@@ -1,4 +1,4 @@
-//! Good vias by their names and shapes: in millionths of a micron (raw), and in database units (own rule).
+//! Good vias by their names and shapes: in millionths of a micron (raw), and in database units (lefdef's own rule).
 
 ghost use Rattle.std.specs.Prelude.{◌≡◌, IfOk};
 ghost use Rattle.leg_cells.specs.Joins.{join_layers};

@@ -36,7 +36,7 @@ impl<T, A: Allocator> Items<T, A> {
         self.items.as_slice()
     }
 
-    /// Adds an element after the others. Where memory is refused, nothing changes.
+    /// Adds an element after the others. If an allocation fails, nothing changes.
     pub fn push(&mut self, item: T) -> Result<(), AllocError>
     where
         T: Drop,
@@ -49,7 +49,7 @@ impl<T, A: Allocator> Items<T, A> {
         Ok(())
     }
 
-    /// Adds elements after the others. Where memory is refused, nothing changes, and those elements are dropped.
+    /// Adds elements after the others. If an allocation fails, nothing changes, and those elements are dropped.
     pub fn append(&mut self, mut more: Vec<T, A>) -> Result<(), AllocError>
     where
         T: Drop,
@@ -59,7 +59,7 @@ impl<T, A: Allocator> Items<T, A> {
         self.items.append(&mut more)
     }
 
-    /// Keeps the first elements, so many or as many as there are.
+    /// Keeps the first `len` elements, or all where there are fewer.
     pub fn truncate(&mut self, len: usize)
     where
         T: Drop,

@@ -1,4 +1,4 @@
-//! Good vias, which join two routing layers (own rule).
+//! Good vias, which join two routing layers (lefdef's own rule).
 
 ghost use Rattle.std.specs.Prelude.{◌≡◌, [], MatchOption};
 ghost use Rattle.std.specs.List.{list_any, list_all};

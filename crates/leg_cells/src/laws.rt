@@ -10,7 +10,7 @@ ghost use Rattle.leg_cells.specs.GoodVia.{holds_origin};
 ghost use Rattle.leg_cells.specs.Records.{RawContents, Contents};
 ghost use Rattle.leg_cells.specs.Scale.{IsLibraryAt};
 
-/// At so many units a micron, what is read is one library at most.
+/// At a given number of units a micron, what is read is at most one library.
 #[tactic(auto, using(crate::proofs::Scaled::one_library))]
 pub fn one_library_at_units()
     ensures { (n : ℕ) (raw : RawContents) (a b : Contents) → IsLibraryAt n raw a → IsLibraryAt n raw b → a ≡ b }

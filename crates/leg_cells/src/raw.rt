@@ -18,12 +18,12 @@ pub enum RawKind {
     Other,
 }
 
-/// A layer (LEF/DEF 5.8, "Layer"). Layers stand bottom up.
+/// A layer (LEF/DEF 5.8, "Layer"). Layers are listed bottom up.
 #[derive(Drop)]
 pub struct RawLayer<'a> {
     pub name: Name<'a>,
     pub kind: RawKind,
-    /// How far apart metal of different owners stands at least.
+    /// How far apart metal of different owners must be, at least.
     pub spacing: Micron,
 }
 
@@ -34,7 +34,7 @@ pub struct RawSite<'a> {
     pub size: RawExtent,
 }
 
-/// A rectangle on a layer, which is told by its number.
+/// A rectangle on a layer, which is given by its number.
 #[derive(Clone, Copy, PartialEq, Eq, Debug)]
 pub struct RawShape {
     pub layer: usize,
@@ -45,7 +45,7 @@ pub struct RawShape {
 #[derive(Drop)]
 pub struct RawVia<'a, A: Allocator> {
     pub name: Name<'a>,
-    /// Whether the word `DEFAULT` stands behind its name.
+    /// Whether the word `DEFAULT` follows its name.
     pub default_via: bool,
     /// Whether a wire may name it.
     pub good: bool,
@@ -76,7 +76,7 @@ impl<'a, A: Allocator> Model for RawPin<'a, A> {
     ghost view = { λ p. record { name = p.name; supply = p.supply; shapes = p.shapes } };
 }
 
-/// A macro (LEF/DEF 5.8, "Macro"). Its site is told by the site's number; its origin is not yet added to
+/// A macro (LEF/DEF 5.8, "Macro"). Its site is given by its number; its origin is not yet added to
 /// its shapes.
 #[derive(Drop)]
 pub struct RawMaster<'a, A: Allocator> {

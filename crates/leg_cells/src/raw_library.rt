@@ -1,4 +1,4 @@
-//! A library as LEF texts say it, in millionths of a micron.
+//! A library as LEF texts denote it, in millionths of a micron.
 
 ghost use Rattle.std.specs.Prelude.{◌≡◌, ◌++◌, ◌∷◌, [], None, IsTrue, OnOk, OnErr};
 ghost use Rattle.leg_lex.specs.NameLookup.{place_of};
@@ -107,7 +107,7 @@ impl<'a, A: Allocator + Copy> RawLibrary<'a, A> {
         self.masters.place_of(name)
     }
 
-    /// Adds a layer whose name is new. Where memory is refused, nothing changes.
+    /// Adds a layer whose name is new. If an allocation fails, nothing changes.
     #[tactic(auto, using(crate::proofs::SoundRaw::sound_with_layer))]
     pub fn push_layer(&mut self, layer: RawLayer<'a>) -> Result<(), AllocError>
         requires is_new { place_of layer.name (raw_layer_names self.old) ≡ None }
@@ -119,7 +119,7 @@ impl<'a, A: Allocator + Copy> RawLibrary<'a, A> {
         self.layers.push(layer.name.bytes(), layer)
     }
 
-    /// Adds a site whose name is new. Where memory is refused, nothing changes.
+    /// Adds a site whose name is new. If an allocation fails, nothing changes.
     #[tactic(auto, using(crate::proofs::SoundRaw::sound_with_site))]
     pub fn push_site(&mut self, site: RawSite<'a>) -> Result<(), AllocError>
         requires is_new { place_of site.name (raw_site_names self.old) ≡ None }
@@ -132,7 +132,7 @@ impl<'a, A: Allocator + Copy> RawLibrary<'a, A> {
     }
 
     /// Adds a via whose name is new, whose shapes are on layers of the library, and which is marked good exactly where it
-    /// is. Where memory is refused, nothing changes.
+    /// is. If an allocation fails, nothing changes.
     #[tactic(auto, using(crate::proofs::SoundRaw::sound_with_via))]
     pub fn push_via(&mut self, via: RawVia<'a, A>) -> Result<(), AllocError>
         requires is_new { place_of via.name (raw_via_names self.old) ≡ None }
@@ -145,7 +145,7 @@ impl<'a, A: Allocator + Copy> RawLibrary<'a, A> {
     }
 
     /// Adds a macro whose name is new, whose shapes are on layers of the library, whose site is one of its sites, and whose
-    /// pins have names apart. Where memory is refused, nothing changes.
+    /// pins have distinct names. If an allocation fails, nothing changes.
     #[tactic(auto, using(crate::proofs::SoundRaw::sound_with_master))]
     pub fn push_master(&mut self, master: RawMaster<'a, A>) -> Result<(), AllocError>
         requires is_new { place_of master.name (raw_master_names self.old) ≡ None }

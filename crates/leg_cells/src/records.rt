@@ -34,12 +34,12 @@ pub enum LayerKind {
     Other,
 }
 
-/// A layer (LEF/DEF 5.8, "Layer"). Layers stand bottom up.
+/// A layer (LEF/DEF 5.8, "Layer"). Layers are listed bottom up.
 #[derive(PartialEq, Drop)]
 pub struct Layer<'a> {
     pub name: Name<'a>,
     pub kind: LayerKind,
-    /// How far apart metal of different owners stands at least.
+    /// How far apart metal of different owners must be, at least.
     pub spacing: i64,
 }
 
@@ -50,7 +50,7 @@ pub struct Site<'a> {
     pub size: Extent,
 }
 
-/// A rectangle on a layer, which is told by its number.
+/// A rectangle on a layer, which is given by its number.
 #[derive(Clone, Copy, PartialEq, Eq, Debug)]
 pub struct Shape {
     pub layer: usize,
@@ -62,7 +62,7 @@ pub struct Shape {
 #[derive_where(PartialEq)]
 pub struct Via<'a, A: Allocator> {
     pub name: Name<'a>,
-    /// Whether the word `DEFAULT` stands behind its name.
+    /// Whether the word `DEFAULT` follows its name.
     pub default_via: bool,
     /// Whether a wire may name it.
     pub good: bool,
@@ -98,7 +98,7 @@ impl<'a, A: Allocator> Model for MasterPin<'a, A> {
     ghost inverse = { λ s. record { name = s.name; supply = s.supply; shapes = s.shapes } };
 }
 
-/// A master, which LEF calls a macro (LEF/DEF 5.8, "Macro"). Its site is told by the site's number; its
+/// A master, which LEF calls a macro (LEF/DEF 5.8, "Macro"). Its site is given by its number; its
 /// origin is added to its shapes.
 #[derive(Drop)]
 #[derive_where(PartialEq)]

@@ -1,4 +1,4 @@
-//! A library in database units: no length is rounded (own rule).
+//! A library in database units: no length is rounded (lefdef's own rule).
 
 ghost use Rattle.std.specs.Prelude.{◌≡◌, ◌≢◌, ◌≤◌, ℤ, List, [], map, IfOk, IfErr};
 ghost use Rattle.leg_cells.specs.declared.scale_fault.ScaleKind.TheVariants.{Memory};

@@ -7,7 +7,7 @@ use leg_lex::Name;
 use std::alloc::{AllocError, AllocFailed};
 use thiserror::Error;
 
-/// Why a length isn't said in database units.
+/// Why a length can't be given in database units.
 #[derive(Clone, Copy, PartialEq, Eq, Debug, Error)]
 pub enum ScaleKind {
     /// The length is no whole number of units.
@@ -19,12 +19,12 @@ pub enum ScaleKind {
     /// A routing layer's width is odd.
     #[error("an odd width")]
     OddWidth,
-    /// A growth was refused.
+    /// An allocation failed.
     #[error("out of memory")]
     Memory,
 }
 
-/// A length that the DEF's units don't say.
+/// A length that the DEF's units can't express.
 #[derive(Debug, Drop)]
 pub struct ScaleFault<'a> {
     /// What has the length: a layer, a site, a macro or a via. It is empty where memory ran out.

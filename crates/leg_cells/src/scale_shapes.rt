@@ -125,7 +125,7 @@ fn shapes_at<A: Allocator + Copy>(
     Ok(Items::from_vec(shapes))
 }
 
-/// A via in database units. Its shapes stand about the point 0 0.
+/// A via in database units. Its shapes lie about the point 0 0.
 fn via_at<'a, A: Allocator + Copy>(
     alloc: A,
     via: &RawVia<'a, A>,

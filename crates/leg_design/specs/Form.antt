@@ -1,4 +1,4 @@
--- The forms of a DEF text, and the design that they say (LEF/DEF 5.8, "DEF Syntax").
+-- The forms of a DEF text, and the design that they denote (LEF/DEF 5.8, "DEF Syntax").
 use Rattle.std.specs.Prelude.{ℕ, ◌+◌, nat_lt, if◌then◌else◌, List, Option, Some, codes}
 use Rattle.leg_lex.specs.Words.{Words, ◌>>=◌, is_at, end_at, nothing_at}
 use Rattle.leg_lex.specs.Until.{until}
@@ -12,7 +12,7 @@ use Rattle.leg_block.specs.Records.{DesignContents, terminal_count}
 use Rattle.leg_design.specs.Parts.{DesignParts, no_parts, divider_form, bus_form, name_form, units_form, die_form, row_form, track_form, vias_form, components_form, pins_form, nets_form, special_form}
 use Rattle.leg_design.specs.Skipped.{past_def_form}
 
--- a form that stands before the sections
+-- a form that comes before the sections
 unfoldable pub header_form : Contents → DesignParts → Words → Option (DesignParts × Words)
 header_form library parts words =
     if is_at (codes "DIVIDERCHAR") words then divider_form parts words
@@ -53,7 +53,7 @@ design_with library parts name die lists = record {
   special = lists.special;
 }
 
--- DESIGN, UNITS and DIEAREA stood, and with the lone pins too there aren't too many terminals
+-- DESIGN, UNITS and DIEAREA appeared, and with the lone pins too there aren't too many terminals
 unfoldable pub design_of : Contents → DesignParts → Option DesignContents
 design_of library parts = do
   name ← parts.name

@@ -1,4 +1,4 @@
--- The forms before the sections of a DEF that say one thing each (LEF/DEF 5.8, "DEF Syntax"): 59 is a semicolon.
+-- The forms before the sections of a DEF that give one thing each (LEF/DEF 5.8, "DEF Syntax"): 59 is a semicolon.
 use Rattle.std.specs.Prelude.{ℕ, pos, ◌&&◌, int_lt, nat_le, if◌then◌else◌, List, Option, None, Some, codes, unsigned_abs}
 use Rattle.leg_lex.specs.declared.limits.TheConstants.{UNITS_LIMIT}
 use Rattle.leg_lex.specs.Words.{Words, ◌>>=◌, keyword_at, mark_at, name_at, word_at, whole_at}
@@ -27,7 +27,7 @@ microns_at words = do
   distance ← keyword_at (codes "DISTANCE") units.1
   keyword_at (codes "MICRONS") distance.1
 
--- n ; with n from 1 to its limit, which is an own rule
+-- n ; with n from 1 to its limit, which is lefdef's own rule
 unfoldable pub units_after : Words → Option (ℕ × Words)
 units_after words = do
   n ← whole_at words
@@ -40,7 +40,7 @@ units_at words = do
   start ← microns_at words
   units_after start.1
 
--- the n ; after the first place where UNITS DISTANCE MICRONS stand in a row
+-- the n ; after the first place where UNITS DISTANCE MICRONS follow one another
 unfoldable pub units_in : Words → Option ℕ
 units_in words = do
   start ← past microns_at words

@@ -1,4 +1,4 @@
--- What the forms of a DEF text said so far, and how each form adds to it (LEF/DEF 5.8, "DEF Syntax").
+-- What the forms of a DEF text gave so far, and how each form adds to it (LEF/DEF 5.8, "DEF Syntax").
 use Rattle.std.specs.Prelude.{ℕ, Bool, true, false, ◌==◌, List, [], ◌∷◌, ◌++◌, Option, None, Some, is_some, codes}
 use Rattle.leg_lex.specs.Words.{Words, ◌>>=◌}
 use Rattle.leg_geom.specs.Plane.{Sides}
@@ -17,7 +17,7 @@ use Rattle.leg_floorplan.specs.Pin.{pins_at}
 use Rattle.leg_nets.specs.Net.{nets_at}
 use Rattle.leg_block.specs.Records.{TrackSaid, PinSaid, NetSaid}
 
--- which forms stood that stand at most once
+-- which once-only forms have appeared
 pub record Stood : Type 0 where
   pub units : Bool
   pub vias : Bool
@@ -26,7 +26,7 @@ pub record Stood : Type 0 where
   pub nets : Bool
   pub special : Bool
 
--- what the forms before said
+-- what the forms before gave
 pub record DesignParts : Type 0 where
   pub stood : Stood
   pub name : Option (List ℕ)
@@ -106,7 +106,7 @@ track_form library parts words = do
   track ← track_at library words
   Some (record parts { tracks = parts.tracks ++ track.0 ∷ [] }, track.1)
 
--- each section stands at most once
+-- each section appears at most once
 unfoldable pub vias_form : Contents → DesignParts → Words → Option (DesignParts × Words)
 vias_form library parts words = do
   once ← unless parts.stood.vias

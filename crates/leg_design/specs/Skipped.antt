@@ -1,16 +1,16 @@
--- What is read past of a DEF text (own rule).
+-- What is read past of a DEF text (lefdef's own rule).
 use Rattle.std.specs.Prelude.{Bool, ◌||◌, if◌then◌else◌, [], ◌∷◌, Option, None, Some, codes}
 use Rattle.leg_lex.specs.Words.{Words, ◌>>=◌, is_at, keyword_at, end_at}
 use Rattle.leg_lex.specs.Past.{past}
 use Rattle.leg_lex.specs.Statements.{statement_at}
 
--- statements that say nothing
+-- statements without effect
 abbrev pub is_past_statement : Words → Bool
 is_past_statement words =
     is_at (codes "VERSION") words || is_at (codes "NAMESCASESENSITIVE") words || is_at (codes "TECHNOLOGY") words
     || is_at (codes "HISTORY") words || is_at (codes "GCELLGRID") words
 
--- sections that say nothing, up to END and the same word
+-- sections without effect, up to END and the same word
 abbrev pub is_past_section : Words → Bool
 is_past_section words =
     is_at (codes "PROPERTYDEFINITIONS") words || is_at (codes "NONDEFAULTRULES") words || is_at (codes "REGIONS") words

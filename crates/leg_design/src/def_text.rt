@@ -18,7 +18,7 @@ use std::marker::Model;
 
 /// A DEF text whose words are made once, for its units and for its design. Contracts see it as the text.
 ///
-/// A fault tells the text by the number 0, and in it the line of the word at fault.
+/// A fault gives the text's number, 0, and the line of the word at fault.
 #[derive(Drop)]
 pub struct DefText<'a, A: Allocator> {
     text: &'a [u8],
@@ -40,7 +40,7 @@ impl<'a, A: Allocator + Copy> DefText<'a, A> {
     /// The text with its words. Refused as `file_words` refuses it.
     pub fn new(alloc: A, text: &'a [u8]) -> Result<DefText<'a, A>, ReadFault>
         ensures is { IfOk result (λ def. def ≡ text.now) }
-        // A text that is too long is never told as want of memory.
+        // A text that is too long is never reported as out of memory.
         ensures too_long { IfErr result (λ fault. TEXT_LIMIT < length text.now → fault.kind ≢ Memory) }
         ensures none { IfErr result (λ fault. fault.kind ≢ Memory → HasNoWords text.now) }
     {
@@ -48,21 +48,22 @@ impl<'a, A: Allocator + Copy> DefText<'a, A> {
         Ok(DefText { text, words })
     }
 
-    /// The database units of a micron that the DEF says, from 1 to 20,000, at the first place where its `UNITS` stand.
+    /// The database units of a micron that the DEF denotes, from 1 to 20,000, at the first place where its `UNITS`
+    /// appear.
     pub fn units(&self) -> Result<u32, ReadFault>
         ensures found { IfOk result (λ n. Says units_in self.now n) }
         ensures limits { IfOk result (λ n. (1 ≤ n) × (n ≤ UNITS_LIMIT)) }
-        // The text says no other number.
+        // The text denotes no other number.
         ensures only { IfOk result (λ n. (said : ℕ) → Says units_in self.now said → said ≡ n) }
         ensures none { IfErr result (λ fault. fault.kind ≢ Memory → (said : ℕ) → ¬ Says units_in self.now said) }
     {
         units_anywhere(&mut Cursor::new(0, &self.words))
     }
 
-    /// The design that the DEF says under a library. The words go with it, so that they take no memory any more.
+    /// The design that the DEF denotes under a library. The words go with it, so that they take no memory any more.
     pub fn design(self, alloc: A, library: &'a Library<'a, A>) -> Result<Design<'a, A>, ReadFault>
         ensures found { IfOk result (λ design. Says (design_in library.now) self.entry design) }
-        // The text says no other design.
+        // The text denotes no other design.
         ensures only { IfOk result (λ design. (said : DesignContents)
             → Says (design_in library.now) self.entry said → said ≡ design) }
         ensures none { IfErr result (λ fault. fault.kind ≢ Memory

@@ -14,7 +14,7 @@ use leg_cells::Library;
 use leg_lex::{Cursor, ReadFault};
 use std::alloc::Allocator;
 
-/// A form that stands before the sections.
+/// A form that comes before the sections.
 #[tactic(auto, unfolding(crate::specs::Form::header_form))]
 fn header_form<'a, A: Allocator + Copy>(
     alloc: A,
@@ -84,7 +84,7 @@ fn forms<'a, A: Allocator + Copy>(
     Ok(parts)
 }
 
-/// The fields of the design that the words of a DEF say under a library.
+/// The fields of the design that the words of a DEF denote under a library.
 #[tactic(auto, unfolding(crate::specs::Form::design_in))]
 fn design_fields<'a, A: Allocator + Copy>(
     alloc: A,
@@ -100,7 +100,7 @@ fn design_fields<'a, A: Allocator + Copy>(
     parts.design(library, &end)
 }
 
-/// The design that the words of a DEF say under a library.
+/// The design that the words of a DEF denote under a library.
 pub(crate) fn design_words<'a, A: Allocator + Copy>(
     alloc: A,
     library: &'a Library<'a, A>,

@@ -1,4 +1,4 @@
-//! The forms before the sections of a DEF that say one thing each (LEF/DEF 5.8, "DEF Syntax").
+//! The forms before the sections of a DEF that give one thing each (LEF/DEF 5.8, "DEF Syntax").
 
 ghost use Rattle.std.specs.Prelude.{Some, ◌≤◌, is_some, IfOk};
 ghost use Rattle.leg_lex.specs.declared.limits.TheConstants.{UNITS_LIMIT};
@@ -67,7 +67,7 @@ pub(crate) fn units(words: &mut Cursor<'_, '_>) -> Result<u32, ReadFault>
     units_after(words)
 }
 
-/// Whether `UNITS DISTANCE MICRONS` stand first.
+/// Whether `UNITS DISTANCE MICRONS` come first.
 #[tactic(auto, using(crate::proofs::Microns::no_units, crate::proofs::Microns::no_distance, crate::proofs::Microns::all_but_microns, leg_lex::proofs::Keywords::surely_read))]
 fn is_at_microns(words: &Cursor<'_, '_>) -> Result<bool, ReadFault>
     ensures { Means (λ is. is) result (Some (is_some (microns_at words.now))) }
@@ -95,7 +95,7 @@ fn past_microns(words: &mut Cursor<'_, '_>) -> Result<(), ReadFault>
     microns(words)
 }
 
-/// The database units of a micron, from the first place where `UNITS DISTANCE MICRONS` stand in a row.
+/// The database units of a micron, from the first place where `UNITS DISTANCE MICRONS` follow one another.
 #[tactic(auto, unfolding(crate::specs::Header::units_in))]
 pub(crate) fn units_anywhere(words: &mut Cursor<'_, '_>) -> Result<u32, ReadFault>
     ensures said { Means (λ n. n) result (units_in words.old) }

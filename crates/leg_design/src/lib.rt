@@ -1,7 +1,7 @@
-//! DEF designs: what a DEF text says under a library, exactly, in database units (LEF/DEF 5.8, "DEF Syntax").
+//! DEF designs: what a DEF text denotes under a library, exactly, in database units (LEF/DEF 5.8, "DEF Syntax").
 //!
-//! `read_def` reads a text and gives a `Design`, or tells the fault and its line; `DefText` is for who wants its units first. The records of a design are those of
-//! `leg_block`.
+//! `read_def` reads a text and gives a `Design`, or reports the fault and its line; `DefText` is for callers that need
+//! its units first. The records of a design are those of `leg_block`.
 #![tactic(auto)]
 
 mod def_text;

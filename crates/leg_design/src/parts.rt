@@ -1,4 +1,4 @@
-//! What the forms of a DEF said so far (LEF/DEF 5.8, "DEF Syntax").
+//! What the forms of a DEF gave so far (LEF/DEF 5.8, "DEF Syntax").
 
 ghost use Rattle.std.specs.Prelude.{◌≡◌, ℕ, List, ◌≢◌, ◌≤◌, ◌+◌, nat_lt, true, Some, None, is_some, IfOk, IfErr, IfSome, OnOk};
 ghost use Rattle.leg_lex.specs.declared.read_fault.FaultKind.TheVariants.{Memory};
@@ -24,7 +24,7 @@ use leg_nets::{NetTable, add_lone_pins};
 use std::alloc::{AllocError, Allocator};
 use std::marker::Model;
 
-// Which forms stood that stand at most once.
+// Which once-only forms have been seen.
 #[derive(Drop)]
 struct Stood {
     units: bool,
@@ -35,7 +35,7 @@ struct Stood {
     special: bool,
 }
 
-/// What the forms before said. Contracts see it as a record.
+/// What the forms before gave. Contracts see it as a record.
 #[derive(Drop)]
 pub(crate) struct Parts<'a, A: Allocator + Copy> {
     stood: Stood,
@@ -61,7 +61,7 @@ impl<'a, A: Allocator + Copy> Model for Parts<'a, A> {
 }
 
 impl<'a, A: Allocator + Copy> Parts<'a, A> {
-    /// What no form says.
+    /// What no forms give.
     pub(crate) fn new(alloc: A) -> Parts<'a, A>
         ensures { result ≡ no_parts }
     {
@@ -179,7 +179,7 @@ impl<'a, A: Allocator + Copy> Parts<'a, A> {
         Ok(())
     }
 
-    /// The die area of the design, where `DESIGN`, `UNITS` and `DIEAREA` stood. Faults are told at `end`.
+    /// The die area of the design, where `DESIGN`, `UNITS` and `DIEAREA` appeared. Faults are reported at `end`.
     fn die_area(&self, end: &Cursor<'_, '_>) -> Result<Rect, ReadFault>
         ensures named { OnOk result (is_some self.now.name ≡ true) }
         ensures stood { OnOk result (self.now.stood.units ≡ true) }
@@ -198,7 +198,7 @@ impl<'a, A: Allocator + Copy> Parts<'a, A> {
         Ok(die)
     }
 
-    /// The fields of the design of this die area, where `DESIGN` stood.
+    /// The fields of the design of this die area, where `DESIGN` appeared.
     fn fields(self, library: &'a Library<'a, A>, die: Rect) -> DesignFields<'a, A>
         requires { is_some self.name ≡ true }
         ensures { IfSome self.entry.name (λ name. result ≡ design_with library.now self.entry name die (record { nets = self.entry.nets; special = self.entry.special })) }
@@ -219,7 +219,7 @@ impl<'a, A: Allocator + Copy> Parts<'a, A> {
         }
     }
 
-    /// Adds the lone pins to the nets. Where memory is refused, nothing is known of the nets.
+    /// Adds the lone pins to the nets. If an allocation fails, nothing is known of the nets.
     fn add_lone_pins(&mut self) -> Result<(), AllocError>
         requires { terminal_count self.old.nets + terminal_count self.old.special ≤ PART_LIMIT }
         ensures { OnOk result (self.new ≡ record self.old { nets = (all_nets self.old).nets; special = (all_nets self.old).special }) }
@@ -227,8 +227,8 @@ impl<'a, A: Allocator + Copy> Parts<'a, A> {
         add_lone_pins(self.pins.as_slice(), &mut self.nets, &mut self.special)
     }
 
-    /// Adds the lone pins and gives the die area, where `DESIGN`, `UNITS` and `DIEAREA` stood and there aren't too many
-    /// terminals. Faults are told at `end`.
+    /// Adds the lone pins and gives the die area, where `DESIGN`, `UNITS` and `DIEAREA` appeared and there aren't too
+    /// many terminals. Faults are reported at `end`.
     #[tactic(auto, using(crate::proofs::Designs::too_many, crate::proofs::Designs::too_many_before, crate::proofs::Designs::design_made))]
     fn complete(&mut self, end: &Cursor<'_, '_>) -> Result<Rect, ReadFault>
         ensures named { OnOk result (is_some self.new.name ≡ true) }
@@ -249,7 +249,7 @@ impl<'a, A: Allocator + Copy> Parts<'a, A> {
         Ok(die)
     }
 
-    /// The fields of the design, where `DESIGN`, `UNITS` and `DIEAREA` stood. Faults are told at `end`.
+    /// The fields of the design, where `DESIGN`, `UNITS` and `DIEAREA` appeared. Faults are reported at `end`.
     pub(crate) fn design(
         self,
         library: &'a Library<'a, A>,
@@ -263,7 +263,7 @@ impl<'a, A: Allocator + Copy> Parts<'a, A> {
     }
 }
 
-// Sees that a form that stands at most once didn't stand before. A second one is `Unexpected`.
+// Checks that a form that appears at most once has not appeared before. A second one is `Unexpected`.
 fn once(stood: bool, words: &Cursor<'_, '_>) -> Result<(), ReadFault>
     ensures { Means (λ x. x) result (unless stood) }
 {

@@ -1,4 +1,4 @@
-//! What a DEF text says.
+//! What a DEF text denotes.
 
 ghost use Rattle.std.specs.Prelude.{ℕ, ◌≡◌, ◌≢◌, ◌<◌, ◌≤◌, length, IfOk, IfErr};
 ghost use Rattle.leg_lex.specs.declared.limits.TheConstants.{TEXT_LIMIT, UNITS_LIMIT};
@@ -14,15 +14,15 @@ use leg_cells::Library;
 use leg_lex::ReadFault;
 use std::alloc::Allocator;
 
-/// The database units of a micron that a DEF says, from 1 to 20,000, at the first place where its `UNITS` stand.
+/// The database units of a micron that a DEF denotes, from 1 to 20,000, at the first place where its `UNITS` appear.
 ///
-/// A fault tells the text by the number 0, and in it the line of the word at fault.
+/// A fault gives the text's number, 0, and the line of the word at fault.
 pub fn def_units<A: Allocator + Copy>(alloc: A, text: &[u8]) -> Result<u32, ReadFault>
     ensures found { IfOk result (λ n. Says units_in text.now n) }
     ensures limits { IfOk result (λ n. (1 ≤ n) × (n ≤ UNITS_LIMIT)) }
-    // The text says no other number.
+    // The text denotes no other number.
     ensures only { IfOk result (λ n. (said : ℕ) → Says units_in text.now said → said ≡ n) }
-    // A text that is too long is never told as want of memory.
+    // A text that is too long is never reported as out of memory.
     ensures too_long { IfErr result (λ fault. TEXT_LIMIT < length text.now → fault.kind ≢ Memory) }
     ensures none { IfErr result (λ fault. fault.kind ≢ Memory → (said : ℕ) → ¬ Says units_in text.now said) }
 {
@@ -30,19 +30,19 @@ pub fn def_units<A: Allocator + Copy>(alloc: A, text: &[u8]) -> Result<u32, Read
     def.units()
 }
 
-/// The design that a DEF says under a library.
+/// The design that a DEF denotes under a library.
 ///
-/// A fault tells the text by the number 0, and in it the line of the word at fault.
+/// A fault gives the text's number, 0, and the line of the word at fault.
 pub fn read_def<'a, A: Allocator + Copy>(
     alloc: A,
     library: &'a Library<'a, A>,
     text: &'a [u8],
 ) -> Result<Design<'a, A>, ReadFault>
     ensures found { IfOk result (λ design. Says (design_in library.now) text.now design) }
-    // The text says no other design.
+    // The text denotes no other design.
     ensures only { IfOk result (λ design. (said : DesignContents)
         → Says (design_in library.now) text.now said → said ≡ design) }
-    // A text that is too long is never told as want of memory.
+    // A text that is too long is never reported as out of memory.
     ensures too_long { IfErr result (λ fault. TEXT_LIMIT < length text.now → fault.kind ≢ Memory) }
     ensures none { IfErr result (λ fault. fault.kind ≢ Memory
         → (said : DesignContents) → ¬ Says (design_in library.now) text.now said) }

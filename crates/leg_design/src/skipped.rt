@@ -1,4 +1,4 @@
-//! The forms that say nothing of a design (LEF/DEF 5.8, "DEF Syntax"; own rule).
+//! The forms that add nothing to a design (LEF/DEF 5.8, "DEF Syntax"; lefdef's own rule).
 
 ghost use Rattle.std.specs.Prelude.{◌≡◌, codes};
 ghost use Rattle.leg_lex.specs.Words.{Reads};
@@ -6,7 +6,7 @@ ghost use Rattle.leg_design.specs.Skipped.{is_past_statement, is_past_section, p
 
 use leg_lex::{Cursor, FaultKind, ReadFault};
 
-/// Whether a statement stands there that says nothing.
+/// Whether a statement without effect comes next.
 fn is_past_statement(words: &Cursor<'_, '_>) -> bool
     ensures { result ≡ is_past_statement words.now }
 {
@@ -17,7 +17,7 @@ fn is_past_statement(words: &Cursor<'_, '_>) -> bool
         || words.is_at(b"GCELLGRID")
 }
 
-/// Whether a section begins there that says nothing.
+/// Whether a section without effect begins there.
 fn is_past_section(words: &Cursor<'_, '_>) -> bool
     ensures { result ≡ is_past_section words.now }
 {
@@ -61,7 +61,7 @@ fn no_form(words: &Cursor<'_, '_>) -> ReadFault {
     }
 }
 
-/// A form that says nothing. A word that begins no form is `Unexpected`, or `Unsupported` where it is left out by name.
+/// A form without effect. A word that begins no form is `Unexpected`, or `Unsupported` where it is left out by name.
 #[tactic(auto, unfolding(crate::specs::Skipped::past_def_form))]
 pub(crate) fn past_form(words: &mut Cursor<'_, '_>) -> Result<(), ReadFault>
     ensures { Reads (λ x. x) result words.new (past_def_form words.old) }

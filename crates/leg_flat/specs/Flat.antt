@@ -18,18 +18,18 @@ pub record FlatSaid : Type 0 where
   pub shapes : List Shape
   pub pieces : List (List Piece)
 
--- these terminals, and then so many wires by their numbers
+-- these terminals, and then this many wires by their numbers
 abbrev pub pieces_with : List Terminal → ℕ → List Piece
 pieces_with terminals wires = map Term terminals ++ map Wire (range_with_len 0 wires)
 
--- a net of a flat with so many shapes: its pieces are terminals and then wires, and 32 bits tell their numbers
+-- a net of a flat with this many shapes: its pieces are terminals and then wires, and their numbers fit in 32 bits
 pub record ArePieces (shapes : ℕ) (pieces : List Piece) : Type 0 where
   pub terminals : List Terminal
   pub wires : ℕ
   pub are : pieces ≡ pieces_with terminals wires
   pub few : length pieces ≤ 2 * PART_LIMIT + shapes
 
--- a flat keeps the limit of shapes, and 32 bits tell its nets and their pieces
+-- a flat keeps the limit of shapes, and the numbers of its nets and their pieces fit in 32 bits
 pub record IsWithin (flat : FlatSaid) : Type 0 where
   pub shapes : length flat.shapes ≤ PART_LIMIT
   pub nets : length flat.pieces < 2 ^ 32

@@ -1,4 +1,4 @@
--- The metal of a design: every shape with its layer, owner, component and piece, in order (own rules; LEF/DEF 5.8,
+-- The metal of a design: every shape with its layer, owner, component and piece, in order (lefdef's own rules; LEF/DEF 5.8,
 -- "Component orientation", "Macro Pin Statement", "Macro Obstruction Statement", "Nets", "Special Nets").
 use Rattle.std.specs.Prelude.{ℕ, suc, ◌+◌, pos, List, [], ◌∷◌, ◌++◌, length, map, Option, None, Some, slice_get}
 use Rattle.leg_geom.specs.declared.place.Place.{Place}
@@ -107,13 +107,13 @@ wires_metal design n piece (wire ∷ wires) =
     belonging (record { owner = Net n; component = None; piece = Some piece }) (wire_outlines design wire)
     ++ wires_metal design n (suc piece) wires
 
--- the wires of NETS, the first entry being net n: behind a net's terminals come its wires
+-- the wires of NETS, the first entry being net n: after a net's terminals come its wires
 unfoldable pub nets_metal : DesignContents → ℕ → List NetSaid → List Metal
 nets_metal design n [] = []
 nets_metal design n (net ∷ nets) =
     wires_metal design n (length (terminals_of design n)) net.wires ++ nets_metal design (suc n) nets
 
--- the wires of an entry of SPECIALNETS come behind those of the net's entry of NETS
+-- the wires of an entry of SPECIALNETS come after those of the net's entry of NETS
 abbrev pub special_metal : DesignContents → ℕ → NetSaid → List Metal
 special_metal design n net =
     wires_metal design n (length (terminals_of design n) + length (entry_wires (regular_entry design n))) net.wires

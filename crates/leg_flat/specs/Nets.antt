@@ -1,4 +1,4 @@
--- The nets of a design by their numbers, and the pieces of each (own rules; LEF/DEF 5.8, "Nets", "Special Nets"). An entry
+-- The nets of a design by their numbers, and the pieces of each (lefdef's own rules; LEF/DEF 5.8, "Nets", "Special Nets"). An entry
 -- of NETS and one of SPECIALNETS of the same name are one net.
 use Rattle.std.specs.Prelude.{ℕ, ◌+◌, ◌-◌, not, List, [], ◌++◌, length, map, filter, Option, None, Some, is_some, unwrap_or, if◌then◌else◌, slice_get}
 use Rattle.std.specs.List.{range_with_len}
@@ -11,7 +11,7 @@ use Rattle.leg_block.specs.Records.{DesignContents, NetSaid, net_names}
 use Rattle.leg_flat.specs.declared.piece.Piece.{Piece}
 use Rattle.leg_flat.specs.declared.piece.Piece.TheVariants.{Term, Wire}
 
--- A net's number is the place of its entry of NETS. A net that stands in SPECIALNETS alone has the number of entries of
+-- A net's number is the place of its entry of NETS. A net that is in SPECIALNETS alone has the number of entries of
 -- NETS and its place in SPECIALNETS together.
 abbrev pub number_of_special : DesignContents → ℕ → NetSaid → ℕ
 number_of_special design k net = unwrap_or (place_of net.name (net_names design.nets)) (length design.nets + k)

@@ -1,12 +1,12 @@
 -- The points of a piece of metal, in database units (LEF/DEF 5.8, "Component orientation", "Regular Wiring Statement",
--- "Special Wiring Statement"; how a wire ends is an own rule).
+-- "Special Wiring Statement"; how a wire ends is lefdef's own rule).
 use Rattle.std.specs.Prelude.{◌≡◌, ◌⊎◌, ℤ, pos, ◌*◌, ◌-ℤ◌, ◌≤ℤ◌, int_lt, if◌then◌else◌, unsigned_abs}
 use Rattle.leg_geom.specs.Plane.{Spot, Sides}
 use Rattle.leg_geom.specs.Orientation.{placed, moved, ComesFrom}
 use Rattle.leg_geom.specs.declared.place.Place.{Place}
 use Rattle.leg_cells.specs.Measure.{Lengths}
 
--- what metal is drawn as: a rectangle of a box of this size, which stands at a place; a line between two points, with a
+-- what metal is drawn as: a rectangle of a box of this size, which is at a place; a line between two points, with a
 -- width and how far it reaches beyond each; or a rectangle given from a point
 pub data Outline : Type 0 where
   Drawn : Place → Lengths → Sides → Outline

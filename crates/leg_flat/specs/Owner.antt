@@ -1,4 +1,4 @@
--- Whose metal a shape is (own rules): a net's, that of a terminal in no net, the power's or the ground's, or that of a
+-- Whose metal a shape is (lefdef's own rules): a net's, that of a terminal in no net, the power's or the ground's, or that of a
 -- component's obstructions.
 use Rattle.std.specs.Prelude.{ℕ, suc, if◌then◌else◌, List, [], ◌∷◌, Option, None, Some, option_map, slice_get}
 use Rattle.leg_lex.specs.Words.{◌>>=◌}

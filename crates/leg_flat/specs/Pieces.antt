@@ -1,4 +1,4 @@
--- Which metal is a piece's (own rules). Metal is told with numbers of nets and pieces: here is what these numbers stand for.
+-- Which metal is a piece's (lefdef's own rules). Metal is given with numbers of nets and pieces: here is what these numbers mean.
 use Rattle.std.specs.Prelude.{◌≡◌, ℕ, ◌⊎◌, Contains, Option, None, Some, slice_get}
 use Rattle.leg_geom.specs.declared.place.Place.{Place}
 use Rattle.leg_cells.specs.Records as library

@@ -12,7 +12,7 @@ pub enum FlatFault {
     /// It has more shapes than a flat may have.
     #[error("too many shapes")]
     TooMany,
-    /// A growth was refused.
+    /// An allocation failed.
     #[error("out of memory")]
     Memory,
 }

@@ -50,7 +50,7 @@ impl<A: Allocator + Copy> Flat<A> {
         self.shapes.as_slice()
     }
 
-    /// How many entries `NETS` and `SPECIALNETS` have together: numbers of nets lie below. A net that stands in both
+    /// How many entries `NETS` and `SPECIALNETS` have together: numbers of nets lie below. A net that is in both
     /// sections has two entries and one number, so there may be fewer nets; the number left over has no pieces.
     pub fn net_count(&self) -> u32
         ensures is { result ≡ length self.now.pieces }
@@ -80,7 +80,8 @@ impl<A: Allocator + Copy> Flat<A> {
 
 /// The metal of the design, which was read with this library.
 ///
-/// `TooMany` is told exactly where it has more than `PART_LIMIT` shapes, which are counted before any memory is asked for.
+/// `TooMany` is returned exactly where it has more than `PART_LIMIT` shapes, which are counted before any memory is
+/// asked for.
 pub fn flatten<A: Allocator + Copy>(
     alloc: A,
     library: &Library<'_, A>,
@@ -103,7 +104,7 @@ pub fn flatten<A: Allocator + Copy>(
     })
 }
 
-/// The shapes of the design, whose nets these are, with room for so many from the start.
+/// The shapes of the design, whose nets these are, with room for this many from the start.
 fn shapes_of<A: Allocator + Copy>(
     alloc: A,
     design: &Design<'_, A>,
@@ -122,7 +123,7 @@ fn shapes_of<A: Allocator + Copy>(
     Ok(shapes)
 }
 
-/// What holds of every design and of its library, as their types say: nothing is done.
+/// What holds of every design and of its library, as their types state: it does nothing.
 pub(crate) fn design_is_sound<A: Allocator + Copy>(design: &Design<'_, A>)
     ensures library { IsSound design.now.library }
     ensures proper { IsWellFormed design.now }

@@ -29,8 +29,8 @@ impl<A: Allocator + Copy> Flat<A> {
     /// design with these rows, components, pins and vias, which was read with this library; the wire is one that `NETS` can
     /// have.
     ///
-    /// `TooMany` is told exactly where the flat would have more than `PART_LIMIT` shapes. On each refusal the flat is as it
-    /// was.
+    /// `TooMany` is returned exactly where the flat would have more than `PART_LIMIT` shapes. On each refusal the flat
+    /// is as it was.
     pub fn add_wire(
         &mut self,
         library: &Library<'_, A>,
@@ -66,7 +66,7 @@ impl<A: Allocator + Copy> Flat<A> {
     }
 }
 
-/// The number of a net's next wire, where so many of its pieces are wires.
+/// The number of a net's next wire, from how many of its pieces are wires.
 fn next_wire(pieces: &[Piece]) -> u32
     requires few { length pieces.now < 2 ^ 32 }
     requires are { (terminals : List Terminal) × ((wires : ℕ) × (pieces.now ≡ pieces_with terminals wires)) }

@@ -22,7 +22,7 @@ pub fn piece_has_its_metal()
         → IsOfPiece design n piece metal → Contains (metal_of design) (of_piece n k piece metal) }
 {}
 
-/// Entries of both sections are of one net just where they have one name.
+/// Entries of both sections are of one net if and only if they have one name.
 pub fn one_number_for_one_name()
     ensures { (design : DesignContents) → IsWellFormed design
         → (n m : ℕ) (a b : NetSaid) → IsEntryOf design n a → IsEntryOf design m b → (n ≡ m) ↔ (a.name ≡ b.name) }

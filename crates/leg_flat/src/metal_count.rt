@@ -14,7 +14,7 @@ use leg_block::{Component, Design, Net, PART_LIMIT, Port, Wire};
 use leg_cells::MasterPin;
 use std::alloc::Allocator;
 
-/// So many more. What is beyond the limit is counted as one beyond it.
+/// Adds, saturating at one above the limit.
 fn counted(before: u64, more: usize) -> u64
     ensures { result ≡ counted before more }
 {

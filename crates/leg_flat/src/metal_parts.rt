@@ -118,7 +118,7 @@ pub(crate) fn add_shape<A: Allocator + Copy>(
     Ok(())
 }
 
-/// Adds shapes of a box of this size, which stands at a place.
+/// Adds shapes of a box of this size, which is at a place.
 pub(crate) fn add_drawn<A: Allocator + Copy>(
     shapes: &mut Vec<Shape, A>,
     place: &Place,

@@ -101,7 +101,7 @@ fn add_terminals<A: Allocator + Copy>(
     Ok(())
 }
 
-/// Adds so many wires to the pieces of a net.
+/// Adds this many wires to the pieces of a net.
 fn add_wires<A: Allocator + Copy>(pieces: &mut Vec<Piece, A>, count: u32) -> Result<(), AllocError>
     ensures { OnOk result (pieces.new.items ≡ pieces.old.items ++ map Wire (range_with_len 0 count)) }
 {

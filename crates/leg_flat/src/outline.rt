@@ -71,7 +71,7 @@ pub(crate) fn shifted_rect(at: &Point, rect: &Rect) -> Rect
     place.rect(0, 0, rect)
 }
 
-/// Where a rectangle lies that is drawn in a box of this size, once the box stands at its place.
+/// Where a rectangle lies that is drawn in a box of this size, once the box is at its place.
 pub(crate) fn drawn_rect(place: &Place, width: i64, height: i64, rect: &Rect) -> Rect
     requires at { IsPosition place.now.at }
     requires width { IsNumber width }

@@ -5,7 +5,7 @@ use leg_block::Terminal;
 /// Whose metal a shape is. Shapes of one owner may touch.
 #[derive(Clone, Copy, PartialEq, Eq, Debug)]
 pub enum Owner {
-    /// A net, by its number: the place of its entry of `NETS`. That of a net that stands in `SPECIALNETS` alone is the
+    /// A net, by its number: the place of its entry of `NETS`. That of a net that is in `SPECIALNETS` alone is the
     /// number of entries of `NETS` and the place of its entry of `SPECIALNETS` together.
     Net(u32),
     /// A terminal in no net.

@@ -1,4 +1,4 @@
--- Clauses, each of which begins behind a `+` (LEF/DEF 5.8, "DEF Syntax"; which are read past is an own rule).
+-- Clauses, each of which begins after a `+` (LEF/DEF 5.8, "DEF Syntax"; which are read past is lefdef's own rule).
 use Rattle.std.specs.Prelude.{Bool, false, [], ◌∷◌}
 use Rattle.leg_lex.specs.Words.{Words, is_word}
 

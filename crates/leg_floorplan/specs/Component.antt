@@ -1,4 +1,4 @@
--- Components (LEF/DEF 5.8, "Components"; how many there may be is an own rule).
+-- Components (LEF/DEF 5.8, "Components"; how many there may be is lefdef's own rule).
 use Rattle.std.specs.Prelude.{ℕ, Bool, ◌||◌, nat_le, if◌then◌else◌, List, [], ◌∷◌, ◌++◌, length, filter, Option, None, Some, is_some, codes}
 use Rattle.std.specs.List.{list_all}
 use Rattle.leg_lex.specs.Words.{Words, ◌>>=◌, is_keyword, is_at, keyword_at, mark_at, name_at, nothing_at}
@@ -16,7 +16,7 @@ use Rattle.leg_floorplan.specs.Clause.{is_clause}
 use Rattle.leg_floorplan.specs.Section.{section_at}
 use Rattle.leg_block.specs.Records.{component_names}
 
--- whether a clause says where the component stands
+-- whether a clause gives the place of the component
 abbrev pub is_placement : Words → Bool
 is_placement clause = says_place clause || is_at (codes "UNPLACED") clause
 
@@ -26,7 +26,7 @@ unplaced_in clause = do
   start ← keyword_at (codes "UNPLACED") clause
   nothing_at start.1
 
--- the status and the place that the clause says
+-- the status and the place that the clause gives
 unfoldable pub placement_in : Words → Option (Status × Option Place)
 placement_in clause =
     if says_place clause then (placed_in clause >>= λ placed. Some (placed.0, Some placed.1))
@@ -37,14 +37,14 @@ abbrev pub placement_in_any : Option Words → Option (Status × Option Place)
 placement_in_any None = Some (Unplaced, None)
 placement_in_any (Some clause) = placement_in clause
 
--- at most one clause says where the component stands; the others are read past
+-- at most one clause gives the place of the component; the others are read past
 unfoldable pub placement_of : List Words → Option (Status × Option Place)
 placement_of clauses = do
   words ← when (list_all is_clause clauses)
   placement ← at_most_one (filter is_placement clauses)
   placement_in_any placement
 
--- a new name, and not PIN, by which nets tell the pins of the design
+-- a new name, and not PIN, by which nets mark the pins of the design
 unfoldable pub new_name_at : List (List ℕ) → Words → Option (List ℕ × Words)
 new_name_at names words = do
   name ← name_at words
@@ -67,7 +67,7 @@ component_head library names head = do
   end ← nothing_at master.1
   Some (name.0, master.0)
 
--- the entry's head and its clauses, where these names stood before
+-- the entry's head and its clauses, where these names came before
 unfoldable pub component_in : Contents → List (List ℕ) → List Words → Option Component
 component_in library names [] = None
 component_in library names (head ∷ clauses) = do

@@ -1,4 +1,4 @@
--- The die area (LEF/DEF 5.8, "Die Area"; that it is a rectangle is an own rule).
+-- The die area (LEF/DEF 5.8, "Die Area"; that it is a rectangle is lefdef's own rule).
 use Rattle.std.specs.Prelude.{Bool, not, ◌&&◌, ◌||◌, if◌then◌else◌, List, [], ◌∷◌, ◌++◌, Option, None, Some, codes}
 use Rattle.std.specs.Ordering.{int_eq}
 use Rattle.leg_lex.specs.Words.{Words, ◌>>=◌, is_at, keyword_at, mark_at}

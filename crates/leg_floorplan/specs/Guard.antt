@@ -3,12 +3,12 @@ use Rattle.std.specs.Prelude.{ℤ, Bool, true, false, nat_le, [], ◌∷◌, Opt
 use Rattle.leg_lex.specs.declared.limits.TheConstants.{NUMBER_LIMIT}
 use Rattle.leg_lex.specs.Words.{Words}
 
--- nothing is said unless the test is met
+-- no value unless the test is met
 abbrev pub when : Bool → Option (Unit {0})
 when true = Some tt
 when false = None
 
--- nothing is said where the test is met
+-- no value where the test is met
 abbrev pub unless : Bool → Option (Unit {0})
 unless true = None
 unless false = Some tt

@@ -1,4 +1,4 @@
--- Layers that are named, and rectangles on them (that a rectangle on a layer without metal is dropped is an own rule).
+-- Layers that are named, and rectangles on them (that a rectangle on a layer without metal is dropped is lefdef's own rule).
 use Rattle.std.specs.Prelude.{ℕ, if◌then◌else◌, List, [], ◌∷◌, ◌++◌, Option, Some}
 use Rattle.leg_lex.specs.Words.{Words, ◌>>=◌, name_at}
 use Rattle.leg_lex.specs.NameLookup.{place_of}

@@ -1,4 +1,4 @@
--- Pins of the design (LEF/DEF 5.8, "Pins"; how many there may be is an own rule).
+-- Pins of the design (LEF/DEF 5.8, "Pins"; how many there may be is lefdef's own rule).
 use Rattle.std.specs.Prelude.{ℕ, nat_le, List, [], ◌∷◌, ◌++◌, length, Option, None, Some, is_some, codes}
 use Rattle.leg_lex.specs.Words.{Words, ◌>>=◌, mark_at, name_at, nothing_at}
 use Rattle.leg_lex.specs.Until.{over}
@@ -20,7 +20,7 @@ pin_head names head = do
   end ← nothing_at name.1
   Some name.0
 
--- the entry's head and its clauses, where these names stood before
+-- the entry's head and its clauses, where these names came before
 unfoldable pub pin_in : Contents → List (List ℕ) → List Words → Option PinSaid
 pin_in library names [] = None
 pin_in library names (head ∷ clauses) = do

@@ -1,4 +1,4 @@
--- The clauses of a pin of the design (LEF/DEF 5.8, "Pins"; what is left out is an own rule).
+-- The clauses of a pin of the design (LEF/DEF 5.8, "Pins"; what is left out is lefdef's own rule).
 use Rattle.std.specs.Prelude.{ℕ, ◌||◌, if◌then◌else◌, List, [], ◌∷◌, ◌++◌, Option, None, Some, is_some, codes}
 use Rattle.leg_lex.specs.Words.{Words, ◌>>=◌, is_at, keyword_at, name_at, word_at, nothing_at}
 use Rattle.leg_cells.specs.Records.{Contents}
@@ -9,7 +9,7 @@ use Rattle.leg_floorplan.specs.Layers.{with_rect}
 use Rattle.leg_block.specs.Records.{PortSaid}
 use Rattle.leg_floorplan.specs.Port.{empty_port, layer_rect}
 
--- what the clauses before said: words that stand at most once, the ports that are whole, and the last port
+-- what the clauses before gave: words that appear at most once, the ports that are whole, and the last port
 pub record PinClauses : Type 0 where
   pub net_name : Option (List ℕ)
   pub direction : Option (List ℕ)

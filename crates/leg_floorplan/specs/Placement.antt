@@ -18,7 +18,7 @@ spot_at words = do
   close ← mark_at 41 y.1
   Some (record { x = x.0; y = y.0 }, close.1)
 
--- ( x y ) ( x y ): the rectangle between two corners, which stand in any order
+-- ( x y ) ( x y ): the rectangle between two corners, which are in any order
 unfoldable pub rect_at : Words → Option (Sides × Words)
 rect_at words = do
   p ← spot_at words
@@ -51,7 +51,7 @@ place_at words = do
   orient ← orient_at at.1
   Some (record { at = at.0; orient = orient.0 }, orient.1)
 
--- the place that stands behind a keyword which says this status
+-- the place after a keyword that denotes this status
 unfoldable pub place_as : Status → Words → Option (Status × Place)
 place_as status clause = do
   start ← next_at clause
@@ -59,7 +59,7 @@ place_as status clause = do
   end ← nothing_at place.1
   Some (status, place.0)
 
--- whether a clause says a place
+-- whether a clause gives a place
 abbrev pub says_place : Words → Bool
 says_place clause = is_at (codes "PLACED") clause || is_at (codes "FIXED") clause || is_at (codes "COVER") clause
 

@@ -1,4 +1,4 @@
--- Rows (LEF/DEF 5.8, "Rows"; that a row has one line of abutting sites, not turned, is an own rule).
+-- Rows (LEF/DEF 5.8, "Rows"; that a row has one line of abutting sites, not turned, is lefdef's own rule).
 use Rattle.std.specs.Prelude.{ℕ, ℤ, pos, ◌||◌, int_le, ◌+ℤ◌, ◌*ℤ◌, List, [], ◌∷◌, Option, Some, codes, slice_get}
 use Rattle.std.specs.Ordering.{int_eq}
 use Rattle.leg_lex.specs.Words.{Words, ◌>>=◌, keyword_at, name_at, whole_at, nothing_at}
@@ -56,7 +56,7 @@ row_in library head = do
   end ← when (is_within (x.0 +ℤ count *ℤ site.0.1.size.width))
   Some (record { name = name.0; site = site.0.0; at = record { x = x.0; y = y.0 }; orient = orient.0; count = count })
 
--- what stands behind a `+` is read past
+-- what comes after a `+` is read past
 abbrev pub head_of : List Words → Words
 head_of [] = []
 head_of (head ∷ clauses) = head

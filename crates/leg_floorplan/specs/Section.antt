@@ -1,4 +1,4 @@
--- Sections (LEF/DEF 5.8, "DEF Syntax"; that their number of entries isn't compared is an own rule).
+-- Sections (LEF/DEF 5.8, "DEF Syntax"; that their number of entries isn't compared is lefdef's own rule).
 use Rattle.std.specs.Prelude.{ℕ, List, Option, Some}
 use Rattle.leg_lex.specs.Words.{Words, ◌>>=◌, keyword_at, mark_at, whole_at, end_at}
 use Rattle.leg_lex.specs.Until.{until}

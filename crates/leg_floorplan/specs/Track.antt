@@ -1,4 +1,4 @@
--- Tracks (LEF/DEF 5.8, "Tracks"; that the last one too is within the limit of numbers is an own rule).
+-- Tracks (LEF/DEF 5.8, "Tracks"; that the last one too is within the limit of numbers is lefdef's own rule).
 use Rattle.std.specs.Prelude.{ℕ, pos, int_le, ◌+ℤ◌, ◌-ℤ◌, ◌*ℤ◌, if◌then◌else◌, List, [], ◌∷◌, ◌++◌, Option, Some, codes}
 use Rattle.leg_lex.specs.Words.{Words, ◌>>=◌, is_at, keyword_at, name_at, whole_at}
 use Rattle.leg_lex.specs.Until.{until}

@@ -1,4 +1,4 @@
--- Vias of a DEF (LEF/DEF 5.8, "Vias"; which of them are good, and what is left out, are own rules).
+-- Vias of a DEF (LEF/DEF 5.8, "Vias"; which of them are good, and what is left out, are lefdef's own rules).
 use Rattle.std.specs.Prelude.{ℕ, Bool, false, ◌||◌, if◌then◌else◌, List, [], ◌∷◌, ◌++◌, Option, None, Some, is_some, codes}
 use Rattle.leg_lex.specs.Words.{Words, ◌>>=◌, is_at, keyword_at, mark_at, name_at, nothing_at}
 use Rattle.leg_lex.specs.Until.{over}
@@ -23,7 +23,7 @@ via_rect library shapes clause = do
   end ← nothing_at rect.1
   Some (with_rect library layer.0 rect.0 shapes)
 
--- clauses that say what a via is in other ways than by rectangles, or on which mask they lie
+-- clauses that define a via in other ways than by rectangles, or give the mask on which they lie
 abbrev pub is_other_via : Words → Bool
 is_other_via clause =
     is_at (codes "VIARULE") clause || is_at (codes "POLYGON") clause || is_at (codes "PATTERNNAME") clause
@@ -45,7 +45,7 @@ via_head library vias head = do
   end ← nothing_at name.1
   Some name.0
 
--- the entry's head and its clauses, where these vias stood before
+-- the entry's head and its clauses, where these vias came before
 unfoldable pub via_in : Contents → List ViaSaid → List Words → Option ViaSaid
 via_in library vias [] = None
 via_in library vias (head ∷ clauses) = do

@@ -16,7 +16,7 @@ use leg_geom::Place;
 use leg_lex::{Cursor, FaultKind, Name, NamedList, ReadFault, clauses, is_keyword};
 use std::alloc::Allocator;
 
-/// Whether a clause says where the component stands.
+/// Whether a clause gives the place of the component.
 fn is_placement(clause: &Cursor<'_, '_>) -> bool
     ensures { result ≡ is_placement clause.now }
 {
@@ -32,7 +32,7 @@ fn unplaced(clause: &mut Cursor<'_, '_>) -> Result<(), ReadFault>
     clause.nothing_more()
 }
 
-/// The status and the place that a clause says.
+/// The status and the place that a clause gives.
 #[tactic(auto, unfolding(crate::specs::Component::placement_in))]
 fn placement(clause: &mut Cursor<'_, '_>) -> Result<(Status, Option<Place>), ReadFault>
     ensures { Means (λ p. p) result (placement_in clause.old) }
@@ -46,7 +46,7 @@ fn placement(clause: &mut Cursor<'_, '_>) -> Result<(Status, Option<Place>), Rea
     }
 }
 
-/// The clause that says where the component stands, if there is one. A second one is `Unexpected`.
+/// The clause that gives the place of the component, if there is one. A second one is `Unexpected`.
 #[tactic(auto, using(crate::proofs::Sought::passed_over, crate::proofs::Sought::found_first, crate::proofs::Sought::found_second, crate::proofs::Sought::looked_through))]
 fn placement_clause<'t, 'a>(clauses: &[Cursor<'t, 'a>]) -> Result<Option<Cursor<'t, 'a>>, ReadFault>
     ensures { Means (λ found. found) result (at_most_one (filter is_placement clauses.now)) }
@@ -63,7 +63,7 @@ fn placement_clause<'t, 'a>(clauses: &[Cursor<'t, 'a>]) -> Result<Option<Cursor<
     Ok(found)
 }
 
-/// The status and the place that the clauses say; at most one of them says where the component stands.
+/// The status and the place that the clauses give; at most one of them gives the place of the component.
 #[tactic(auto, unfolding(crate::specs::Component::placement_of))]
 fn placement_of(clauses: &[Cursor<'_, '_>]) -> Result<(Status, Option<Place>), ReadFault>
     ensures { Means (λ p. p) result (placement_of clauses.now) }

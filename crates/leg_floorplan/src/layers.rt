@@ -1,5 +1,5 @@
-//! What the layers of a library are for (LEF/DEF 5.8, "Layer"; that only routing and cut layers carry metal is an own
-//! rule).
+//! What the layers of a library are for (LEF/DEF 5.8, "Layer"; that only routing and cut layers carry metal is lefdef's
+//! own rule).
 
 ghost use Rattle.std.specs.Prelude.{◌≡◌, OnOk};
 ghost use Rattle.leg_lex.specs.Words.{Reads};

@@ -1,4 +1,4 @@
-//! What the clauses of a pin say (LEF/DEF 5.8, "Pins").
+//! What the clauses of a pin give (LEF/DEF 5.8, "Pins").
 
 ghost use Rattle.std.specs.Prelude.{◌≡◌, Some, None, OnOk};
 ghost use Rattle.leg_lex.specs.Words.{Means};
@@ -15,7 +15,7 @@ use leg_lex::{Cursor, FaultKind, Name, ReadFault};
 use std::alloc::{AllocError, Allocator};
 use std::marker::Model;
 
-/// What the clauses of a pin said: words that stand at most once, the ports that are whole, and the last port.
+/// What the clauses of a pin gave: words that appear at most once, the ports that are whole, and the last port.
 #[derive(Drop)]
 pub(crate) struct PinParts<'a, A: Allocator> {
     pub(crate) net_name: Option<Name<'a>>,
@@ -56,7 +56,7 @@ fn word_after<'a>(keyword: &[u8], clause: &mut Cursor<'_, 'a>) -> Result<&'a [u8
 }
 
 impl<'a, A: Allocator + Copy> PinParts<'a, A> {
-    /// What no clause says.
+    /// What no clauses give.
     fn new(alloc: A) -> PinParts<'a, A>
         ensures { result ≡ no_pin_clauses }
     {
@@ -202,7 +202,7 @@ impl<'a, A: Allocator + Copy> PinParts<'a, A> {
     }
 }
 
-/// What all clauses of a pin say.
+/// What all clauses of a pin give.
 #[tactic(auto, using(leg_lex::proofs::Over::over_ends, leg_lex::proofs::Over::over_goes_on, leg_lex::proofs::Over::over_fails))]
 pub(crate) fn all_parts<'a, A: Allocator + Copy>(
     alloc: A,

@@ -23,7 +23,7 @@ pub(crate) fn point(words: &mut Cursor<'_, '_>) -> Result<Point, ReadFault>
     Ok(point)
 }
 
-/// The rectangle between two corners, which stand in any order, where it has area.
+/// The rectangle between two corners, which are in any order, where it has area.
 pub fn rect_between(p: &Point, q: &Point) -> Option<Rect>
     ensures { result ≡ rect_between p.now q.now }
 {
@@ -35,7 +35,7 @@ pub fn rect_between(p: &Point, q: &Point) -> Option<Rect>
     )
 }
 
-/// A rectangle by two corners, which stand in any order. One without area is `EmptyRect`.
+/// A rectangle by two corners, which are in any order. One without area is `EmptyRect`.
 #[tactic(auto, unfolding(crate::specs::Placement::rect_at))]
 pub(crate) fn rect(words: &mut Cursor<'_, '_>) -> Result<Rect, ReadFault>
     ensures { Reads (λ r. r) result words.new (rect_at words.old) }
@@ -97,14 +97,14 @@ pub(crate) fn place(words: &mut Cursor<'_, '_>) -> Result<Place, ReadFault>
     Ok(Place { at, orient })
 }
 
-/// Whether a clause says a place.
+/// Whether a clause gives a place.
 pub(crate) fn says_place(clause: &Cursor<'_, '_>) -> bool
     ensures { result ≡ says_place clause.now }
 {
     clause.is_at(b"PLACED") || clause.is_at(b"FIXED") || clause.is_at(b"COVER")
 }
 
-/// The place behind the keyword that says this status.
+/// The place after the keyword that denotes this status.
 #[tactic(auto, unfolding(crate::specs::Placement::place_as))]
 fn place_as(status: Status, clause: &mut Cursor<'_, '_>) -> Result<(Status, Place), ReadFault>
     ensures { Means (λ p. p) result (place_as status clause.old) }
@@ -115,7 +115,7 @@ fn place_as(status: Status, clause: &mut Cursor<'_, '_>) -> Result<(Status, Plac
     Ok((status, place))
 }
 
-/// The status and the place that a clause says. Another first word is `Unexpected`.
+/// The status and the place that a clause gives. Another first word is `Unexpected`.
 #[tactic(auto, unfolding(crate::specs::Placement::placed_in))]
 pub(crate) fn placed(clause: &mut Cursor<'_, '_>) -> Result<(Status, Place), ReadFault>
     ensures { Means (λ p. p) result (placed_in clause.old) }

@@ -30,7 +30,7 @@ impl<A: Allocator> Model for OpenPort<A> {
 }
 
 impl<A: Allocator + Copy> OpenPort<A> {
-    /// A port of which nothing is said.
+    /// A port of which nothing is given.
     pub(crate) fn new(alloc: A) -> OpenPort<A>
         ensures { result ≡ empty_port }
     {
@@ -58,7 +58,7 @@ impl<A: Allocator + Copy> OpenPort<A> {
     }
 }
 
-/// Reads past this keyword and a number, if the keyword stands there.
+/// Reads past this keyword and a number, if the keyword is next.
 #[tactic(auto, unfolding(crate::specs::Port::past_number))]
 fn past_number(keyword: &[u8], clause: &mut Cursor<'_, '_>) -> Result<(), ReadFault>
     ensures { Reads (λ x. x) result clause.new (past_number keyword.now clause.old) }

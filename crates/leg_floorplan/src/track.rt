@@ -25,7 +25,7 @@ fn axis(words: &mut Cursor<'_, '_>) -> Result<Axis, ReadFault>
     }
 }
 
-/// Adds the number of the layer whose name stands next. A name that no layer of the library has is `UnknownName`.
+/// Adds the number of the layer whose name comes next. A name that no layer of the library has is `UnknownName`.
 #[tactic(auto, unfolding(crate::specs::Track::one_layer))]
 fn one_layer<A: Allocator + Copy>(
     library: &Library<'_, A>,

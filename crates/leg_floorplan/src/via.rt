@@ -33,7 +33,7 @@ fn via_rect<A: Allocator + Copy>(
     Ok(())
 }
 
-/// Whether a clause says what a via is in another way than by a rectangle, or on which mask it lies.
+/// Whether a clause defines a via in another way than by a rectangle, or gives the mask on which it lies.
 fn is_other_via(part: &Cursor<'_, '_>) -> bool
     ensures { result ≡ is_other_via part.now }
 {
@@ -62,7 +62,7 @@ fn via_clause<A: Allocator + Copy>(
     }
 }
 
-/// The shapes that all clauses of a via say.
+/// The shapes that all clauses of a via give.
 #[tactic(auto, using(leg_lex::proofs::Over::over_ends, leg_lex::proofs::Over::over_goes_on, leg_lex::proofs::Over::over_fails))]
 fn all_shapes<A: Allocator + Copy>(
     alloc: A,

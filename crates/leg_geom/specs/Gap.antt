@@ -1,4 +1,4 @@
--- How far two rectangles lie apart, along an axis and as the crow flies, in database units.
+-- How far two rectangles lie apart, along an axis and by Euclidean distance, in database units.
 use Rattle.std.specs.Prelude.{◌≡◌, ℕ, ◌+◌, ◌*◌, ◌≤◌, ℤ, ◌-ℤ◌, unsigned_abs, int_lt, if◌then◌else◌}
 use Rattle.leg_geom.specs.Plane.{Spot, Sides, HasPoint}
 

@@ -31,7 +31,7 @@ IsMirrored o mirrored =
 abbrev pub moved : Spot → Spot → Spot
 moved by p = record { x = by.x +ℤ p.x; y = by.y +ℤ p.y }
 
--- where a point of the box lies once the box is oriented and its lower left corner stands at a point
+-- where a point of the box lies once the box is oriented and its lower left corner is at a point
 abbrev pub placed : Spot → Orient → ℤ → ℤ → Spot → Spot
 placed at o w h p = moved at (turned o w h p)
 

@@ -8,7 +8,7 @@ use crate::orient::Orient;
 use crate::point::Point;
 use crate::rect::Rect;
 
-/// Where a component stands: the lower left corner of its oriented box, and the orientation.
+/// Where a component is: the lower left corner of its oriented box, and the orientation.
 #[derive(Clone, Copy, PartialEq, Eq, Debug)]
 pub struct Place {
     pub at: Point,

@@ -1,4 +1,4 @@
--- The wires that nodes and steps of the grid add (own rules): each is told as a wire of NETS.
+-- The wires that nodes and steps of the grid add (lefdef's own rules): each is given as a wire of NETS.
 use Rattle.std.specs.Prelude.{◌≡◌, ℕ, ◌⊎◌, ℤ, pos, ◌-ℤ◌}
 use Rattle.leg_geom.specs.Plane.{Sides, halfway}
 use Rattle.leg_cells.specs.declared.records.Direction.{Direction}

@@ -1,4 +1,4 @@
--- The via by which wires go from a routing layer to the next one above (own rules; LEF/DEF 5.8, "Via", on DEFAULT).
+-- The via by which wires go from a routing layer to the next one above (lefdef's own rules; LEF/DEF 5.8, "Via", on DEFAULT).
 use Rattle.std.specs.Prelude.{◌≡◌, ℕ, ◌<◌, ◌⊎◌, List, true, Some, slice_get, Contains}
 use Rattle.leg_cells.specs.JoinLaw.{Joins}
 use Rattle.leg_cells.specs.GoodVia.{uses_of, parts_of}

@@ -1,4 +1,4 @@
--- How many steps are left at least from a slot of a grid to the slots of some boxes (own rule).
+-- How many steps are left at least from a slot of a grid to the slots of some boxes (lefdef's own rule).
 use Rattle.std.specs.Prelude.{◌≡◌, ◌↔◌, ℕ, ◌+◌, ◌-◌, ◌/◌, ◌%◌, ◌≤◌, List, [], ◌∷◌, length, min, All}
 use Rattle.leg_grid.specs.declared.slot.Slot.{Slot}
 use Rattle.leg_grid.specs.declared.slot_box.SlotBox.{SlotBox}
@@ -44,7 +44,7 @@ pub record IsInBox (ends : SlotBox) (s : Slot) : Type 0 where
   pub low_column : ends.low.column ≤ s.column
   pub high_column : s.column ≤ ends.high.column
 
--- the box is one of slots of the grid: just those of whose numbers this holds
+-- the box is one of slots of the grid: exactly those of whose numbers this holds
 pub record HasJust (grid : GridSaid) (P : ℕ → Type 0) (ends : SlotBox) : Type 0 where
   pub corners : IsBoxOf grid ends
   pub each : (n : ℕ) (s : Slot) → IsSlot grid n s.layer s.row s.column → P n ↔ IsInBox ends s

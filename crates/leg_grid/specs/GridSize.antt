@@ -1,4 +1,4 @@
--- How large the grid is (own rules).
+-- How large the grid is (lefdef's own rules).
 use Rattle.std.specs.Prelude.{ℕ, ◌*◌, ◌<◌, ◌⊎◌, ℤ, ◌<ℤ◌, List, sum_by, count_by, length, AllPairs, All, Contains, is_some, unsigned_abs}
 use Rattle.leg_cells.specs.Records.{Contents}
 use Rattle.leg_block.specs.Layers.{wire_width}
@@ -20,7 +20,7 @@ track_count tracks = sum_by (λ track. unsigned_abs track.count) tracks
 abbrev pub routing_count : Contents → ℕ
 routing_count library = count_by (λ layer. is_some (wire_width layer.kind)) library.layers
 
--- so many slots has a grid of these values, one on each routing layer
+-- how many slots a grid of these values has: one on each routing layer for each pair of values
 abbrev pub slot_count : DesignContents → List ℤ → List ℤ → ℕ
 slot_count design xs ys = routing_count design.library * length ys * length xs
 

@@ -1,4 +1,4 @@
--- Nodes in a rectangle of a layer, on its border or within it (own rule).
+-- Nodes in a rectangle of a layer, on its border or within it (lefdef's own rule).
 use Rattle.std.specs.Prelude.{◌≡◌, ℕ}
 use Rattle.leg_geom.specs.Plane.{Sides, HasPoint}
 use Rattle.leg_grid.specs.declared.node.Node.{Node}

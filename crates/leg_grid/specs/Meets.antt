@@ -1,4 +1,4 @@
--- Where walks of a net begin and end (own rules). A node meets a piece if its point is one of a rectangle of the piece on the
+-- Where walks of a net begin and end (lefdef's own rules). A node meets a piece if its point is one of a rectangle of the piece on the
 -- node's layer.
 use Rattle.std.specs.Prelude.{ℕ}
 use Rattle.leg_flat.specs.Flat.{FlatSaid}

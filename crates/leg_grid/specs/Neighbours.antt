@@ -1,4 +1,4 @@
--- The steps of the grid (own rules). A step goes along its layer's direction to the next value of the grid, or by a via to
+-- The steps of the grid (lefdef's own rules). A step goes along its layer's direction to the next value of the grid, or by a via to
 -- the next routing layer.
 use Rattle.std.specs.Prelude.{◌≡◌, ℕ, ◌⊎◌, ℤ, ◌<ℤ◌}
 use Rattle.leg_cells.specs.declared.records.Direction.TheVariants.{Horizontal, Vertical}

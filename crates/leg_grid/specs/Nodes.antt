@@ -1,4 +1,4 @@
--- The nodes of the grid (own rules).
+-- The nodes of the grid (lefdef's own rules).
 use Rattle.std.specs.Prelude.{◌⊎◌, ℤ}
 use Rattle.leg_cells.specs.declared.records.Direction.TheVariants.{Horizontal, Vertical}
 use Rattle.leg_block.specs.declared.records.Axis.TheVariants.{X, Y}

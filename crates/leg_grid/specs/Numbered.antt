@@ -1,4 +1,4 @@
--- Walks over the grid, told by the numbers of slots.
+-- Walks over the grid, given by the numbers of slots.
 use Rattle.std.specs.Prelude.{ℕ, List}
 use Rattle.leg_flat.specs.Flat.{FlatSaid}
 use Rattle.leg_walk.specs.Walk.{IsShortest, NoWalk}

@@ -1,4 +1,4 @@
--- Nodes and steps that are open to a net: what they add is clean metal of the net (own rules).
+-- Nodes and steps that are open to a net: what they add is clean metal of the net (lefdef's own rules).
 use Rattle.std.specs.Prelude.{ℕ, ◌↔◌, Contains}
 use Rattle.leg_geom.specs.Plane.{Spot, Sides, HasPoint}
 use Rattle.leg_block.specs.declared.records.Wire.{Wire}

@@ -1,4 +1,4 @@
--- Why a design isn't routed (own rules).
+-- Why a design isn't routed (lefdef's own rules).
 use Rattle.std.specs.Prelude.{◌≢◌, ℕ, ◌+◌, ◌<◌, ◌⊎◌, List, [], ◌∷◌, ◌++◌, length}
 use Rattle.leg_block.specs.declared.limits.TheConstants.{PART_LIMIT}
 use Rattle.leg_block.specs.declared.records.Wire.{Wire}

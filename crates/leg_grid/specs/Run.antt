@@ -1,4 +1,4 @@
--- A routing run (own rules): while a net of NETS is open, the first such net gets the wires of a shortest open walk from its
+-- A routing run (lefdef's own rules): while a net of NETS is open, the first such net gets the wires of a shortest open walk from its
 -- joined part to the rest.
 use Rattle.std.specs.Prelude.{ℕ, ◌<◌, List, [], ◌∷◌, ◌++◌}
 use Rattle.leg_block.specs.declared.records.Wire.{Wire}

@@ -1,4 +1,4 @@
--- The wires of a walk (own rules): maximal straight runs become segments, steps by a via become vias, and a walk of no steps
+-- The wires of a walk (lefdef's own rules): maximal straight runs become segments, steps by a via become vias, and a walk of no steps
 -- becomes a patch.
 use Rattle.std.specs.Prelude.{ℕ, ◌⊎◌, List, [], ◌∷◌, ◌++◌}
 use Rattle.leg_block.specs.declared.records.Wire.{Wire}

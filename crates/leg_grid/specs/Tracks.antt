@@ -1,5 +1,5 @@
 -- The lines of the grid: which tracks layers have (LEF/DEF 5.8, "Tracks"; "Layer (Routing)", on DIRECTION and WIDTH; that
--- tracks without LAYER hold for every routing layer is an own rule).
+-- tracks without LAYER hold for every routing layer is lefdef's own rule).
 use Rattle.std.specs.Prelude.{◌≡◌, ℕ, ◌⊎◌, ℤ, pos, ◌+ℤ◌, ◌*ℤ◌, ◌<ℤ◌, [], Some, slice_get, Contains}
 use Rattle.leg_cells.specs.declared.records.Direction.{Direction}
 use Rattle.leg_cells.specs.declared.records.Direction.TheVariants.{Horizontal, Vertical}

@@ -33,7 +33,7 @@ fn access_of(is_there: bool) -> Access
     }
 }
 
-/// What is told of the slot of this number where no shape lies.
+/// What is known of the slot of this number where no shape lies.
 fn bare_slot<A: Allocator + Copy>(grid: &Grid<'_, '_, A>, number: u32) -> SlotAccess
     requires { number < slot_total grid.now }
     ensures { (flat : FlatSaid) → flat.shapes ≡ [] → TellsSlot grid.now flat number result }
@@ -45,7 +45,7 @@ fn bare_slot<A: Allocator + Copy>(grid: &Grid<'_, '_, A>, number: u32) -> SlotAc
     }
 }
 
-/// What is told of each slot where no shape lies.
+/// What is known of each slot where no shape lies.
 fn bare_slots<A: Allocator + Copy>(
     alloc: A,
     grid: &Grid<'_, '_, A>,
@@ -77,7 +77,8 @@ pub fn slots_beside<A: Allocator + Copy>(
     Ok(slots)
 }
 
-/// The same where a shape more lies, behind the others: the slots near it are told anew. The grid is that of the design.
+/// The same where one more shape lies, after the others: the slots near it are computed anew. The grid is that of the
+/// design.
 pub fn add_shape<A: Allocator + Copy>(
     grid: &Grid<'_, '_, A>,
     design: &Design<'_, A>,
@@ -182,7 +183,7 @@ fn add_at<A: Allocator + Copy>(
 }
 
 /// The places of the values near these coordinates, those of one slot before among them, whose step along its layer ends there:
-/// the first place, and the one behind the last. What is near is not farther than the reach and the spacing together.
+/// the first place, and the one past the last. What is near is not farther than the reach and the spacing together.
 fn places_near(values: &[i64], low: i64, high: i64, reach: i64, apart: i64) -> (usize, usize)
     requires rising { AllPairs (λ a b. a <ℤ b) values.now }
     requires low { IsCoordinate low }

@@ -12,7 +12,7 @@ pub enum GridFault {
     /// It has too many tracks, or its grid too many slots.
     #[error("grid too large")]
     TooLarge,
-    /// A growth was refused.
+    /// An allocation failed.
     #[error("out of memory")]
     Memory,
 }

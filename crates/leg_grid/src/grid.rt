@@ -117,7 +117,7 @@ pub(crate) fn point_at(x: i64, y: i64) -> Point
 }
 
 impl<'g, 'a, A: Allocator + Copy> Grid<'g, 'a, A> {
-    /// The grid of the design. `TooLarge` is told where it has too many tracks or its grid too many slots.
+    /// The grid of the design. `TooLarge` is returned where it has too many tracks or its grid too many slots.
     pub fn new(alloc: A, design: &'g Design<'a, A>) -> Result<Grid<'g, 'a, A>, GridFault>
         ensures is { IfOk result (λ grid. grid.design ≡ design.now) }
         ensures fits { OnOk result (¬ IsGridTooLarge design.now) }
@@ -329,7 +329,7 @@ fn widths_are_sound<A: Allocator + Copy>(design: &Design<'_, A>)
     let _layers = design.library().layers();
 }
 
-/// What holds of each grid, as its type says: nothing is done.
+/// What holds of each grid, as its type states: it does nothing.
 pub fn grid_is_sound<A: Allocator + Copy>(grid: &Grid<'_, '_, A>)
     ensures library { IsSound grid.now.design.library }
     ensures proper { IsGrid grid.now }

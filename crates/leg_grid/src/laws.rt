@@ -1,4 +1,4 @@
-//! What follows from the definitions alone, as functions whose contracts say it.
+//! What follows from the definitions alone, as functions whose contracts state it.
 
 ghost use Rattle.std.specs.Prelude.{◌≡◌, ◌↔◌, ◌+◌, ◌<◌, ◌≤◌, ℕ, List, All, Contains, length};
 ghost use Rattle.std.specs.List.{AllZip};
@@ -32,8 +32,9 @@ pub fn nodes_have_numbers()
     ensures once { (grid : GridSaid) (m n : ℕ) (node : Node) → IsGrid grid → IsNumberOf grid m node → IsNumberOf grid n node → m ≡ n }
 {}
 
-/// What a search in the graph of a net answers, told by numbers, is an open walk of the net, where the table tells what is open in
-/// the flat, and the numbers of the starts and of the ends are those of the slots at which walks of the net begin and end.
+/// What a search in the graph of a net answers, given by numbers, is an open walk of the net, where the table has what
+/// is open in the flat, and the numbers of the starts and of the ends are those of the slots at which walks of the net
+/// begin and end.
 pub fn searches_walk_as_numbers()
     ensures shortest { (grid : GridSaid) (origin around : List SlotBox) (flat : FlatSaid) (slots : List SlotAccess) (net : ℕ) (starts finish numbers : List ℕ) → IsGrid grid
         → IsSound grid.design.library → TellsSlots grid flat slots
@@ -50,14 +51,15 @@ pub fn searches_walk_as_numbers()
         → All (λ n. n < slot_total grid) numbers }
 {}
 
-/// A shortest open walk that is told by numbers is one of nodes; where no numbers are those of an open walk, there is none.
+/// A shortest open walk that is given by numbers is one of nodes; where no numbers are those of an open walk, there is
+/// none.
 #[tactic(auto, using(crate::proofs::NextWalks::next_walk, crate::proofs::NextWalks::no_next_walk))]
 pub fn numbers_walk_as_nodes()
     ensures shortest { (grid : GridSaid) (flat : FlatSaid) (net : ℕ) (numbers : List ℕ) → IsGrid grid → IsNextWalkAt grid flat net numbers → (nodes : List Node) × AllZip (IsNumberOf grid) numbers nodes × IsNextWalk grid.design flat net nodes }
     ensures none { (grid : GridSaid) (flat : FlatSaid) (net : ℕ) → IsGrid grid → HasNoWalkAt grid flat net → HasNoWalk grid.design flat net }
 {}
 
-/// Slots in which nodes lie step to the slots beside them just as their nodes do.
+/// Slots in which nodes lie step to the slots beside them exactly as their nodes do.
 pub fn slots_step_as_nodes()
     ensures { (grid : GridSaid) (side : Side) (s t : Slot) (a b : Node) → IsGrid grid → LiesAt grid s.layer s.row s.column a → LiesAt grid t.layer t.row t.column b
         → IsNode grid.design a → IsNode grid.design b → (IsSlotBeside grid side s t ↔ IsBeside grid.design side a b) }

@@ -24,7 +24,7 @@ pub(crate) fn are_too_many<A: Allocator>(tracks: &[Track<A>]) -> bool
     false
 }
 
-/// How many slots a grid has of so many layers, rows and columns, where these are no more than there may be.
+/// How many slots a grid has of this many layers, rows and columns, where these are no more than there may be.
 pub(crate) fn slots_of(layers: usize, rows: usize, columns: usize) -> Option<u32>
     ensures { SomeIff result (layers * rows * columns ≤ GRID_LIMIT) (layers * rows * columns) }
 {

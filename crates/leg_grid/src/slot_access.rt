@@ -37,7 +37,7 @@ impl SlotAccess {
     }
 }
 
-/// What is told of the slot of this number where this shape alone lies.
+/// What is known of the slot of this number where this shape alone lies.
 pub(crate) fn slot_beside<A: Allocator + Copy>(
     grid: &Grid<'_, '_, A>,
     design: &Design<'_, A>,

@@ -16,7 +16,7 @@ use crate::slot_box::{BoxedSlots, SlotBox};
 use leg_geom::Rect;
 use std::alloc::{AllocError, Allocator};
 
-/// The places of the values from low to high: the first one, and the one behind the last.
+/// The places of the values from low to high: the first one, and the one past the last.
 pub(crate) fn places_within(values: &[i64], low: i64, high: i64) -> (usize, usize)
     requires { AllPairs (λ a b. a <ℤ b) values.now }
     ensures { ArePlaces values.now low high result.0 result.1 }

@@ -124,7 +124,7 @@ fn is_proper<A: Allocator + Copy>(design: &Design<'_, A>)
     let _tracks = design.tracks();
 }
 
-/// The walk after so many steps.
+/// The walk after this many steps.
 fn after(nodes: &[Node], steps: usize) -> &[Node]
     requires { steps < length nodes.now }
     ensures { result.now ≡ drop steps nodes.now }

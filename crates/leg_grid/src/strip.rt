@@ -47,7 +47,7 @@ fn strip(low: &Point, high: &Point, width: i64) -> Rect
 }
 
 /// Which nets may have a segment of this width between two points beside this shape, which reaches past both by half the width.
-/// It does not matter from which of them it is told.
+/// It does not matter from which of them it is given.
 pub(crate) fn strip_beside<A: Allocator + Copy>(
     design: &Design<'_, A>,
     shape: &Shape,

@@ -11,7 +11,7 @@ use Rattle.leg_grown.specs.Growth.{AddedWire, Grows, wires_added}
 abbrev pub finished : DesignContents → List (List Wire) → DesignContents
 finished design lists = record design { nets = with_more_wires design.nets lists }
 
--- All the added wires are of the first so many nets, and each list has those of one of these nets, in their order.
+-- All the added wires are of the first `count` nets, and each list has those of one of these nets, in their order.
 pub record AreByNet (count : ℕ) (added : List AddedWire) (lists : List (List Wire)) : Type 0 where
   pub nets : All (λ (one : AddedWire). one.net < count) added
   pub one_each : length lists ≡ count

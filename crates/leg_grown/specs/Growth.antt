@@ -34,7 +34,7 @@ abbrev pub shapes_added : DesignContents → List AddedWire → ℕ
 shapes_added design [] = 0
 shapes_added design (added ∷ more) = length (wire_outlines design added.wire) + shapes_added design more
 
--- the metal is one of the shapes of an added wire: number j of those of its net, and a piece behind those that the net had
+-- the metal is one of the shapes of an added wire: number j of those of its net, and a piece after those that the net had
 pub record IsMetalAdded (design : DesignContents) (added : List AddedWire) (before : FlatSaid) (metal : Metal) : Type 0 where
   pub net : ℕ
   pub j : ℕ

@@ -21,7 +21,7 @@ HasTooNear library flat = (i : ℕ) × (j : ℕ) × spacing.Holds library flat (
 abbrev pub IsOpenNet : DesignContents → FlatSaid → ℕ → Type 0
 IsOpenNet design flat n = (k : ℕ) × joins.IsOpen design flat n k
 
--- No violation of any kind holds of the design and its flat: of where components stand, of two shapes, of the pieces of a
+-- No violation of any kind holds of the design and its flat: of placement, of two shapes, of the pieces of a
 -- net.
 pub record IsLegal (library : Contents) (design : DesignContents) (flat : FlatSaid) : Type 0 where
   pub places : (fault : Fault) → ¬ place.Holds library design fault

@@ -103,7 +103,7 @@ pub fn other_numbers_stay()
         → AreNumbersOf after.shapes other numbers }
 {}
 
-/// Empty lists, one for each of the first so many nets, have the wires of these nets where none was added yet.
+/// Empty lists, one for each of the first `count` nets, have the wires of these nets where none was added yet.
 pub fn no_wires_by_net()
     ensures { (count : ℕ) → AreByNet count [] (replicate count []) }
 {}
@@ -122,8 +122,8 @@ pub fn shapes_stay_as_many()
         → length (metal_of (finished design lists)) ≡ length grown.shapes }
 {}
 
-/// Where a flat grew by wires and its design got the same wires, the flat of that design has a short just where the grown
-/// one has.
+/// Where a flat grew by wires and its design got the same wires, the flat of that design has a short if and only if the
+/// grown one has.
 pub fn shorts_stay()
     ensures { (library : Contents) (design : DesignContents) (added : List AddedWire) (grown : FlatSaid) (lists : List (List Wire)) (end : FlatSaid)
         → IsFinishedFrom design added grown lists end → HasShort library grown ↔ HasShort library end }
@@ -132,7 +132,7 @@ pub fn shorts_stay()
     piece_has_its_metal();
 }
 
-/// It has shapes too near one another just where the grown one has.
+/// It has shapes too near one another if and only if the grown one has.
 pub fn shapes_stay_too_near()
     ensures { (library : Contents) (design : DesignContents) (added : List AddedWire) (grown : FlatSaid) (lists : List (List Wire)) (end : FlatSaid)
         → IsFinishedFrom design added grown lists end → HasTooNear library grown ↔ HasTooNear library end }
@@ -141,8 +141,8 @@ pub fn shapes_stay_too_near()
     piece_has_its_metal();
 }
 
-/// A net is not open in it just where it isn't in the grown one. Pieces have other numbers there: wires that were added to a
-/// net stand before those of its entry of `SPECIALNETS`.
+/// A net is not open in it if and only if it isn't open in the grown one. Pieces have other numbers there: wires that
+/// were added to a net come before those of its entry of `SPECIALNETS`.
 pub fn nets_stay_joined()
     ensures { (design : DesignContents) (added : List AddedWire) (grown : FlatSaid) (lists : List (List Wire)) (end : FlatSaid)
         → IsFinishedFrom design added grown lists end → (n : ℕ) → n < length design.nets
@@ -154,8 +154,8 @@ pub fn nets_stay_joined()
     joined_onward();
 }
 
-/// A net that has a terminal, or had a wire in its entry of `NETS`, is open in it just where it is in the grown one: its
-/// first piece is the same.
+/// A net that has a terminal, or had a wire in its entry of `NETS`, is open in it if and only if it is open in the
+/// grown one: its first piece is the same.
 pub fn open_nets_stay_open()
     ensures { (design : DesignContents) (added : List AddedWire) (grown : FlatSaid) (lists : List (List Wire)) (end : FlatSaid)
         → IsFinishedFrom design added grown lists end → (n : ℕ) → n < length design.nets
@@ -168,7 +168,7 @@ pub fn open_nets_stay_open()
     joined_onward();
 }
 
-/// So is any net of which marks tell, as `joined` finds them, which pieces are joined to the first one.
+/// So is any net for which there are marks, as `joined` finds them, of which pieces are joined to the first one.
 pub fn marked_nets_stay_open()
     ensures { (design : DesignContents) (added : List AddedWire) (grown : FlatSaid) (lists : List (List Wire)) (end : FlatSaid)
         → IsFinishedFrom design added grown lists end → (n : ℕ) → n < length design.nets
@@ -181,14 +181,14 @@ pub fn marked_nets_stay_open()
     joined_onward();
 }
 
-/// Wires change nothing about where components stand.
+/// Wires change nothing about placement.
 pub fn placement_stays()
     ensures { (library : Contents) (design : DesignContents) (lists : List (List Wire)) (fault : Fault)
         → place.Holds library design fault ↔ place.Holds library (finished design lists) fault }
 {}
 
-/// A design that got the wires that its flat grew by is legal if its components stand well and the grown flat has no short,
-/// no shapes too near one another and no open net.
+/// A design that got the wires that its flat grew by is legal if its components are legally placed and the grown flat
+/// has no short, no shapes too near one another and no open net.
 pub fn finished_design_is_legal()
     ensures { (library : Contents) (design : DesignContents) (added : List AddedWire) (grown : FlatSaid) (lists : List (List Wire)) (end : FlatSaid)
         → IsFinishedFrom design added grown lists end

@@ -1,4 +1,4 @@
--- Which positions of a component are free, and which of them is the best (own rules).
+-- Which positions of a component are free, and which of them is the best (lefdef's own rules).
 use Rattle.std.specs.Prelude.{◌⊎◌, ℕ, List, Contains}
 use Rattle.leg_geom.specs.Plane.{Sides}
 use Rattle.leg_geom.specs.declared.place.Place.{Place}
@@ -10,17 +10,17 @@ use Rattle.leg_sites.specs.BestPosition.{IsNoWorse}
 use Rattle.leg_legal.specs.Movable.{IsMovable}
 use Rattle.leg_legal.specs.Standing.{StandsAt}
 
--- Component d stands where it will stand: it stays, or its turn has come. One that waits for its turn is in nobody's way.
+-- Component d is where it will remain: it stays, or its turn has come. One that waits for its turn is in nobody's way.
 abbrev pub IsSettled : DesignContents → List ℕ → ℕ → Type 0
 IsSettled design done d = (¬ IsMovable design d) ⊎ Contains done d
 
--- a component stands in this box and will stay there
+-- a component is in this box and will stay there
 pub record IsTaken (design : DesignContents) (done : List ℕ) (box : Sides) : Type 0 where
   pub d : ℕ
   pub settled : IsSettled design done d
   pub stands : StandsIn design.library design d box
 
--- With this place component c stands at the position, and its box is clear: it lies in the die, and shares no unit square with
+-- With this place component c is at the position, and its box is clear: it lies in the die, and shares no unit square with
 -- one that is taken.
 pub record IsFree (design : DesignContents) (done : List ℕ) (c : ℕ) (position : Candidate) (place : Place) : Type 0 where
   pub stands : StandsAt design c position place

@@ -1,4 +1,4 @@
--- Which components the legaliser may move (own rule).
+-- Which components the legaliser may move (lefdef's own rule).
 use Rattle.std.specs.Prelude.{◌≡◌, ℕ, Some, slice_get}
 use Rattle.leg_cells.specs.Records.{MasterSaid}
 use Rattle.leg_block.specs.declared.records.Status.{Status}

@@ -1,4 +1,4 @@
--- How far components have moved (own rule).
+-- How far components have moved (lefdef's own rule).
 use Rattle.std.specs.Prelude.{◌≡◌, ℕ, ℤ, pos, ◌+ℤ◌, List, [], ◌∷◌, length, Some, slice_get}
 use Rattle.std.specs.Int.{int_max}
 use Rattle.leg_block.specs.Records.{DesignContents}

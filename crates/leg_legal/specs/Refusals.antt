@@ -1,4 +1,4 @@
--- When the legaliser refuses a design (own rules).
+-- When the legaliser refuses a design (lefdef's own rules).
 use Rattle.std.specs.Prelude.{◌≡◌, ◌≢◌, ℕ, pos, ◌≤◌, ◌++◌, ◌∷◌, List, [], ◌*ℤ◌, Contains, Some, slice_get}
 use Rattle.leg_geom.specs.declared.place.Place.{Place}
 use Rattle.leg_cells.specs.declared.records.Site.{Site}
@@ -17,7 +17,7 @@ use Rattle.leg_legal.specs.Free.{IsFree}
 use Rattle.leg_legal.specs.Turns.{IsOrderOfTaking}
 use Rattle.leg_legal.specs.Run.{Run, IsLegallyPlaced}
 
--- a violation of where components stand concerns only components that stay
+-- a violation of placement concerns only components that stay
 abbrev pub ConcernsStaying : DesignContents → Fault → Type 0
 ConcernsStaying design (Unplaced c) = ¬ IsMovable design c
 ConcernsStaying design (Outside c) = ¬ IsMovable design c
@@ -27,7 +27,7 @@ ConcernsStaying design (Short a b) = ⊥
 ConcernsStaying design (TooNear a b) = ⊥
 ConcernsStaying design (OpenNet n k) = ⊥
 
--- a violation of where components stand holds, and no component that moves can mend it
+-- a violation of placement holds, and no component that moves can mend it
 pub record HoldsOfStaying (design : DesignContents) (fault : Fault) : Type 0 where
   pub holds : Holds design.library design fault
   pub staying : ConcernsStaying design fault
@@ -42,7 +42,7 @@ pub record FitsSites (site size : Lengths) : Type 0 where
   pub many : ℕ
   pub wide : size.width ≡ pos many *ℤ site.width
 
--- a macro of this size, of the site of this number, can stand on a row: it fits the site, and a row has that site
+-- a macro of this size, of the site of this number, fits some row: it fits the site, and a row has that site
 pub record HasRowFor (design : DesignContents) (size : Lengths) (number : ℕ) : Type 0 where
   pub site : Site
   pub is_site : slice_get design.library.sites number ≡ Some site
@@ -51,7 +51,7 @@ pub record HasRowFor (design : DesignContents) (size : Lengths) (number : ℕ) :
   pub has : Contains design.rows row
   pub same : row.site ≡ number
 
--- Component c is movable, and can stand on no row: its macro is not as high as its site, it is not as wide as a number of
+-- Component c is movable, and fits no row: its macro is not as high as its site, it is not as wide as a number of
 -- them, or no row has that site.
 pub record IsUnsuited (design : DesignContents) (c : ℕ) : Type 0 where
   pub movable : IsMovable design c
@@ -62,7 +62,7 @@ pub record IsLeastUnsuited (design : DesignContents) (c : ℕ) : Type 0 where
   pub unsuited : IsUnsuited design c
   pub least : (d : ℕ) → IsUnsuited design d → c ≤ d
 
--- each movable component can stand on some row
+-- each movable component fits some row
 abbrev pub AreSuited : DesignContents → Type 0
 AreSuited design = (c : ℕ) → ¬ IsUnsuited design c
 
@@ -77,7 +77,7 @@ pub record IsStuck (before : DesignContents) (c : ℕ) : Type 0 where
   pub run : Run before done now
   pub full : (position : Candidate) (place : Place) → ¬ IsFree now done c position place
 
--- the first cause of refusal that holds, but for want of memory
+-- the first cause of refusal that holds, apart from being out of memory
 abbrev pub IsRefusal : {A : Type 0} → DesignContents → LegalFault A → Type 0
 IsRefusal design (FixedIllegal faults) = IsListOf (HoldsOfStaying design) faults × (faults ≢ [])
 IsRefusal design (NoSite c) = NoneStaying design × IsLeastUnsuited design c

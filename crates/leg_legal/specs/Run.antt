@@ -1,4 +1,4 @@
--- What the legaliser does (own rule): one component after the other takes its best free position.
+-- What the legaliser does (lefdef's own rule): one component after the other takes its best free position.
 use Rattle.std.specs.Prelude.{◌≡◌, ◌⊎◌, ℕ, List, [], ◌∷◌, ◌++◌, Some, slice_get, slice_set}
 use Rattle.leg_geom.specs.declared.place.Place.{Place}
 use Rattle.leg_block.specs.Records.{DesignContents}
@@ -27,7 +27,7 @@ pub data Run (before : DesignContents) : List ℕ → DesignContents → Type 0 
       → TakesBest now done c place
       → Run before (done ++ c ∷ []) (moved_to now c component place)
 
--- no violation holds of where components stand
+-- no violation of placement holds
 abbrev pub IsLegallyPlaced : DesignContents → Type 0
 IsLegallyPlaced design = (fault : Fault) → ¬ Holds design.library design fault
 

@@ -1,4 +1,4 @@
--- What the legaliser leaves as it is (own rule): all but the places of movable components.
+-- What the legaliser leaves as it is (lefdef's own rule): all but the places of movable components.
 use Rattle.std.specs.Prelude.{◌≡◌, ℕ, length, Some, slice_get}
 use Rattle.leg_geom.specs.declared.place.Place.{Place}
 use Rattle.leg_block.specs.Records.{DesignContents}

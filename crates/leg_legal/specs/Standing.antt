@@ -1,4 +1,4 @@
--- How a component stands on sites of a row (LEF/DEF 5.8, "Rows", "Site"; the orientation that it takes is an own rule).
+-- How a component is placed on sites of a row (LEF/DEF 5.8, "Rows", "Site"; the orientation that it takes is lefdef's own rule).
 use Rattle.std.specs.Prelude.{◌≡◌, ◌↔◌, ◌⊎◌, ℕ, pos, Bool, IsTrue, ◌+◌, ◌≤◌, ◌≤ℤ◌, ◌+ℤ◌, ◌*ℤ◌, Option, None, Some, slice_get, option_map}
 use Rattle.leg_geom.specs.declared.orient.Orient.{Orient}
 use Rattle.leg_geom.specs.declared.place.Place.{Place}
@@ -21,8 +21,8 @@ abbrev pub Takes : Orient → Bool → Option Orient → Orient → Type 0
 Takes row y_symmetric None orient = orient ≡ row
 Takes row y_symmetric (Some old) orient = (Fits row y_symmetric old × (orient ≡ old)) ⊎ ((¬ Fits row y_symmetric old) × (orient ≡ row))
 
--- With this place component c stands on consecutive sites of a row of its macro's site, all of which the row has: on so
--- many as its macro is wide, from the first one of the position on. The position also tells how far it then is from its
+-- With this place component c is on consecutive sites of a row of its macro's site, all of which the row has: on as
+-- many as its macro is wide, from the first one of the position on. The position also has how far it then is from its
 -- start, and whether it is turned: whether its orientation has changed.
 pub record StandsAt (design : DesignContents) (c : ℕ) (position : Candidate) (place : Place) : Type 0 where
   pub component : Component

@@ -1,4 +1,4 @@
--- From where a component is moved, and how far (own rules).
+-- From where a component is moved, and how far (lefdef's own rules).
 use Rattle.std.specs.Prelude.{ℕ, ◌+◌, Option, None, Some}
 use Rattle.leg_geom.specs.Plane.{Spot, Sides}
 use Rattle.leg_geom.specs.Gap.{apart}

@@ -1,4 +1,4 @@
--- In which order the movable components are taken (own rule).
+-- In which order the movable components are taken (lefdef's own rule).
 use Rattle.std.specs.Prelude.{◌≡◌, ℕ, ◌<◌, ℤ, ◌≤ℤ◌, List, All, AllPairs, Contains, Some, slice_get}
 use Rattle.leg_cells.specs.Records.{MasterSaid}
 use Rattle.leg_block.specs.Records.{DesignContents}

@@ -24,7 +24,7 @@ fn distance(p: &Point, q: &Point) -> i64
     (p.x().abs_diff(q.x()) + p.y().abs_diff(q.y())) as i64
 }
 
-/// So many times 0.
+/// A list of this many zeros.
 fn zeroes<A: Allocator + Copy>(alloc: A, count: usize) -> Result<Vec<i64, A>, AllocError>
     ensures { IfOk result (λ list. list.items ≡ replicate count (pos 0)) }
 {

@@ -7,7 +7,8 @@ use leg_block::Fault;
 use leg_cells::Items;
 use std::alloc::{AllocError, AllocFailed, Allocator};
 
-/// The cause for which a design isn't legalised (own rules). Of several, the first in this order is told, but for memory.
+/// The cause for which a design isn't legalised (lefdef's own rules). Of several, the first in this order is reported,
+/// apart from memory.
 #[derive(Drop)]
 pub enum LegalFault<A: Allocator> {
     /// Components that stay break rules among themselves: the violations, in order.
@@ -17,7 +18,7 @@ pub enum LegalFault<A: Allocator> {
     NoSite(u32),
     /// No position was free when the turn of the component came.
     NoRoom(u32),
-    /// Memory was refused.
+    /// An allocation failed.
     Memory,
 }
 

@@ -23,15 +23,15 @@ use leg_place::is_placed;
 use leg_sites::FreeRows;
 use std::alloc::Allocator;
 
-/// The design with each movable component on its best free position, and how far the components have moved (own rules).
-/// A movable component is `PLACED` or without a place, and its macro has a site. They are taken the wider macro first, then
-/// the one that starts further to the left, then in file order. Each gets the free position on the rows of its site that
-/// is least by the distance from its start, then by whether its orientation changes, the number of the row and that of
-/// the site. A design that is legally placed comes back as it is, with all moves 0.
+/// The design with each movable component on its best free position, and how far the components have moved (lefdef's
+/// own rules). A movable component is `PLACED` or without a place, and its macro has a site. They are taken the wider
+/// macro first, then the one that starts further to the left, then in file order. Each gets the free position on the
+/// rows of its site that is least by the distance from its start, then by whether its orientation changes, the number
+/// of the row and that of the site. A design that is legally placed comes back as it is, with all moves 0.
 ///
 /// The library is the one that the design was read with. On each refusal the design comes back unchanged: `FixedIllegal`
 /// where components that stay break rules among themselves, else `NoSite` for the first movable component that fits no
-/// row, else `NoRoom` for the first that finds no free position in its turn; `Memory` wherever memory was refused.
+/// row, else `NoRoom` for the first that finds no free position in its turn; `Memory` wherever an allocation failed.
 pub fn legalise<'a, A: Allocator + Copy>(
     alloc: A,
     library: &Library<'_, A>,

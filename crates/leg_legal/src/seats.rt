@@ -1,4 +1,4 @@
-//! The best place of a component where some boxes stand in the way.
+//! The best place of a component where some boxes are in the way.
 
 ghost use Rattle.std.specs.Prelude.{◌≡◌, ℕ, pos, ◌/◌, ◌≤ℤ◌, ◌+ℤ◌, ◌*ℤ◌, List, unsigned_abs, IfSome};
 ghost use Rattle.leg_lex.specs.Number.{IsNumber};
@@ -50,7 +50,7 @@ fn wanted_with<A: Allocator>(
     }
 }
 
-/// What a movable component asks whose macro can stand on some row.
+/// What a movable component whose macro fits some row asks.
 pub(crate) fn wanted_of<A: Allocator + Copy>(design: &Design<'_, A>, number: usize) -> Wanted
     requires movable { IsMovable design.now number }
     requires suited { ¬ IsUnsuited design.now number }

@@ -25,7 +25,7 @@ fn marks_of_staying<A: Allocator + Copy>(
     Ok(marks)
 }
 
-/// The violations of where components stand that concern only components that stay.
+/// The violations of placement that concern only components that stay.
 pub(crate) fn staying_faults<A: Allocator + Copy>(
     alloc: A,
     library: &Library<'_, A>,

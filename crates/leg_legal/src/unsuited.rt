@@ -1,4 +1,4 @@
-//! Movable components whose macro can stand on no row.
+//! Movable components whose macro fits no row.
 
 ghost use Rattle.std.specs.Prelude.{◌↔◌, IsTrue, MatchOption};
 ghost use Rattle.leg_legal.specs.Steps.HasRow.{HasRow};
@@ -31,7 +31,7 @@ fn has_row(rows: &[Row<'_>], number: usize) -> bool
     false
 }
 
-/// Whether a macro of this size, of the site of this number, can stand on a row.
+/// Whether a macro of this size, of the site of this number, fits some row.
 fn has_row_for<A: Allocator + Copy>(design: &Design<'_, A>, size: &Extent, number: usize) -> bool
     ensures { IsTrue result ↔ HasRowFor design.now size.now number }
 {
@@ -45,7 +45,7 @@ fn has_row_for<A: Allocator + Copy>(design: &Design<'_, A>, size: &Extent, numbe
     has_row(design.rows(), number)
 }
 
-/// Whether the component is movable, and its macro can stand on no row.
+/// Whether the component is movable, and its macro fits no row.
 fn is_unsuited<A: Allocator + Copy>(design: &Design<'_, A>, number: usize) -> bool
     ensures { IsTrue result ↔ IsUnsuited design.now number }
 {
@@ -60,7 +60,7 @@ fn is_unsuited<A: Allocator + Copy>(design: &Design<'_, A>, number: usize) -> bo
     }
 }
 
-/// The first movable component whose macro can stand on no row, if there is one.
+/// The first movable component whose macro fits no row, if there is one.
 pub(crate) fn least_unsuited<A: Allocator + Copy>(design: &Design<'_, A>) -> Option<u32>
     ensures { MatchOption result (AreSuited design.now) (IsLeastUnsuited design.now) }
 {

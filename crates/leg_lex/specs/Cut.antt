@@ -1,5 +1,5 @@
 -- How a text is cut into white bytes, comments, quoted words and plain words (LEF/DEF 5.8, "Rules for
--- LEF and DEF files"; that a `;` may stand at the end of a word is this profile's own rule).
+-- LEF and DEF files"; that a `;` may be at the end of a word is lefdef's own rule).
 use Rattle.std.specs.Prelude.{◌≡◌, ℕ, ◌+◌, Bool, true, false, not, ◌&&◌, ◌||◌, ◌==◌, nat_le, if◌then◌else◌, List, [], ◌∷◌, ◌++◌, take, drop, slice_index, MatchBool, count_by}
 use Rattle.std.specs.List.{concat}
 
@@ -31,7 +31,7 @@ abbrev pub Closes : ℕ → List ℕ → Type 0
 Closes before [] = ⊥
 Closes before (b ∷ bytes) = MatchBool (b == 34 && not (before == 92)) (bytes ≡ []) (Closes b bytes)
 
--- where a piece ends that begins with the byte b: a white byte stands alone, a comment goes up to the
+-- where a piece ends that begins with the byte b: a white byte is a piece by itself, a comment goes up to the
 -- line feed, a quoted word to its closing quote, and a plain word up to the next white space
 abbrev pub Ends : Kind → ℕ → List ℕ → List ℕ → Type 0
 Ends White b bytes after = bytes ≡ []

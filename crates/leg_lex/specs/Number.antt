@@ -1,5 +1,5 @@
--- What a word says as a number: the whole numbers of DEF, and the lengths of LEF in millionths of a
--- micron (LEF/DEF 5.8, "UNITS"; that nothing is rounded, and the limits, are this profile's own rules).
+-- What a word denotes as a number: the whole numbers of DEF, and the lengths of LEF in millionths of a
+-- micron (LEF/DEF 5.8, "UNITS"; that nothing is rounded, and the limits, are lefdef's own rules).
 use Rattle.std.specs.Prelude.{◌≡◌, ℕ, ◌+◌, ◌≤◌, Bool, false, not, ◌&&◌, ◌||◌, ◌==◌, nat_le, if◌then◌else◌, List, [], ◌∷◌, ◌++◌, length, take, drop, ℤ, pos, neg_ℤ, ◌*ℤ◌, Result, Ok, Err, codes, unsigned_abs}
 use Rattle.std.specs.List.{before_first, after_first, list_all}
 use Rattle.std.specs.Str.{all_ascii_digits}
@@ -12,7 +12,7 @@ use Rattle.leg_lex.specs.declared.fault.NumFault.TheVariants.{BadNumber, TooLarg
 abbrev pub IsNumber : ℤ → Type 0
 IsNumber z = unsigned_abs z ≤ NUMBER_LIMIT
 
--- the word without a `+` (43) or `-` (45) at its front
+-- the word without a `+` (43) or `-` (45) as its first byte
 abbrev pub without_sign : List ℕ → List ℕ
 without_sign [] = []
 without_sign (b ∷ bytes) = if b == 43 || b == 45 then bytes else b ∷ bytes
@@ -47,8 +47,8 @@ microns_part word = before_first is_point (without_sign word)
 abbrev pub decimals : List ℕ → List ℕ
 decimals word = after_first is_point (without_sign word)
 
--- What stands before and after the point of a length is digits, with one digit at least. What stands
--- after the sixth decimal is zeros, so that millionths of a micron say it exactly.
+-- Before and after the point of a length are digits, with one digit at least. What comes
+-- after the sixth decimal is zeros, so that millionths of a micron denote it exactly.
 abbrev pub are_length : List ℕ → List ℕ → Bool
 are_length before after =
     all_ascii_digits before && all_ascii_digits after && not (length before + length after == 0)
@@ -58,7 +58,7 @@ are_length before after =
 abbrev pub is_length : List ℕ → Bool
 is_length word = are_length (microns_part word) (decimals word)
 
--- the millionths that the digits before the point say with six after it, where zeros follow
+-- the millionths that are denoted by the digits before the point with six after it, where zeros follow
 abbrev pub millionths_of : List ℕ → List ℕ → ℕ
 millionths_of before after = digits_value 10 (before ++ take 6 (after ++ codes "000000"))
 

@@ -1,11 +1,11 @@
--- What a text says.
+-- What a text denotes.
 use Rattle.std.specs.Prelude.{◌≡◌, ℕ, ◌≤◌, List, length, Option, Some}
 use Rattle.leg_lex.specs.declared.limits.TheConstants.{TEXT_LIMIT}
 use Rattle.leg_lex.specs.Word.{Word, texts}
 use Rattle.leg_lex.specs.Words.{Words}
 use Rattle.leg_lex.specs.Tokens.{AreTokens}
 
--- a text says what its words are read as, where it isn't too long
+-- a text denotes what its words are read as, where it isn't too long
 pub record Says {Said : Type 0} (reading : Words → Option Said) (text : List ℕ) (said : Said) : Type 0 where
   pub fits : length text ≤ TEXT_LIMIT
   pub words : List Word

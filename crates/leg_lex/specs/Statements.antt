@@ -37,17 +37,17 @@ statements_at words = until at_end one_statement [] words
 abbrev pub those : List ℕ → List Words → List Words
 those keyword statements = filter (is_at keyword) statements
 
--- the one element, or none where there is none: nothing is said where there are more
+-- the one element, or none where there is none: no value where there are more
 abbrev pub at_most_one : {X : Type 0} → List X → Option (Option X)
 at_most_one [] = Some None
 at_most_one (x ∷ []) = Some (Some x)
 at_most_one (x ∷ y ∷ xs) = None
 
--- the statement of this keyword, which stands at most once
+-- the statement of this keyword, which appears at most once
 unfoldable pub only : List ℕ → List Words → Option (Option Words)
 only keyword statements = at_most_one (those keyword statements)
 
--- the statement of this keyword, which stands exactly once
+-- the statement of this keyword, which appears exactly once
 unfoldable pub the : List ℕ → List Words → Option Words
 the keyword statements = do
   found ← only keyword statements

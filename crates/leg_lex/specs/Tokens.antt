@@ -3,7 +3,7 @@ use Rattle.std.specs.Prelude.{◌≡◌, ℕ, ◌+◌, ◌-◌, ◌==◌, ◌&&�
 use Rattle.leg_lex.specs.Word.{Word}
 use Rattle.leg_lex.specs.Cut.{Kind, White, Comment, Quoted, Plain, kind_of, is_line_feed, Cut}
 
--- a plain word of two bytes or more whose last byte is `;` (59) is two words: the `;` stands on its own
+-- a plain word of two bytes or more whose last byte is `;` (59) is two words: the `;` is a word by itself
 abbrev pub plain_words : ℕ → List ℕ → List Word
 plain_words line word =
     let last = length word - 1 in
@@ -11,7 +11,7 @@ plain_words line word =
     then record { text = take last word; line = line } ∷ record { text = 59 ∷ []; line = line } ∷ []
     else record { text = word; line = line } ∷ []
 
--- the words of a piece of this kind that begins in this line: white space and comments say nothing
+-- the words of a piece of this kind that begins in this line: white space and comments have none
 abbrev pub words_of : Kind → ℕ → List ℕ → List Word
 words_of White line piece = []
 words_of Comment line piece = []

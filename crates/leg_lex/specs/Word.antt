@@ -1,4 +1,4 @@
--- A word of a text: its bytes, and the line that its first byte stands on. The first line is line 1.
+-- A word of a text: its bytes, and the line that its first byte is on. The first line is line 1.
 use Rattle.std.specs.Prelude.{ℕ, List, map}
 
 pub record Word : Type 0 where

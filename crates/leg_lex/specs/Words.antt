@@ -1,4 +1,4 @@
--- What the words of a text say, form by form: a function from a list of words to what the form says and
+-- What the words of a text denote, form by form: a function from a list of words to what the form denotes and
 -- the words after it, or to nothing where the words aren't of the form.
 use Rattle.std.specs.Prelude.{◌≡◌, ◌≢◌, ℕ, ℤ, Bool, true, false, not, ◌&&◌, ◌||◌, ◌==◌, if◌then◌else◌, List, [], ◌∷◌, length, map, Option, None, Some, Result, Ok, Err, codes}
 use Rattle.std.specs.Char.{to_ascii_lowercase}
@@ -9,18 +9,18 @@ use Rattle.leg_lex.specs.Number.{whole_of, micron_of}
 use Rattle.leg_lex.specs.declared.read_fault.ReadFault.{ReadFault}
 use Rattle.leg_lex.specs.declared.read_fault.FaultKind.TheVariants.{Memory}
 
--- words without their lines: lines are told in faults, and say nothing else
+-- words without their lines: lines are reported in faults, and have no other meaning
 abbrev pub Words : Type 0
 Words = List (List ℕ)
 
--- first the one, and then the other of what it said
+-- first the one, and then the other of what the first denotes
 infixl 10 ◌>>=◌
 abbrev pub ◌>>=◌ : {A B : Type 0} → Option A → (A → Option B) → Option B
 None >>= f = None
 (Some x) >>= f = f x
 
--- What a reader answered, seen by view, and the words that it left are what is said there. It refuses
--- for another cause than memory only where nothing is said.
+-- What a reader answered, seen by view, and the words that it left are what the definition gives. It refuses
+-- for another cause than memory only where the definition gives nothing.
 abbrev pub Reads : {X Y : Type 0} → (X → Y) → Result X ReadFault → Words → Option (Y × Words) → Type 0
 Reads view (Ok x) rest said = said ≡ Some (view x, rest)
 Reads view (Err fault) rest said = fault.kind ≢ Memory → said ≡ None
@@ -104,7 +104,7 @@ word_at words = do
   next ← next_at words
   if is_word next.0 then Some (next.0, next.1) else None
 
--- a number that a word says, and the words after it
+-- a number that a word denotes, and the words after it
 abbrev pub said_number : {E : Type 0} → Result ℤ E → Words → Option (ℤ × Words)
 said_number (Ok z) words = Some (z, words)
 said_number (Err fault) words = None

@@ -82,7 +82,7 @@ impl<'t, 'a> Cursor<'t, 'a> {
         }
     }
 
-    // The fault of words that end too early. Where a mark ends them, it stands in place of what is wanted.
+    // The fault of words that end too early. Where a mark ends them, it is in the place of what is wanted.
     fn cut_short(&self, in_place: FaultKind) -> ReadFault {
         let kind = match self.closed_at {
             Some(_) => in_place,
@@ -361,7 +361,7 @@ impl<'t, 'a> Cursor<'t, 'a> {
     }
 }
 
-// Where the first such mark stands among the words at these places of the text.
+// Where the first such mark is among the words at these places of the text.
 #[tactic(auto, using(crate::proofs::Marks::cut_there))]
 fn place_of_mark(mark: u8, text: &[u8], words: &[WordPlace]) -> Option<usize>
     requires { All (IsPlaceIn text.now) words.now }

@@ -1,4 +1,4 @@
-//! Why a text has no words, and why a word says no number.
+//! Why a text has no words, and why a word denotes no number.
 
 ghost use Rattle.std.specs.Prelude.{◌≡◌};
 ghost use Rattle.leg_lex.specs.declared.fault.LexFault.TheVariants.{Memory};
@@ -15,7 +15,7 @@ pub enum LexFault {
     /// The text has more bytes than `TEXT_LIMIT`.
     #[error("the text is too long")]
     TooLong,
-    /// A growth was refused.
+    /// An allocation failed.
     #[error("out of memory")]
     Memory,
 }
@@ -36,7 +36,7 @@ impl<T: Drop> From<AllocFailed<T>> for LexFault {
     }
 }
 
-/// Why a word says no number.
+/// Why a word denotes no number.
 #[derive(Clone, Copy, PartialEq, Eq, Debug, Error)]
 pub enum NumFault {
     /// The word isn't a number of the form.

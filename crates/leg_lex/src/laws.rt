@@ -20,13 +20,13 @@ pub fn texts_have_words()
         → All (λ word. IsTrue (is_mark word.text || is_word word.text)) words }
 {}
 
-/// The plain words are just the plain pieces of texts, and the quoted words the quoted ones.
+/// The plain words are exactly the plain pieces of texts, and the quoted words the quoted ones.
 pub fn words_are_pieces()
     ensures plain { (b : ℕ) (bytes : List ℕ) → IsTrue (is_plain (b ∷ bytes)) ↔ ((kind_of b ≡ Plain) × IsPiece (b ∷ bytes) []) }
     ensures quoted { (b : ℕ) (bytes : List ℕ) → IsTrue (is_closed (b ∷ bytes)) ↔ ((kind_of b ≡ Quoted) × IsPiece (b ∷ bytes) []) }
 {}
 
-/// The millionths of a length say it exactly: its digits, read as one number without the point, are
+/// The millionths of a length denote it exactly: its digits, read as one number without the point, are
 /// that many millionths times ten to the number of its decimals.
 #[tactic(auto, using(crate::proofs::Exact::millionths_exact))]
 pub fn millionths_are_exact()

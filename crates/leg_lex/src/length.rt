@@ -8,11 +8,11 @@ use crate::limits::{MILLIONTHS_LIMIT, NUMBER_LIMIT, UNITS_LIMIT};
 use crate::number::within;
 use std::marker::Model;
 
-/// A micron has so many millionths.
+/// How many millionths of a micron a micron has.
 const MILLIONTHS_IN_MICRON: u64 = 1_000_000;
 
-/// A length in millionths of a micron, at most `MILLIONTHS_LIMIT` either way. Contracts see it as that
-/// number.
+/// A length in millionths of a micron, at most `MILLIONTHS_LIMIT` in absolute value. Contracts see it as
+/// that number.
 #[derive(Clone, Copy, PartialEq, Eq, Debug)]
 pub struct Micron {
     millionths: i64,
@@ -32,7 +32,7 @@ impl Model for Micron {
 }
 
 impl Micron {
-    /// The length of so many millionths of a micron.
+    /// The length of this number of millionths of a micron.
     pub(crate) fn of_millionths(millionths: i64) -> Micron
         requires { unsigned_abs millionths ≤ MILLIONTHS_LIMIT }
         ensures { result ≡ millionths }
@@ -57,7 +57,7 @@ impl Micron {
 
     /// The length in database units, at `n` units a micron.
     ///
-    /// `NotOnUnit` if it is no whole number of units, and else `TooLarge` beyond `NUMBER_LIMIT` either way.
+    /// `NotOnUnit` if it is no whole number of units, and else `TooLarge` beyond `NUMBER_LIMIT` in absolute value.
     #[tactic(auto, using(crate::proofs::Units::are_units))]
     pub fn to_units(self, n: u32) -> Result<i64, NumFault>
         requires above { 1 ≤ n }

@@ -1,4 +1,4 @@
-//! The words of LEF and DEF texts, the numbers that words say, and reading forms from words.
+//! The words of LEF and DEF texts, the numbers that words denote, and reading forms from words.
 #![tactic(auto)]
 
 mod block;

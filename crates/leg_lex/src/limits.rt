@@ -1,4 +1,4 @@
-//! The limits of texts and numbers, each named once (own rules).
+//! The limits of texts and numbers, each named once (lefdef's own rules).
 
 /// A text has at most this many bytes.
 pub const TEXT_LIMIT: u64 = 268_435_456;

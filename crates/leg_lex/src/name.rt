@@ -98,7 +98,7 @@ impl<'a, A: Allocator + Copy> Names<'a, A> {
         self.index.get(name).copied()
     }
 
-    /// Adds a name that isn't there yet after the others. Where memory is refused, nothing changes.
+    /// Adds a name that isn't there yet after the others. If an allocation fails, nothing changes.
     pub fn push(&mut self, name: &'a [u8]) -> Result<(), AllocError>
         requires { place_of name.now self.old ≡ None }
         ensures pushed { OnOk result (self.new ≡ self.old ++ name.now ∷ []) }

@@ -7,8 +7,8 @@ use crate::name::Names;
 use std::alloc::{AllocError, Allocator};
 use std::marker::Model;
 
-/// What has a name by which it is found in a list. The trait has a meaning alone: `name_of` is the name, and `fits` says
-/// how many there may be in a list.
+/// What has a name by which it is found in a list. The trait has a meaning alone: `name_of` is the name, and `fits`
+/// states how many there may be in a list.
 pub trait Named {
     ghost name_of: { Self → List ℕ };
 
@@ -82,7 +82,7 @@ impl<'a, T: Named + Drop, A: Allocator + Copy> NamedList<'a, T, A> {
         self.names.place_of(name)
     }
 
-    /// Adds one whose name is new after the others. Where memory is refused, nothing changes.
+    /// Adds one whose name is new after the others. If an allocation fails, nothing changes.
     pub fn push(&mut self, name: &'a [u8], item: T) -> Result<(), AllocError>
         requires named { name.now ≡ T.name_of item }
         requires new { place_of name.now (map T.name_of self.old) ≡ None }

@@ -1,4 +1,4 @@
-//! What a word says as a number: a whole number, or a length. Nothing is rounded.
+//! What a word denotes as a number: a whole number, or a length. Nothing is rounded.
 
 ghost use Rattle.std.specs.Prelude.{◌≡◌, ◌==◌, ◌-◌, ◌<◌, ◌^◌, min, IsTrue};
 ghost use Rattle.std.specs.List.{before_first, after_first, list_all};
@@ -11,12 +11,12 @@ use crate::length::Micron;
 use crate::limits::{MILLIONTHS_LIMIT, NUMBER_LIMIT};
 use memchr::memchr;
 
-/// Millionths of a micron are written by so many decimals.
+/// Millionths of a micron are written with this many decimals.
 const MILLIONTHS_DECIMALS: usize = 6;
 
-/// The whole number that a word says: an optional sign and one or more digits.
+/// The whole number that a word denotes: an optional sign and one or more digits.
 ///
-/// `BadNumber` if the word is not of this form, and `TooLarge` beyond `NUMBER_LIMIT` either way.
+/// `BadNumber` if the word is not of this form, and `TooLarge` beyond `NUMBER_LIMIT` in absolute value.
 pub fn whole(word: &[u8]) -> Result<i64, NumFault>
     ensures { result ≡ whole_of word.now }
 {
@@ -27,10 +27,10 @@ pub fn whole(word: &[u8]) -> Result<i64, NumFault>
     within(NUMBER_LIMIT, negative, followed_by(0, digits))
 }
 
-/// The length that a word says, in microns: an optional sign, digits, an optional point and digits, of
+/// The length that a word denotes, in microns: an optional sign, digits, an optional point and digits, of
 /// which only zeros may follow the sixth decimal.
 ///
-/// `BadNumber` if the word is not of this form, and `TooLarge` beyond `MILLIONTHS_LIMIT` either way.
+/// `BadNumber` if the word is not of this form, and `TooLarge` beyond `MILLIONTHS_LIMIT` in absolute value.
 pub fn micron(word: &[u8]) -> Result<Micron, NumFault>
     ensures { result ≡ micron_of word.now }
 {
@@ -55,7 +55,7 @@ fn split_sign(word: &[u8]) -> (bool, &[u8])
     }
 }
 
-/// What stands before the point and after it; without a point, all stands before it.
+/// What comes before the point and after it; without a point, all comes before it.
 #[tactic(auto, using(crate::proofs::Points::points))]
 fn split_point(digits: &[u8]) -> (&[u8], &[u8])
     ensures before { result.0.now ≡ before_first is_point digits.now }
@@ -78,7 +78,7 @@ fn are_length(microns: &[u8], decimals: &[u8]) -> bool
         && are_zeros(beyond)
 }
 
-/// The millionths that the digits before and after a point say, `u64::MAX` where they are more.
+/// The millionths that the digits before and after a point denote, `u64::MAX` where they are more.
 #[tactic(auto, using(crate::proofs::Decimals::decimals))]
 fn millionths_of(microns: &[u8], decimals: &[u8]) -> u64
     requires microns { IsTrue (all_ascii_digits microns.now) }

@@ -20,7 +20,7 @@ impl<'t, 'a> Cursor<'t, 'a> {
         self.keyword(keyword)
     }
 
-    /// Reads past everything up to this keyword, and the keyword; where it doesn't stand, everything.
+    /// Reads past everything up to this keyword, and the keyword; where it doesn't appear, everything.
     #[tactic(auto, using(crate::proofs::Skipped::skipped_on, crate::proofs::Skipped::skipped_here, crate::proofs::Skipped::skipped_all, crate::proofs::Skipped::skip_shorter))]
     pub fn skip_past(&mut self, keyword: &[u8])
         ensures { self.new ≡ after_first (is_keyword keyword.now) self.old }

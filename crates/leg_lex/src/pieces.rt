@@ -12,7 +12,7 @@ pub fn is_white(byte: u8) -> bool
     matches!(byte, b'\t'..=b'\r' | b' ')
 }
 
-/// How many bytes stand before the next line feed, or before the end.
+/// How many bytes come before the next line feed, or before the end.
 #[tactic(auto, using(crate::proofs::Runs::runs_to_first))]
 fn line_len(text: &[u8]) -> usize
     ensures runs { RunsTo is_line_feed (take result text.now) (drop result text.now) }
@@ -21,7 +21,7 @@ fn line_len(text: &[u8]) -> usize
     memchr(b'\n', text).unwrap_or(text.len())
 }
 
-/// How many bytes stand before the next white space, or before the end.
+/// How many bytes come before the next white space, or before the end.
 #[tactic(auto, using(crate::proofs::Runs::runs_to_first))]
 fn word_len(text: &[u8]) -> usize
     ensures runs { RunsTo is_white (take result text.now) (drop result text.now) }

@@ -58,7 +58,7 @@ pub enum FaultKind {
     /// An odd special wire width.
     #[error("an odd special wire width")]
     OddWidth,
-    /// A growth was refused.
+    /// An allocation failed.
     #[error("out of memory")]
     Memory,
 }
@@ -76,7 +76,7 @@ pub struct ReadFault {
 }
 
 impl ReadFault {
-    // A refused growth has no place in a text: it is told at the first line of the first one.
+    // A failed allocation has no place in a text: it is reported at the first line of the first one.
     const OUT_OF_MEMORY: ReadFault = ReadFault {
         file: 0,
         line: 1,

@@ -7,7 +7,7 @@ use std::marker::Model;
 pub struct Token<'a> {
     /// The word's bytes. A quoted word keeps its quotes.
     pub text: &'a [u8],
-    /// The line that the word's first byte stands on, from 1.
+    /// The line that the word's first byte is on, from 1.
     pub line: u32,
 }
 

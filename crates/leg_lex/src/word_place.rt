@@ -1,15 +1,15 @@
-//! Where a word of a text stands.
+//! Where a word of a text is.
 
 ghost use Rattle.std.specs.Prelude.{◌≡◌};
 ghost use Rattle.leg_lex.specs.Steps.WordPlaces.{bytes_at, IsPlaceIn};
 
-/// Where a word of a text stands: its bytes begin at `start` and end before `end`. A text has 2^28 bytes at most, so three
+/// Where a word of a text is: its bytes begin at `start` and end before `end`. A text has 2^28 bytes at most, so three
 /// short numbers do for a word.
 #[derive(Clone, Copy)]
 pub(crate) struct WordPlace {
     pub(crate) start: u32,
     pub(crate) end: u32,
-    /// The line that the word's first byte stands on, from 1.
+    /// The line that the word's first byte is on, from 1.
     pub(crate) line: u32,
 }
 

@@ -35,7 +35,7 @@ impl<'a, A: Allocator> Model for Words<'a, A> {
 }
 
 impl<'a, A: Allocator + Copy> Words<'a, A> {
-    /// The words of the text. White space and comments stand between them; a quoted word keeps its quotes; a `;` at the end
+    /// The words of the text. White space and comments separate them; a quoted word keeps its quotes; a `;` at the end
     /// of a longer plain word is a word of its own.
     ///
     /// `TooLong` is looked at first. `UnclosedString` has the line of the opening quote.
@@ -44,7 +44,7 @@ impl<'a, A: Allocator + Copy> Words<'a, A> {
         // The text has no other words.
         ensures only { IfOk result (λ found. (words : List Word) → AreTokens text.now words → words ≡ found) }
         ensures too_long { IsErrOf result LexFault.TooLong ↔ (TEXT_LIMIT < length text.now) }
-        // A quoted word without an end is told only where the text has no words, and with its own line.
+        // A quoted word without an end is reported only where the text has no words, and with its own line.
         ensures unclosed { IfErr result (λ fault. fault ≢ LexFault.TooLong → fault ≢ LexFault.Memory →
             (words : List Word) → ¬ AreTokens text.now words) }
         ensures in_line { IfErr result (λ fault. (line : ℕ) → fault ≡ LexFault.UnclosedString line → IsUnclosed text.now line) }
@@ -66,7 +66,7 @@ pub fn tokens<'a, A: Allocator + Copy>(
     // The text has no other words.
     ensures only { IfOk result (λ v. (words : List Word) → AreTokens text.now words → words ≡ v.items) }
     ensures too_long { IsErrOf result LexFault.TooLong ↔ (TEXT_LIMIT < length text.now) }
-    // A quoted word without an end is told only where the text has no words, and with its own line.
+    // A quoted word without an end is reported only where the text has no words, and with its own line.
     ensures unclosed { IfErr result (λ fault. fault ≢ LexFault.TooLong → fault ≢ LexFault.Memory →
         (words : List Word) → ¬ AreTokens text.now words) }
     ensures in_line { IfErr result (λ fault. (line : ℕ) → fault ≡ LexFault.UnclosedString line → IsUnclosed text.now line) }
@@ -94,7 +94,7 @@ fn tokens_at<'a, A: Allocator>(
     Ok(tokens)
 }
 
-/// Where the words of a text stand, in order.
+/// Where the words of a text are, in order.
 fn word_places<A: Allocator + Copy>(alloc: A, text: &[u8]) -> Result<Vec<WordPlace, A>, LexFault>
     requires { length text.now ≤ TEXT_LIMIT }
     ensures found { IfOk result (λ v. AreTokens text.now (map (word_at text.now) v.items)) }

@@ -18,7 +18,7 @@ pub fn file_words<'a, A: Allocator + Copy>(
     text: &'a [u8],
 ) -> Result<Words<'a, A>, ReadFault>
     ensures found { IfOk result (λ words. HasWords text.now words) }
-    // A text that is too long is never told as want of memory.
+    // A text that is too long is never reported as out of memory.
     ensures too_long { IfErr result (λ fault. TEXT_LIMIT < length text.now → fault.kind ≢ Memory) }
     ensures none { IfErr result (λ fault. fault.kind ≢ Memory → HasNoWords text.now) }
 {

@@ -1,4 +1,4 @@
--- The forms of a LEF text (LEF/DEF 5.8, "LEF Syntax"; what is read past is an own rule).
+-- The forms of a LEF text (LEF/DEF 5.8, "LEF Syntax"; what is read past is lefdef's own rule).
 use Rattle.std.specs.Prelude.{ℕ, Bool, true, ◌||◌, if◌then◌else◌, List, [], ◌∷◌, Option, Some, codes}
 use Rattle.leg_lex.specs.Words.{Words, ◌>>=◌, is_keyword, is_at, next_at, keyword_at, name_at, end_at, end_of, nothing_at}
 use Rattle.leg_lex.specs.Until.{until}
@@ -64,7 +64,7 @@ abbrev pub ended : Words → Option (Unit {0})
 ended [] = Some tt
 ended (word ∷ words) = end_at (codes "LIBRARY") (word ∷ words) >>= λ end. nothing_at end.1
 
--- a text adds its forms to the library that the texts before it say
+-- a text adds its forms to the library that the texts before it denote
 unfoldable pub lef_in : RawContents → Words → Option RawContents
 lef_in library words = do
   forms ← until at_last lef_form_at library words

@@ -1,5 +1,5 @@
 -- The shapes of a port or of obstructions (LEF/DEF 5.8, "Layer Geometries"; that only routing and cut
--- layers carry metal is an own rule).
+-- layers carry metal is lefdef's own rule).
 use Rattle.std.specs.Prelude.{ℕ, Bool, true, false, not, ◌&&◌, ◌||◌, if◌then◌else◌, List, [], ◌∷◌, ◌++◌, Option, None, Some, codes, slice_get}
 use Rattle.std.specs.List.{list_all}
 use Rattle.leg_lex.specs.Words.{Words, ◌>>=◌, is_keyword, is_word, is_at, keyword_at, name_at}
@@ -31,7 +31,7 @@ is_layer_of of_kind (Some layer) = of_kind layer.kind
 abbrev pub draws_metal : List RawLayer → ℕ → Bool
 draws_metal layers number = is_layer_of (λ kind. is_routing_kind kind || is_cut_kind kind) (slice_get layers number)
 
--- what the statements before said: the layer that they are on, and the shapes
+-- what the statements before gave: the layer that they are on, and the shapes
 pub record Drawn : Type 0 where
   pub on : Option ℕ
   pub shapes : List RawShape
@@ -39,7 +39,7 @@ pub record Drawn : Type 0 where
 abbrev pub nothing_drawn : Drawn
 nothing_drawn = record { on = None; shapes = [] }
 
--- words that may follow a layer's name and say nothing: names and quoted words, and not EXCEPTPGNET
+-- words that may follow a layer's name and have no effect: names and quoted words, and not EXCEPTPGNET
 abbrev pub says_nothing : List ℕ → Bool
 says_nothing word = is_word word && not (is_keyword (codes "EXCEPTPGNET") word)
 

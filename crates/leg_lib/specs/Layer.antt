@@ -1,5 +1,5 @@
--- Layers (LEF/DEF 5.8, "Layer (Cut)", "Layer (Routing)"; which width and which spacing are taken is an own
--- rule).
+-- Layers (LEF/DEF 5.8, "Layer (Cut)", "Layer (Routing)"; which width and which spacing are taken is lefdef's
+-- own rule).
 use Rattle.std.specs.Prelude.{ℕ, ℤ, pos, Bool, true, false, ◌&&◌, int_lt, if◌then◌else◌, List, [], ◌∷◌, ◌++◌, Option, None, Some, is_none, unwrap_or, codes}
 use Rattle.std.specs.List.{find, after_first}
 use Rattle.leg_lex.specs.Words.{Words, ◌>>=◌, is_keyword, is_at, next_at, keyword_at, name_at, word_at, length_at, end_of, nothing_at}
@@ -46,7 +46,7 @@ has_one_word statement = false
 abbrev pub first_of_one_word : List ℕ → List Words → Option Words
 first_of_one_word keyword statements = find (λ s. is_at keyword s && has_one_word s) statements
 
--- the length that such a statement says
+-- the length that such a statement denotes
 unfoldable pub length_in : Words → Option ℤ
 length_in statement = do
   start ← next_at statement

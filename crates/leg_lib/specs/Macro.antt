@@ -1,4 +1,4 @@
--- Macros (LEF/DEF 5.8, "Macro"; that a macro has one site is an own rule).
+-- Macros (LEF/DEF 5.8, "Macro"; that a macro has one site is lefdef's own rule).
 use Rattle.std.specs.Prelude.{ℕ, pos, Bool, false, if◌then◌else◌, List, [], ◌∷◌, ◌++◌, map, Option, None, Some, is_none, codes}
 use Rattle.std.specs.List.{list_any, list_all}
 use Rattle.leg_lex.specs.Words.{Words, ◌>>=◌, is_keyword, is_word, is_at, keyword_at, name_at, word_at, end_at, end_of, nothing_at}
@@ -14,7 +14,7 @@ use Rattle.leg_lib.specs.Point.{point_at, size_in}
 use Rattle.leg_lib.specs.Geometry.{geometry_at}
 use Rattle.leg_lib.specs.Pin.{pin_at}
 
--- what stood before in a macro: its pins, the shapes of its obstructions, and its statements
+-- what came before in a macro: its pins, the shapes of its obstructions, and its statements
 pub record MacroParts : Type 0 where
   pub pins : List RawPinSaid
   pub obstructions : List RawShape
@@ -102,7 +102,7 @@ abbrev pub site_of_any : RawContents → Option Words → Option (Option ℕ)
 site_of_any library None = Some None
 site_of_any library (Some statement) = site_in library statement >>= λ k. Some (Some k)
 
--- what statements of a macro say: the one SIZE, at most one ORIGIN, SYMMETRY and SITE; the rest is read past
+-- what statements of a macro give: the one SIZE, at most one ORIGIN, SYMMETRY and SITE; the rest is read past
 unfoldable pub macro_said : RawContents → List Words → Option MacroSaid
 macro_said library statements = do
   of_size ← the (codes "SIZE") statements

@@ -9,7 +9,7 @@ use Rattle.leg_cells.specs.declared.raw.RawShape.{RawShape}
 use Rattle.leg_cells.specs.Records.{RawContents, RawPinSaid}
 use Rattle.leg_lib.specs.Geometry.{geometry_at}
 
--- what stood before in a pin: the shapes of its ports, and its statements
+-- what came before in a pin: the shapes of its ports, and its statements
 pub record PinParts : Type 0 where
   pub shapes : List RawShape
   pub statements : List Words

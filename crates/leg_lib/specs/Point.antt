@@ -1,5 +1,5 @@
--- Points, sizes and rectangles as LEF writes them (LEF/DEF 5.8, "Macro"; that a point may stand in
--- parentheses, and that corners stand in any order, are own rules).
+-- Points, sizes and rectangles as LEF writes them (LEF/DEF 5.8, "Macro"; that a point may be in
+-- parentheses, and that corners are in any order, are lefdef's own rules).
 use Rattle.std.specs.Prelude.{pos, ◌&&◌, int_lt, if◌then◌else◌, Option, None, Some, codes}
 use Rattle.leg_lex.specs.Words.{Words, ◌>>=◌, is_at, keyword_at, mark_at, length_at, nothing_at}
 use Rattle.leg_geom.specs.Plane.{Spot, Sides}

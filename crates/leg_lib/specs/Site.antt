@@ -1,4 +1,4 @@
--- Sites (LEF/DEF 5.8, "Site"; that a second definition of the same size says nothing is an own rule).
+-- Sites (LEF/DEF 5.8, "Site"; that a second definition of the same size adds nothing is lefdef's own rule).
 use Rattle.std.specs.Prelude.{ℕ, Bool, ◌&&◌, if◌then◌else◌, List, [], ◌∷◌, ◌++◌, Option, None, Some, codes, slice_get}
 use Rattle.std.specs.Ordering.{int_eq}
 use Rattle.leg_lex.specs.Words.{Words, ◌>>=◌, keyword_at, name_at, end_of}
@@ -9,7 +9,7 @@ use Rattle.leg_cells.specs.Measure.{Lengths}
 use Rattle.leg_cells.specs.Records.{RawContents, raw_site_names}
 use Rattle.leg_lib.specs.Point.{size_in}
 
--- SITE NAME statements END NAME: the one SIZE says how large it is, and the rest is read past
+-- SITE NAME statements END NAME: the one SIZE gives its size, and the rest is read past
 unfoldable pub site_at : Words → Option (RawSite × Words)
 site_at words = do
   start ← keyword_at (codes "SITE") words
@@ -23,7 +23,7 @@ site_at words = do
 abbrev pub is_same_size : Lengths → Lengths → Bool
 is_same_size a b = int_eq a.width b.width && int_eq a.height b.height
 
--- A site under a new name is added. A second definition of a name says nothing where the size is the
+-- A site under a new name is added. A second definition of a name adds nothing where the size is the
 -- same, and else has no meaning.
 abbrev pub add_site : Option RawSite → RawSite → RawContents → Option RawContents
 add_site None site library = Some (record library { sites = library.sites ++ site ∷ [] })

@@ -1,4 +1,4 @@
--- Vias (LEF/DEF 5.8, "Via"; which of them are good is an own rule).
+-- Vias (LEF/DEF 5.8, "Via"; which of them are good is lefdef's own rule).
 use Rattle.std.specs.Prelude.{ℕ, Bool, true, false, not, ◌&&◌, ◌||◌, if◌then◌else◌, List, [], ◌∷◌, ◌++◌, Option, None, Some, is_none, codes, drop}
 use Rattle.leg_lex.specs.Words.{Words, ◌>>=◌, is_at, keyword_at, name_at, end_of, nothing_at}
 use Rattle.leg_lex.specs.Until.{over}
@@ -19,7 +19,7 @@ pub record Flags : Type 0 where
 abbrev pub no_flags : Flags
 no_flags = record { is_default = false; is_top_only = false; is_generated = false }
 
--- one more of these words, if one stands there that didn't stand before
+-- one more of these words, if one is next that did not appear before
 unfoldable pub flag_at : Flags → Words → Flags × Words
 flag_at flags words =
     if is_at (codes "DEFAULT") words && not flags.is_default then (record flags { is_default = true }, drop 1 words)
@@ -34,7 +34,7 @@ flags_at words =
     let second = flag_at first.0 first.1 in
     flag_at second.0 second.1
 
--- what the statements before said: shapes, and whether there is a form that no good via has
+-- what the statements before gave: shapes, and whether there is a form that no good via has
 pub record ViaParts : Type 0 where
   pub drawn : Drawn
   pub is_spoilt : Bool

@@ -23,7 +23,7 @@ fn has_metal(layers: &[RawLayer<'_>], number: usize) -> bool
     }
 }
 
-/// That the words after a layer's name say nothing. `EXCEPTPGNET` is `Unsupported`; what is no
+/// Checks that the words after a layer's name have no effect. `EXCEPTPGNET` is `Unsupported`; what is no
 /// name and not quoted is `Unexpected`.
 #[tactic(auto, using(crate::proofs::Drawn::other_said, crate::proofs::Drawn::exception_said, crate::proofs::Drawn::all_said_nothing, crate::proofs::Drawn::word_shorter))]
 fn nothing_said(words: &mut Cursor<'_, '_>) -> Result<(), ReadFault>

@@ -6,7 +6,7 @@ ghost use Rattle.leg_lib.specs.Say.{SayLibrary};
 
 pub use leg_cells::laws::{good_vias_join_layers, one_library_at_units};
 
-/// LEF texts say one library at most.
+/// LEF texts denote one library at most.
 pub fn texts_say_one_library()
     ensures { (lefs : List (List ℕ)) (a b : RawContents) → SayLibrary lefs a → SayLibrary lefs b → a ≡ b }
 {}

@@ -1,4 +1,4 @@
-//! Layers (LEF/DEF 5.8, "Layer (Cut)", "Layer (Routing)"; which width is taken is an own rule).
+//! Layers (LEF/DEF 5.8, "Layer (Cut)", "Layer (Routing)"; which width is taken is lefdef's own rule).
 
 ghost use Rattle.std.specs.Prelude.{◌≡◌};
 ghost use Rattle.leg_lex.specs.Words.{Reads, Means};
@@ -21,7 +21,7 @@ fn type_word<'a>(statement: &mut Cursor<'_, 'a>) -> Result<&'a [u8], ReadFault>
     Ok(word)
 }
 
-/// The direction that a word says.
+/// The direction that a word denotes.
 fn direction_of(word: &[u8]) -> Option<Direction>
     ensures { result ≡ direction_of word.now }
 {
@@ -34,7 +34,7 @@ fn direction_of(word: &[u8]) -> Option<Direction>
     }
 }
 
-/// The kind of fault of a word that says no direction. The diagonals are left out.
+/// The kind of fault of a word that denotes no direction. The diagonals are left out.
 fn no_direction(word: &[u8]) -> FaultKind {
     if is_keyword(b"DIAG45", word) || is_keyword(b"DIAG135", word) {
         FaultKind::Unsupported
@@ -43,7 +43,7 @@ fn no_direction(word: &[u8]) -> FaultKind {
     }
 }
 
-/// The direction that a `DIRECTION` statement says.
+/// The direction that a `DIRECTION` statement gives.
 #[tactic(auto, unfolding(crate::specs::Layer::direction_in))]
 fn direction(statement: &mut Cursor<'_, '_>) -> Result<Direction, ReadFault>
     ensures { Means (λ d. d) result (direction_in statement.old) }
@@ -92,7 +92,7 @@ pub(crate) fn first_of_one_word<'t, 'a>(
     None
 }
 
-/// The width that a `WIDTH` statement says, above 0.
+/// The width that a `WIDTH` statement gives, above 0.
 #[tactic(auto, unfolding(crate::specs::Layer::width_in, crate::specs::Layer::length_in))]
 fn width(statement: &mut Cursor<'_, '_>) -> Result<Micron, ReadFault>
     ensures { Means (λ w. w) result (width_in statement.old) }
@@ -139,7 +139,7 @@ fn kind_of(
     }
 }
 
-/// What a layer with these statements is for; `end` stands after them.
+/// What a layer with these statements is for; `end` comes after them.
 #[tactic(auto, unfolding(crate::specs::Layer::kind_in))]
 fn kind(statements: &[Cursor<'_, '_>], end: &Cursor<'_, '_>) -> Result<RawKind, ReadFault>
     ensures { Means (λ k. k) result (kind_in statements.now) }
@@ -172,7 +172,7 @@ fn layer<'a, A: Allocator + Copy>(
     })
 }
 
-/// Adds the layer that stands next, whose name is new.
+/// Adds the layer that comes next, whose name is new.
 #[tactic(auto, using(crate::proofs::SoundLayers::layer_sound), unfolding(crate::specs::Layer::with_layer))]
 pub(crate) fn layer_form<'a, A: Allocator + Copy>(
     alloc: A,

@@ -1,7 +1,7 @@
-//! LEF libraries: what LEF texts say, exactly, in millionths of a micron (LEF/DEF 5.8, "LEF Syntax").
+//! LEF libraries: what LEF texts denote, exactly, in millionths of a micron (LEF/DEF 5.8, "LEF Syntax").
 //!
-//! `read_lefs` reads texts and gives a `RawLibrary`, or tells the fault and its line. The records of a library are those
-//! of `leg_cells`.
+//! `read_lefs` reads texts and gives a `RawLibrary`, or reports the fault and its line. The records of a library are
+//! those of `leg_cells`.
 #![tactic(auto)]
 
 mod form;

@@ -15,7 +15,7 @@ use leg_lex::{Cursor, Names, ReadFault};
 use std::alloc::{AllocError, Allocator};
 use std::marker::Model;
 
-/// What stood in a macro so far: its pins, of which no two have one name, the shapes of its obstructions,
+/// What a macro had so far: its pins, of which no two have one name, the shapes of its obstructions,
 /// and its statements.
 #[derive(Drop)]
 pub(crate) struct MacroParts<'t, 'a, A: Allocator + Copy> {
@@ -49,7 +49,7 @@ impl<'t, 'a, A: Allocator + Copy> MacroParts<'t, 'a, A> {
         }
     }
 
-    /// Adds a pin whose name is new. Where memory is refused, nothing changes.
+    /// Adds a pin whose name is new. If an allocation fails, nothing changes.
     fn push_pin(&mut self, pin: RawPin<'a, A>) -> Result<(), AllocError>
         requires { place_of pin.name (map (λ p. p.name) self.old.pins) ≡ None }
         ensures pushed { OnOk result (self.new ≡ record self.old { pins = self.old.pins ++ pin.entry ∷ [] }) }

@@ -124,7 +124,7 @@ fn site_of_any<A: Allocator + Copy>(
     }
 }
 
-/// What the statements of a macro say of it.
+/// What the statements of a macro give for it.
 #[derive(Clone, Copy)]
 struct MacroSaid {
     size: RawExtent,
@@ -133,7 +133,7 @@ struct MacroSaid {
     site: Option<usize>,
 }
 
-/// What these statements, which stand before the words, say of a macro.
+/// What these statements, which come before the words, give for a macro.
 #[tactic(auto, unfolding(crate::specs::Macro::macro_said))]
 fn macro_said<A: Allocator + Copy>(
     library: &RawLibrary<'_, A>,
@@ -181,7 +181,7 @@ fn master<'a, A: Allocator + Copy>(
     })
 }
 
-/// Adds the macro that stands next, whose name is new.
+/// Adds the macro that comes next, whose name is new.
 #[tactic(auto, unfolding(crate::specs::Macro::with_macro))]
 pub(crate) fn macro_form<'a, A: Allocator + Copy>(
     alloc: A,

@@ -30,7 +30,7 @@ fn enclosed_point(words: &mut Cursor<'_, '_>) -> Result<RawPoint, ReadFault>
     Ok(point)
 }
 
-/// A point: two lengths, which may stand in parentheses.
+/// A point: two lengths, which may be in parentheses.
 #[tactic(auto, unfolding(crate::specs::Point::point_at))]
 pub(crate) fn point(words: &mut Cursor<'_, '_>) -> Result<RawPoint, ReadFault>
     ensures { Reads (λ p. p) result words.new (point_at words.old) }
@@ -64,7 +64,7 @@ fn higher(a: Micron, b: Micron) -> Micron
     }
 }
 
-/// The rectangle between two corners, which stand in any order, where it has area.
+/// The rectangle between two corners, which are in any order, where it has area.
 #[tactic(auto, unfolding(leg_cells::specs::Measure::rect_between))]
 fn rect_between(p: &RawPoint, q: &RawPoint) -> Option<RawRect>
     ensures { result ≡ rect_between p.now q.now }
@@ -80,7 +80,7 @@ fn rect_between(p: &RawPoint, q: &RawPoint) -> Option<RawRect>
     }
 }
 
-/// The rectangle of a `RECT` statement, whose corners stand in any order.
+/// The rectangle of a `RECT` statement, whose corners are in any order.
 #[tactic(auto, unfolding(crate::specs::Point::rect_in))]
 pub(crate) fn rect(statement: &mut Cursor<'_, '_>) -> Result<RawRect, ReadFault>
     ensures { Means (λ r. r) result (rect_in statement.old) }

@@ -1,4 +1,4 @@
-//! What LEF texts say together.
+//! What LEF texts denote together.
 
 ghost use Rattle.std.specs.Prelude.{◌≡◌, ◌≢◌, ◌<◌, ◌-◌, ◌^◌, min, length, map, IfOk, IfErr, OnOk};
 ghost use Rattle.leg_lex.specs.declared.limits.TheConstants.{TEXT_LIMIT};
@@ -13,7 +13,7 @@ use leg_cells::RawLibrary;
 use leg_lex::{Cursor, ReadFault, file_words};
 use std::alloc::Allocator;
 
-/// Adds what a LEF says to the library of the LEFs before it.
+/// Adds what a LEF denotes to the library of the LEFs before it.
 fn add_lef<'a, A: Allocator + Copy>(
     alloc: A,
     library: &mut RawLibrary<'a, A>,
@@ -22,7 +22,7 @@ fn add_lef<'a, A: Allocator + Copy>(
 ) -> Result<(), ReadFault>
     ensures found { OnOk result (Says (lef_in library.old) text.now library.new) }
     ensures only { OnOk result ((said : RawContents) → Says (lef_in library.old) text.now said → said ≡ library.new) }
-    // A text that is too long is never told as want of memory.
+    // A text that is too long is never reported as out of memory.
     ensures too_long { IfErr result (λ fault. TEXT_LIMIT < length text.now → fault.kind ≢ Memory) }
     ensures none { IfErr result (λ fault. fault.kind ≢ Memory
         → (said : RawContents) → ¬ Says (lef_in library.old) text.now said) }
@@ -31,16 +31,16 @@ fn add_lef<'a, A: Allocator + Copy>(
     form::lef_words(alloc, library, &mut Cursor::new(file, &words))
 }
 
-/// The library that LEF texts say, taken one after the other, in millionths of a micron.
+/// The library that LEF texts denote, taken one after the other, in millionths of a micron.
 ///
-/// A fault tells the first text that adds nothing, by its number from 0, and in it the line of the word at
+/// A fault gives the first text that adds nothing, by its number from 0, and in it the line of the word at
 /// fault.
 pub fn read_lefs<'a, A: Allocator + Copy>(
     alloc: A,
     lefs: &[&'a [u8]],
 ) -> Result<RawLibrary<'a, A>, ReadFault>
     ensures found { IfOk result (λ library. SayLibrary (map (λ t. t.now) lefs.now) library) }
-    // The texts say no other library.
+    // The texts denote no other library.
     ensures only { IfOk result (λ library. (said : RawContents)
         → SayLibrary (map (λ t. t.now) lefs.now) said → said ≡ library) }
     ensures none { IfErr result (λ fault. fault.kind ≢ Memory
@@ -53,7 +53,7 @@ pub fn read_lefs<'a, A: Allocator + Copy>(
     Ok(library)
 }
 
-/// The number by which faults tell a file: its place among the files, from 0. Beyond a `u32` all have the
+/// The number by which faults identify a file: its place among the files, from 0. Beyond a `u32` all have the
 /// greatest.
 pub fn file_number(place: usize) -> u32
     ensures { result ≡ min place (2 ^ 32 - 1) }

@@ -41,7 +41,7 @@ fn site_named<'l, 'a, A: Allocator + Copy>(
     library.sites().get(number)
 }
 
-/// Adds the site that stands next. A second definition with the same size adds nothing.
+/// Adds the site that comes next. A second definition with the same size adds nothing.
 #[tactic(auto, using(crate::proofs::Sites::found_nowhere), unfolding(crate::specs::Site::with_site))]
 pub(crate) fn site_form<'a, A: Allocator + Copy>(
     alloc: A,

@@ -1,4 +1,4 @@
-//! The forms that are read past (LEF/DEF 5.8, "LEF Syntax"; own rule).
+//! The forms that are read past (LEF/DEF 5.8, "LEF Syntax"; lefdef's own rule).
 
 ghost use Rattle.std.specs.Prelude.{codes};
 ghost use Rattle.leg_lex.specs.Words.{Reads};
@@ -43,7 +43,7 @@ fn past_statement(words: &mut Cursor<'_, '_>) -> Result<(), ReadFault>
     Ok(())
 }
 
-/// A form that says nothing of the library.
+/// A form that adds nothing to the library.
 #[tactic(auto, unfolding(crate::specs::Form::past_lef_form))]
 pub(crate) fn past_form(words: &mut Cursor<'_, '_>) -> Result<(), ReadFault>
     ensures { Reads (λ x. x) result words.new (past_lef_form words.old) }

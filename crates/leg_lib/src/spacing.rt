@@ -1,5 +1,5 @@
-//! The spacing of a layer (LEF/DEF 5.8, "Layer (Cut)", "Layer (Routing)"; which spacing is taken is an own
-//! rule).
+//! The spacing of a layer (LEF/DEF 5.8, "Layer (Cut)", "Layer (Routing)"; which spacing is taken is lefdef's
+//! own rule).
 
 ghost use Rattle.std.specs.Prelude.{◌≡◌};
 ghost use Rattle.std.specs.List.{find};
@@ -9,7 +9,7 @@ ghost use Rattle.leg_lib.specs.Layer.{spacing_in, spacing_of_any, is_table, at_r
 use crate::layer::first_of_one_word;
 use leg_lex::{Cursor, FaultKind, Micron, ReadFault};
 
-/// The spacing that a `SPACING` statement says, at least 0.
+/// The spacing that a `SPACING` statement gives, at least 0.
 #[tactic(auto, unfolding(crate::specs::Layer::spacing_in, crate::specs::Layer::length_in))]
 fn spacing(statement: &mut Cursor<'_, '_>) -> Result<Micron, ReadFault>
     ensures { Means (λ s. s) result (spacing_in statement.old) }

@@ -1,4 +1,4 @@
-//! Vias (LEF/DEF 5.8, "Via"; which of them are good is an own rule).
+//! Vias (LEF/DEF 5.8, "Via"; which of them are good is lefdef's own rule).
 
 ghost use Rattle.std.specs.Prelude.{◌≡◌, ◌≢◌, codes, not, ◌&&◌, if◌then◌else◌, drop, Some, IfOk, IfErr};
 ghost use Rattle.leg_lex.specs.Words.{Reads, Means, is_at};
@@ -12,7 +12,7 @@ use leg_lex::{Cursor, FaultKind, Name, ReadFault};
 use std::alloc::{AllocError, Allocator};
 use std::marker::Model;
 
-/// Which words stand between a via's name and its statements.
+/// Which words are between a via's name and its statements.
 #[derive(Clone, Copy)]
 struct ViaFlags {
     is_default: bool,
@@ -30,7 +30,7 @@ impl Model for ViaFlags {
     ghost inverse = { λ f. record { is_default = f.is_default; is_top_only = f.is_top_only; is_generated = f.is_generated } };
 }
 
-/// Reads this word, if it stands there and didn't stand before, and says whether it was read.
+/// Reads this word, if it is next and did not appear before, and returns whether it was read.
 #[tactic(auto, using(leg_lex::proofs::Keywords::read_past, leg_lex::proofs::Keywords::surely_read))]
 fn first_time(stood: bool, keyword: &[u8], words: &mut Cursor<'_, '_>) -> Result<bool, ReadFault>
     ensures said { IfOk result (λ read. read ≡ (is_at keyword.now words.old && not stood)) }
@@ -44,8 +44,8 @@ fn first_time(stood: bool, keyword: &[u8], words: &mut Cursor<'_, '_>) -> Result
     Ok(true)
 }
 
-/// Reads one more of the words `DEFAULT`, `TOPOFSTACKONLY` and `GENERATED`, if one stands there that
-/// didn't stand before.
+/// Reads one more of the words `DEFAULT`, `TOPOFSTACKONLY` and `GENERATED`, if one is next that
+/// did not appear before.
 #[tactic(auto, unfolding(crate::specs::Via::flag_at))]
 fn flag(flags: ViaFlags, words: &mut Cursor<'_, '_>) -> Result<ViaFlags, ReadFault>
     ensures { Reads (λ f. f) result words.new (Some (flag_at flags words.old)) }
@@ -86,7 +86,7 @@ fn flags(words: &mut Cursor<'_, '_>) -> Result<ViaFlags, ReadFault>
     flag(second, words)
 }
 
-/// What the statements of a via say: its shapes, and whether there is a form that no good via has.
+/// What the statements of a via give: its shapes, and whether there is a form that no good via has.
 #[derive(Drop)]
 struct ViaParts<A: Allocator> {
     drawing: Drawing<A>,
@@ -143,7 +143,7 @@ fn spoils(statement: &Cursor<'_, '_>) -> Result<bool, ReadFault>
 }
 
 impl<A: Allocator + Copy> ViaParts<A> {
-    /// What no statement says.
+    /// What no statements give.
     fn new(alloc: A) -> ViaParts<A>
         ensures { result ≡ no_via_parts }
     {
@@ -173,7 +173,7 @@ impl<A: Allocator + Copy> ViaParts<A> {
     }
 }
 
-/// What all statements of a via say.
+/// What all statements of a via give.
 #[tactic(auto, using(crate::proofs::Vias::parts_on, crate::proofs::Vias::parts_fail, crate::proofs::Vias::parts_end))]
 fn parts<A: Allocator + Copy>(
     alloc: A,
@@ -238,7 +238,7 @@ fn via<'a, A: Allocator + Copy>(
     })
 }
 
-/// Adds the via that stands next, whose name is new.
+/// Adds the via that comes next, whose name is new.
 #[tactic(auto, unfolding(crate::specs::Via::with_via))]
 pub(crate) fn via_form<'a, A: Allocator + Copy>(
     alloc: A,

@@ -1,4 +1,4 @@
--- Pins of the design that no net lists (own rule; LEF/DEF 5.8, "Pins", on `+ NET`).
+-- Pins of the design that no net lists (lefdef's own rule; LEF/DEF 5.8, "Pins", on `+ NET`).
 use Rattle.std.specs.Prelude.{ℕ, suc, Bool, ◌||◌, if◌then◌else◌, List, [], ◌∷◌, ◌++◌, Option, None, Some, slice_get, slice_set}
 use Rattle.std.specs.List.{list_any}
 use Rattle.leg_lex.specs.NameLookup.{place_of}

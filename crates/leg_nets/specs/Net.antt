@@ -1,5 +1,5 @@
 -- Entries of NETS and SPECIALNETS (LEF/DEF 5.8, "Nets", "Special Nets"; what is left out, and how much there may be, are
--- own rules).
+-- lefdef's own rules).
 use Rattle.std.specs.Prelude.{ℕ, ◌+◌, Bool, ◌&&◌, ◌||◌, nat_le, nat_lt, if◌then◌else◌, List, [], ◌∷◌, ◌++◌, length, Option, None, Some, is_some, codes}
 use Rattle.leg_lex.specs.Words.{Words, ◌>>=◌, is_keyword, is_at, keyword_at, mark_at, name_at, word_at}
 use Rattle.leg_lex.specs.Until.{until}
@@ -14,7 +14,7 @@ use Rattle.leg_nets.specs.Wiring.{is_wiring, wiring_at}
 use Rattle.leg_floorplan.specs.Section.{section_at}
 use Rattle.leg_block.specs.Records.{NetSaid, net_names, terminal_count, wire_count}
 
--- what the clauses before said
+-- what the clauses before gave
 pub record NetParts : Type 0 where
   pub usage : Option (List ℕ)
   pub wires : List Wire
@@ -80,7 +80,7 @@ net_name_at nets words = do
   new ← unless (is_keyword (codes "MUSTJOIN") name.0 || is_some (place_of name.0 (net_names nets)))
   Some name
 
--- - NAME terminals clauses, where these entries of the section and those of the other section stood before (45 is the
+-- - NAME terminals clauses, where these entries of the section and those of the other section came before (45 is the
 -- dash)
 unfoldable pub net_in : KnownSaid → Bool → List NetSaid → List NetSaid → Words → Option NetSaid
 net_in known special others nets statement = do

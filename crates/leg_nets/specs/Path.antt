@@ -1,5 +1,5 @@
--- The wires that a path says (LEF/DEF 5.8, "Regular Wiring Statement", "Special Wiring Statement"; which extension
--- holds, and which vias and widths are taken, are own rules).
+-- The wires that a path denotes (LEF/DEF 5.8, "Regular Wiring Statement", "Special Wiring Statement"; which extension
+-- holds, and which vias and widths are taken, are lefdef's own rules).
 use Rattle.std.specs.Prelude.{ℕ, ℤ, pos, Bool, not, ◌&&◌, ◌==◌, if◌then◌else◌, List, [], ◌∷◌, Option, None, Some, unwrap_or}
 use Rattle.std.specs.Ordering.{int_eq}
 use Rattle.std.specs.List.{find, list_any}

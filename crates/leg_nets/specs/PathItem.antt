@@ -62,7 +62,7 @@ rect_item words = do
   rect ← rect_between (record { x = a.0; y = b.0 }) (record { x = c.0; y = d.0 })
   Some (AtRect rect, close.1)
 
--- N directly behind a via is read past
+-- N directly after a via is read past
 unfoldable pub past_north : Words → Option (Unit {0} × Words)
 past_north words = if is_at (codes "N") words then keyword_at (codes "N") words else Some (tt, words)
 
@@ -75,7 +75,7 @@ via_item known words = do
   north ← past_north name.1
   Some (AtVia via, north.1)
 
--- an item of a path; rectangles stand in NETS only
+-- an item of a path; rectangles are in NETS only
 unfoldable pub item_at : KnownSaid → Bool → Words → Option (Item × Words)
 item_at known special words =
     if is_at (codes "(") words then point_item words

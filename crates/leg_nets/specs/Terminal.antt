@@ -1,5 +1,5 @@
 -- Terminals of nets (LEF/DEF 5.8, "Nets", "Special Nets"; that a terminal is in at most one net, and what `*` stands
--- for, are own rules).
+-- for, are lefdef's own rules).
 use Rattle.std.specs.Prelude.{ℕ, suc, Bool, not, ◌&&◌, if◌then◌else◌, List, [], ◌∷◌, ◌++◌, map, Option, None, Some, codes, slice_get}
 use Rattle.std.specs.List.{list_any}
 use Rattle.std.specs.Str.{bytes_eq}
@@ -42,7 +42,7 @@ component_terminal known of_component name = do
 abbrev pub pin_terminal : KnownSaid → List ℕ → Option Terminal
 pin_terminal known name = place_of name (pin_names known.pins) >>= λ p. Some (Pin p)
 
--- NAME NAME, where PIN tells a pin of the design
+-- NAME NAME, where PIN marks a pin of the design
 unfoldable pub one_terminal_at : KnownSaid → Words → Option (List Terminal × Words)
 one_terminal_at known words = do
   of_component ← name_at words
@@ -81,7 +81,7 @@ abbrev pub is_of_other_net : List ℕ → Terminal → List NetSaid → Bool
 is_of_other_net name terminal nets =
     list_any (λ net. not (bytes_eq net.name name) && is_among terminal net.terminals) nets
 
--- One more terminal of the net of this name, beside these entries: it counts once in its entry, and is in no other
+-- One more terminal of the net of this name, in addition to these entries: it counts once in its entry, and is in no other
 -- net.
 unfoldable pub add_terminal : List ℕ → List NetSaid → List Terminal → Terminal → Option (List Terminal)
 add_terminal name nets terminals terminal =

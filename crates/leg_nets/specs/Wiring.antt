@@ -1,5 +1,5 @@
--- Paths and the clauses that say them (LEF/DEF 5.8, "Regular Wiring Statement", "Special Wiring Statement"; what is left
--- out is an own rule).
+-- Paths and the clauses that contain them (LEF/DEF 5.8, "Regular Wiring Statement", "Special Wiring Statement"; what is left
+-- out is lefdef's own rule).
 use Rattle.std.specs.Prelude.{ℕ, ℤ, Bool, not, ◌&&◌, ◌||◌, if◌then◌else◌, List, [], ◌++◌, drop, Option, None, Some, codes}
 use Rattle.leg_lex.specs.Words.{Words, ◌>>=◌, is_at, next_at, keyword_at, mark_at, name_at, word_at}
 use Rattle.leg_lex.specs.Until.{until}
@@ -21,7 +21,7 @@ routing_at library words = do
   routes ← when (is_routing library number)
   Some (number, name.1)
 
--- TAPER says nothing
+-- TAPER has no effect
 unfoldable pub past_taper : Words → Option (Unit {0} × Words)
 past_taper words = if is_at (codes "TAPER") words then keyword_at (codes "TAPER") words else Some (tt, words)
 
@@ -35,7 +35,7 @@ written_width_at words = do
 abbrev pub at_no_shape : Words → Bool
 at_no_shape words = not (is_at (codes "+") words && is_at (codes "SHAPE") (drop 1 words))
 
--- + SHAPE word says nothing (43 is the plus)
+-- + SHAPE word has no effect (43 is the plus)
 unfoldable pub past_shape : Unit {0} → Words → Option (Unit {0} × Words)
 past_shape before words = do
   plus ← mark_at 43 words
@@ -43,7 +43,7 @@ past_shape before words = do
   word ← word_at start.1
   Some (tt, word.1)
 
--- what stands between a path's layer and its first point: in SPECIALNETS its width
+-- what comes between a path's layer and its first point: in SPECIALNETS its width
 unfoldable pub written_at : Bool → Words → Option (Option ℤ × Words)
 written_at special words =
     if special then (do
@@ -78,7 +78,7 @@ paths_at known special words = do
   first ← path_at known special words
   until at_no_new (new_path known special) first.0 first.1
 
--- whether a clause says wiring: ROUTED, FIXED or COVER; NOSHIELD in NETS, and SHIELD in SPECIALNETS
+-- whether a clause contains wiring: ROUTED, FIXED or COVER; NOSHIELD in NETS, and SHIELD in SPECIALNETS
 abbrev pub is_wiring : Bool → Words → Bool
 is_wiring special clause =
     is_at (codes "ROUTED") clause || is_at (codes "FIXED") clause || is_at (codes "COVER") clause

@@ -9,7 +9,7 @@ use leg_lex::Names;
 use std::alloc::{AllocError, Allocator};
 use std::marker::Model;
 
-/// Adds a number to the list in this place. Where memory is refused, nothing changes.
+/// Adds a number to the list in this place. If an allocation fails, nothing changes.
 pub(crate) fn add_number<A: Allocator + Copy>(
     lists: &mut [Items<usize, A>],
     place: usize,
@@ -23,7 +23,7 @@ pub(crate) fn add_number<A: Allocator + Copy>(
     list.push(number)
 }
 
-/// The numbers of the lists in these places, one list behind the other.
+/// The numbers of the lists in these places, one list after the other.
 pub(crate) fn joined<A: Allocator + Copy>(
     alloc: A,
     lists: &[Items<usize, A>],

@@ -8,7 +8,7 @@ use leg_geom::Point;
 use leg_lex::{Cursor, ReadFault};
 use std::marker::Model;
 
-/// A coordinate that a text writes, at most `NUMBER_LIMIT` either way. Contracts see it as that number.
+/// A coordinate that a text writes, at most `NUMBER_LIMIT` in absolute value. Contracts see it as that number.
 #[derive(Clone, Copy)]
 pub(crate) struct Coordinate {
     number: i64,

@@ -15,7 +15,7 @@ use std::alloc::{AllocError, Allocator};
 use std::marker::Model;
 
 /// What is read before nets, with an index that is made once for a section: the components of each macro; of the macros
-/// that have components, where each pin's name stands; and for each name the macros that have such a pin. Contracts see
+/// that have components, the place of each pin's name; and for each name the macros that have such a pin. Contracts see
 /// what is indexed alone.
 #[derive(Drop)]
 pub(crate) struct KnownPins<'r, 'k, 'a, A: Allocator + Copy> {

@@ -1,4 +1,4 @@
-//! Pins of the design that no net lists (own rule).
+//! Pins of the design that no net lists (lefdef's own rule).
 
 ghost use Rattle.std.specs.Prelude.{◌≡◌, ◌+◌, ◌<◌, ◌≤◌, length, OnOk};
 ghost use Rattle.leg_block.specs.declared.limits.TheConstants.{ENTRY_LIMIT, PART_LIMIT};

@@ -21,7 +21,7 @@ use leg_lex::{Cursor, FaultKind, Name, ReadFault, is_keyword};
 use std::alloc::Allocator;
 use std::marker::Model;
 
-/// What the clauses of an entry said so far.
+/// What the clauses of an entry gave so far.
 #[derive(Drop)]
 struct Parts<'a, A: Allocator> {
     usage: Option<Name<'a>>,
@@ -272,7 +272,7 @@ fn net<'a, A: Allocator + Copy>(
     Ok((name, parts))
 }
 
-/// Whether there is no room for another entry beside so many of this section and so many of the other.
+/// Whether there is no room for another entry where this section and the other already have these numbers of entries.
 fn is_full(entries: usize, others: usize) -> bool
     ensures { result ≡ nat_le ENTRY_LIMIT (entries + others) }
 {

@@ -203,7 +203,7 @@ impl<'a, A: Allocator + Copy> NetsBegun<'a, A> {
         }
     }
 
-    /// Adds a terminal, which no entry lists, to the entry that is being read. Where memory is refused, nothing changes.
+    /// Adds a terminal, which no entry lists, to the entry that is being read. If an allocation fails, nothing changes.
     fn push(&mut self, terminal: Terminal) -> Result<(), AllocError>
         requires before { is_listed terminal self.old.nets ≡ false }
         requires here { is_among terminal self.old.terminals ≡ false }
@@ -239,8 +239,8 @@ impl<'a, A: Allocator + Copy> NetsBegun<'a, A> {
         Ok(())
     }
 
-    /// Whether there are too many terminals, or too many wires, with those of the entry that is being read, which has so
-    /// many wires, and those of the other section.
+    /// Whether there are too many terminals, or too many wires, with those of the entry that is being read, which has
+    /// this many wires, and those of the other section.
     pub(crate) fn is_too_large(&self, others: &NetTable<'a, A>, wires: usize) -> bool
         ensures { result ≡ (nat_lt PART_LIMIT (terminal_count self.now.nets + length self.now.terminals + terminal_count others.now)
             || nat_lt PART_LIMIT (wire_count self.now.nets + wires + wire_count others.now)) }
@@ -296,7 +296,7 @@ impl<'a, A: Allocator + Copy> NetsBegun<'a, A> {
     }
 }
 
-// The entry of this number lists one more terminal. Where memory is refused, nothing changes.
+// The entry of this number lists one more terminal. If an allocation fails, nothing changes.
 fn list_terminal<'a, A: Allocator + Copy>(
     nets: &mut [Net<'a, A>],
     number: usize,

@@ -1,4 +1,4 @@
-//! The wires that a path says (LEF/DEF 5.8, "Regular Wiring Statement", "Special Wiring Statement").
+//! The wires that a path denotes (LEF/DEF 5.8, "Regular Wiring Statement", "Special Wiring Statement").
 
 ghost use Rattle.std.specs.Prelude.{◌≡◌, ◌==◌, pos};
 ghost use Rattle.std.specs.List.{list_any};
@@ -33,7 +33,7 @@ pub(crate) enum Item {
     AtRect(Rect),
 }
 
-/// An item and the words from its first one on, which tell its place in faults. Contracts see it as the item.
+/// An item and the words from its first one on, which give its place in faults. Contracts see it as the item.
 #[derive(Drop)]
 pub(crate) struct ItemAt<'t, 'a> {
     item: Item,
@@ -63,7 +63,7 @@ impl<'t, 'a> ItemAt<'t, 'a> {
         self.item
     }
 
-    /// Where it stands.
+    /// Where it is.
     fn place(&self) -> &Cursor<'t, 'a> {
         &self.words
     }
@@ -118,7 +118,7 @@ fn extension_at(at: Point, given: Option<i64>, items: &[ItemAt<'_, '_>]) -> Opti
     extension
 }
 
-/// The width of a segment, which the path writes or the layer says. A width of 0 is `EmptyRect`.
+/// The width of a segment, which the path writes or the layer has. A width of 0 is `EmptyRect`.
 #[tactic(auto, unfolding(crate::specs::Path::segment_width))]
 fn segment_width<A: Allocator + Copy>(
     library: &Library<'_, A>,
@@ -147,7 +147,7 @@ pub(crate) fn half(width: i64) -> i64
     width.div_euclid(2)
 }
 
-/// How far a segment reaches past an end of which nothing is said.
+/// How far a segment reaches past an end whose extension is not written.
 #[tactic(auto, unfolding(leg_block::specs::Wires::default_extension))]
 fn default_extension<A: Allocator + Copy>(
     library: &Library<'_, A>,
@@ -213,7 +213,7 @@ fn across<A: Allocator + Copy>(
     }
 }
 
-/// Where a path stands after some of its items: its layer, its point with the extension there, and its
+/// Where a path is after some of its items: its layer, its point with the extension there, and its
 /// wires so far.
 #[derive(Drop)]
 struct Walk<A: Allocator> {
@@ -278,7 +278,7 @@ impl<A: Allocator + Copy> Walk<A> {
         Ok(())
     }
 
-    /// Goes on past one more item, after which `later` stand.
+    /// Goes on past one more item, after which `later` come.
     #[tactic(auto, unfolding(crate::specs::Steps::Walk::walked_past))]
     fn go_past(
         &mut self,

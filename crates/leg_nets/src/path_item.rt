@@ -68,7 +68,7 @@ fn point_item(words: &mut Cursor<'_, '_>) -> Result<Item, ReadFault>
     Ok(Item::ToPoint { x, y, extension })
 }
 
-/// Whether one of the words that are left out by name is next, also behind a `+`.
+/// Whether one of the words that are left out by name is next, also after a `+`.
 fn is_at_left_out(words: &Cursor<'_, '_>) -> bool {
     let mut next = words.again();
     if next.is_at(b"+") {
@@ -120,7 +120,7 @@ fn rect_item(words: &mut Cursor<'_, '_>) -> Result<Item, ReadFault>
     Ok(Item::AtRect(rect))
 }
 
-/// Reads past an `N`, if it stands there.
+/// Reads past an `N`, if it is next.
 #[tactic(auto, unfolding(crate::specs::PathItem::past_north))]
 fn past_north(words: &mut Cursor<'_, '_>) -> Result<(), ReadFault>
     ensures { Reads (λ x. x) result words.new (past_north words.old) }
@@ -161,7 +161,7 @@ fn via_item<A: Allocator + Copy>(
     Ok(Item::AtVia(number))
 }
 
-/// An item of a path. Rectangles stand in `NETS` only.
+/// An item of a path. Rectangles are in `NETS` only.
 #[tactic(auto, unfolding(crate::specs::PathItem::item_at))]
 fn item<A: Allocator + Copy>(
     known: &Known<'_, '_, A>,

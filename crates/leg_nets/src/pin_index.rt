@@ -11,7 +11,7 @@ use std::alloc::{AllocError, Allocator};
 use std::collections::HashMap;
 use std::hash::{BuildHasherDefault, FoldHasher};
 
-/// Where each name stands first among the pins of a macro.
+/// Where each name comes first among the pins of a macro.
 pub(crate) type PinPlaces<'a, A> = HashMap<&'a [u8], usize, BuildHasherDefault<FoldHasher>, A>;
 
 /// Empty lists, `count` of them.
@@ -46,7 +46,7 @@ pub(crate) fn components_of_each<A: Allocator + Copy>(
     Ok(lists)
 }
 
-/// Where each name stands first among these pins.
+/// Where each name comes first among these pins.
 fn pin_places<'a, A: Allocator + Copy>(
     alloc: A,
     pins: &[MasterPin<'a, A>],
@@ -77,7 +77,7 @@ fn used_pins<'m, 'a, A: Allocator>(
     }
 }
 
-/// Where each name stands among the pins of each macro that has components, which `components` lists.
+/// Where each name is among the pins of each macro that has components, which `components` lists.
 pub(crate) fn places_of_each<'a, A: Allocator + Copy>(
     alloc: A,
     masters: &[Master<'a, A>],

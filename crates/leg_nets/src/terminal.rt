@@ -82,7 +82,7 @@ fn all_terminals<A: Allocator + Copy>(
     Ok(terminals)
 }
 
-/// `+ SYNTHESIZED`, which says nothing, if it is written.
+/// `+ SYNTHESIZED`, which has no effect, if it is written.
 #[tactic(auto, unfolding(crate::specs::Terminal::past_synthesized))]
 fn past_synthesized(words: &mut Cursor<'_, '_>) -> Result<(), ReadFault>
     ensures { Reads (λ x. x) result words.new (past_synthesized words.old) }
@@ -94,7 +94,7 @@ fn past_synthesized(words: &mut Cursor<'_, '_>) -> Result<(), ReadFault>
     Ok(())
 }
 
-/// What stands in a pair of parentheses, before `+ SYNTHESIZED`.
+/// What is in a pair of parentheses, before `+ SYNTHESIZED`.
 fn named<A: Allocator + Copy>(
     alloc: A,
     known: &KnownPins<'_, '_, '_, A>,
@@ -112,7 +112,7 @@ fn named<A: Allocator + Copy>(
     Ok(terminals)
 }
 
-/// The terminals that a pair of parentheses says.
+/// The terminals that a pair of parentheses denotes.
 #[tactic(auto, unfolding(crate::specs::Terminal::terminals_at))]
 pub(crate) fn terminals<A: Allocator + Copy>(
     alloc: A,

@@ -33,7 +33,7 @@ fn routing<A: Allocator + Copy>(
     Ok(number)
 }
 
-/// Reads past `TAPER`, if it stands there.
+/// Reads past `TAPER`, if it is next.
 #[tactic(auto, unfolding(crate::specs::Wiring::past_taper))]
 fn past_taper(words: &mut Cursor<'_, '_>) -> Result<(), ReadFault>
     ensures { Reads (λ x. x) result words.new (past_taper words.old) }
@@ -63,7 +63,7 @@ fn written_width(words: &mut Cursor<'_, '_>) -> Result<i64, ReadFault>
     Ok(width)
 }
 
-/// Whether `+ SHAPE` stands next.
+/// Whether `+ SHAPE` comes next.
 #[tactic(auto, using(leg_lex::proofs::Keywords::read_past, leg_lex::proofs::Keywords::surely_read))]
 fn is_at_shape(words: &Cursor<'_, '_>) -> Result<bool, ReadFault>
     ensures { Means (λ is. is) result (Some (is_at (codes "+") words.now && is_at (codes "SHAPE") (drop 1 words.now))) }
@@ -76,7 +76,7 @@ fn is_at_shape(words: &Cursor<'_, '_>) -> Result<bool, ReadFault>
     Ok(next.is_at(b"SHAPE"))
 }
 
-/// `+ SHAPE word`, which says nothing.
+/// `+ SHAPE word`, which has no effect.
 #[tactic(auto, unfolding(crate::specs::Wiring::past_shape))]
 fn past_shape(words: &mut Cursor<'_, '_>) -> Result<(), ReadFault>
     ensures { Reads (λ x. x) result words.new (past_shape tt words.old) }
@@ -87,7 +87,7 @@ fn past_shape(words: &mut Cursor<'_, '_>) -> Result<(), ReadFault>
     Ok(())
 }
 
-/// Every `+ SHAPE word` that stands there.
+/// Every `+ SHAPE word` that comes next.
 #[tactic(auto, using(leg_lex::proofs::Until::ends, leg_lex::proofs::Until::goes_on, leg_lex::proofs::Until::fails, crate::proofs::Wirings::past_shape_shortens, crate::proofs::Wirings::past_shape_shorter))]
 fn past_shapes(words: &mut Cursor<'_, '_>) -> Result<(), ReadFault>
     ensures { Reads (λ x. x) result words.new (until at_no_shape past_shape tt words.old) }
@@ -98,7 +98,7 @@ fn past_shapes(words: &mut Cursor<'_, '_>) -> Result<(), ReadFault>
     Ok(())
 }
 
-/// What stands between a path's layer and its first point: in `SPECIALNETS` its width.
+/// What comes between a path's layer and its first point: in `SPECIALNETS` its width.
 #[tactic(auto, unfolding(crate::specs::Wiring::written_at))]
 fn written(special: bool, words: &mut Cursor<'_, '_>) -> Result<Option<i64>, ReadFault>
     ensures { Reads (λ w. w) result words.new (written_at special words.old) }
@@ -112,7 +112,7 @@ fn written(special: bool, words: &mut Cursor<'_, '_>) -> Result<Option<i64>, Rea
     Ok(None)
 }
 
-/// The wires of a path, from its layer to its last item. Of two faults the one that stands first is told.
+/// The wires of a path, from its layer to its last item. Of two faults the first one is reported.
 #[tactic(auto, unfolding(crate::specs::Wiring::path_at))]
 fn path<A: Allocator + Copy>(
     alloc: A,
@@ -184,7 +184,7 @@ fn paths<A: Allocator + Copy>(
     Ok(wires)
 }
 
-/// Whether a clause says wiring.
+/// Whether a clause contains wiring.
 pub(crate) fn is_wiring(special: bool, clause: &Cursor<'_, '_>) -> bool
     ensures { result ≡ is_wiring special clause.now }
 {
@@ -209,7 +209,7 @@ fn wiring_start(clause: &mut Cursor<'_, '_>) -> Result<(), ReadFault>
     Ok(())
 }
 
-/// The wires of a clause that says wiring, from the word after its `+`.
+/// The wires of a clause that contains wiring, from the word after its `+`.
 #[tactic(auto, unfolding(crate::specs::Wiring::wiring_at))]
 pub(crate) fn wiring<A: Allocator + Copy>(
     alloc: A,

@@ -1,4 +1,4 @@
--- Violations that tell no other components than some of those of a design (own rules). These are marked: a flag stands for
+-- Violations that name only some of the components of a design (lefdef's own rules). These are marked: there is a flag for
 -- each component, by number.
 use Rattle.std.specs.Prelude.{◌≡◌, ℕ, Bool, true, List, Some, slice_get}
 use Rattle.leg_cells.specs.Records.{Contents}
@@ -11,7 +11,7 @@ use Rattle.leg_place.specs.Faults.{Holds}
 abbrev pub IsMarked : List Bool → ℕ → Type 0
 IsMarked marks c = slice_get marks c ≡ Some true
 
--- all components that a violation of where components stand tells are marked
+-- all components that a violation of placement names are marked
 abbrev pub TellsMarked : List Bool → Fault → Type 0
 TellsMarked marks (Unplaced c) = IsMarked marks c
 TellsMarked marks (Outside c) = IsMarked marks c
@@ -21,7 +21,7 @@ TellsMarked marks (Short a b) = ⊥
 TellsMarked marks (TooNear a b) = ⊥
 TellsMarked marks (OpenNet n k) = ⊥
 
--- a violation of where components stand holds, and tells marked ones alone
+-- a violation of placement holds, and names only marked ones
 pub record HoldsAmong (library : Contents) (design : DesignContents) (marks : List Bool) (fault : Fault) : Type 0 where
   pub holds : Holds library design fault
   pub marked : TellsMarked marks fault

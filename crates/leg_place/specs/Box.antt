@@ -1,4 +1,4 @@
--- The box in which a component stands: that of its macro, oriented and placed (LEF/DEF 5.8, "Component orientation").
+-- The box in which a component lies: that of its macro, oriented and placed (LEF/DEF 5.8, "Component orientation").
 use Rattle.std.specs.Prelude.{◌≡◌, ℕ, pos, Option, Some, slice_get}
 use Rattle.leg_lex.specs.Words.{◌>>=◌}
 use Rattle.leg_geom.specs.Plane.{Sides}
@@ -24,7 +24,7 @@ box_of library component = do
   place ← component.place
   Some (placed_box master.size place)
 
--- component c of the design stands in this box
+-- component c of the design lies in this box
 pub record StandsIn (library : Contents) (design : DesignContents) (c : ℕ) (box : Sides) : Type 0 where
   pub component : Component
   pub there : slice_get design.components c ≡ Some component

@@ -1,5 +1,5 @@
--- What is not legal about where components stand (own rules): without a place, outside the die, off the sites of the
--- rows, and on one another. A component is the box of its macro, whose unit squares count.
+-- What is not legal about the placement of components (lefdef's own rules): without a place, outside the die, off the sites of the
+-- rows, and overlapping. A component is the box of its macro, whose unit squares count.
 use Rattle.std.specs.Prelude.{◌≡◌, ℕ, ◌<◌, None, Some, slice_get}
 use Rattle.leg_geom.specs.Plane.{Spot, Sides, HasSquare, ShareSquare}
 use Rattle.leg_cells.specs.Records.{Contents}
@@ -24,7 +24,7 @@ pub record IsOutside (library : Contents) (design : DesignContents) (c : ℕ) : 
   pub inside : HasSquare box square
   pub outside : ¬ HasSquare design.die square
 
--- two placed components share a unit square; the lower number is told first
+-- two placed components share a unit square; the lower number is given first
 pub record DoOverlap (library : Contents) (design : DesignContents) (a b : ℕ) : Type 0 where
   pub in_order : a < b
   pub box_a : Sides
@@ -33,7 +33,7 @@ pub record DoOverlap (library : Contents) (design : DesignContents) (a b : ℕ) 
   pub stands_b : StandsIn library design b box_b
   pub shared : ShareSquare box_a box_b
 
--- a violation holds that speaks of where components stand
+-- a violation of placement holds
 pub data Holds (library : Contents) (design : DesignContents) : Fault → Type 0 where
   unplaced : {c : ℕ} → IsUnplaced design c → Holds library design (Unplaced c)
   outside : {c : ℕ} → IsOutside library design c → Holds library design (Outside c)

@@ -1,4 +1,4 @@
--- Whether a component stands on sites of a row (LEF/DEF 5.8, "Rows", "Site"; which orientations fit a row is an own rule).
+-- Whether a component is on sites of a row (LEF/DEF 5.8, "Rows", "Site"; which orientations fit a row is lefdef's own rule).
 use Rattle.std.specs.Prelude.{◌≡◌, ◌↔◌, ◌⊎◌, ℕ, pos, Bool, ◌+◌, ◌<◌, ◌≤◌, ◌≤ℤ◌, ◌+ℤ◌, ◌*ℤ◌, Some, slice_get, Contains, IsTrue}
 use Rattle.leg_geom.specs.Plane.{Spot, Sides, HasSquare}
 use Rattle.leg_geom.specs.Orientation.{IsMirrored}
@@ -17,7 +17,7 @@ abbrev pub site_box : Row → Lengths → ℕ → Sides
 site_box row size k =
     record { x1 = row.at.x +ℤ pos k *ℤ size.width; y1 = row.at.y; x2 = row.at.x +ℤ pos (k + 1) *ℤ size.width; y2 = row.at.y +ℤ size.height }
 
--- one of so many consecutive sites of the row, from the first on, has the unit square
+-- one of this many consecutive sites of the row, from the first on, has the unit square
 pub record SitesHave (row : Row) (size : Lengths) (first many : ℕ) (square : Spot) : Type 0 where
   pub k : ℕ
   pub from : first ≤ k
@@ -35,7 +35,7 @@ pub record IsOnSites (row : Row) (size : Lengths) (box : Sides) : Type 0 where
 abbrev pub Fits : Orient → Bool → Orient → Type 0
 Fits row y_symmetric orient = (orient ≡ row) ⊎ (IsTrue y_symmetric × IsMirrored row orient)
 
--- a macro at a place stands on sites of the row, which are of the site of this number
+-- a macro at a place is on sites of the row, which are of the site of this number
 pub record IsOnRow (library : Contents) (master : MasterSaid) (number : ℕ) (place : Place) (row : Row) : Type 0 where
   pub same : row.site ≡ number
   pub site : Site
@@ -43,7 +43,7 @@ pub record IsOnRow (library : Contents) (master : MasterSaid) (number : ℕ) (pl
   pub fits : Fits row.orient master.y_symmetric place.orient
   pub sites : IsOnSites row site.size (placed_box master.size place)
 
--- component c is placed, its macro has a SITE, and it stands on the sites of no row
+-- component c is placed, its macro has a SITE, and it is on the sites of no row
 pub record IsOffSite (library : Contents) (design : DesignContents) (c : ℕ) : Type 0 where
   pub component : Component
   pub there : slice_get design.components c ≡ Some component

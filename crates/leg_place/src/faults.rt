@@ -1,4 +1,4 @@
-//! The violations of where components stand.
+//! The violations of placement.
 
 ghost use Rattle.std.specs.Prelude.{◌≡◌, ◌<◌, ◌↔◌, length, IsTrue, IfOk, OnOk};
 ghost use Rattle.leg_block.specs.Violation.{IsListOf};
@@ -16,7 +16,7 @@ use leg_cells::Library;
 use std::alloc::{AllocError, Allocator};
 
 /// The components without a place, those outside the die, those off the sites of the rows, and the pairs of components
-/// that overlap: all that hold, each once, in order (own rules).
+/// that overlap: all that hold, each once, in order (lefdef's own rules).
 ///
 /// The design was read with this library. It fails only when out of memory.
 pub fn place_faults<A: Allocator + Copy>(
@@ -32,8 +32,8 @@ pub fn place_faults<A: Allocator + Copy>(
     Ok(faults)
 }
 
-/// Those violations that tell only components that are marked, as `place_faults` lists them. A component is marked where
-/// `true` stands at its number.
+/// Those violations that name only components that are marked, as `place_faults` lists them. A component is marked
+/// where `true` is at its number.
 ///
 /// Pairs of other components cost no time, however many of them overlap. It fails only when out of memory.
 pub fn place_faults_among<A: Allocator + Copy>(
@@ -106,7 +106,7 @@ pub(crate) fn is_outside<A: Allocator + Copy>(design: &Design<'_, A>, number: us
     }
 }
 
-/// Adds the marked components that don't stand on the sites of a row to those without a place and those outside the die.
+/// Adds the marked components that are not on the sites of a row to those without a place and those outside the die.
 fn push_off_site<A: Allocator + Copy>(
     alloc: A,
     design: &Design<'_, A>,

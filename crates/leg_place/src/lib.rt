@@ -1,9 +1,9 @@
-//! What is not legal about where components stand: without a place, outside the die, off the sites of the rows, and on
-//! one another.
+//! What is not legal about the placement of components: without a place, outside the die, off the sites of the rows,
+//! and overlapping.
 //!
 //! `place_faults` lists exactly the violations of these four kinds, each once, in order, and `place_faults_among` those of
-//! some components alone. `is_placed` tells whether there are any. `box_of` and `placed_size` say in which box a component
-//! stands.
+//! some components alone. `is_placed` returns whether there are any. `box_of` and `placed_size` give the box in which a
+//! component lies.
 #![tactic(auto)]
 
 mod faults;

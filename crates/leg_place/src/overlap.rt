@@ -1,4 +1,4 @@
-//! Components on one another.
+//! Overlapping components.
 
 ghost use Rattle.std.specs.Prelude.{◌≡◌, ◌^◌, ◌↔◌, IsTrue, IfOk, OnOk};
 ghost use Rattle.std.proofs.Common.{refl};

@@ -1,4 +1,4 @@
-//! Whether all components stand where they may.
+//! Whether all components are legally placed.
 
 ghost use Rattle.std.specs.Prelude.{◌≡◌, ◌<◌, ◌↔◌, length, IsTrue, IfOk};
 ghost use Rattle.leg_block.specs.declared.fault.Fault.{Fault};

@@ -6,7 +6,7 @@ ghost use Rattle.leg_place.specs.Steps.SiteSpan.{orient_rank, span_of, covers, b
 use leg_cells::Extent;
 use leg_geom::{Orient, Rect};
 
-/// What sites have in common whose edges coincide wherever they lie on one another.
+/// What sites have in common whose edges coincide wherever they overlap.
 #[derive(Clone, Copy, PartialEq, Eq, PartialOrd, Ord)]
 pub(crate) struct SiteLine {
     /// The number of the site.

@@ -15,7 +15,7 @@ use leg_cells::{Extent, Master};
 use leg_geom::{Orient, Place, Rect};
 use std::alloc::Allocator;
 
-/// Whether the component is placed, its macro has a site, and it stands on the sites of no row. The sites of the rows
+/// Whether the component is placed, its macro has a site, and it is on the sites of no row. The sites of the rows
 /// are given as `row_spans` gives them.
 pub(crate) fn is_off_site<A: Allocator + Copy>(
     design: &Design<'_, A>,
@@ -37,7 +37,7 @@ pub(crate) fn is_off_site<A: Allocator + Copy>(
     }
 }
 
-/// Whether a macro of this site stands on the sites of a row when it is at this place.
+/// Whether a macro of this site is on the sites of a row when it is at this place.
 fn is_on_some_row<A: Allocator + Copy>(
     design: &Design<'_, A>,
     rows: &[SiteSpan],

@@ -28,7 +28,7 @@ shape_at flat i = flat >>= λ (f : FlatSaid). slice_get f.shapes i
 abbrev pub piece_at : Option FlatSaid → ℕ → ℕ → Option Piece
 piece_at flat n k = flat >>= λ (f : FlatSaid). slice_get f.pieces n >>= λ pieces. slice_get pieces k
 
--- two shapes behind a word and the layer of the first; nothing, unless there are both
+-- two shapes after a word and the layer of the first; nothing, unless there are both
 abbrev pub pair_line : DesignContents → List ℕ → Option Shape → Option Shape → List ℕ
 pair_line design word (Some a) (Some b) =
     word ++ codes " " ++ layer_name design a.layer ++ codes " " ++ shape_text design a ++ codes " " ++ shape_text design b ++ codes "\n"

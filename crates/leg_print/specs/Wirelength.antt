@@ -1,4 +1,4 @@
--- How long the nets of a design are at least, in database units: its half-perimeter wirelength (own rule).
+-- How long the nets of a design are at least, in database units: its half-perimeter wirelength (lefdef's own rule).
 use Rattle.std.specs.Prelude.{◌≡◌, ℕ, ◌+◌, ℤ, pos, ◌≤ℤ◌, List, length, sum, Contains, Option, None, Some}
 use Rattle.std.specs.List.{range_with_len}
 use Rattle.leg_geom.specs.Plane.{Spot, Sides, HasPoint, HasAllPoints, IsCentre}
@@ -30,13 +30,13 @@ pub record HasTerminalPoint (design : DesignContents) (terminal : Terminal) (p :
   pub draws : IsOfTerminal design terminal metal
   pub in_metal : HasPointOf metal.outline p
 
--- the point stands for the terminal: the middle of the least box round its shapes, each coordinate rounded down
+-- the point represents the terminal: the middle of the least box round its shapes, each coordinate rounded down
 pub record IsTerminalCentre (design : DesignContents) (terminal : Terminal) (p : Spot) : Type 0 where
   pub box : Sides
   pub least : IsLeastBox (HasTerminalPoint design terminal) box
   pub middle : IsCentre box p
 
--- the point stands for one of these terminals
+-- the point represents one of these terminals
 pub record IsCentreAmong (design : DesignContents) (terminals : List Terminal) (p : Spot) : Type 0 where
   pub terminal : Terminal
   pub listed : Contains terminals terminal

@@ -1,4 +1,4 @@
-//! Clauses, each behind a `+`.
+//! Clauses, each after a `+`.
 
 ghost use Rattle.std.specs.Prelude.{◌≡◌, ◌++◌, ◌∷◌, OnOk, codes, option_map, map};
 ghost use Rattle.leg_text.specs.Spaced.{spaced};

@@ -16,7 +16,7 @@ use leg_cells::Library;
 use std::alloc::{AllocError, Allocator};
 
 /// The text of the design, a DEF of which each byte depends on the design alone (LEF/DEF 5.8, "DEF Syntax"; its order
-/// and its layout are own rules).
+/// and its layout are lefdef's own rules).
 ///
 /// The design was read with this library. It fails only when out of memory.
 #[tactic(auto, unfolding(crate::specs::Text::Whole::design_text))]

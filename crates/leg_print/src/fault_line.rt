@@ -104,7 +104,7 @@ fn push_component<A: Allocator + Copy>(
     text.extend_from_slice(b"\n")
 }
 
-/// Adds the line of two components on one another.
+/// Adds the line of two overlapping components.
 fn push_overlap<A: Allocator + Copy>(
     text: &mut Vec<u8, A>,
     design: &Design<'_, A>,

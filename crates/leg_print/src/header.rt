@@ -71,7 +71,7 @@ fn push_die<A: Allocator>(text: &mut Vec<u8, A>, die: &Rect) -> Result<(), Alloc
     push_end(text)
 }
 
-/// Adds the lines that say how names are written.
+/// Adds the lines that define how names are written.
 fn push_naming<A: Allocator + Copy>(
     text: &mut Vec<u8, A>,
     design: &Design<'_, A>,

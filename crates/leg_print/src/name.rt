@@ -133,7 +133,7 @@ pub(crate) fn design_pin_name<'d, A: Allocator + Copy>(
     }
 }
 
-/// Adds a terminal: a pin of a component behind the component's name, or a pin of the design behind its word.
+/// Adds a terminal: a pin of a component after the component's name, or a pin of the design after its word.
 fn push_terminal<A: Allocator + Copy>(
     text: &mut Vec<u8, A>,
     design: &Design<'_, A>,

@@ -86,7 +86,7 @@ fn push_new_wire<A: Allocator + Copy>(
     push_wire(text, design, special, wire)
 }
 
-/// Adds the lines of wires behind a net's first one.
+/// Adds the lines of wires after a net's first one.
 fn push_new_wires<A: Allocator + Copy>(
     text: &mut Vec<u8, A>,
     design: &Design<'_, A>,

@@ -13,7 +13,7 @@ use leg_block::{Design, Pin, Port};
 use leg_text::{push_end, push_first, push_word, push_words};
 use std::alloc::{AllocError, Allocator};
 
-/// Adds where a port stands, if it stands somewhere.
+/// Adds where a port is, if it is placed.
 fn push_port_place<A: Allocator>(text: &mut Vec<u8, A>, port: &Port<A>) -> Result<(), AllocError>
     ensures { OnOk result (text.new.items ≡ text.old.items ++ spaced (clause_words (port_place port.now.status port.now.place))) }
 {

@@ -8,7 +8,7 @@ use itoa::Buffer;
 use leg_text::{push_end, push_first, push_line_feed, push_word};
 use std::alloc::{AllocError, Allocator};
 
-/// Adds the line that begins a section of so many entries.
+/// Adds the line that begins a section of this many entries.
 pub(crate) fn push_section_start<A: Allocator>(
     text: &mut Vec<u8, A>,
     keyword: &[u8],

@@ -145,7 +145,7 @@ fn port_box<A: Allocator + Copy>(port: &Port<A>) -> Option<Bounds>
     drawn_box(&place, 0, 0, port.shapes.as_slice())
 }
 
-/// The least box that holds shapes of a box of this size, which stands at a place, where there are some.
+/// The least box that holds shapes of a box of this size, which is at a place, where there are some.
 fn drawn_box(place: &Place, width: i64, height: i64, shapes: &[Shape]) -> Option<Bounds>
     requires at { IsPosition place.now.at }
     requires width { IsNumber width }
@@ -160,7 +160,7 @@ fn drawn_box(place: &Place, width: i64, height: i64, shapes: &[Shape]) -> Option
     bounds
 }
 
-/// The box of one shape of a box of this size, which stands at a place.
+/// The box of one shape of a box of this size, which is at a place.
 fn shape_box(place: &Place, width: i64, height: i64, shape: &Shape) -> Bounds
     requires at { IsPosition place.now.at }
     requires width { IsNumber width }

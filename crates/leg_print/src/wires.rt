@@ -33,7 +33,7 @@ fn push_width<A: Allocator>(
     }
 }
 
-/// How far a segment on this layer reaches past an end of which nothing is said.
+/// How far a segment on this layer reaches past an end whose extension is not written.
 #[tactic(auto, unfolding(leg_block::specs::Wires::default_extension))]
 fn default_extension<A: Allocator + Copy>(
     design: &Design<'_, A>,

@@ -4,7 +4,7 @@ use Rattle.leg_block.specs.declared.records.Wire.{Wire}
 use Rattle.leg_grid.specs.Run.{Added}
 use Rattle.leg_route.specs.Routed.{wires_for}
 
--- for each of so many entries of NETS a list of the wires that a run added to it
+-- for each of this many entries of NETS a list of the wires that a run added to it
 pub record AreListsOf (count : ℕ) (added : List Added) (lists : List (List Wire)) : Type 0 where
   pub one_each : length lists ≡ count
   pub each : (n : ℕ) → n < count → slice_get lists n ≡ Some (wires_for n added)

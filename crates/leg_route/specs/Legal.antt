@@ -1,4 +1,4 @@
--- Designs of which nothing is wrong (own rules).
+-- Designs of which nothing is wrong (lefdef's own rules).
 use Rattle.leg_block.specs.Records.{DesignContents}
 use Rattle.leg_block.specs.declared.fault.Fault.{Fault}
 use Rattle.leg_place.specs.Faults as place
@@ -6,7 +6,7 @@ use Rattle.leg_flat.specs.Flat.{FlatSaid, IsFlatOf}
 use Rattle.leg_wire.specs.Spacing as spacing
 use Rattle.leg_wire.specs.Open as joins
 
--- A design is legal: no violation of any kind holds, be it of where components stand, of two shapes of its metal or of a
+-- A design is legal: no violation of any kind holds, be it of placement, of two shapes of its metal or of a
 -- piece of a net. Metal is judged by a flat of the design, which has exactly its points; no flat of it shows a violation.
 pub record IsLegal (design : DesignContents) : Type 0 where
   pub places : (fault : Fault) → ¬ place.Holds design.library design fault

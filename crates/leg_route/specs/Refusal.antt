@@ -1,4 +1,4 @@
--- When the router refuses a design (own rules): the first cause that holds.
+-- When the router refuses a design (lefdef's own rules): the first cause that holds.
 use Rattle.std.specs.Prelude.{◌<◌, ◌≤◌, length}
 use Rattle.leg_block.specs.declared.limits.TheConstants.{PART_LIMIT}
 use Rattle.leg_block.specs.declared.fault.Fault.{Fault}
@@ -30,7 +30,7 @@ pub data HasTooMany (design : DesignContents) : Type 0 where
   at_first : PART_LIMIT < length (metal_of design) → HasTooMany design
   on_the_way : {flat : FlatSaid} → ComesToRun design flat → HasTooManyShapes design flat → HasTooMany design
 
--- the first cause of refusal that holds, but for want of memory
+-- the first cause of refusal that holds, apart from being out of memory
 abbrev pub IsRefusal : {A : Type 0} → DesignContents → RouteFault A → Type 0
 IsRefusal design (NotClean faults) = (flat : FlatSaid) × IsJudgedBy design flat × IsNotClean design flat faults
 IsRefusal design GridTooLarge = ((flat : FlatSaid) × IsCleanIn design flat) × IsGridTooLarge design

@@ -1,4 +1,4 @@
--- What a routed design has: the wires of a routing run (own rules).
+-- What a routed design has: the wires of a routing run (lefdef's own rules).
 use Rattle.std.specs.Prelude.{◌≡◌, ◌==◌, ℕ, List, [], ◌∷◌, ◌++◌, length, Some, slice_get, if◌then◌else◌}
 use Rattle.leg_block.specs.declared.records.Wire.{Wire}
 use Rattle.leg_block.specs.Records.{NetSaid, DesignContents}
@@ -10,7 +10,7 @@ abbrev pub wires_for : ℕ → List Added → List Wire
 wires_for net [] = []
 wires_for net (one ∷ more) = if one.net == net then one.wires ++ wires_for net more else wires_for net more
 
--- The second design is the first with these wires, each in its entry of NETS behind those that the entry had.
+-- The second design is the first with these wires, each in its entry of NETS after those that the entry had.
 pub record HasAdded (before : DesignContents) (added : List Added) (after : DesignContents) : Type 0 where
   pub rest : after ≡ record before { nets = after.nets }
   pub count : length after.nets ≡ length before.nets

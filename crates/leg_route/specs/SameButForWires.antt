@@ -1,10 +1,10 @@
--- What the router leaves as it is (own rule): all but the wires of `NETS`, where it adds some behind those that are there.
+-- What the router leaves as it is (lefdef's own rule): all but the wires of `NETS`, where it adds some after those that are there.
 use Rattle.std.specs.Prelude.{◌≡◌, List, ◌++◌}
 use Rattle.leg_cells.specs.Scale.{OneForOne}
 use Rattle.leg_block.specs.declared.records.Wire.{Wire}
 use Rattle.leg_block.specs.Records.{NetSaid, DesignContents}
 
--- the entry with some wires more, or none, behind its own
+-- the entry with some wires more, or none, after its own
 pub record HasMoreWires (before after : NetSaid) : Type 0 where
   pub more : List Wire
   pub is : after ≡ record before { wires = before.wires ++ more }

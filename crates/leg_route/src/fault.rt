@@ -10,8 +10,8 @@ use leg_flat::FlatFault;
 use leg_grid::GridFault;
 use std::alloc::{AllocError, AllocFailed, Allocator};
 
-/// The cause for which a design isn't routed (own rules). Of several, the first in this order is told, but for memory, and
-/// for a design that has too many shapes as it is: that is told before all others.
+/// The cause for which a design isn't routed (lefdef's own rules). Of several, the first in this order is reported,
+/// apart from memory, and for a design that has too many shapes as it is: that is reported before all others.
 #[derive(Drop)]
 pub enum RouteFault<A: Allocator> {
     /// The design has violations of other kinds than `OpenNet`: all of them, in order.
@@ -22,7 +22,7 @@ pub enum RouteFault<A: Allocator> {
     Unroutable(u32),
     /// The design has more shapes than a flat may have, or a wire that was to be added would pass their number.
     TooMany,
-    /// Memory was refused.
+    /// An allocation failed.
     Memory,
 }
 

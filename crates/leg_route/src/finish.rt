@@ -17,7 +17,7 @@ use crate::laws::finished_run;
 use leg_block::{Design, Wire};
 use std::alloc::Allocator;
 
-/// What holds of every design and of its library, as their types say: nothing is done.
+/// What holds of every design and of its library, as their types state: it does nothing.
 fn design_is_sound<A: Allocator + Copy>(design: &Design<'_, A>)
     ensures library { IsSound design.now.library }
     ensures proper { IsWellFormed design.now }
@@ -26,7 +26,7 @@ fn design_is_sound<A: Allocator + Copy>(design: &Design<'_, A>)
     let _vias = design.vias();
 }
 
-/// Gives each entry of `NETS` the wires of its list. Where memory is refused, the design comes back as it was.
+/// Gives each entry of `NETS` the wires of its list. If an allocation fails, the design comes back as it was.
 pub(crate) fn finish<'a, A: Allocator + Copy>(
     design: Design<'a, A>,
     lists: Vec<Vec<Wire, A>, A>,

@@ -34,8 +34,8 @@ pub(crate) struct GridGround<'g, 'a, A: Allocator + Copy> {
 }
 
 impl<'g, 'a, A: Allocator + Copy> GridGround<'g, 'a, A> {
-    /// The ground of a design of which this is the flat. `GridTooLarge` is told where its grid is too large, and `Memory` where
-    /// memory was refused.
+    /// The ground of a design of which this is the flat. `GridTooLarge` is returned where its grid is too large, and
+    /// `Memory` where an allocation failed.
     pub(crate) fn new(
         alloc: A,
         design: &'g Design<'a, A>,
@@ -112,7 +112,7 @@ impl<'g, 'a, A: Allocator + Copy> Ground<A> for GridGround<'g, 'a, A> {
     }
 }
 
-/// What is told of the slots where these shapes lie too, behind the others: those near them are told anew.
+/// What is known of the slots where these shapes lie too, after the others: those near them are computed anew.
 fn add_shapes<A: Allocator + Copy>(
     grid: &Grid<'_, '_, A>,
     design: &Design<'_, A>,

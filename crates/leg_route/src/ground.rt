@@ -14,8 +14,8 @@ use leg_block::Wire;
 use leg_flat::FlatFault;
 use std::alloc::{AllocError, Allocator};
 
-/// A design, and the flat of it that grows as nets get wires. What else a search needs is kept beside them: it is ready where
-/// all of this fits the flat.
+/// A design, and the flat of it that grows as nets get wires. What else a search needs is kept with them: it is ready
+/// where all of this fits the flat.
 pub trait Ground<A: Allocator + Copy> {
     ghost use Rattle.leg_block.specs.Records.{DesignContents};
     ghost use Rattle.leg_flat.specs.Flat.{FlatSaid};
@@ -43,7 +43,7 @@ pub trait Ground<A: Allocator + Copy> {
         ensures same_design { design self.new ≡ design self.old }
         ensures same_flat { flat self.new ≡ flat self.old };
 
-    /// Adds a wire to the net. `TooMany` is told exactly where the flat would have more than `PART_LIMIT` shapes.
+    /// Adds a wire to the net. `TooMany` is returned exactly where the flat would have more than `PART_LIMIT` shapes.
     fn add(&mut self, net: u32, wire: Wire) -> Result<(), FlatFault>
         requires ready { IsReady self.old }
         requires in_range { net < length (design self.old).nets }

@@ -14,7 +14,7 @@ use crate::net_turn::route_net;
 use leg_block::Wire;
 use std::alloc::Allocator;
 
-/// Gives each of so many nets its turn, in their order. For each there is a list of the wires that it got.
+/// Gives each of this many nets its turn, in their order. For each there is a list of the wires that it got.
 fn turns<A: Allocator + Copy, G: Ground<A>>(
     alloc: A,
     ground: &mut G,
@@ -38,11 +38,11 @@ fn turns<A: Allocator + Copy, G: Ground<A>>(
     Ok(lists)
 }
 
-/// Routes the nets of `NETS`, of which there are so many, in their order: each gets the wires of one shortest walk after
+/// Routes the nets of `NETS`, of which there are `nets`, in their order: each gets the wires of one shortest walk after
 /// another until it isn't open. For each net there is a list of the wires that it got, in their order.
 ///
 /// The flat is that of the design, in which no violation of another kind than `OpenNet` holds, and whose grid isn't too
-/// large. `Unroutable` and `TooMany` tell where such a run stops before its end.
+/// large. `Unroutable` and `TooMany` report where such a run stops before its end.
 pub fn route_nets<A: Allocator + Copy, G: Ground<A>>(
     alloc: A,
     ground: &mut G,

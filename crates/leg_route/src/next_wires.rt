@@ -61,7 +61,7 @@ fn marked_slots<A: Allocator + Copy>(
 }
 
 /// The numbers of the slots of a shortest open walk of the net, whose walks begin and end in these slots, or `None` where there
-/// is no such walk. `slots` tells what is open in the flat.
+/// is no such walk. `slots` has what is open in the flat.
 fn next_walk<A: Allocator + Copy>(
     alloc: A,
     grid: &Grid<'_, '_, A>,
@@ -108,8 +108,8 @@ fn next_walk<A: Allocator + Copy>(
 }
 
 /// The wires of a shortest open walk from the joined part of the net to the rest, or `None` where there is no such walk. `slots`
-/// tells of each slot of the grid what is open in the flat, and `numbers` are those of the net's shapes. `marks` has one for each
-/// slot. `touched` is room to work in. Of several such walks one is taken as `shortest` of `leg_walk` says.
+/// has for each slot of the grid what is open in the flat, and `numbers` are those of the net's shapes. `marks` has one
+/// for each slot. `touched` is room to work in. Of several such walks one is taken as `shortest` of `leg_walk` states.
 ///
 /// It fails only when out of memory.
 pub(crate) fn next_wires<A: Allocator + Copy>(

@@ -19,8 +19,8 @@ use leg_block::{Design, Wire};
 use leg_cells::Library;
 use std::alloc::Allocator;
 
-/// The design with all its nets routed (own rules): each entry of `NETS` keeps its wires and gets further ones behind them, until
-/// all pieces of each net are joined. Nothing else changes, and the design is then legal.
+/// The design with all its nets routed (lefdef's own rules): each entry of `NETS` keeps its wires and gets further ones
+/// after them, until all pieces of each net are joined. Nothing else changes, and the design is then legal.
 ///
 /// As long as a net is open, the first such net gets the wires of a shortest walk on the grid of tracks, from the metal that is
 /// joined to its first piece to that of its other pieces. A walk's length is the number of its steps, whatever they measure in
@@ -33,7 +33,7 @@ use std::alloc::Allocator;
 /// The library is the one that the design was read with. On each refusal the design comes back unchanged: `TooMany` where it has
 /// more shapes than a flat may have, else `NotClean` with all violations of other kinds than open nets, else `GridTooLarge`, else
 /// where the run first stops: `Unroutable` with the number of the net whose turn it is and for which no such walk is left, or
-/// `TooMany` where a wire would pass the number of shapes. `Memory` is told wherever memory was refused.
+/// `TooMany` where a wire would pass the number of shapes. `Memory` is returned wherever an allocation failed.
 pub fn route<'a, A: Allocator + Copy>(
     alloc: A,
     library: &Library<'_, A>,

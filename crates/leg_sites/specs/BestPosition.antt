@@ -1,4 +1,4 @@
--- The best free position of a component (own rule).
+-- The best free position of a component (lefdef's own rule).
 use Rattle.std.specs.Prelude.{◌≡◌, ◌↔◌, ◌⊎◌, ℕ, pos, Bool, IsTrue, ◌+◌, ◌≤◌, ◌≤ℤ◌, ◌+ℤ◌, ◌*ℤ◌, List, length, Option, None, Some, slice_get}
 use Rattle.leg_geom.specs.Gap.{apart}
 use Rattle.leg_geom.specs.Plane.{IsCoordinate}
@@ -23,7 +23,7 @@ pub record AreReady (rows : List Row) (free : List (List Stretch)) (wanted : Wan
   pub wide : pos 1 ≤ℤ wanted.site_width
   pub within : (number : ℕ) (row : Row) (stretches : List Stretch) → slice_get rows number ≡ Some row → row.site ≡ wanted.site → slice_get free number ≡ Some stretches → (k : ℕ) → IsFreeSite stretches k → IsCoordinate (row.at.x +ℤ pos k *ℤ wanted.site_width)
 
--- The component may stand there: the row is one of its site, and the sites from the first on are free. Its distance is
+-- The component may be placed there: the row is one of its site, and the sites from the first on are free. Its distance is
 -- measured along both axes, from its start to the lower left corner of the first site.
 pub record IsCandidate (rows : List Row) (free : List (List Stretch)) (wanted : Wanted) (c : Candidate) : Type 0 where
   pub row : Row

@@ -1,4 +1,4 @@
--- The free sites of all rows of a design, once some boxes stand in the way (own rule).
+-- The free sites of all rows of a design, once some boxes are in the way (lefdef's own rule).
 use Rattle.std.specs.Prelude.{◌≡◌, ℕ, ℤ, pos, ◌≤ℤ◌, List, length, Some, slice_get, Contains}
 use Rattle.leg_lex.specs.Number.{IsNumber}
 use Rattle.leg_geom.specs.Plane.{Sides}

@@ -1,4 +1,4 @@
--- The rows of a design from the lowest one up (own rule).
+-- The rows of a design from the lowest one up (lefdef's own rule).
 use Rattle.std.specs.Prelude.{◌≡◌, ◌⊎◌, ◌↔◌, ◌<◌, ◌<ℤ◌, List, Some, slice_get, AllPairs, Contains}
 use Rattle.leg_block.specs.declared.records.Row.{Row}
 use Rattle.leg_sites.specs.declared.row_keys.RowKey.{RowKey}

@@ -1,4 +1,4 @@
--- Free sites of one row, as stretches of sites by their numbers, which count from 0 at the row's left end (own rule).
+-- Free sites of one row, as stretches of sites by their numbers, which count from 0 at the row's left end (lefdef's own rule).
 use Rattle.std.specs.Prelude.{◌≡◌, ◌↔◌, ◌⊎◌, ℕ, ◌+◌, ◌<◌, ◌≤◌, List, Some, slice_get, All, AllPairs}
 use Rattle.leg_sites.specs.declared.stretch.Stretch.{Stretch}
 
@@ -10,11 +10,11 @@ pub record IsFreeSite (free : List Stretch) (k : ℕ) : Type 0 where
   pub above : stretch.from ≤ k
   pub below : k < stretch.end
 
--- so many consecutive sites, from the first on, are free
+-- this many consecutive sites, from the first on, are free
 abbrev pub AreFreeSites : List Stretch → ℕ → ℕ → Type 0
 AreFreeSites free many first = (k : ℕ) → first ≤ k → k < first + many → IsFreeSite free k
 
--- each stretch has a site, and they stand from left to right, with a site that isn't free between any two
+-- each stretch has a site, and they are ordered from left to right, with a site that isn't free between any two
 pub record AreStretches (free : List Stretch) : Type 0 where
   pub long : All (λ s. s.from < s.end) free
   pub apart : AllPairs (λ s t. s.end < t.from) free

@@ -19,7 +19,7 @@ pub(crate) struct Pitch {
     pub start: i64,
 }
 
-/// The first of so many consecutive free sites that is nearest to the start, the lower of two that are as near.
+/// The first of this many consecutive free sites that is nearest to the start, the lower of two that are as near.
 pub(crate) fn nearest(free: &[Stretch], many: u64, pitch: &Pitch) -> Option<u64>
     requires stretches { AreStretches free.now }
     requires some { 1 ≤ many }
@@ -72,7 +72,7 @@ pub(crate) fn x_away(pitch: &Pitch, site: u64) -> u64
     x.abs_diff(pitch.start)
 }
 
-/// The first of so many consecutive free sites, the least that isn't below this one.
+/// The first of this many consecutive free sites, the least that isn't below this one.
 fn first_from(free: &[Stretch], many: u64, least: u64) -> Option<u64>
     requires stretches { AreStretches free.now }
     requires some { 1 ≤ many }
@@ -89,7 +89,7 @@ fn first_from(free: &[Stretch], many: u64, least: u64) -> Option<u64>
     None
 }
 
-/// The first of so many consecutive free sites, the greatest that isn't above this one.
+/// The first of this many consecutive free sites, the greatest that isn't above this one.
 fn last_upto(free: &[Stretch], many: u64, most: u64) -> Option<u64>
     requires stretches { AreStretches free.now }
     requires some { 1 ≤ many }

@@ -1,4 +1,4 @@
-//! What is known of the rows of a design before anything stands in them.
+//! What is known of the rows of a design before anything is placed in them.
 
 ghost use Rattle.std.specs.Prelude.{length, IfOk};
 ghost use Rattle.leg_sites.specs.FreeRows.{IsTallest};

@@ -6,7 +6,7 @@ ghost use Rattle.leg_sweep.specs.Steps.Bands.{empty_band};
 use std::alloc::Allocator;
 use std::marker::Model;
 
-/// The bands in which an item stands, by their numbers: from the first to the last.
+/// The bands in which an item is, by their numbers: from the first to the last.
 #[derive(Clone, Copy)]
 pub(crate) struct Stretch {
     pub(crate) first: u32,
@@ -20,7 +20,7 @@ pub(crate) struct Band<A: Allocator> {
     pub(crate) reach: u64,
     /// The items whose first band this is.
     pub(crate) begun: Vec<u32, A>,
-    /// The items that stand in a lower band too.
+    /// The items that are in a lower band too.
     pub(crate) passing: Vec<u32, A>,
 }
 

@@ -14,11 +14,11 @@ use crate::sink::PairSink;
 use crate::sweep::sweep;
 use std::alloc::{AllocError, Allocator};
 
-/// So many items at most are looked at directly: their pairs are no more than four times as many.
+/// At most this many items are looked at directly: their pairs are no more than four times as many.
 const FEW: usize = 9;
 
 /// The pairs of numbers of items for which the rule holds, lower number first, in increasing order, found by a sweep over
-/// bands of y on each layer. The rule's counts tell afterwards how often it was asked.
+/// bands of y on each layer. The rule's counts show afterwards how often it was asked.
 pub fn pairs_in_bands<R: LayeredRule, A: Allocator + Copy>(
     alloc: A,
     items: &[R::Item],

@@ -18,8 +18,9 @@ const LOOSE: usize = 64;
 /// Rectangles by their numbers, in the order in which they came, with what it takes to find those near one. Contracts see it as
 /// their list.
 ///
-/// The rectangles are sorted so that near ones stand together, and grouped. What is added stands by itself at first, and is then
-/// grouped with as many of those before it as take no longer: so each is sorted anew a few times, and few runs stand side by side.
+/// The rectangles are sorted so that near ones are together, and grouped. What is added is by itself at first, and is
+/// then grouped with as many of those before it as take no longer: so each is sorted anew a few times, and there are
+/// few runs.
 #[derive(Drop)]
 pub struct BinIndex<A: Allocator> {
     rects: Vec<Rect, A>,
@@ -27,7 +28,7 @@ pub struct BinIndex<A: Allocator> {
     cuts: Vec<Cut, A>,
 }
 
-/// Where a run of groups ends: the first rectangles, so many, have the first nodes, so many.
+/// Where a run of groups ends: the first `rects` rectangles have the first `nodes` nodes.
 #[derive(Clone, Copy)]
 pub(crate) struct Cut {
     pub(crate) rects: usize,
@@ -78,7 +79,7 @@ impl<A: Allocator + Copy> BinIndex<A> {
         Near::new(&self.nodes, Window::around(rect, reach))
     }
 
-    /// Adds a rectangle, and answers its number. Where memory is refused the index is as it was.
+    /// Adds a rectangle, and answers its number. If an allocation fails the index is as it was.
     pub fn add(&mut self, rect: Rect) -> Result<u32, AllocError>
         requires { length self.old < 2 ^ 32 - 1 }
         ensures number { IfOk result (λ number. number ≡ length self.old) }
@@ -110,7 +111,7 @@ impl<A: Allocator + Copy> BinIndex<A> {
     }
 }
 
-/// Groups the rectangles behind the last cut that is kept.
+/// Groups the rectangles after the last cut that is kept.
 fn group_rest<A: Allocator + Copy>(
     rects: &[Rect],
     nodes: &mut Vec<Node, A>,
@@ -134,8 +135,8 @@ fn group_rest<A: Allocator + Copy>(
     Ok(())
 }
 
-/// How many of the cuts stay where all rectangles behind them are grouped: a run goes with those behind it that are as many
-/// together.
+/// How many of the cuts stay where all rectangles after them are grouped: a run goes with those after it that are as
+/// many together.
 fn kept_cuts(cuts: &[Cut], rects: usize) -> usize
     requires { 0 < length cuts.now }
     ensures some { 0 < result }

@@ -1,4 +1,4 @@
-//! An order in which rectangles that lie near one another stand near one another.
+//! An order in which rectangles that lie near one another come near one another.
 
 ghost use Rattle.std.specs.Prelude.{◌≤◌, ◌*◌};
 ghost use Rattle.leg_geom.specs.declared.limits.TheConstants.{COORDINATE_LIMIT};
@@ -7,7 +7,7 @@ ghost use Rattle.leg_geom.specs.Plane.{IsCoordinate};
 use leg_geom::{COORDINATE_LIMIT, Rect};
 use std::mem::swap;
 
-/// How many bits tell a column or a row of tiles. A tile has sides of 512 units.
+/// How many bits identify a column or a row of tiles. A tile has sides of 512 units.
 const TILE_BITS: u32 = 22;
 
 /// How many bits the sum of two coordinates has below those.
@@ -16,14 +16,14 @@ const BITS_IN_A_TILE: u32 = 10;
 /// How many doublings of an extent are one class of sizes.
 const DOUBLINGS: u32 = 6;
 
-/// How many bits tell a class of sizes.
+/// How many bits identify a class of sizes.
 const CLASS_BITS: u32 = 4;
 
-/// Where a rectangle stands in the order. Rectangles of about one width and one height stand together, so that a few long ones
-/// don't widen the groups of all others. Within such a class the order is that of the tiles of their centres on a curve that
-/// fills the plane.
+/// The place of a rectangle in the order. Rectangles of about one width and one height come together, so that a few
+/// long ones don't widen the groups of all others. Within such a class the order is that of the tiles of their centres
+/// on a curve that fills the plane.
 ///
-/// Nothing hangs on the order but how fast the search is.
+/// Only the speed of the search depends on the order.
 pub(crate) fn curve_key(rect: &Rect) -> u64 {
     let (x1, x2) = (offset(rect.x1()), offset(rect.x2()));
     let (y1, y2) = (offset(rect.y1()), offset(rect.y2()));

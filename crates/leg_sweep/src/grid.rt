@@ -1,4 +1,4 @@
-//! The bands of each layer, and which of them each item stands in.
+//! The bands of each layer, and which of them each item is in.
 
 ghost use Rattle.std.specs.Prelude.{◌≡◌, ◌≤◌, ◌<◌, ◌+◌, ◌*◌, ◌/◌, ◌^◌, ◌++◌, length, map, replicate, sum_by, All, IfOk, OnOk};
 ghost use Rattle.std.specs.List.{range_with_len};
@@ -35,12 +35,12 @@ struct LayerBands {
     height: u64,
     /// The height at which the lowest band begins.
     low: u64,
-    /// How far above its top edge an item stands in bands.
+    /// How far above its top edge an item is in bands.
     reach: u64,
 }
 
-/// The bands in which each item stands, and all bands, in which no item waits yet. The bands of a layer are of one height,
-/// and are no other layer's. An item stands in four bands at most, on average.
+/// The bands in which each item is, and all bands, in which no item waits yet. The bands of a layer are of one height,
+/// and are no other layer's. An item is in four bands at most, on average.
 pub(crate) fn stretches_and_bands<R: LayeredRule, A: Allocator + Copy>(
     alloc: A,
     items: &[R::Item],
@@ -129,7 +129,7 @@ fn layer_bands<R: LayeredRule, A: Allocator>(
     Ok(grid)
 }
 
-/// The bands of a layer whose items span so much. There is a band for each eight items at most, and one more.
+/// The bands of a layer whose items have this span. There is a band for each eight items at most, and one more.
 fn bands_of(span: LayerSpan, first: u32, reach: u64) -> LayerBands
     requires { IsSmall span }
     ensures { AreBandsOf span first reach result }
@@ -168,7 +168,7 @@ fn band_height(span: LayerSpan, spread: u64, reach: u64) -> u64
     roomy.max(enough)
 }
 
-/// The bands in which each item stands.
+/// The bands in which each item is.
 fn item_stretches<R: LayeredRule, A: Allocator>(
     alloc: A,
     items: &[R::Item],
@@ -188,7 +188,7 @@ fn item_stretches<R: LayeredRule, A: Allocator>(
     Ok(stretches)
 }
 
-/// The bands in which an item stands: from that of its bottom edge to that of what lies the reach above its top edge.
+/// The bands in which an item is: from that of its bottom edge to that of what lies the reach above its top edge.
 fn stretch_of<R: LayeredRule>(rule: &R, item: &R::Item, bands: LayerBands) -> Stretch
     requires { BeginsIn bands (R.rect_of (R.fixed rule.now) item.now) }
     ensures { result ≡ stretch_in bands (R.rect_of (R.fixed rule.now) item.now) }
@@ -217,7 +217,7 @@ fn empty_bands<R: LayeredRule, A: Allocator + Copy>(
     Ok(bands)
 }
 
-/// Adds so many bands of this reach, in which no item waits.
+/// Adds this many bands of this reach, in which no item waits.
 fn push_bands<A: Allocator + Copy>(
     alloc: A,
     bands: &mut Vec<Band<A>, A>,

@@ -49,8 +49,8 @@ fn keys_from<A: Allocator>(
     Ok(keys)
 }
 
-/// Adds a group of the rectangles with these numbers: a node, and behind it those of its members. More rectangles than a least
-/// group has are cut into two groups. It answers what encloses them.
+/// Adds a group of the rectangles with these numbers: a node, and after it those of its members. More rectangles than a
+/// least group has are cut into two groups. It answers what encloses them.
 fn push_group<A: Allocator>(
     rects: &[Rect],
     keys: &[(u64, u32)],

@@ -12,10 +12,10 @@ pub(crate) struct Node {
     pub(crate) content: Content,
 }
 
-/// What a node stands for.
+/// What a node represents.
 #[derive(Clone, Copy)]
 pub(crate) enum Content {
-    /// A group: so many of the nodes after it lie within its bounds.
+    /// A group: this many of the nodes after it lie within its bounds.
     Group(u32),
     /// A rectangle of the index, by its number.
     Rect(u32),

@@ -55,7 +55,7 @@ pub struct Found<A: Allocator> {
 }
 
 /// The pairs of numbers of items for which the rule holds, lower number first, in increasing order. The
-/// rule's counts tell afterwards how often it was asked.
+/// rule's counts show afterwards how often it was asked.
 pub fn pairs<R: PairRule, A: Allocator + Copy>(
     alloc: A,
     items: &[R::Item],
@@ -119,7 +119,7 @@ fn reach_of<R: PairRule>(rule: &R) -> u64
     rule.reach().unsigned_abs()
 }
 
-/// For so many items the lowest band alone.
+/// For each of this many items the lowest band alone.
 fn lowest_stretches<A: Allocator>(alloc: A, count: usize) -> Result<Vec<Stretch, A>, AllocError>
     ensures { IfOk result (λ stretches. stretches.items ≡ replicate count (record { first = 0; last = 0 })) }
 {

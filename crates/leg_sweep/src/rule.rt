@@ -4,11 +4,11 @@ ghost use Rattle.std.specs.Prelude.{◌≡◌, ◌≤◌, ◌<◌, ◌+◌, ◌-
 ghost use Rattle.leg_geom.specs.Plane.{Sides, IsRect};
 ghost use Rattle.leg_geom.specs.Gap.{x_gap, y_gap};
 
-/// A rule for pairs of items that lie in the plane. Its meaning gives each item a rectangle, and says
+/// A rule for pairs of items that lie in the plane. Its meaning gives each item a rectangle, and defines
 /// for two items whether the rule holds of them.
 ///
 /// A rule counts how often it was asked: a call of `meets` is a test, a call of `gaps` a look. Nothing
-/// else of its meaning changes, which `fixed` says: it is the rule with both counts at 0.
+/// else of its meaning changes, as `fixed` states: it is the rule with both counts at 0.
 pub trait PairRule {
     /// What the rule is asked about.
     type Item;
@@ -59,7 +59,7 @@ pub trait PairRule {
     fn looks(&self) -> u64
         ensures { result ≡ looks_of self.now };
 
-    // The rule doesn't hang on which item is named first.
+    // The rule is symmetric.
     ghost symmetric: { (r : Self) (a b : Self.Item) → Holds r a b → Holds r b a };
 
     // Where the rule holds, both gaps are within the reach.

@@ -20,7 +20,7 @@ pub trait PairSink {
         ensures same { room_of self.new ≡ room_of self.old };
 }
 
-/// Takes a pair by putting it behind the others.
+/// Takes a pair by putting it after the others.
 impl<A: Allocator> PairSink for Vec<(u32, u32), A> {
     ghost Takes = { λ before pair after. after.items ≡ before.items ++ pair ∷ [] };
 

@@ -12,7 +12,7 @@ use crate::sink::PairSink;
 use crate::waiting::meet_waiting;
 use std::alloc::{AllocError, Allocator};
 
-/// Looks at the new item beside those that wait in its bands: in its first band beside all, and in each other one beside
+/// Looks at the new item with those that wait in its bands: in its first band with all, and in each other one with
 /// those that began there. So two items are looked at in one band only. Hands the sink the pairs for which the rule holds.
 /// Those that it looked at wait on where they are within the reach along x, and the new one waits in each of its bands.
 pub(crate) fn visit<R: PairRule, S: PairSink, A: Allocator>(

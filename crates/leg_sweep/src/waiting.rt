@@ -1,4 +1,4 @@
-//! A new item beside waiting ones.
+//! A new item together with waiting ones.
 
 ghost use Rattle.std.specs.Prelude.{◌≡◌, ◌≤◌, ◌<◌, ◌+◌, ◌-◌, ◌^◌, ◌↔◌, IsTrue, [], length, map, filter, count_by, OnOk, if◌then◌else◌};
 ghost use Rattle.leg_geom.specs.Gap.{x_gap, y_gap};
@@ -11,8 +11,8 @@ use crate::sink::PairSink;
 use std::alloc::{AllocError, Allocator};
 use std::mem::swap;
 
-/// Looks at the new item beside each waiting one, and hands the sink the pairs for which the rule holds. Those wait on
-/// that are within the reach along x. `kept` is room to work in.
+/// Looks at the new item together with each waiting one, and hands the sink the pairs for which the rule holds. Those
+/// wait on that are within the reach along x. `kept` is room to work in.
 pub(crate) fn meet_waiting<R: PairRule, S: PairSink, A: Allocator>(
     items: &[R::Item],
     rule: &mut R,
@@ -43,8 +43,8 @@ pub(crate) fn meet_waiting<R: PairRule, S: PairSink, A: Allocator>(
     Ok(())
 }
 
-/// Looks at the new item beside each waiting one: keeps those within the reach along x, and hands the sink the pairs for
-/// which the rule holds.
+/// Looks at the new item together with each waiting one: keeps those within the reach along x, and hands the sink the
+/// pairs for which the rule holds.
 fn turn<R: PairRule, S: PairSink, A: Allocator>(
     items: &[R::Item],
     rule: &mut R,

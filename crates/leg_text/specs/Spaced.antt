@@ -1,10 +1,10 @@
--- Words as the bytes of a text (LEF/DEF 5.8 lets any white space stand between words; that it is one blank, and one line
--- feed behind the last word of a line, is an own rule). No form of LEF or DEF is known here.
+-- Words as the bytes of a text (LEF/DEF 5.8 allows any white space between words; that it is one blank, and one line
+-- feed after the last word of a line, is lefdef's own rule). No form of LEF or DEF is known here.
 use Rattle.std.specs.Prelude.{ℕ, Bool, not, ◌-◌, ◌==◌, ◌&&◌, ◌||◌, nat_lt, List, [], ◌∷◌, ◌++◌, length, slice_index}
 use Rattle.std.specs.List.{flat_map}
 use Rattle.leg_lex.specs.Words.{Words, is_plain, is_closed}
 
--- each word behind a blank (32)
+-- each word after a blank (32)
 abbrev pub spaced : Words → List ℕ
 spaced words = flat_map (λ word. 32 ∷ word) words
 

@@ -1,7 +1,7 @@
 //! Lines of words as the bytes of a text, and that they are read as these words.
 //!
-//! Of the forms of LEF and DEF nothing is known here. LEF/DEF 5.8 lets any white space stand between words; that it is
-//! one blank within a line is an own rule.
+//! Of the forms of LEF and DEF nothing is known here. LEF/DEF 5.8 allows any white space between words; that it is
+//! one blank within a line is lefdef's own rule.
 #![tactic(auto)]
 
 pub mod laws;

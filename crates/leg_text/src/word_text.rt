@@ -26,7 +26,7 @@ pub fn push_word<A: Allocator>(text: &mut Vec<u8, A>, word: &[u8]) -> Result<(),
     push_first(text, word)
 }
 
-/// Adds each word behind a blank.
+/// Adds each word after a blank.
 ///
 /// It fails only when out of memory; the text may then have some of the words.
 pub fn push_words<A: Allocator>(text: &mut Vec<u8, A>, words: &[&[u8]]) -> Result<(), AllocError>

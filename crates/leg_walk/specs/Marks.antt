@@ -1,4 +1,4 @@
--- The marks of a search's nodes, as they are before and after it (own rule).
+-- The marks of a search's nodes, as they are before and after it (lefdef's own rule).
 use Rattle.std.specs.Prelude.{◌≡◌, List, All}
 use Rattle.leg_walk.specs.declared.mark.Mark.{Mark}
 use Rattle.leg_walk.specs.declared.mark.Mark.TheVariants.{Unseen}

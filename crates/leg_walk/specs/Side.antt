@@ -1,4 +1,4 @@
--- The sides of a node (own rule).
+-- The sides of a node (lefdef's own rule).
 use Rattle.leg_walk.specs.declared.side.Side.{Side}
 use Rattle.leg_walk.specs.declared.side.Side.TheVariants.{West, East, South, North, Below, Above}
 

@@ -1,4 +1,4 @@
--- Walks in a graph, and what a shortest one is (own rule).
+-- Walks in a graph, and what a shortest one is (lefdef's own rule).
 use Rattle.std.specs.Prelude.{ℕ, ◌≤◌, List, [], ◌∷◌, length, Option, Some, None}
 use Rattle.leg_walk.specs.declared.side.Side.{Side}
 

@@ -12,19 +12,20 @@ use crate::graph::Graph;
 use crate::mark::Mark;
 use std::alloc::{AllocError, Allocator};
 
-/// How many rounds there are at most. Where other wires stand in the way, a walk often has some steps more than its bound, and a
-/// round is needed for about each two of them. Among the wires of a block 30 rounds find nearly all walks.
+/// How many rounds there are at most. Where other wires are in the way, a walk often has some steps more than its
+/// bound, and a round is needed for about each two of them. Among the wires of a block 30 rounds find nearly all walks.
 const ROUNDS: u32 = 30;
 
 /// The most steps of a walk that is looked for. A dive calls itself once for each step, so this keeps the stack small.
 const DEEPEST: u32 = 2_000;
 
-/// How many nodes the rounds note at most for each step of a walk, so that they cost little where walls stand in the way. With 64
-/// nearly all walks among the wires of a block are found by dives; with 16 many go by levels, which look at far more nodes.
+/// How many nodes the rounds note at most for each step of a walk, so that they cost little where walls are in the way.
+/// With 64 nearly all walks among the wires of a block are found by dives; with 16 many go by levels, which look at far
+/// more nodes.
 const NOTED_FOR_EACH_STEP: usize = 64;
 
 /// A shortest walk, where a few rounds of dives find one. Each round looks for a walk of as many steps as each has at least, as
-/// far as the rounds before it have told. Where none is found, `limit` grows to that number.
+/// far as the rounds before it have found. Where none is found, `limit` grows to that number.
 pub(crate) fn walk_by_dives<G: Graph, A: Allocator + Copy>(
     alloc: A,
     graph: &G,
@@ -64,7 +65,7 @@ pub(crate) fn walk_by_dives<G: Graph, A: Allocator + Copy>(
     Ok(None)
 }
 
-/// Whether the graph says of each start that no step is left to it.
+/// Whether the graph's bound on the steps left is 0 at each start.
 fn is_none_left<G: Graph>(graph: &G, starts: &[u32]) -> bool
     requires { All (λ a. a < G.size_of graph.now) starts.now }
     ensures { result ≡ true → All (λ a. G.back_bound_of graph.now a ≡ 0) starts.now }

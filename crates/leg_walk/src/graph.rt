@@ -5,8 +5,8 @@ ghost use Rattle.std.specs.Prelude.{◌≡◌, ◌≤◌, ◌<◌, ◌+◌, ◌�
 use crate::side::Side;
 
 /// A graph of numbered nodes, each with one neighbour at most on each of its sides. Nodes and steps are open or not. The
-/// graph tells how many steps are left at least from a node to the ends of a search, and from its starts to a node; the caller
-/// had both in mind when the graph was made.
+/// graph gives how many steps are left at least from a node to the ends of a search, and from its starts to a node; the
+/// caller had both in mind when the graph was made.
 pub trait Graph {
     ghost use Rattle.leg_walk.specs.declared.side.Side.{Side};
     ghost use Rattle.leg_walk.specs.Side.{opposite};
@@ -56,8 +56,8 @@ pub trait Graph {
         requires { node < size_of self.now }
         ensures { result ≡ bound_of self.now node };
 
-    /// How many steps are left at least from a start to the node. A graph that says more than none at some start is searched
-    /// without it.
+    /// How many steps are left at least from a start to the node. A graph that gives more than 0 at some start is
+    /// searched without it.
     fn back_bound(&self, node: u32) -> u32
         requires { node < size_of self.now }
         ensures { result ≡ back_bound_of self.now node };

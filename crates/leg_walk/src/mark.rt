@@ -7,8 +7,9 @@ pub enum Mark {
     Unseen,
     /// The node is not open.
     Shut,
-    /// The node is open. It is so many steps from the nearest start, and is entered from the node `from`: a start from itself.
+    /// The node is open. It is this many steps from the nearest start, and is entered from the node `from`: a start
+    /// from itself.
     Reached { level: u32, from: u32 },
-    /// The node is open, and each walk to it from a start has at least so many steps.
+    /// The node is open, and each walk to it from a start has at least this many steps.
     Far { steps: u32 },
 }

@@ -7,7 +7,7 @@ ghost use Rattle.leg_walk.specs.Steps.Marks.{IsNoted};
 use crate::mark::Mark;
 use std::alloc::{AllocError, Allocator};
 
-/// The marks of so many nodes, of which none is seen.
+/// The marks of this many nodes, of which none is seen.
 pub fn unseen_marks<A: Allocator>(alloc: A, count: usize) -> Result<Vec<Mark, A>, AllocError>
     ensures count { IfOk result (λ marks. length marks.items ≡ count) }
     ensures unseen { IfOk result (λ marks. AreUnseen marks.items) }

@@ -99,7 +99,7 @@ fn near_walk<G: Graph, A: Allocator + Copy>(
     walk
 }
 
-/// The least number of steps that are left from a start to an end, as far as the graph tells.
+/// The least number of steps that are left from a start to an end, as far as the graph knows.
 fn least_bound<G: Graph>(graph: &G, starts: &[u32]) -> u64
     requires { All (λ a. a < G.size_of graph.now) starts.now }
     ensures { result < 2 ^ 32 }

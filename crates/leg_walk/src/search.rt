@@ -13,7 +13,7 @@ use crate::mark::Mark;
 use std::alloc::{AllocError, Allocator};
 
 /// The least end at the least level at which there is one. A node is marked only where its level and the steps that are left
-/// at least come to no more than the limit. `left_out` tells whether one was left out for this.
+/// at least come to no more than the limit. `left_out` is whether one was left out for this.
 pub(crate) fn nearest_end<G: Graph, A: Allocator + Copy>(
     alloc: A,
     graph: &G,

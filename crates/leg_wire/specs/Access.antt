@@ -1,4 +1,4 @@
--- Which nets' metal may lie somewhere (own rule).
+-- Which nets' metal may lie somewhere (lefdef's own rule).
 use Rattle.std.specs.Prelude.{◌≡◌, ℕ, [], ◌∷◌}
 use Rattle.leg_flat.specs.declared.shape.Shape.{Shape}
 use Rattle.leg_flat.specs.Flat.{FlatSaid}

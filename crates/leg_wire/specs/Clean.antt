@@ -1,4 +1,4 @@
--- Where metal of a net may lie (own rule).
+-- Where metal of a net may lie (lefdef's own rule).
 use Rattle.std.specs.Prelude.{ℕ, None, Contains}
 use Rattle.leg_geom.specs.Plane.{Sides}
 use Rattle.leg_cells.specs.Records.{Contents}

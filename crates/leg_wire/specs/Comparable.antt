@@ -1,4 +1,4 @@
--- Which shapes are judged beside one another (own rules).
+-- Which shapes are compared with one another (lefdef's own rules).
 use Rattle.std.specs.Prelude.{◌≡◌, ◌≢◌, ℕ, Some}
 use Rattle.leg_flat.specs.declared.owner.Owner.{Owner}
 use Rattle.leg_flat.specs.declared.owner.Owner.TheVariants.{Net, Lone, Power, Ground, Obs}

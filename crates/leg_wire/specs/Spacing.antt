@@ -1,4 +1,4 @@
--- Shorts, and shapes too near one another (own rules; LEF/DEF 5.8, "Layer (Routing)", "Layer (Cut)", on SPACING).
+-- Shorts, and shapes too near one another (lefdef's own rules; LEF/DEF 5.8, "Layer (Routing)", "Layer (Cut)", on SPACING).
 use Rattle.std.specs.Prelude.{◌≡◌, ◌*◌, ◌<◌, ℕ, Some, slice_get, unsigned_abs}
 use Rattle.leg_geom.specs.Plane.{Spot, Sides, HasPoint, SharePoint}
 use Rattle.leg_geom.specs.Gap.{square_distance}
@@ -32,7 +32,7 @@ pub record AreTooNear (library : Contents) (a b : Shape) : Type 0 where
   pub there : slice_get library.layers a.layer ≡ Some layer
   pub near : AreNearer (unsigned_abs layer.spacing) a.rect b.rect
 
--- A violation holds that speaks of two shapes of the flat. They are told by their numbers, the lower one first.
+-- A violation of two shapes of the flat holds. They are given by their numbers, the lower one first.
 pub data Holds (library : Contents) (flat : FlatSaid) : Fault → Type 0 where
   short : {i j : ℕ} → IsPair AreShort flat.shapes (i, j) → Holds library flat (Short i j)
   too_near : {i j : ℕ} → IsPair (AreTooNear library) flat.shapes (i, j) → Holds library flat (TooNear i j)

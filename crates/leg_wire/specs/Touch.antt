@@ -1,4 +1,4 @@
--- Which pieces of a net touch, and which are joined (own rules).
+-- Which pieces of a net touch, and which are joined (lefdef's own rules).
 use Rattle.std.specs.Prelude.{◌≡◌, ◌≢◌, ◌↔◌, ◌<◌, ℕ, Bool, IsTrue, List, length, Option, None, Some, slice_get, Contains}
 use Rattle.leg_geom.specs.Plane.{Spot, HasPoint}
 use Rattle.leg_flat.specs.declared.owner.Owner.TheVariants.{Net}
@@ -47,7 +47,7 @@ pub data Joined (Meet : ℕ → ℕ → Type 0) : ℕ → ℕ → Type 0 where
 abbrev pub AreJoined : FlatSaid → ℕ → ℕ → ℕ → Type 0
 AreJoined flat n a b = Joined (Touch flat n) a b
 
--- a mark for each of so many pieces, set just where the piece is one of these
+-- a mark for each of this many pieces, set exactly where the piece is one of these
 pub record AreMarks (Marked : ℕ → Type 0) (size : ℕ) (marks : List Bool) : Type 0 where
   pub count : length marks ≡ size
   pub each : (k : ℕ) (mark : Bool) → slice_get marks k ≡ Some mark → IsTrue mark ↔ Marked k

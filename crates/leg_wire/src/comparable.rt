@@ -1,11 +1,11 @@
-//! Which shapes are judged beside one another.
+//! Which shapes are compared with one another.
 
 ghost use Rattle.std.specs.Prelude.{◌↔◌, IsTrue};
 ghost use Rattle.leg_wire.specs.Comparable.{AreOfOneComponent, AreComparable, IsObstruction};
 
 use leg_flat::{Owner, Shape};
 
-/// Whether the shapes are judged beside one another: they lie on one layer, have different owners, are not of one
+/// Whether the shapes are compared with one another: they lie on one layer, have different owners, are not of one
 /// component, and are not both obstructions.
 pub(crate) fn are_comparable(a: &Shape, b: &Shape) -> bool
     ensures { IsTrue result ↔ AreComparable a.now b.now }

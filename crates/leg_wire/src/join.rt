@@ -11,7 +11,7 @@ use leg_flat::Flat;
 use std::alloc::{AllocError, Allocator};
 
 /// For each piece of the net of this number whether it is joined to the net's first piece: whether it is that piece, or
-/// touches one that is joined to it. Pieces touch if two different points on one layer lie in both (own rule).
+/// touches one that is joined to it. Pieces touch if two different points on one layer lie in both (lefdef's own rule).
 ///
 /// It fails only when out of memory.
 pub fn joined<A: Allocator + Copy>(

@@ -59,8 +59,8 @@ fn join<A: Allocator + Copy>(
     Ok(())
 }
 
-/// Whether the rectangles make their pieces touch: they share two points, or a single one, beside which another one that
-/// other rectangles of these pieces share was seen.
+/// Whether the rectangles make their pieces touch: they share two points, or a single one in addition to which another
+/// one that other rectangles of these pieces share was seen.
 fn do_touch<A: Allocator + Copy>(
     corners: &mut Corners<A>,
     a: &PieceShape,

@@ -1,4 +1,4 @@
-//! What follows from the definitions alone, as functions whose contracts say it.
+//! What follows from the definitions alone, as functions whose contracts state it.
 
 ghost use Rattle.std.specs.Prelude.{ℕ};
 ghost use Rattle.leg_flat.specs.Flat.{FlatSaid};

@@ -1,10 +1,10 @@
-//! What is not legal about the metal of a design: shapes of different owners that touch or stand too near, and nets whose
+//! What is not legal about the metal of a design: shapes of different owners that touch or are too near, and nets whose
 //! pieces aren't joined.
 //!
-//! `spacing_faults` and `open_faults` list exactly the violations of these kinds, each once, in order; `joined` says which
-//! pieces of a net are joined to its first one, and `joined_among` the same where the numbers of the net's shapes are known,
-//! which `numbers_by_net` finds. `clean` says where metal of a net may lie, `clean_indexed` says it by an index, and
-//! `access_beside` says which nets' metal may lie beside a shape.
+//! `spacing_faults` and `open_faults` list exactly the violations of these kinds, each once, in order; `joined` finds
+//! which pieces of a net are joined to its first one, and `joined_among` the same where the numbers of the net's shapes
+//! are known, which `numbers_by_net` finds. `clean` decides where metal of a net may lie, `clean_indexed` decides it by
+//! an index, and `access_beside` finds which nets' metal may lie beside a shape.
 #![tactic(auto)]
 
 mod access;

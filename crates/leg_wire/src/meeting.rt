@@ -10,15 +10,15 @@ use leg_sweep::{LayeredRule, PairRule};
 /// Holds of metal of two pieces of a net that shares a point on one layer.
 #[derive(Drop)]
 pub(crate) struct Meeting {
-    /// The highest layer that is told apart from those above it.
+    /// The highest layer that is distinguished from those above it.
     highest: u32,
     tests: u64,
     looks: u64,
 }
 
 impl Meeting {
-    /// The rule for these shapes, of which nothing was asked yet. No more layers are told apart than sixteen for each shape,
-    /// so that a net of few shapes costs little, however many layers the library has.
+    /// The rule for these shapes, of which nothing was asked yet. No more layers are distinguished than sixteen for
+    /// each shape, so that a net of few shapes costs little, however many layers the library has.
     pub(crate) fn new(shapes: &[PieceShape]) -> Meeting
         ensures untested { result.tests ≡ 0 }
         ensures unseen { result.looks ≡ 0 }

@@ -14,7 +14,7 @@ use leg_flat::Flat;
 use std::alloc::{AllocError, Allocator};
 
 /// The pieces of the nets of `NETS` that aren't joined to the net's first piece: all of them, each once, in order
-/// (own rule).
+/// (lefdef's own rule).
 ///
 /// The flat is that of the design. It fails only when out of memory.
 pub fn open_faults<A: Allocator + Copy>(

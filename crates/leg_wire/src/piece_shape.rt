@@ -40,7 +40,7 @@ pub(crate) fn metal_of_net<A: Allocator + Copy>(
     Ok(pieces)
 }
 
-/// The shape as metal of a piece of its net, which has so many pieces.
+/// The shape as metal of a piece of its net, which has this many pieces.
 fn piece_shape(count: u32, shape: &Shape) -> Option<PieceShape>
     ensures { (piece : PieceShape) → result ≡ Some piece ↔ SaysShape count shape.now piece }
 {

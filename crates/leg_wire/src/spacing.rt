@@ -1,4 +1,4 @@
-//! Shorts, and shapes that stand too near one another.
+//! Shorts, and shapes that are too near one another.
 
 ghost use Rattle.std.specs.Prelude.{◌<◌, length, All, AllPairs, IfOk, OnOk};
 ghost use Rattle.leg_sweep.specs.Pairs.{Before};
@@ -15,7 +15,8 @@ use leg_sweep::pairs_in_bands;
 use std::alloc::{AllocError, Allocator};
 
 /// The pairs of comparable shapes that share a point, and those that share none and lie nearer than their layer's spacing:
-/// all that hold, each once, in order (own rules). Shapes are told by their numbers in the flat, the lower one first.
+/// all that hold, each once, in order (lefdef's own rules). Shapes are given by their numbers in the flat, the lower
+/// one first.
 ///
 /// The flat is of a design that was read with this library. It fails only when out of memory.
 pub fn spacing_faults<A: Allocator + Copy>(

@@ -1,4 +1,4 @@
-//! Comparable shapes that share a point or stand nearer than their layer's spacing.
+//! Comparable shapes that share a point or are nearer than their layer's spacing.
 
 ghost use Rattle.std.specs.Prelude.{◌≡◌, ◌≤◌, ◌<◌, ◌+◌, ◌^◌, ◌↔◌, ◌⊎◌, length, min, All, IsTrue, unsigned_abs};
 ghost use Rattle.std.proofs.Common.{ap};

@@ -1,4 +1,4 @@
-//! What texts, numbers and forms of words say: tests of `leg_lex` by values.
+//! What texts, numbers and forms of words denote: tests of `leg_lex` by values.
 #![tactic(auto)]
 
 #[cfg(test)]

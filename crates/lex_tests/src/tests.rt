@@ -1,4 +1,4 @@
-//! What no clause says, by values from outside.
+//! What no clause states, by values from outside.
 
 mod forms;
 mod numbers;

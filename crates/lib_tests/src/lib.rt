@@ -1,4 +1,4 @@
-//! What LEF texts say, field by field: tests of `leg_lib` over texts.
+//! What LEF texts denote, field by field: tests of `leg_lib` over texts.
 #![tactic(auto)]
 
 #[cfg(test)]

@@ -1,4 +1,4 @@
-//! The records that texts say, against values that were written down by hand.
+//! The records that texts denote, against values that were written down by hand.
 
 mod scaling;
 mod standard;

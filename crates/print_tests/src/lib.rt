@@ -1,4 +1,4 @@
-//! What no clause of `leg_print` says: tests of its public calls by values.
+//! What no clause of `leg_print` states: tests of its public calls by values.
 #![tactic(auto)]
 
 #[cfg(test)]

@@ -41,7 +41,7 @@ END NETS
 END DESIGN
 ";
 
-// The text of the design that a text says, and its wirelength.
+// The text of the design that a text denotes, and its wirelength.
 fn printed(
     alloc: Global,
     library: &Library<'_, Global>,

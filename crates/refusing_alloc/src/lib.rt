@@ -27,7 +27,7 @@ struct Growths {
     refused: Refused,
 }
 
-/// Hands each growth on to another allocator, but for those that it is told to refuse, and counts them.
+/// Hands each growth on to another allocator, apart from those that it is set to refuse, and counts them.
 /// It is lent, since a `&` to it is an allocator too.
 #[derive(Drop)]
 pub struct RefusingAlloc<B: Allocator> {
@@ -52,13 +52,13 @@ impl<B: Allocator> RefusingAlloc<B> {
         self.growths.set(Growths { asked: 0, refused });
     }
 
-    /// How many growths were asked for since it was last told what to refuse, those that it refused among them.
+    /// How many growths were asked for since `refuse` was last called, including those that it refused.
     pub fn growths(&self) -> u64 {
         self.growths.get().asked
     }
 }
 
-/// Counts a growth, and says whether it is one of those that are refused.
+/// Counts a growth, and returns whether it is one of those that are refused.
 fn is_refused(growths: &Cell<Growths>) -> bool {
     let Growths { asked, refused } = growths.get();
     let asked = asked.saturating_add(1);

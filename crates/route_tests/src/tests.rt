@@ -15,7 +15,7 @@ VIA V12 DEFAULT LAYER m1 ; RECT -0.05 -0.05 0.05 0.05 ; LAYER v1 ; RECT -0.05 -0
 END LIBRARY
 ";
 
-// Two patches of a net, which stand on points of the grid, two tracks apart both ways.
+// Two patches of a net, which are on points of the grid, two tracks apart both ways.
 const APART: &[u8] = b"VERSION 5.8 ;
 DESIGN top ;
 UNITS DISTANCE MICRONS 1000 ;
@@ -49,7 +49,7 @@ END NETS
 END DESIGN
 ";
 
-// The text of the design that a text says, once it is routed.
+// The text of the design that a text denotes, once it is routed.
 fn routed(alloc: Global, library: &Library<'_, Global>, def: &[u8]) -> Result<Vec<u8>, Fail> {
     let design = read_def(alloc, library, def)?;
     match route(alloc, design.library(), design) {

@@ -1,4 +1,4 @@
-//! The pairs at concrete rules, beside those of a loop over all pairs.
+//! The pairs at concrete rules, against those of a loop over all pairs.
 
 mod index;
 mod rules;
@@ -32,7 +32,7 @@ fn one_by_one<T, F: Fn(&T, &T) -> bool>(
     Ok(found)
 }
 
-/// So many shapes with sides below 100 in a square with sides of 2000, on so many layers, by a fixed rule that looks
+/// `count` shapes with sides below 100 in a square with sides of 2000, on `layers` layers, by a fixed rule that looks
 /// random.
 fn scattered(alloc: Global, count: usize, layers: usize) -> Result<Vec<Shape>, Fail>
     requires { 0 < layers }
@@ -224,7 +224,7 @@ fn few_looks_at_tall_items_among_small_ones(rt: HostRuntime) -> Result<(), Fail>
     Ok(())
 }
 
-/// A row of 400 rectangles side by side at each of so many heights.
+/// A row of 400 rectangles side by side at each of `count` heights.
 fn rows(alloc: Global, count: u32) -> Result<Vec<Rect>, Fail> {
     let mut rects = Vec::new(alloc);
     for row in 0..count {
@@ -285,7 +285,7 @@ fn the_same_in_bands(rt: HostRuntime) -> Result<(), Fail> {
     Ok(())
 }
 
-/// So many slim shapes across the whole of a square, and as many small ones beside them.
+/// `count` slim shapes across the whole of a square, and as many small ones in addition.
 fn crossed(alloc: Global, count: usize) -> Result<Vec<Shape>, Fail> {
     let mut shapes = scattered(alloc, count, 2)?;
     for number in 0..count {

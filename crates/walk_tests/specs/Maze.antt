@@ -1,4 +1,4 @@
--- What a place of a maze says of its neighbours.
+-- What a place of a maze knows of its neighbours.
 use Rattle.std.specs.Prelude.{◌≡◌, ℕ, ◌+◌, ◌<◌, ◌≤◌, Bool, true, List, length, Option, Some, None, slice_index_or}
 use Rattle.leg_walk.specs.declared.side.Side.{Side}
 use Rattle.leg_walk.specs.Side.{opposite, across_twice}

@@ -79,8 +79,8 @@ pub struct Maze<A: Allocator> {
 }
 
 impl<A: Allocator + Copy> Maze<A> {
-    /// A maze without walls. So many steps are left at least from the start to each place, and from there to the goal: along x, y
-    /// and the layers.
+    /// A maze without walls. The steps from the start to each place, and from there to the goal, are at least the
+    /// distance along x, y and the layers.
     pub fn new(
         alloc: A,
         size: Size,

@@ -32,7 +32,7 @@ DIEAREA ( 0 0 ) ( 800 2000 ) ;
     Ok(text)
 }
 
-// The lines of the spacing of the design that the text says.
+// The lines of the spacing of the design that the text denotes.
 fn lines_of(alloc: Global, library: &Library<'_, Global>, def: &[u8]) -> Result<Vec<u8>, Fail> {
     let design = read_def(alloc, library, def)?;
     let flat = flatten(alloc, design.library(), &design)?;
@@ -50,7 +50,7 @@ fn spacing_lines(alloc: Global, sections: &[u8]) -> Result<Vec<u8>, Fail> {
 
 #[test]
 fn metal_is_told_where_it_is_too_near(rt: HostRuntime) -> Result<(), Fail> {
-    // 60 and 80 apart, which is 100 as the crow flies: just the spacing.
+    // 60 and 80 apart, which is a Euclidean distance of 100: exactly the spacing.
     let apart = spacing_lines(
         rt.alloc(),
         b"SPECIALNETS 2 ;
@@ -127,7 +127,7 @@ END NETS
     Ok(())
 }
 
-// Whether metal of net `net` may lie there, on the first layer of the design that the text says.
+// Whether metal of net `net` may lie there, on the first layer of the design that the text denotes.
 fn is_clean(
     alloc: Global,
     library: &Library<'_, Global>,
@@ -140,7 +140,7 @@ fn is_clean(
     Ok(clean(design.library(), &flat, net, 0, rect))
 }
 
-// The same beside one wire, of net 0, whose right edge is at 300.
+// The same next to one wire, of net 0, whose right edge is at 300.
 fn is_clean_beside(alloc: Global, net: u32, x1: i64) -> Result<bool, Fail> {
     let def = block_text(
         alloc,

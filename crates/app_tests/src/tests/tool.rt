@@ -4,7 +4,7 @@ use leg_app::{DefText, Library, check_design, print_faults, read_lefs};
 use std::alloc::Global;
 use std::test::Fail;
 
-// The lines of what is not legal in the design that the text says.
+// The lines of what is not legal in the design that the text denotes.
 fn violation_lines(
     alloc: Global,
     library: &Library<'_, Global>,

@@ -49,7 +49,7 @@ fn under_raw(
     test(alloc, &library)
 }
 
-// Whether the design that the text says under the library, at 1000 units a micron, passes the test.
+// Whether the design that the text denotes under the library, at 1000 units a micron, passes the test.
 pub(super) fn says(
     alloc: Global,
     text: &str,

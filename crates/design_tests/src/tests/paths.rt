@@ -65,7 +65,7 @@ fn an_extension_goes_with_its_end(rt: HostRuntime) -> Result<(), Fail> {
     Ok(())
 }
 
-// The 7 stands where the path repeats its second point.
+// The 7 is where the path repeats its second point.
 fn a_corner() -> &'static str {
     "DESIGN top ; UNITS DISTANCE MICRONS 1000 ; DIEAREA ( 0 0 ) ( 800 2000 ) ;
 NETS 1 ; - n9 + FIXED m1 ( 0 0 ) ( 0 0 5 ) ( 100 0 ) ( 100 0 7 ) ( * 50 ) NEW m2 ( 9 9 ) ; END NETS END DESIGN"
@@ -128,7 +128,7 @@ fn has_a_special_path(design: &Design<'_, Global>) -> bool {
         && is_via(alone, 0, 1, 2)
 }
 
-// The written width stays, and the vias of the DEF count behind the library's.
+// The written width stays, and the vias of the DEF count after the library's.
 #[test]
 fn a_special_path_has_its_own_width(rt: HostRuntime) -> Result<(), Fail> {
     assert!(rt; says(rt.alloc(), a_special_path(), has_a_special_path)?);

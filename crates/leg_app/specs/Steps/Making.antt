@@ -1,4 +1,4 @@
--- What is known of an answer that makes a design, before it is known which texts say the design that it is made of.
+-- What is known of an answer that makes a design, before it is known which texts denote the design that it is made of.
 use Rattle.std.specs.Prelude.{ℕ, List}
 use Rattle.leg_block.specs.Records.{DesignContents}
 use Rattle.leg_app.specs.declared.command.Command.{Command}

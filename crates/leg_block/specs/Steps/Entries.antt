@@ -1,9 +1,9 @@
--- How many components, and how many pins, a list of them may have. The list wants the two laws that stand behind the
+-- How many components, and how many pins, a list of them may have. The list needs the two laws after the
 -- definition.
 use Rattle.std.proofs.Common.{ℕ, ◌≤◌, arith}
 use Rattle.leg_block.specs.declared.limits.TheConstants.{ENTRY_LIMIT}
 
--- so many entries a section may have
+-- a section may have this many entries
 abbrev pub AreEntries : ℕ → Type 0
 AreEntries count = count ≤ ENTRY_LIMIT
 

@@ -1,5 +1,5 @@
 -- Which layers the parts of a via lie on: what the code finds out before it asks whether the via is good.
--- `JoinLaw`, which says what a good via is, speaks of none of this.
+-- `JoinLaw`, which states what a good via is, uses none of this.
 use Rattle.std.specs.Prelude.{◌≡◌, ◌≢◌, ℕ, ◌≤◌, ◌⊎◌, List}
 use Rattle.std.specs.List.{All}
 use Rattle.leg_cells.specs.declared.joins.ViaPart.{ViaPart}

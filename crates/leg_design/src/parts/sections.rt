@@ -1,4 +1,4 @@
-//! The sections of a DEF, each of which stands at most once (LEF/DEF 5.8, "DEF Syntax").
+//! The sections of a DEF, each of which appears at most once (LEF/DEF 5.8, "DEF Syntax").
 
 ghost use Rattle.std.specs.Prelude.{◌≡◌};
 ghost use Rattle.leg_lex.specs.Words.{Reads};

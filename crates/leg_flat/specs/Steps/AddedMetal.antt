@@ -1,4 +1,4 @@
--- Shapes that are added behind others, and what is known of metal that is drawn (own rules).
+-- Shapes that are added after others, and what is known of metal that is drawn (lefdef's own rules).
 use Rattle.std.specs.Prelude.{◌≡◌, ℕ, List, ◌++◌, All, Option, None, Some, slice_get}
 use Rattle.leg_lex.specs.Words.{◌>>=◌}
 use Rattle.leg_geom.specs.declared.place.Place.{Place}
@@ -14,7 +14,7 @@ use Rattle.leg_flat.specs.Metal.{Metal}
 use Rattle.leg_flat.specs.Flat.{IsShapeOf}
 use Rattle.leg_flat.specs.Steps.Bounds.{IsLineWithin, IsDrawnWithin}
 
--- shapes of this metal, in order, stand behind those that were there before
+-- shapes of this metal, in order, come after those that were there before
 pub record AddsMetal (metal : List Metal) (before after : List Shape) : Type 0 where
   pub more : List Shape
   pub is : after ≡ before ++ more

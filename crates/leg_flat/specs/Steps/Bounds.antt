@@ -1,4 +1,4 @@
--- Where the code's own functions draw metal as rectangles: bounds by which each corner is a coordinate (own rules).
+-- Where the code's own functions draw metal as rectangles: bounds by which each corner is a coordinate (lefdef's own rules).
 use Rattle.std.specs.Prelude.{◌≡◌, ◌≢◌, ◌*◌, ◌≤◌, ◌⊎◌, ℤ, pos, ◌≤ℤ◌, ◌<ℤ◌, unsigned_abs}
 use Rattle.leg_lex.specs.declared.limits.TheConstants.{NUMBER_LIMIT}
 use Rattle.leg_lex.specs.Number.{IsNumber}

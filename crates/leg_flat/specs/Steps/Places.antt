@@ -1,5 +1,5 @@
 -- What is found of the nets of a design: the pieces of each, where each terminal is, and the numbers of the entries of
--- SPECIALNETS (own rules).
+-- SPECIALNETS (lefdef's own rules).
 use Rattle.std.specs.Prelude.{◌≡◌, ℕ, ◌+◌, List, length, map, Option, None, Some, slice_get}
 use Rattle.std.specs.List.{range_with_len}
 use Rattle.std.specs.Map.{lookup}
@@ -10,7 +10,7 @@ use Rattle.leg_flat.specs.declared.piece.Piece.{Piece}
 use Rattle.leg_flat.specs.Nets.{number_of_special, terminals_of, pieces_of}
 use Rattle.leg_flat.specs.Owner.{net_of, piece_of}
 
--- where a terminal is by this list of terminals and of what is told of each
+-- where a terminal is by this list of terminals and their places
 abbrev pub place_in : List (Terminal × (ℕ × ℕ)) → Terminal → Option (ℕ × ℕ)
 place_in placed terminal = lookup (is_same_terminal terminal) placed
 

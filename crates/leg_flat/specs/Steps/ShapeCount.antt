@@ -1,7 +1,7 @@
--- A count that goes no further than one beyond the limit of shapes (own rule).
+-- A count that goes no further than one beyond the limit of shapes (lefdef's own rule).
 use Rattle.std.specs.Prelude.{ℕ, ◌+◌, min}
 use Rattle.leg_block.specs.declared.limits.TheConstants.{PART_LIMIT}
 
--- so many more; what is beyond the limit is counted as one beyond it
+-- this many more; what is beyond the limit is counted as one beyond it
 abbrev pub counted : ℕ → ℕ → ℕ
 counted count more = min (count + more) (PART_LIMIT + 1)

@@ -10,6 +10,6 @@ abbrev pub SpellsAll : DesignContents → List Node → List Wire → Type 0
 SpellsAll design [] wires = ⊥
 SpellsAll design (a ∷ nodes) wires = Spells design a nodes wires
 
--- the wires of the walk begin with this one, which takes so many steps
+-- the wires of the walk begin with this one, which takes this many steps
 abbrev pub BeginsWith : DesignContents → List Node → Wire → ℕ → Type 0
 BeginsWith design nodes wire steps = (wires : List Wire) → SpellsAll design (drop steps nodes) wires → SpellsAll design nodes (wire ∷ wires)

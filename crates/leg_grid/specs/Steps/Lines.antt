@@ -14,7 +14,7 @@ pub record Serve (library : Contents) (track : TrackSaid) (direction : Direction
   pub runs : Runs library number direction width
   pub are_for : AreFor track number
 
--- the numbers of a track are such that its lines can be told
+-- the numbers of a track are such that its lines can be computed
 pub record HasLines (track : TrackSaid) : Type 0 where
   pub start : IsNumber track.start
   pub some : pos 1 ≤ℤ track.count

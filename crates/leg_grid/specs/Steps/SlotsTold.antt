@@ -22,7 +22,7 @@ IsNextAlong grid n m = IsBesideAt grid East n m ⊎ IsBesideAt grid North n m
 abbrev pub IsNextIfAny : GridSaid → ℕ → Option ℕ → Type 0
 IsNextIfAny grid n next = MatchOption next ((m : ℕ) → ¬ IsNextAlong grid n m) (λ m. IsNextAlong grid n m)
 
--- the second flat has the shapes of the first, and this one behind them
+-- the second flat has the shapes of the first, and this one after them
 abbrev pub HasShape : Shape → FlatSaid → FlatSaid → Type 0
 HasShape shape flat grown = grown.shapes ≡ flat.shapes ++ shape ∷ []
 

@@ -3,7 +3,7 @@ use Rattle.std.specs.Prelude.{◌≡◌, ◌↔◌, ℕ, Bool, true, ◌<◌, Li
 use Rattle.leg_block.specs.Records.{DesignContents}
 use Rattle.leg_legal.specs.Movable.{IsMovable}
 
--- a mark for each component below end, which tells whether it stays
+-- a mark for each component below end, whether it stays
 pub record AreMarksBelow (design : DesignContents) (end : ℕ) (marks : List Bool) : Type 0 where
   pub count : length marks ≡ end
   pub each : (c : ℕ) → c < end → (slice_get marks c ≡ Some true) ↔ (¬ IsMovable design c)

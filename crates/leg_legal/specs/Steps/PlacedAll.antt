@@ -7,7 +7,7 @@ use Rattle.leg_block.specs.declared.records.Component.{Component}
 use Rattle.leg_legal.specs.declared.taken.Taken.{Taken}
 use Rattle.leg_legal.specs.Run.{moved_to}
 
--- the number is a component's of the design, and the place one that a DEF may say
+-- the number is a component's of the design, and the place one that a DEF may give
 pub record CanTake (design : DesignContents) (taken : Taken) : Type 0 where
   pub number : taken.number < length design.components
   pub place : IsPosition taken.place.at

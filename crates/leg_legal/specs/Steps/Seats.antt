@@ -1,4 +1,4 @@
--- What a movable component asks of a position, and its best place where some boxes stand in the way.
+-- What a movable component asks of a position, and its best place where some boxes are in the way.
 use Rattle.std.specs.Prelude.{◌≡◌, ℕ, pos, ◌*ℤ◌, List, Contains, Option, None, Some, slice_get}
 use Rattle.leg_geom.specs.Plane.{Sides}
 use Rattle.leg_geom.specs.declared.place.Place.{Place}
@@ -16,7 +16,7 @@ use Rattle.leg_sites.specs.FreeRows.{RowLists, AreKnown}
 use Rattle.leg_legal.specs.Start.{start_of}
 use Rattle.leg_legal.specs.Standing.{orient_of, StandsAt}
 
--- what component c asks: from its start, so many sites of its macro's site
+-- what component c asks: from its start, as many sites as its macro is wide, of its macro's site
 pub record IsWantedOf (design : DesignContents) (c : ℕ) (wanted : Wanted) : Type 0 where
   pub component : Component
   pub there : slice_get design.components c ≡ Some component
@@ -34,7 +34,7 @@ pub record IsWantedOf (design : DesignContents) (c : ℕ) (wanted : Wanted) : Ty
   pub orient : wanted.orient ≡ orient_of component.place
   pub y_symmetric : wanted.y_symmetric ≡ master.y_symmetric
 
--- with this place component c stands at the position, and its box is clear of the boxes
+-- with this place component c is at the position, and its box is clear of the boxes
 pub record IsFreeOf (design : DesignContents) (boxes : List Sides) (c : ℕ) (position : Candidate) (place : Place) : Type 0 where
   pub stands : StandsAt design c position place
   pub clear : IsClear design.die (Contains boxes) (placed_box stands.master.size place)

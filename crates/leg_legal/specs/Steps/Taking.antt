@@ -17,7 +17,7 @@ use Rattle.leg_legal.specs.Steps.PlacedAll.{CanTake, placed_all}
 use Rattle.leg_legal.specs.Steps.Seats.{IsFreeOf, IsBestAmong}
 use Rattle.leg_legal.specs.Steps.TurnKeys.{numbers}
 
--- component d stays, and stands in the box
+-- component d stays, and is in the box
 pub record IsStayingIn (design : DesignContents) (d : ℕ) (box : Sides) : Type 0 where
   pub stays : ¬ IsMovable design d
   pub stands : StandsIn design.library design d box
@@ -34,7 +34,7 @@ pub record KnowStaying (design : DesignContents) (end : ℕ) (free : RowLists) :
   pub known : AreKnown design boxes free
   pub staying : (box : Sides) → Contains boxes box ↔ IsStayingBelow design end box
 
--- the lists are those that the boxes have left in which the settled components stand
+-- the lists are those that the boxes have left in which the settled components are
 pub record KnowTaken (design now : DesignContents) (done : List ℕ) (free : RowLists) : Type 0 where
   pub boxes : List Sides
   pub known : AreKnown design boxes free
@@ -56,7 +56,7 @@ IsSeatFault design boxes c (NoSite d) = ⊥
 IsSeatFault design boxes c (NoRoom d) = (d ≡ c) × HasNoSeat design boxes c
 IsSeatFault design boxes c Memory = Unit {0}
 
--- the components of so many keys have taken their places
+-- the components of this many keys have taken their places
 pub record IsUnderWay (design : DesignContents) (keys : List TurnKey) (i : ℕ) (taken : List Taken) (free : RowLists) : Type 0 where
   pub can : All (CanTake design) taken
   pub run : Run design (take i (numbers keys)) (placed_all design taken)

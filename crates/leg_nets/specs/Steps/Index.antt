@@ -1,4 +1,4 @@
--- Which entry of a section lists a terminal, as a table of terminals tells it.
+-- Which entry of a section lists a terminal, by a table of terminals.
 use Rattle.std.specs.Prelude.{◌≡◌, ◌↔◌, ℕ, true, List, [], map, get_or, Option, Some}
 use Rattle.std.specs.HashMap.{HashMap, get_by}
 use Rattle.leg_block.specs.declared.records.Terminal.{Terminal}
@@ -22,7 +22,7 @@ pub record BegunNets : Type 0 where
   pub nets : List NetSaid
   pub terminals : List Terminal
 
--- what is kept beside the entries tells their names, how many terminals and wires they have, and the entry of a
+-- what is kept in addition to the entries gives their names, how many terminals and wires they have, and the entry of a
 -- terminal
 pub record IsIndexOf (nets : List NetSaid) (lists : List (List Terminal)) (names : List (List ℕ)) (number : Terminal → Option ℕ) (terminals wires : ℕ) : Type 0 where
   pub named : names ≡ net_names nets

@@ -37,11 +37,11 @@ list_at lists (Some place) = get_or lists place []
 abbrev pub numbers_under : NamedNumbers → List ℕ → List ℕ
 numbers_under table name = list_at table.lists (place_of name table.names)
 
--- where the name stands by the table
+-- the place of the name by the table
 abbrev pub place_in : {S : Type 0} → HashMap (Bor (List ℕ)) ℕ S → List ℕ → Option ℕ
 place_in table name = get_by (λ key. bytes_eq name key.now) table
 
--- where it stands by the table of macro m
+-- its place by the table of macro m
 abbrev pub place_at : {S : Type 0} → List (HashMap (Bor (List ℕ)) ℕ S) → ℕ → List ℕ → Option ℕ
 place_at tables m name = slice_get tables m >>= λ table. place_in table name
 
@@ -56,7 +56,7 @@ AreListed components lists =
     (c : ℕ) (component : Component) → slice_get components c ≡ Some component → component.master < length lists
     → is_in c (get_or lists component.master []) ≡ true
 
--- where each name stands among the pins of each macro; these are the lists of the macros' components
+-- the place of each name among the pins of each macro; these are the lists of the macros' components
 abbrev pub ArePlaces : List MasterSaid → List (List ℕ) → (ℕ → List ℕ → Option ℕ) → Type 0
 ArePlaces masters lists place =
     (m : ℕ) (name : List ℕ) → place m name ≡ (slice_get masters m >>= λ master. place_of name (used_names master (get_or lists m [])))
@@ -67,7 +67,7 @@ AreUnder masters lists under =
     (m : ℕ) (master : MasterSaid) (name : List ℕ) → slice_get masters m ≡ Some master
     → is_some (place_of name (used_names master (get_or lists m []))) ≡ true → is_in m (under name) ≡ true
 
--- the components of each macro, where each name stands among its pins, and the macros under each name of a pin
+-- the components of each macro, the place of each name among its pins, and the macros under each name of a pin
 pub record IsPinIndex (known : KnownSaid) (lists : List (List ℕ)) (place : ℕ → List ℕ → Option ℕ) (under : List ℕ → List ℕ) : Type 0 where
   pub long : length lists ≡ length known.library.masters
   pub listed : AreListed known.components lists

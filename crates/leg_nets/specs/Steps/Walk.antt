@@ -1,4 +1,4 @@
--- A path that is followed item by item: what the definitions of paths say, one item at a time.
+-- A path that is followed item by item: what the definitions of paths state, one item at a time.
 use Rattle.std.specs.Prelude.{ℕ, ℤ, if◌then◌else◌, List, [], ◌∷◌, ◌++◌, Option, Some, option_map}
 use Rattle.leg_lex.specs.Words.{◌>>=◌}
 use Rattle.leg_geom.specs.Plane.{Spot}
@@ -9,7 +9,7 @@ use Rattle.leg_block.specs.declared.records.Wire.TheVariants.{ViaAt, Patch}
 use Rattle.leg_floorplan.specs.Namespace.{KnownSaid}
 use Rattle.leg_nets.specs.Path.{next_spot, is_same_spot, extension_at, segment_to, across, wires_from}
 
--- where a path stands after some of its items: its layer, its point with the extension there, and its wires so far
+-- where a path is after some of its items: its layer, its point with the extension there, and its wires so far
 pub record Walked : Type 0 where
   pub layer : ℕ
   pub at : Spot

@@ -60,7 +60,7 @@ pub record HasSites (spans : List SiteSpan) (number : ℕ) (size : Lengths) (box
   pub fits : Fits row_orient y_symmetric orient
   pub covered : IsCovered spans (span_of number size row_orient box)
 
--- a macro of this site stands on the sites of some row when it is at this place
+-- a macro of this site is on the sites of some row when it is at this place
 pub record IsOnSomeRow (design : DesignContents) (master : MasterSaid) (number : ℕ) (place : Place) : Type 0 where
   pub row : Row
   pub has : Contains design.rows row

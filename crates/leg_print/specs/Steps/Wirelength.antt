@@ -39,7 +39,7 @@ pub record IsOfSome (X : Type 0) (HasIt : X → Spot → Type 0) (xs : List X) (
   pub there : Contains xs one
   pub has : HasIt one p
 
--- the point is one of this shape of a box, which stands at a place
+-- the point is one of this shape of a box, which is at a place
 abbrev pub IsOfShape : Place → Lengths → Shape → Spot → Type 0
 IsOfShape place size shape p = HasPointOf (Drawn place size shape.rect) p
 

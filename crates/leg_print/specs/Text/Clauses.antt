@@ -1,4 +1,4 @@
--- Clauses, which entries of several sections have: words behind a `+` (LEF/DEF 5.8, "Components", "Pins", "Vias").
+-- Clauses, which entries of several sections have: words after a `+` (LEF/DEF 5.8, "Components", "Pins", "Vias").
 use Rattle.std.specs.Prelude.{ℕ, List, [], ◌∷◌, Option, None, Some, codes}
 use Rattle.std.specs.List.{flat_map}
 use Rattle.leg_lex.specs.Words.{Words}
@@ -10,7 +10,7 @@ use Rattle.leg_block.specs.declared.records.Status.TheVariants.{Unplaced, Placed
 use Rattle.leg_print.specs.Names.{layer_name}
 use Rattle.leg_print.specs.Text.Points.{corner_words, place_words}
 
--- each clause behind a `+`
+-- each clause after a `+`
 abbrev pub clause_words : List Words → Words
 clause_words clauses = flat_map (λ clause. codes "+" ∷ clause) clauses
 

@@ -1,5 +1,5 @@
 -- The lines that a design text begins with (LEF/DEF 5.8, "Version", "Divider Character", "Bus Bit Characters", "Design",
--- "Units", "Die Area"; their order is an own rule).
+-- "Units", "Die Area"; their order is lefdef's own rule).
 use Rattle.std.specs.Prelude.{ℕ, List, [], ◌∷◌, ◌++◌, Option, None, Some, codes, decimal}
 use Rattle.leg_lex.specs.Words.{Words}
 use Rattle.leg_text.specs.Spaced.{line}

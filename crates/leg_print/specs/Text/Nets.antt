@@ -1,5 +1,5 @@
 -- The entry of a net (LEF/DEF 5.8, "Nets", "Special Nets"; that each wire has a line of its own, and that all are
--- ROUTED, are own rules).
+-- ROUTED, are lefdef's own rules).
 use Rattle.std.specs.Prelude.{ℕ, Bool, List, [], ◌∷◌, ◌++◌, map, codes}
 use Rattle.std.specs.List.{flat_map}
 use Rattle.leg_lex.specs.Words.{Words}
@@ -18,12 +18,12 @@ terminal_words design (Comp component pin) =
     codes "(" ∷ component_name design component ∷ component_pin_name design component pin ∷ codes ")" ∷ []
 terminal_words design (Pin pin) = codes "(" ∷ codes "PIN" ∷ design_pin_name design pin ∷ codes ")" ∷ []
 
--- the words behind the dash, up to the wires: name, terminals, and USE where it was kept
+-- the words after the dash, up to the wires: name, terminals, and USE where it was kept
 abbrev pub net_head : DesignContents → NetSaid → Words
 net_head design net =
     net.name ∷ flat_map (terminal_words design) net.terminals ++ clause_words (kept_clause (codes "USE") net.usage)
 
--- The words of each wire: the first stands behind + ROUTED, each other one behind NEW.
+-- The words of each wire: the first comes after + ROUTED, each other one after NEW.
 abbrev pub wiring_words : DesignContents → Bool → List Wire → List Words
 wiring_words design special [] = []
 wiring_words design special (wire ∷ wires) =
@@ -42,7 +42,7 @@ net_words design special net = net_said design special net ++ codes ";" ∷ []
 abbrev pub wire_line : Words → List ℕ
 wire_line words = codes "\n " ++ spaced words
 
--- the words of the entry in several lines: each wire begins a new one, and the semicolon stands on the last
+-- the words of the entry in several lines: each wire begins a new one, and the semicolon is on the last
 abbrev pub net_text : DesignContents → Bool → NetSaid → List ℕ
 net_text design special net =
     codes "-" ++ spaced (net_head design net) ++ flat_map wire_line (wiring_words design special net.wires) ++ codes " ;\n"

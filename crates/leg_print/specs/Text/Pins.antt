@@ -1,4 +1,4 @@
--- The entry of a pin of the design (LEF/DEF 5.8, "Pins"; the order of its clauses is an own rule).
+-- The entry of a pin of the design (LEF/DEF 5.8, "Pins"; the order of its clauses is lefdef's own rule).
 use Rattle.std.specs.Prelude.{List, [], ◌∷◌, ◌++◌, map, Option, None, Some, codes}
 use Rattle.std.specs.List.{flat_map}
 use Rattle.leg_lex.specs.Words.{Words}
@@ -7,7 +7,7 @@ use Rattle.leg_block.specs.declared.records.Status.{Status}
 use Rattle.leg_block.specs.Records.{DesignContents, PortSaid, PinSaid}
 use Rattle.leg_print.specs.Text.Clauses.{clause_words, kept_clause, shape_clause, placement_clause}
 
--- where a port stands, if it stands somewhere
+-- where a port is, if it is placed
 abbrev pub port_place : Status → Option Place → List Words
 port_place status None = []
 port_place status (Some place) = placement_clause status (Some place) ∷ []

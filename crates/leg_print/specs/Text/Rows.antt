@@ -1,4 +1,4 @@
--- The line of a row (LEF/DEF 5.8, "Rows"; that the step is always written is an own rule).
+-- The line of a row (LEF/DEF 5.8, "Rows"; that the step is always written is lefdef's own rule).
 use Rattle.std.specs.Prelude.{ℕ, ℤ, pos, [], ◌∷◌, ◌++◌, Option, None, Some, codes, slice_get}
 use Rattle.std.specs.Fmt.{signed_decimal}
 use Rattle.leg_lex.specs.Words.{Words}

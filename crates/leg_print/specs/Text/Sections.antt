@@ -1,4 +1,4 @@
--- Sections (LEF/DEF 5.8, "DEF Syntax"; that one without entries is left out is an own rule).
+-- Sections (LEF/DEF 5.8, "DEF Syntax"; that one without entries is left out is lefdef's own rule).
 use Rattle.std.specs.Prelude.{ℕ, List, [], ◌∷◌, ◌++◌, length, codes, decimal}
 use Rattle.std.specs.List.{flat_map}
 use Rattle.leg_lex.specs.Words.{Words}

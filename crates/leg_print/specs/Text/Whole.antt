@@ -1,5 +1,5 @@
 -- The text of a design in one order and one layout, which depend on the design alone (LEF/DEF 5.8, "DEF Syntax"; the
--- order of forms that may stand in any order, and the layout, are own rules).
+-- order of forms that may come in any order, and the layout, are lefdef's own rules).
 use Rattle.std.specs.Prelude.{ℕ, Bool, true, false, List, ◌++◌, codes}
 use Rattle.std.specs.List.{flat_map}
 use Rattle.leg_text.specs.Spaced.{line}
@@ -39,7 +39,7 @@ net_section true = codes "SPECIALNETS"
 abbrev pub nets_text : DesignContents → Bool → List NetSaid → List ℕ
 nets_text design special nets = section_text (net_section special) (net_text design special) nets
 
--- The whole text: header, rows, tracks, sections, and END DESIGN. What a line names stands before it.
+-- The whole text: header, rows, tracks, sections, and END DESIGN. What a line names comes before it.
 unfoldable pub design_text : DesignContents → List ℕ
 design_text design =
     header_text design ++ rows_text design design.rows ++ tracks_text design design.tracks

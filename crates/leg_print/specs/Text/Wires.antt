@@ -1,5 +1,5 @@
 -- The words of a wire, which is a path of its own (LEF/DEF 5.8, "Regular Wiring Statement", "Special Wiring Statement";
--- that a wire is no part of a longer path is an own rule).
+-- that a wire is no part of a longer path is lefdef's own rule).
 use Rattle.std.specs.Prelude.{ℕ, ℤ, pos, Bool, true, false, if◌then◌else◌, List, [], ◌∷◌, ◌++◌, fold, min, Option, None, Some, codes}
 use Rattle.std.specs.Fmt.{signed_decimal}
 use Rattle.std.specs.Ordering.{int_eq}

@@ -1,4 +1,4 @@
--- What is kept beside a flat that grows, so that nets can be searched in it.
+-- What is kept in addition to a flat that grows, so that nets can be searched in it.
 use Rattle.std.specs.Prelude.{◌≡◌, ◌<◌, ◌≤◌, ℕ, List, [], length, get_or}
 use Rattle.leg_block.specs.Records.{DesignContents}
 use Rattle.leg_flat.specs.declared.shape.Shape.{Shape}
@@ -10,16 +10,16 @@ use Rattle.leg_grid.specs.declared.slot_access.SlotAccess.{SlotAccess}
 use Rattle.leg_grid.specs.Grid.{GridSaid, slot_total}
 use Rattle.leg_grid.specs.Told.{TellsSlots}
 
--- for each of the first so many nets the numbers of its shapes
+-- for each of the first `nets` nets the numbers of its shapes
 pub record AreNumbersByNet (nets : ℕ) (flat : FlatSaid) (lists : List (List ℕ)) : Type 0 where
   pub one_each : length lists ≡ nets
   pub each : (net : ℕ) → net < nets → AreNumbersOf flat.shapes net (get_or lists net [])
 
--- this is told of all slots for each flat of these shapes
+-- this is known of all slots for each flat of these shapes
 abbrev pub TellsShapes : GridSaid → List Shape → List SlotAccess → Type 0
 TellsShapes grid shapes slots = (flat : FlatSaid) → flat.shapes ≡ shapes → TellsSlots grid flat slots
 
--- the grid is that of the design, each slot tells what is open in the flat, each net of NETS has the numbers of its shapes,
+-- the grid is that of the design, each slot has what is open in the flat, each net of NETS has the numbers of its shapes,
 -- and no slot is marked
 pub record AreReady (design : DesignContents) (grid : GridSaid) (flat : FlatSaid) (slots : List SlotAccess) (lists : List (List ℕ)) (marks : List Mark) (touched : List ℕ) : Type 0 where
   pub of_design : grid.design ≡ design

@@ -1,4 +1,4 @@
--- Where a run stops before its end: no walk, or too many shapes, or want of memory.
+-- Where a run stops before its end: no walk, or too many shapes, or out of memory.
 use Rattle.std.specs.Prelude.{◌≡◌, ℕ, ◌+◌, ◌<◌, List, ◌∷◌, ◌++◌, length}
 use Rattle.leg_block.specs.declared.limits.TheConstants.{PART_LIMIT}
 use Rattle.leg_block.specs.declared.records.Wire.{Wire}

@@ -14,7 +14,7 @@ site_x pitch k = pitch.left +ℤ pos k *ℤ pitch.width
 abbrev pub x_away : Pitch → ℕ → ℕ
 x_away pitch k = apart (site_x pitch k) pitch.start
 
--- a site has a width, and what else is told is within the limit
+-- a site has a width, and the other numbers are within the limit
 pub record IsPitch (pitch : Pitch) : Type 0 where
   pub wide : pos 1 ≤ℤ pitch.width
   pub left : IsCoordinate pitch.left
@@ -24,12 +24,12 @@ pub record IsPitch (pitch : Pitch) : Type 0 where
 abbrev pub BeginWithin : Pitch → List Stretch → Type 0
 BeginWithin pitch free = (k : ℕ) → IsFreeSite free k → IsCoordinate (site_x pitch k)
 
--- so many free sites begin with this one, which isn't below the least
+-- this many free sites begin with this one, which isn't below the least
 pub record FitsFrom (free : List Stretch) (many least first : ℕ) : Type 0 where
   pub sites : AreFreeSites free many first
   pub above : least ≤ first
 
--- so many free sites begin with this one, which isn't above the most
+-- this many free sites begin with this one, which isn't above the most
 pub record FitsUpTo (free : List Stretch) (many most first : ℕ) : Type 0 where
   pub sites : AreFreeSites free many first
   pub upto : first ≤ most

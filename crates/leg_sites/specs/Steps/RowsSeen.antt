@@ -41,7 +41,7 @@ abbrev pub IsNearerThan : Option Candidate → ℕ → Type 0
 IsNearerThan None far = ⊥
 IsNearerThan (Some c) far = c.distance < far
 
--- the component may stand there, and it is in the row of this number
+-- the component may be placed there, and it is in the row of this number
 pub record IsCandidateOf (rows : List Row) (free : List (List Stretch)) (wanted : Wanted) (number : ℕ) (c : Candidate) : Type 0 where
   pub candidate : IsCandidate rows free wanted c
   pub row : c.row ≡ number

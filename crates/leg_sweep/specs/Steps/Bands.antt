@@ -6,7 +6,7 @@ use Rattle.leg_sweep.specs.Pairs.{IsPair}
 use Rattle.leg_sweep.specs.Counts.{near_along_x, near_along_both}
 use Rattle.leg_sweep.specs.Steps.Sweep.{test_at, AreInReach, CanMeet}
 
--- the items of a band that wait: those that begin there, and those that stand in a lower band too
+-- the items of a band that wait: those that begin there, and those that are in a lower band too
 pub record Waiting : Type 0 where
   pub reach : ℕ
   pub begun : List ℕ
@@ -25,11 +25,11 @@ AreEmpty bands = (k : ℕ) → waiting_at bands k ≡ empty_band (waiting_at ban
 abbrev pub stretch_at : List Stretch → ℕ → Stretch
 stretch_at stretches x = slice_index_or stretches x (record { first = 0; last = 0 })
 
--- in how many bands an item stands
+-- in how many bands an item is
 abbrev pub entries_at : List Stretch → ℕ → ℕ
 entries_at stretches x = (stretch_at stretches x).last + 1 - (stretch_at stretches x).first
 
--- two items stand in a common band
+-- two items are in a common band
 abbrev pub share_band : List Stretch → ℕ → ℕ → Bool
 share_band stretches x y =
     nat_le (stretch_at stretches x).first (stretch_at stretches y).last && nat_le (stretch_at stretches y).first (stretch_at stretches x).last
@@ -38,15 +38,15 @@ share_band stretches x y =
 abbrev pub reach_at : List Stretch → List Waiting → ℕ → ℕ
 reach_at stretches bands x = (waiting_at bands (stretch_at stretches x).first).reach
 
--- two items stand in a common band, and their x gap is within its reach
+-- two items are in a common band, and their x gap is within its reach
 abbrev pub near_in_band : List Sides → List Stretch → List Waiting → ℕ → ℕ → Bool
 near_in_band rects stretches bands x y = share_band stretches x y && test_at (near_along_x (reach_at stretches bands x)) rects x y
 
--- two items stand in a common band, and both gaps are within its reach
+-- two items are in a common band, and both gaps are within its reach
 abbrev pub near_both_in_band : List Sides → List Stretch → List Waiting → ℕ → ℕ → Bool
 near_both_in_band rects stretches bands x y = share_band stretches x y && test_at (near_along_both (reach_at stretches bands x)) rects x y
 
--- Each item stands in bands of one reach. Two items for which the rule holds stand in a common band, whose reach both gaps are within.
+-- Each item is in bands of one reach. Two items for which the rule holds are in a common band, whose reach both gaps are within.
 pub record AreStretches {Item : Type 0} (Holds : Item → Item → Type 0) (rect_of : Item → Sides) (items : List Item) (stretches : List Stretch) (bands : List Waiting) : Type 0 where
   pub count : length stretches ≡ length items
   pub upward : (x : ℕ) → x < length items → (stretch_at stretches x).first ≤ (stretch_at stretches x).last
@@ -71,7 +71,7 @@ pub record AreVisited (near : ℕ → Bool) (first last new : ℕ) (before after
   pub below : (k : ℕ) → k < first → waiting_at after k ≡ waiting_at before k
   pub above : (k : ℕ) → last < k → waiting_at after k ≡ waiting_at before k
 
--- the items that a new one meets in its first band, and in so many after it
+-- the items that a new one meets in its first band, and in this many bands after it
 abbrev pub met : List Waiting → ℕ → ℕ → List ℕ
 met bands first zero = (waiting_at bands first).begun ++ (waiting_at bands first).passing
 met bands first (suc count) = met bands first count ++ (waiting_at bands (first + suc count)).begun
@@ -90,7 +90,7 @@ pub record CanVisit {Item : Type 0} (Holds : Item → Item → Type 0) (rect_of 
   pub apart : (j k x : ℕ) → first ≤ j → j < k → k ≤ last → Contains (waiting_at bands j).begun x → Contains (waiting_at bands k).begun x → ⊥
   pub apart_passing : (k x : ℕ) → first ≤ k → k ≤ last → Contains (waiting_at bands k).begun x → Contains (waiting_at bands first).passing x → ⊥
 
--- Items that stand in a common band lie on one layer, whose reach the bands have.
+-- Items that are in a common band lie on one layer, whose reach the bands have.
 pub record AreByLayer (layers : List ℕ) (reach_of : ℕ → ℕ) (stretches : List Stretch) (bands : List Waiting) : Type 0 where
   pub apart : (x y : ℕ) → x < length layers → y < length layers → share_band stretches x y ≡ true → slice_index layers x ≡ slice_index layers y
   pub reach : (x : ℕ) → x < length layers → reach_at stretches bands x ≡ reach_of (slice_index layers x)

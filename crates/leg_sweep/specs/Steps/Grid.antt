@@ -44,7 +44,7 @@ pub record IsSpan {Item : Type 0} (rect_of : Item → Sides) (layer_of : Item �
   pub highest : All (λ a. layer_of a ≡ layer → height_of (rect_of a).y1 ≤ span.highest) items
   pub small : IsSmall span
 
--- what the items on each of so many layers span, where all items lie
+-- what the items on each of this many layers span, where all items lie
 pub record AreSpans {Item : Type 0} (rect_of : Item → Sides) (layer_of : Item → ℕ) (layers : ℕ) (items : List Item) (spans : List LayerSpan) : Type 0 where
   pub many : length spans ≡ layers
   pub proper : All (λ a. IsRect (rect_of a)) items
@@ -52,7 +52,7 @@ pub record AreSpans {Item : Type 0} (rect_of : Item → Sides) (layer_of : Item 
   pub each : (layer : ℕ) → layer < layers → IsSpan rect_of layer_of items layer (span_at spans layer)
   pub all : sum_by (λ span. span.count) spans ≡ length items
 
--- Bands of a layer, where items span so much. The items, each with the reach above it, are together no higher than as many bands.
+-- Bands of a layer, where items have this span. The items, each with the reach above it, are together no higher than as many bands.
 pub record AreBandsOf (span : LayerSpan) (number reach : ℕ) (bands : LayerBands) : Type 0 where
   pub first : bands.first ≡ number
   pub low : bands.low ≡ span.lowest

@@ -11,7 +11,7 @@ pub record IsCut (rects : List Sides) (nodes : List Node) (cut : Cut) : Type 0 w
   pub nodes_in : cut.nodes ≤ length nodes
   pub are : AreNodesFrom (take cut.rects rects) 0 (take cut.nodes nodes)
 
--- The nodes are those of all rectangles, and the cuts, of which there are some, stand one behind the other.
+-- The nodes are those of all rectangles, and the cuts, of which there are some, follow one another.
 pub record IsIndex (rects : List Sides) (nodes : List Node) (cuts : List Cut) : Type 0 where
   pub few : length rects < 2 ^ 32
   pub are : AreNodesFrom rects 0 nodes

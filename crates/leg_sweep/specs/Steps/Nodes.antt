@@ -1,4 +1,4 @@
--- Nodes of an index in a list: a group stands before its members.
+-- Nodes of an index in a list: a group comes before its members.
 use Rattle.std.specs.Prelude.{◌≡◌, ℕ, ◌+◌, ◌-◌, ◌≤◌, ◌<◌, List, [], ◌∷◌, ◌++◌, length, take, slice_set, slice_get, Some, All, Contains, if◌then◌else◌}
 use Rattle.std.specs.List.{flat_map}
 use Rattle.leg_geom.specs.Plane.{Sides, IsRect}
@@ -55,7 +55,7 @@ pub record IsGrouped (bounds : Bounds) (at : ℕ) (before after : List Node) : T
   pub group : number_in node.content ≡ []
   pub right : (rects : List Sides) → IsRight rects node
 
--- Behind the nodes that were there are now those of the rectangles with these numbers, all within the bounds.
+-- After the nodes that were there are now those of the rectangles with these numbers, all within the bounds.
 pub record AreGrouped (rects : List Sides) (numbers : List ℕ) (bounds : Bounds) (before after : List Node) : Type 0 where
   pub nodes : List Node
   pub are : after ≡ before ++ nodes

@@ -7,7 +7,7 @@ use Rattle.leg_walk.specs.Side.{opposite}
 use Rattle.leg_walk.specs.Walk.{Walk, IsStep, IsStepTo}
 use Rattle.leg_walk.specs.Steps.Marks.{IsMark}
 
--- each walk from a start to the node has at least so many steps
+-- each walk from a start to the node has at least this many steps
 abbrev pub IsFar : (ℕ → Type 0) → (ℕ → ℕ → Type 0) → (ℕ → Type 0) → ℕ → ℕ → Type 0
 IsFar Open Step Start steps node = (from : ℕ) (nodes : List ℕ) → Start from → Walk Open Step from nodes node → steps + 1 ≤ length nodes
 
@@ -17,14 +17,14 @@ IsFarFrom IsBeside OpenStep Open Start steps node side =
     (last from : ℕ) (nodes : List ℕ) → IsStepTo IsBeside OpenStep (opposite side) last node → Start from
     → Walk Open (IsStep IsBeside OpenStep) from nodes last → steps ≤ length nodes
 
--- What the marks say is true, whatever the limit of the dive that made them, and no steps are left at a start.
+-- What the marks state is true, whatever the limit of the dive that made them, and no steps are left at a start.
 pub record AreKnown (Open : ℕ → Type 0) (Step : ℕ → ℕ → Type 0) (Start : ℕ → Type 0) (bound : ℕ → ℕ) (marks : List Mark) : Type 0 where
   pub at_start : (a : ℕ) → Start a → bound a ≡ 0
   pub shut : (a : ℕ) → IsMark marks a Shut → Open a → ⊥
   pub is_open : (a steps : ℕ) → IsMark marks a (Far steps) → Open a
   pub far : (a steps : ℕ) → IsMark marks a (Far steps) → IsFar Open Step Start steps a
 
--- the nodes of a walk from a start to the node, of so many steps at most
+-- the nodes of a walk from a start to the node, of at most this many steps
 pub record IsWalkBack (Open : ℕ → Type 0) (Step : ℕ → ℕ → Type 0) (Start : ℕ → Type 0) (left node : ℕ) (nodes : List ℕ) : Type 0 where
   pub from : ℕ
   pub start : Start from

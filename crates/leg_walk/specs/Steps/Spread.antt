@@ -4,14 +4,14 @@ use Rattle.leg_walk.specs.declared.mark.Mark.{Mark}
 use Rattle.leg_walk.specs.declared.mark.Mark.TheVariants.{Unseen, Shut, Reached, Far}
 use Rattle.leg_walk.specs.Steps.Marks.{is_unseen, IsMark, IsSeen, IsAt}
 
--- What a new mark of a node says: it is not open, or it is open, and some step that was tried leads to it.
+-- What a new mark of a node means: it is not open, or it is open, and some step that was tried leads to it.
 abbrev pub IsNew : (ℕ → Type 0) → (ℕ → ℕ → Type 0) → ℕ → ℕ → List ℕ → ℕ → Mark → Type 0
 IsNew Open Tried limit level next a Unseen = ⊥
 IsNew Open Tried limit level next a Shut = Open a → ⊥
 IsNew Open Tried limit level next a (Reached k from) = (k ≡ level) × (level ≤ limit) × Open a × Tried from a × Contains next a
 IsNew Open Tried limit level next a (Far steps) = ⊥
 
--- Some steps to nodes of a level were tried: what is new in the marks and in the list of the level's nodes. `left` says
+-- Some steps to nodes of a level were tried: what is new in the marks and in the list of the level's nodes. `left` is
 -- whether a node was left out, being too far from the ends for the limit.
 pub record IsSpread (Open : ℕ → Type 0) (Tried : ℕ → ℕ → Type 0) (bound : ℕ → ℕ) (limit level : ℕ) (marks : List Mark) (next : List ℕ) (left : Bool) (marks2 : List Mark) (next2 : List ℕ) (left2 : Bool) : Type 0 where
   pub count : length marks2 ≡ length marks

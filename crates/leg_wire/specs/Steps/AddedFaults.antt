@@ -1,9 +1,9 @@
--- Violations put behind others.
+-- Violations appended to others.
 use Rattle.std.specs.Prelude.{◌≡◌, ◌++◌, List}
 use Rattle.leg_block.specs.declared.fault.Fault.{Fault}
 use Rattle.leg_block.specs.Violation.{IsListOf}
 
--- behind the violations that were listed before stand those for which this holds: all of them, each once, in order
+-- after the violations that were listed before come those for which this holds: all of them, each once, in order
 pub record AreAdded (Added : Fault → Type 0) (before after : List Fault) : Type 0 where
   pub more : List Fault
   pub is : after ≡ before ++ more

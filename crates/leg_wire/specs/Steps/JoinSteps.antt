@@ -13,7 +13,7 @@ abbrev pub HavePlaces : List ℕ → List PieceShape → Type 0
 HavePlaces sets shapes = All (λ shape. shape.piece < length sets) shapes
 
 -- whether two rectangles make their pieces touch, with the points that were seen before and after: they share two points, or
--- none, or a single one, beside which another one was seen or wasn't
+-- none, or a single one, and another one was seen or wasn't
 pub data TellsTouch (a b : PieceShape) (before after : List (Beside × (ℤ × ℤ))) (touch : Bool) : Type 0 where
   share_two : touch ≡ true → ShareTwoPoints a.rect b.rect → after ≡ before → TellsTouch a b before after touch
   share_none : touch ≡ false → (SharePoint a.rect b.rect → ⊥) → after ≡ before → TellsTouch a b before after touch

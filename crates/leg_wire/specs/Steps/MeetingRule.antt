@@ -1,4 +1,4 @@
--- Metal of pieces that meets. The rule of the search wants the two laws that stand behind the definition.
+-- Metal of pieces that meets. The rule of the search needs the two laws after the definition.
 use Rattle.std.proofs.Common.{◌≡◌, ◌≢◌, ◌≤◌, sym}
 use Rattle.leg_geom.specs.Plane.{SharePoint}
 use Rattle.leg_geom.specs.Gap.{x_gap, y_gap}

@@ -19,7 +19,7 @@ pub record AreUnited (a b : ℕ) (before after : List ℕ) : Type 0 where
 abbrev pub IsForest : List ℕ → Type 0
 IsForest parents = (k : ℕ) → k < length parents → slice_index parents k ≤ k
 
--- the roots that are known, and those of the numbers behind, whose parents these are: a parent's root, or the number itself
+-- the roots that are known, and those of the numbers after them, whose parents these are: a parent's root, or the number itself
 abbrev pub roots_after : List ℕ → List ℕ → List ℕ
 roots_after roots [] = roots
 roots_after roots (parent ∷ parents) = roots_after (roots ++ slice_index_or roots parent parent ∷ []) parents

@@ -1,4 +1,4 @@
--- Pairs of shapes told as violations of one kind.
+-- Pairs of shapes listed as violations of one kind.
 use Rattle.std.specs.Prelude.{◌≡◌, ℕ, List, Some, Contains, slice_get}
 use Rattle.leg_geom.specs.Plane.{SharePoint}
 use Rattle.leg_block.specs.declared.fault.Fault.{Fault}
@@ -10,7 +10,7 @@ DoShare a b = SharePoint a.rect b.rect
 abbrev pub ShareNoPoint : Shape → Shape → Type 0
 ShareNoPoint a b = ¬ SharePoint a.rect b.rect
 
--- the violation tells one of the pairs, whose shapes pass the test
+-- the violation names one of the pairs, whose shapes pass the test
 pub record IsTold (fault_of : ℕ → ℕ → Fault) (Test : Shape → Shape → Type 0) (shapes : List Shape) (pairs : List (ℕ × ℕ)) (fault : Fault) : Type 0 where
   pub p : ℕ × ℕ
   pub is : fault ≡ fault_of p.0 p.1

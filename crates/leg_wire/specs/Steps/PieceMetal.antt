@@ -6,14 +6,14 @@ use Rattle.leg_flat.specs.Flat.{FlatSaid}
 use Rattle.leg_wire.specs.declared.piece_shape.PieceShape.{PieceShape}
 use Rattle.leg_wire.specs.Touch.{IsOfPiece}
 
--- the metal says the same as a shape of one of so many pieces
+-- the metal is that of a shape of one of this many pieces
 pub record SaysShape (count : ℕ) (shape : Shape) (piece : PieceShape) : Type 0 where
   pub there : piece.piece < count
   pub piece_is : shape.piece ≡ Some piece.piece
   pub layer : piece.layer ≡ shape.layer
   pub rect : piece.rect ≡ shape.rect
 
--- the metal of a piece of the net says the same as the flat's shape
+-- the metal of a piece of the net is that of the flat's shape
 pub record IsPieceShape (flat : FlatSaid) (net : ℕ) (shape : Shape) (piece : PieceShape) : Type 0 where
   pub of_piece : IsOfPiece flat net piece.piece shape
   pub layer : piece.layer ≡ shape.layer

@@ -1,4 +1,4 @@
--- Shapes that a search with a reach finds too close. Its rule wants the two laws that stand behind the definition.
+-- Shapes that a search with a reach finds too close. Its rule needs the two laws after the definition.
 use Rattle.std.proofs.Common.{◌≡◌, ◌*◌, ◌<◌, ◌≤◌, ◌⊎◌, ℕ, min, unsigned_abs, List, length, Option, None, Some, slice_get, inl, inr, refl, sym, arith}
 use Rattle.std.proofs.lemmas.Bool.{cases_lt}
 use Rattle.std.proofs.lemmas.Option.{slice_get_past}

@@ -53,7 +53,7 @@ fn tells_the_word_at_fault(rt: HostRuntime) -> Result<(), Fail> {
     assert_eq!(rt; fault.kind, FaultKind::Unexpected);
     size.whole()?;
     size.keyword(b"BY")?;
-    // A semicolon stands in place of a number.
+    // A semicolon is in the place of a number.
     let Err(fault) = size.whole() else {
         return Ok(assert!(rt; false));
     };

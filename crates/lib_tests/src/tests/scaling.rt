@@ -51,7 +51,7 @@ fn an_origin_shifts_what_is_drawn(rt: HostRuntime) -> Result<(), Fail> {
     Ok(())
 }
 
-// What is written in place of what, the name that is told, and why.
+// What is written in place of what, the name that is reported, and why.
 fn refused() -> [(&'static str, &'static str, &'static [u8], ScaleKind); 6] {
     [
         ("WIDTH 0.1 ;", "WIDTH 0.101 ;", b"m1", ScaleKind::OddWidth),

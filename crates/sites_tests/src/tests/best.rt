@@ -53,7 +53,7 @@ fn free_of(alloc: Global, places: &[Made]) -> Result<Vec<FreeSites<Global>>, All
     Ok(free)
 }
 
-/// The best position for a component of so many sites that are 10 wide.
+/// The best position for a component of this many sites that are 10 wide.
 fn best(
     alloc: Global,
     places: &[Made],

@@ -1,4 +1,4 @@
-//! What an index finds near a rectangle, beside a look at each one.
+//! What an index finds near a rectangle, against a look at each one.
 
 ghost use Rattle.std.specs.Prelude.{◌<◌, ◌^◌, length};
 

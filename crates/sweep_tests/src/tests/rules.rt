@@ -116,7 +116,7 @@ pub(crate) struct Shape {
 }
 
 /// Holds of shapes of one layer whose two gaps are at most the reach. It notes each pair of numbers that it was asked
-/// about, in a table of so many columns, which is no part of its meaning.
+/// about, in a table of this many columns, which is no part of its meaning.
 #[derive(Drop)]
 pub(crate) struct Within<'a> {
     reach: u32,
