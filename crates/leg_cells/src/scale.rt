@@ -112,7 +112,6 @@ fn layer_at<'a>(layer: &RawLayer<'a>, n: u32) -> Result<Layer<'a>, ScaleFault<'a
 }
 
 /// The layers in database units.
-#[tactic(auto, using(crate::proofs::Scaled::pair_more, crate::proofs::Scaled::pair_all, crate::proofs::Scaled::pair_none))]
 fn layers_at<'a, A: Allocator + Copy>(
     alloc: A,
     raw: &[RawLayer<'a>],
@@ -147,7 +146,6 @@ fn site_at<'a>(site: &RawSite<'a>, n: u32) -> Result<Site<'a>, ScaleFault<'a>>
 }
 
 /// The sites in database units.
-#[tactic(auto, using(crate::proofs::Scaled::pair_more, crate::proofs::Scaled::pair_all, crate::proofs::Scaled::pair_none))]
 fn sites_at<'a, A: Allocator + Copy>(
     alloc: A,
     raw: &[RawSite<'a>],

@@ -106,7 +106,6 @@ fn shape_at(raw: &RawShape, n: u32, shift: &Shift) -> Result<Shape, ScaleKind>
 }
 
 /// Shapes in database units, moved by the shift.
-#[tactic(auto, using(crate::proofs::Scaled::pair_more, crate::proofs::Scaled::pair_all, crate::proofs::Scaled::pair_none))]
 fn shapes_at<A: Allocator + Copy>(
     alloc: A,
     raw: &[RawShape],
@@ -150,7 +149,6 @@ fn via_at<'a, A: Allocator + Copy>(
 }
 
 /// The vias in database units.
-#[tactic(auto, using(crate::proofs::Scaled::pair_more, crate::proofs::Scaled::pair_all, crate::proofs::Scaled::pair_none))]
 pub(crate) fn vias_at<'a, A: Allocator + Copy>(
     alloc: A,
     raw: &[RawVia<'a, A>],
@@ -190,7 +188,6 @@ fn pin_at<'a, A: Allocator + Copy>(
 }
 
 /// The pins of a macro in database units, with their shapes moved by the shift.
-#[tactic(auto, using(crate::proofs::Scaled::pair_more, crate::proofs::Scaled::pair_all, crate::proofs::Scaled::pair_none))]
 fn pins_at<'a, A: Allocator + Copy>(
     alloc: A,
     raw: &[RawPin<'a, A>],
@@ -254,7 +251,6 @@ fn master_at<'a, A: Allocator + Copy>(
 }
 
 /// The macros in database units.
-#[tactic(auto, using(crate::proofs::Scaled::pair_more, crate::proofs::Scaled::pair_all, crate::proofs::Scaled::pair_none))]
 pub(crate) fn masters_at<'a, A: Allocator + Copy>(
     alloc: A,
     raw: &[RawMaster<'a, A>],
