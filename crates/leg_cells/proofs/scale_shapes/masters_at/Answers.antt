@@ -1,6 +1,5 @@
-use Rattle.std.proofs.Common.{List, refl}
+use Rattle.std.proofs.Common.{refl}
 use Rattle.std.proofs.lemmas.Result.{IfOk-from_err, err_from_is_err_and}
-use Rattle.leg_cells.specs.Records.{MasterSaid}
 use Rattle.leg_cells.specs.Scale.{IsMasterAt, OneForOne}
 use Rattle.leg_cells.proofs.Scaled.{pair_more, pair_all, pair_none, masters_named}
 use Rattle.leg_cells.proofs.scale_shapes.masters_at.Goals as goal

@@ -1,6 +1,5 @@
-use Rattle.std.proofs.Common.{List, refl}
+use Rattle.std.proofs.Common.{refl}
 use Rattle.std.proofs.lemmas.Result.{IfOk-from_err, err_from_is_err_and}
-use Rattle.leg_cells.specs.Records.{ViaSaid}
 use Rattle.leg_cells.specs.Scale.{IsViaAt, OneForOne}
 use Rattle.leg_cells.proofs.Scaled.{pair_more, pair_all, pair_none, vias_named}
 use Rattle.leg_cells.proofs.scale_shapes.vias_at.Goals as goal

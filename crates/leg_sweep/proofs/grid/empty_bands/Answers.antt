@@ -1,4 +1,4 @@
-use Rattle.std.proofs.Common.{arith, ◌≡◌, length}
+use Rattle.std.proofs.Common.{◌≡◌, length, arith}
 use Rattle.leg_sweep.proofs.GridBands.{bands_more}
 use Rattle.leg_sweep.proofs.grid.empty_bands.Goals as goal
 

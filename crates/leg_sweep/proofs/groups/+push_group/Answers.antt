@@ -1,8 +1,8 @@
+use Rattle.std.proofs.Common.{◌≡◌, ℕ, ◌+◌, ◌<◌, ◌≤◌, List, [], ◌∷◌, ◌++◌, length, drop, map, ap, length-append, arith, rules}
+use Rattle.std.proofs.lemmas.List.{take_at, map-append}
+use Rattle.leg_geom.specs.Plane.{Sides}
 use Rattle.leg_sweep.specs.declared.node.Node.{Node}
 use Rattle.leg_sweep.specs.declared.bounds.Bounds.{Bounds}
-use Rattle.leg_geom.specs.Plane.{Sides}
-use Rattle.std.proofs.Common.{◌≡◌, ℕ, ◌++◌, ◌∷◌, [], drop, map, length, arith, rules, List, ◌+◌, ◌<◌, ◌≤◌, ap, length-append}
-use Rattle.std.proofs.lemmas.List.{take_at, map-append}
 use Rattle.leg_sweep.specs.Steps.Nodes.{AreGrouped}
 use Rattle.leg_sweep.proofs.NodeGroups.{grouped_both, grouped_closed, members_within}
 use Rattle.leg_sweep.proofs.groups.+push_group.Goals as goal

@@ -1,11 +1,11 @@
-use Rattle.leg_sweep.proofs.Tallies.{tests_in_looks, looks_in_bounds, tests_in_bounds}
-use Rattle.std.proofs.Common.{◌≡◌, ℕ, ◌+◌, ◌-◌, ◌<◌, ◌≤◌, length, get_or, take, map, count_by, sum_by, refl, ◌∙◌, arith, ap}
+use Rattle.std.proofs.Common.{◌≡◌, ℕ, ◌+◌, ◌-◌, ◌<◌, ◌≤◌, length, get_or, take, map, count_by, sum_by, refl, ap, ◌∙◌, arith}
 use Rattle.std.proofs.lemmas.List.{length-map, length-take-le, take_more, take_all}
-use Rattle.std.proofs.lemmas.List.Sums.{sum_by_push, sum_by-take-le, count_by-le-length}
+use Rattle.std.proofs.lemmas.List.Sums.{sum_by_push, sum_by-take-le}
 use Rattle.std.proofs.lemmas.Nat.{mul-le}
 use Rattle.leg_sweep.specs.Counts.{near_along_x, near_along_both, count_pairs}
 use Rattle.leg_sweep.specs.Steps.Bands.{waiting_at, stretch_at, entries_at, near_in_band, near_both_in_band, met}
 use Rattle.leg_sweep.specs.Steps.Sweep.{test_at}
+use Rattle.leg_sweep.proofs.Tallies.{tests_in_looks, looks_in_bounds, tests_in_bounds}
 use Rattle.leg_sweep.proofs.Counts.{count_pairs_push, count_pairs_square}
 use Rattle.leg_sweep.proofs.FoundSoFar.{first_at, last_at, found_none, found_more, found_all, can_visit, met_near, met_near_both, met_few, reaches_after}
 use Rattle.leg_sweep.proofs.MetItems.{waiting_none}

@@ -1,11 +1,11 @@
-use Rattle.leg_sweep.proofs.Tallies.{looks_at_first, looks_at_second, looks_at_both, tests_at_both, tests_in_looks}
-use Rattle.std.proofs.Common.{◌≡◌, ℕ, map, count_by, cond, sym, ◌∙◌, arith}
+use Rattle.std.proofs.Common.{◌≡◌, ℕ, map, count_by, cond, sym, ◌∙◌}
 use Rattle.std.proofs.lemmas.List.{get_or_default}
 use Rattle.std.proofs.lemmas.List.Sums.{sum_by-append}
 use Rattle.leg_sweep.specs.Pairs.{IsPair}
 use Rattle.leg_sweep.specs.Counts.{near_along_both}
 use Rattle.leg_sweep.specs.Steps.Bands.{empty_band, waiting_at}
 use Rattle.leg_sweep.specs.Steps.Sweep.{test_at}
+use Rattle.leg_sweep.proofs.Tallies.{looks_at_first, looks_at_second, looks_at_both, tests_at_both, tests_in_looks}
 use Rattle.leg_sweep.proofs.Turns.{new_pairs_append}
 use Rattle.leg_sweep.proofs.visit.begin.Goals as goal
 

@@ -1,11 +1,11 @@
-use Rattle.leg_sweep.proofs.Tallies.{looks_at_both, tests_at_both, tests_in_looks, next_above, next_from_first, next_to_last, next_number, next_there, left_at_both}
-use Rattle.std.proofs.Common.{◌≡◌, ℕ, suc, ◌+◌, ◌-◌, ◌<◌, length, map, count_by, cond, Contains, ap, ◌∙◌, arith, ◌≤◌, refl}
+use Rattle.std.proofs.Common.{◌≡◌, ℕ, suc, ◌+◌, ◌-◌, ◌<◌, ◌≤◌, length, map, count_by, cond, Contains, refl, ap, ◌∙◌, arith}
 use Rattle.std.proofs.lemmas.List.{length-append}
 use Rattle.std.proofs.lemmas.List.Sums.{sum_by-append, count_by-le-length}
 use Rattle.leg_sweep.specs.Pairs.{IsPair}
 use Rattle.leg_sweep.specs.Counts.{near_along_x, near_along_both}
 use Rattle.leg_sweep.specs.Steps.Bands.{Waiting, waiting_at, met}
 use Rattle.leg_sweep.specs.Steps.Sweep.{test_at}
+use Rattle.leg_sweep.proofs.Tallies.{looks_at_both, tests_at_both, tests_in_looks, next_above, next_from_first, next_to_last, next_number, next_there, left_at_both}
 use Rattle.leg_sweep.proofs.MetItems.{begun_in, met_new, met_next, met_longer, count_begin, count_pass, visited_first, visited_more}
 use Rattle.leg_sweep.proofs.Turns.{new_pairs_append}
 use Rattle.leg_sweep.proofs.visit.visit.Goals as goal

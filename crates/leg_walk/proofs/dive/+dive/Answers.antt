@@ -1,5 +1,5 @@
-use Rattle.std.proofs.lemmas.List.Elements.{All-nil}
 use Rattle.std.proofs.Common.{ℕ, ◌<◌, ◌≤◌, ◌∷◌, [], get_or, Contains, arith}
+use Rattle.std.proofs.lemmas.List.Elements.{All-nil}
 use Rattle.std.proofs.lemmas.List.{take_all}
 use Rattle.leg_walk.specs.declared.mark.Mark.TheVariants.{Far}
 use Rattle.leg_walk.specs.declared.side.Side.{Side}
