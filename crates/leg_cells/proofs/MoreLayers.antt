@@ -1,7 +1,7 @@
 -- Good vias when layers are added: what shapes join doesn't depend on the layers behind theirs.
-use Rattle.std.proofs.Common.{◌≡◌, ℕ, ◌+◌, ◌-◌, ◌<◌, ◌≤◌, Bool, true, false, not, ◌&&◌, ◌||◌, List, [], ◌∷◌, ◌++◌, length, length-append, length-drop, length-take, take, drop, map, get_or, slice_get, Option, None, Some, refl, sym, ap, ◌∙◌, arith}
-use Rattle.std.specs.List.{All, list_any, list_all, slice_range}
-use Rattle.std.proofs.lemmas.List.{map-append, length-map, drop-append-le, take-append-le, get_or_append_left, get_or_default}
+use Rattle.std.proofs.Common.{◌≡◌, ℕ, ◌+◌, ◌-◌, ◌<◌, ◌≤◌, Bool, List, [], ◌∷◌, ◌++◌, length, length-append, length-drop, drop, get_or, slice_get, refl, sym, ◌∙◌, arith}
+use Rattle.std.specs.List.{All, list_any, slice_range}
+use Rattle.std.proofs.lemmas.List.{map-append, length-map, drop-append-le, take-append-le, get_or_append_left}
 use Rattle.std.proofs.lemmas.List.Elements.{All-head, All-tail, All-map}
 use Rattle.std.proofs.lemmas.Option.{slice_get-get_or}
 use Rattle.leg_cells.specs.declared.joins.LayerUse.{LayerUse}
@@ -10,7 +10,7 @@ use Rattle.leg_cells.specs.declared.joins.ViaPart.{ViaPart}
 use Rattle.leg_cells.specs.declared.raw.RawLayer.{RawLayer}
 use Rattle.leg_cells.specs.declared.raw.RawShape.{RawShape}
 use Rattle.leg_cells.specs.GoodVia.{raw_use, raw_uses, raw_parts, holds_origin, is_raw_good_via}
-use Rattle.leg_cells.specs.Joins.{has_wires, is_use_of, is_routing, is_cut, is_part, join, join_layers, is_wiring_word}
+use Rattle.leg_cells.specs.Joins.{join, join_layers}
 use Rattle.leg_cells.specs.References.{AreRawShapesOn}
 
 -- two tests that agree on each element find an element in the same lists

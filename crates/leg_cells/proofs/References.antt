@@ -1,6 +1,6 @@
 -- What the records of a library refer to is there when one more record is added, and in database units.
 use Rattle.std.proofs.Common.{◌≡◌, ℕ, ◌≤◌, ◌<◌, List, [], ◌∷◌, ◌++◌, length, length-append, map, get_or, All, IfSome, Option, None, Some, refl, sym, subst, ap, ◌∙◌, arith}
-use Rattle.std.proofs.lemmas.List.Elements.{All-nil, All-cons, All-head, All-tail, All-push}
+use Rattle.std.proofs.lemmas.List.Elements.{All-nil, All-cons, All-head, All-tail}
 use Rattle.leg_geom.specs.Plane.{Spot}
 use Rattle.leg_cells.specs.declared.raw.RawLayer.{RawLayer}
 use Rattle.leg_cells.specs.declared.raw.RawSite.{RawSite}

@@ -1,5 +1,5 @@
 -- Good vias in database units: what shapes join is the same as in millionths of a micron.
-use Rattle.std.proofs.Common.{◌≡◌, ℕ, ◌≤◌, Bool, true, false, not, ◌&&◌, List, [], ◌∷◌, map, ℤ, pos, int_lt, ◌*ℤ◌, ◌-ℤ◌, ◌<ℤ◌, ◌≤ℤ◌, refl, sym, ap, ◌∙◌, arith}
+use Rattle.std.proofs.Common.{◌≡◌, ℕ, ◌≤◌, Bool, true, false, List, [], ◌∷◌, ℤ, pos, int_lt, ◌*ℤ◌, ◌-ℤ◌, ◌<ℤ◌, ◌≤ℤ◌, refl, arith}
 use Rattle.std.proofs.lemmas.Int.{ints}
 use Rattle.leg_lex.specs.Number.{IsUnits}
 use Rattle.leg_cells.specs.declared.raw.RawKind.{RawKind}
@@ -11,7 +11,7 @@ use Rattle.leg_cells.specs.declared.records.LayerKind.TheVariants.{Routing, Cut,
 use Rattle.leg_cells.specs.declared.records.Layer.{Layer}
 use Rattle.leg_cells.specs.declared.records.Shape.{Shape}
 use Rattle.leg_cells.specs.Records.{Contents}
-use Rattle.leg_cells.specs.GoodVia.{raw_use, use_of, raw_uses, uses_of, holds_origin, raw_parts, parts_of, is_raw_good_via, is_good_via}
+use Rattle.leg_cells.specs.GoodVia.{raw_use, use_of, raw_uses, uses_of, raw_parts, parts_of, is_raw_good_via, is_good_via}
 use Rattle.leg_cells.specs.Scale.{IsLengthAt, IsShapeAt, IsKindAt, IsLayerAt, OneForOne, no_shift}
 
 use_at : (n : ℕ) (kind : RawKind) (scaled : LayerKind) → IsKindAt n kind scaled → use_of scaled ≡ raw_use kind

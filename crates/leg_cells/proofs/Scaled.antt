@@ -73,6 +73,10 @@ moved_more n m k u v s some longer p q =
     let more : (u -ℤ s) <ℤ (v -ℤ s) = more_units n m k (u -ℤ s) (v -ℤ s) some longer p.exact q.exact in
     omega (arith, ints, more)
 
+-- a length that is moved, less the shift
+pub shifted : (n : ℕ) (m u s : ℤ) → IsLengthAt n m u → IsLengthAt n m ((u +ℤ s) -ℤ s)
+shifted n m u s at = let back : (u +ℤ s) -ℤ s ≡ u = omega (arith, ints) in rw back at
+
 -- an even width has a half
 pub even_width : (u : ℤ) → unsigned_abs u % 2 ≡ 0 → IsEven u
 even_width (pos a) even = (pos (a / 2), omega (arith, ints))

@@ -1,5 +1,5 @@
 -- What holds of every library in database units.
-use Rattle.std.proofs.Common.{ℕ, ◌*◌, ◌≤◌, List, [], ◌∷◌, map, All, subst, sym, ℤ, pos, unsigned_abs, ◌*ℤ◌, ◌-ℤ◌, ◌≤ℤ◌, ◌<ℤ◌, arith}
+use Rattle.std.proofs.Common.{ℕ, ◌*◌, ◌≤◌, List, [], ◌∷◌, All, subst, sym, ℤ, pos, unsigned_abs, ◌*ℤ◌, ◌-ℤ◌, ◌≤ℤ◌, ◌<ℤ◌, arith}
 use Rattle.std.proofs.lemmas.Int.{ints}
 use Rattle.std.proofs.lemmas.List.Elements.{All-nil, All-cons, All-head, All-tail}
 use Rattle.leg_lex.specs.declared.limits.TheConstants.{NUMBER_LIMIT, UNITS_LIMIT}
@@ -15,9 +15,9 @@ use Rattle.leg_cells.specs.declared.records.LayerKind.TheVariants.{Routing, Cut,
 use Rattle.leg_cells.specs.declared.records.Layer.{Layer}
 use Rattle.leg_cells.specs.declared.records.Site.{Site}
 use Rattle.leg_cells.specs.declared.records.Shape.{Shape}
-use Rattle.leg_cells.specs.Measure.{HasArea, IsExtent}
+use Rattle.leg_cells.specs.Measure.{Lengths, HasArea, IsExtent}
 use Rattle.leg_cells.specs.Records.{RawContents, RawViaSaid, RawMasterSaid, ViaSaid, MasterSaid, Contents}
-use Rattle.leg_cells.specs.Scale.{IsLengthAt, IsSpotAt, IsShapeAt, IsKindAt, IsLayerAt, IsSiteAt, IsViaAt, IsPinAt, IsMasterAt, OneForOne, IsLibraryAt, no_shift}
+use Rattle.leg_cells.specs.Scale.{IsLengthAt, IsSizeAt, IsSpotAt, IsShapeAt, IsKindAt, IsLayerAt, IsSiteAt, IsViaAt, IsPinAt, IsMasterAt, OneForOne, IsLibraryAt, no_shift}
 use Rattle.leg_cells.specs.LibraryNames.{AreNames}
 use Rattle.leg_cells.specs.Sound.{HasRawWidth, IsSoundRawLayer, IsSoundRaw, HasWidth, IsSoundLayer, AreWithin, AreShapesWithin, IsSoundVia, IsSoundMaster, IsSound}
 use Rattle.leg_cells.proofs.References.{refers_at}
@@ -99,13 +99,13 @@ master_at n r master at = record {
   obstructions = shapes_at n r.origin at.shift r.obstructions master.obstructions at.origin at.obstructions;
 }
 
-site_at : (n : ℕ) (r : RawSite) (site : Site) → 1 ≤ n → HasArea r.size → IsSiteAt n r site → IsExtent site.size
-site_at n r site some area at = record {
-  width = at.size.width.within;
-  height = at.size.height.within;
+pub extent_at : (n : ℕ) (raw size : Lengths) → 1 ≤ n → HasArea raw → IsSizeAt n raw size → IsExtent size
+extent_at n raw size some area at = record {
+  width = at.width.within;
+  height = at.height.within;
   area = record {
-    wide = wide_at n r.size.width site.size.width some area.wide at.size.width;
-    high = wide_at n r.size.height site.size.height some area.high at.size.height;
+    wide = wide_at n raw.width size.width some area.wide at.width;
+    high = wide_at n raw.height size.height some area.high at.height;
   };
 }
 
@@ -115,7 +115,7 @@ sites_at n [] (site ∷ sites) some sound at = absurd at
 sites_at n (r ∷ raw) [] some sound at = absurd at
 sites_at n (r ∷ raw) (site ∷ sites) some sound at =
     let first : HasArea r.size = All-head (λ s. HasArea s.size) r raw sound in
-    All-cons (λ s. IsExtent s.size) site sites (site_at n r site some first at.0) (sites_at n raw sites some (All-tail (λ s. HasArea s.size) r raw sound) at.1)
+    All-cons (λ s. IsExtent s.size) site sites (extent_at n r.size site.size some first at.0.size) (sites_at n raw sites some (All-tail (λ s. HasArea s.size) r raw sound) at.1)
 
 -- A sound library is sound in database units.
 pub sound_at : (n : ℕ) (raw : RawContents) (library : Contents) → 1 ≤ n → n ≤ UNITS_LIMIT → IsSoundRaw raw → IsLibraryAt n raw library → IsSound library

@@ -1,15 +1,12 @@
 -- What holds of every library as texts write it, when one more record is added.
-use Rattle.std.proofs.Common.{◌≡◌, ℕ, List, [], ◌∷◌, ◌++◌, map, All, IsTrue, Option, None, subst, sym, arith}
-use Rattle.std.proofs.lemmas.List.{map-append}
+use Rattle.std.proofs.Common.{◌≡◌, [], ◌∷◌, ◌++◌, IsTrue, None}
 use Rattle.std.proofs.lemmas.List.Elements.{All-nil, All-push}
 use Rattle.leg_lex.specs.Words.{is_name}
 use Rattle.leg_lex.specs.NameLookup.{place_of}
-use Rattle.leg_lex.proofs.NameLookup.{apart_push}
 use Rattle.leg_cells.specs.declared.raw.RawLayer.{RawLayer}
 use Rattle.leg_cells.specs.declared.raw.RawSite.{RawSite}
 use Rattle.leg_cells.specs.Measure.{HasArea}
 use Rattle.leg_cells.specs.Records.{RawContents, RawViaSaid, RawMasterSaid, empty_library, raw_layer_names, raw_site_names, raw_via_names, raw_master_names}
-use Rattle.leg_cells.specs.LibraryNames.{AreNames}
 use Rattle.leg_cells.specs.References.{IsRawViaOf, IsRawMasterOf}
 use Rattle.leg_cells.specs.Sound.{IsSoundRawLayer, IsSoundRaw}
 use Rattle.leg_cells.proofs.LibraryNames.{no_names, names_push}

@@ -38,7 +38,6 @@ impl<'a, A: Allocator + Copy> Model for RawLibrary<'a, A> {
 
 impl<'a, A: Allocator + Copy> RawLibrary<'a, A> {
     /// A library with no records.
-    #[tactic(auto, using(crate::proofs::SoundRaw::empty_sound))]
     pub fn new(alloc: A) -> RawLibrary<'a, A>
         ensures { result ≡ empty_library }
     {

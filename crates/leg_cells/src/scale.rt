@@ -1,24 +1,23 @@
 //! A library in database units: no length is rounded (lefdef's own rule).
 
-ghost use Rattle.std.specs.Prelude.{◌≡◌, ◌≢◌, ◌≤◌, ℤ, List, [], map, IfOk, IfErr};
+ghost use Rattle.std.specs.Prelude.{◌≡◌, ◌≢◌, ◌≤◌, ℤ, List, [], IfOk, IfErr};
 ghost use Rattle.leg_cells.specs.declared.scale_fault.ScaleKind.TheVariants.{Memory};
 ghost use Rattle.leg_cells.specs.declared.records.Layer.{Layer};
 ghost use Rattle.leg_cells.specs.declared.records.LayerKind.{LayerKind};
 ghost use Rattle.leg_cells.specs.declared.records.Site.{Site};
 ghost use Rattle.leg_cells.specs.Measure.{Lengths};
-ghost use Rattle.leg_cells.specs.Records.{Contents, raw_layer_names, raw_site_names, raw_via_names, raw_master_names};
+ghost use Rattle.leg_cells.specs.Records.{Contents};
 ghost use Rattle.leg_cells.specs.Scale.{IsLengthAt, IsSizeAt, IsEven, IsKindAt, IsLayerAt, IsSiteAt, OneForOne, IsLibraryAt};
-ghost use Rattle.leg_cells.specs.Sound.{IsSound};
 
 use crate::library::Library;
 use crate::measure::{Extent, RawExtent};
 use crate::raw::{RawKind, RawLayer, RawSite};
 use crate::raw_library::RawLibrary;
-use crate::records::{Layer, LayerKind, Master, Site, Via};
+use crate::records::{Layer, LayerKind, Site};
 use crate::scale_fault::{ScaleFault, ScaleKind};
 use crate::scale_shapes::{masters_at, vias_at};
-use leg_lex::{Micron, Name, NumFault, UNITS_LIMIT};
-use std::alloc::{AllocError, Allocator};
+use leg_lex::{Micron, Name, NamedList, NumFault, UNITS_LIMIT};
+use std::alloc::Allocator;
 
 /// A length in database units.
 pub(crate) fn length_at(length: Micron, n: u32) -> Result<i64, ScaleKind>
@@ -112,23 +111,22 @@ fn layer_at<'a>(layer: &RawLayer<'a>, n: u32) -> Result<Layer<'a>, ScaleFault<'a
 }
 
 /// The layers in database units.
-#[tactic(auto, using(crate::proofs::Scaled::pair_more, crate::proofs::Scaled::pair_all, crate::proofs::Scaled::pair_none))]
 fn layers_at<'a, A: Allocator + Copy>(
     alloc: A,
-    raw: &[RawLayer<'a>],
+    raw: &NamedList<'a, RawLayer<'a>, A>,
     n: u32,
-) -> Result<Vec<Layer<'a>, A>, ScaleFault<'a>>
+) -> Result<NamedList<'a, Layer<'a>, A>, ScaleFault<'a>>
     requires above { 1 ≤ n }
     requires within { n ≤ UNITS_LIMIT }
-    ensures ok { IfOk result (λ layers. OneForOne (IsLayerAt n) raw.now layers.items) }
+    ensures ok { IfOk result (λ layers. OneForOne (IsLayerAt n) raw.now layers) }
     ensures none { IfErr result (λ fault. fault.kind ≢ Memory → (layers : List Layer) → ¬ OneForOne (IsLayerAt n) raw.now layers) }
     ensures nameless { IfErr result (λ fault. fault.kind ≡ Memory → fault.name ≡ []) }
 {
     let mut layers = Vec::new(alloc);
-    for layer in raw {
+    for layer in raw.as_slice() {
         layers.push(layer_at(layer, n)?)?;
     }
-    Ok(layers)
+    Ok(raw.with_items(alloc, layers)?)
 }
 
 /// A site in database units.
@@ -147,30 +145,28 @@ fn site_at<'a>(site: &RawSite<'a>, n: u32) -> Result<Site<'a>, ScaleFault<'a>>
 }
 
 /// The sites in database units.
-#[tactic(auto, using(crate::proofs::Scaled::pair_more, crate::proofs::Scaled::pair_all, crate::proofs::Scaled::pair_none))]
 fn sites_at<'a, A: Allocator + Copy>(
     alloc: A,
-    raw: &[RawSite<'a>],
+    raw: &NamedList<'a, RawSite<'a>, A>,
     n: u32,
-) -> Result<Vec<Site<'a>, A>, ScaleFault<'a>>
+) -> Result<NamedList<'a, Site<'a>, A>, ScaleFault<'a>>
     requires above { 1 ≤ n }
     requires within { n ≤ UNITS_LIMIT }
-    ensures ok { IfOk result (λ sites. OneForOne (IsSiteAt n) raw.now sites.items) }
+    ensures ok { IfOk result (λ sites. OneForOne (IsSiteAt n) raw.now sites) }
     ensures none { IfErr result (λ fault. fault.kind ≢ Memory → (sites : List Site) → ¬ OneForOne (IsSiteAt n) raw.now sites) }
     ensures nameless { IfErr result (λ fault. fault.kind ≡ Memory → fault.name ≡ []) }
 {
     let mut sites = Vec::new(alloc);
-    for site in raw {
+    for site in raw.as_slice() {
         sites.push(site_at(site, n)?)?;
     }
-    Ok(sites)
+    Ok(raw.with_items(alloc, sites)?)
 }
 
 impl<'a, A: Allocator + Copy> RawLibrary<'a, A> {
     /// The library at `n` database units a micron, with each macro's origin added to its shapes.
     ///
     /// Lengths are looked at in file order: those of layers first, then those of sites, macros and vias.
-    #[tactic(auto, using(crate::proofs::Scaled::layers_named, crate::proofs::Scaled::sites_named, crate::proofs::Scaled::vias_named, crate::proofs::Scaled::masters_named, crate::proofs::Scaled::one_library))]
     pub fn at(&self, alloc: A, n: u32) -> Result<Library<'a, A>, ScaleFault<'a>>
         requires above { 1 ≤ n }
         requires within { n ≤ UNITS_LIMIT }
@@ -179,36 +175,16 @@ impl<'a, A: Allocator + Copy> RawLibrary<'a, A> {
         ensures none { IfErr result (λ fault. fault.kind ≢ Memory → (library : Contents) → ¬ IsLibraryAt n self.now library) }
         ensures nameless { IfErr result (λ fault. fault.kind ≡ Memory → fault.name ≡ []) }
     {
-        let layers = layers_at(alloc, self.layers(), n)?;
-        let sites = sites_at(alloc, self.sites(), n)?;
-        let masters = masters_at(alloc, self.masters(), n)?;
-        let vias = vias_at(alloc, self.vias(), n)?;
-        Ok(self.with_names(alloc, n, layers, sites, vias, masters)?)
-    }
-
-    /// The library of these records, which have the names of this one's and are those of a library.
-    fn with_names(
-        &self,
-        alloc: A,
-        units: u32,
-        layers: Vec<Layer<'a>, A>,
-        sites: Vec<Site<'a>, A>,
-        vias: Vec<Via<'a, A>, A>,
-        masters: Vec<Master<'a, A>, A>,
-    ) -> Result<Library<'a, A>, AllocError>
-        requires layers { map (λ l. l.name) layers.items ≡ raw_layer_names self.now }
-        requires sites { map (λ s. s.name) sites.items ≡ raw_site_names self.now }
-        requires vias { map (λ v. v.name) vias.items ≡ raw_via_names self.now }
-        requires masters { map (λ m. m.name) masters.items ≡ raw_master_names self.now }
-        requires sound { IsSound (record { units = units; layers = layers.items; sites = sites.items; vias = vias.items; masters = masters.items }) }
-        ensures { IfOk result (λ library. library ≡ record { units = units; layers = layers.entry.items; sites = sites.entry.items; vias = vias.entry.items; masters = masters.entry.items }) }
-    {
+        let layers = layers_at(alloc, &self.layers, n)?;
+        let sites = sites_at(alloc, &self.sites, n)?;
+        let masters = masters_at(alloc, &self.masters, n)?;
+        let vias = vias_at(alloc, &self.vias, n)?;
         Ok(Library {
-            units,
-            layers: self.layers.with_items(alloc, layers)?,
-            sites: self.sites.with_items(alloc, sites)?,
-            vias: self.vias.with_items(alloc, vias)?,
-            masters: self.masters.with_items(alloc, masters)?,
+            units: n,
+            layers,
+            sites,
+            vias,
+            masters,
         })
     }
 }

@@ -14,7 +14,7 @@ use crate::records::{Master, MasterPin, Shape, Via};
 use crate::scale::{length_at, size_at};
 use crate::scale_fault::{ScaleFault, ScaleKind};
 use leg_geom::Rect;
-use leg_lex::{Micron, Name, UNITS_LIMIT};
+use leg_lex::{Micron, Name, NamedList, UNITS_LIMIT};
 use std::alloc::Allocator;
 use std::marker::Model;
 
@@ -106,7 +106,6 @@ fn shape_at(raw: &RawShape, n: u32, shift: &Shift) -> Result<Shape, ScaleKind>
 }
 
 /// Shapes in database units, moved by the shift.
-#[tactic(auto, using(crate::proofs::Scaled::pair_more, crate::proofs::Scaled::pair_all, crate::proofs::Scaled::pair_none))]
 fn shapes_at<A: Allocator + Copy>(
     alloc: A,
     raw: &[RawShape],
@@ -150,23 +149,22 @@ fn via_at<'a, A: Allocator + Copy>(
 }
 
 /// The vias in database units.
-#[tactic(auto, using(crate::proofs::Scaled::pair_more, crate::proofs::Scaled::pair_all, crate::proofs::Scaled::pair_none))]
 pub(crate) fn vias_at<'a, A: Allocator + Copy>(
     alloc: A,
-    raw: &[RawVia<'a, A>],
+    raw: &NamedList<'a, RawVia<'a, A>, A>,
     n: u32,
-) -> Result<Vec<Via<'a, A>, A>, ScaleFault<'a>>
+) -> Result<NamedList<'a, Via<'a, A>, A>, ScaleFault<'a>>
     requires above { 1 ≤ n }
     requires within { n ≤ UNITS_LIMIT }
-    ensures ok { IfOk result (λ vias. OneForOne (IsViaAt n) raw.now vias.items) }
+    ensures ok { IfOk result (λ vias. OneForOne (IsViaAt n) raw.now vias) }
     ensures none { IfErr result (λ fault. fault.kind ≢ Memory → (vias : List ViaSaid) → ¬ OneForOne (IsViaAt n) raw.now vias) }
     ensures nameless { IfErr result (λ fault. fault.kind ≡ Memory → fault.name ≡ []) }
 {
     let mut vias = Vec::new(alloc);
-    for via in raw {
+    for via in raw.as_slice() {
         vias.push(via_at(alloc, via, n)?)?;
     }
-    Ok(vias)
+    Ok(raw.with_items(alloc, vias)?)
 }
 
 /// A pin of a macro in database units, with its shapes moved by the shift.
@@ -190,7 +188,6 @@ fn pin_at<'a, A: Allocator + Copy>(
 }
 
 /// The pins of a macro in database units, with their shapes moved by the shift.
-#[tactic(auto, using(crate::proofs::Scaled::pair_more, crate::proofs::Scaled::pair_all, crate::proofs::Scaled::pair_none))]
 fn pins_at<'a, A: Allocator + Copy>(
     alloc: A,
     raw: &[RawPin<'a, A>],
@@ -254,21 +251,20 @@ fn master_at<'a, A: Allocator + Copy>(
 }
 
 /// The macros in database units.
-#[tactic(auto, using(crate::proofs::Scaled::pair_more, crate::proofs::Scaled::pair_all, crate::proofs::Scaled::pair_none))]
 pub(crate) fn masters_at<'a, A: Allocator + Copy>(
     alloc: A,
-    raw: &[RawMaster<'a, A>],
+    raw: &NamedList<'a, RawMaster<'a, A>, A>,
     n: u32,
-) -> Result<Vec<Master<'a, A>, A>, ScaleFault<'a>>
+) -> Result<NamedList<'a, Master<'a, A>, A>, ScaleFault<'a>>
     requires above { 1 ≤ n }
     requires within { n ≤ UNITS_LIMIT }
-    ensures ok { IfOk result (λ masters. OneForOne (IsMasterAt n) raw.now masters.items) }
+    ensures ok { IfOk result (λ masters. OneForOne (IsMasterAt n) raw.now masters) }
     ensures none { IfErr result (λ fault. fault.kind ≢ Memory → (masters : List MasterSaid) → ¬ OneForOne (IsMasterAt n) raw.now masters) }
     ensures nameless { IfErr result (λ fault. fault.kind ≡ Memory → fault.name ≡ []) }
 {
     let mut masters = Vec::new(alloc);
-    for master in raw {
+    for master in raw.as_slice() {
         masters.push(master_at(alloc, master, n)?)?;
     }
-    Ok(masters)
+    Ok(raw.with_items(alloc, masters)?)
 }

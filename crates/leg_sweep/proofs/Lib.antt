@@ -7,6 +7,7 @@ mod Counts
 mod Taken
 mod Nearness
 mod Progress
+mod Tallies
 mod Turns
 mod Places
 mod InOrder

@@ -3,4 +3,4 @@ use Rattle.leg_cells.specs.Scale.{IsSiteAt, OneForOne}
 use Rattle.leg_cells.proofs.scale.sites_at.Given as goal
 
 abbrev pub invariant-loop-site : goal.invariant-loop-site
-invariant-loop-site g l = OneForOne (IsSiteAt l.n) (take l.site-index l.raw) l.sites.items
+invariant-loop-site g l = OneForOne (IsSiteAt l.n) (take l.site-index l.site-items) l.sites.items

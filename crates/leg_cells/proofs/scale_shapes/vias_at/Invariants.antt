@@ -3,4 +3,4 @@ use Rattle.leg_cells.specs.Scale.{IsViaAt, OneForOne}
 use Rattle.leg_cells.proofs.scale_shapes.vias_at.Given as goal
 
 abbrev pub invariant-loop-via : goal.invariant-loop-via
-invariant-loop-via g l = OneForOne (IsViaAt l.n) (take l.via-index l.raw) l.vias.items
+invariant-loop-via g l = OneForOne (IsViaAt l.n) (take l.via-index l.via-items) l.vias.items

@@ -52,3 +52,9 @@ returns-clause-few_looks g c =
     on_layers near_along_x (layered.layer_reach_of fixed) (rule.rect_of fixed) (layered.layer_of fixed) items (near_along_x_symmetric rects sorted.proper)
     stretches c.in_ok-stretches.bands.items order sorted c.in_ok-stretches.ensures.layers in
     omega (arith, looks, fewer, moved, c.in_ok-stretches.ensures.entries)
+
+pub sweep-requires-clause-empty : goal.sweep-requires-clause-empty
+sweep-requires-clause-empty g c = rw c.deref_mut.ensures.value c.in_ok-stretches.ensures.empty
+
+pub sweep-requires-clause-order : goal.sweep-requires-clause-order
+sweep-requires-clause-order g c = rw c.deref.ensures.value c.in_ok-order.ensures

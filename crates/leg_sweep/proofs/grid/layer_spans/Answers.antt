@@ -1,5 +1,5 @@
 use Rattle.std.proofs.Common.{◌≡◌, ℕ, ◌+◌, ◌<◌, [], ◌∷◌, ◌++◌, length, take, sym, ap, ◌∙◌, arith}
-use Rattle.std.proofs.lemmas.List.{take_more, get_or_read}
+use Rattle.std.proofs.lemmas.List.{take_more, get_or_read, take_all}
 use Rattle.leg_sweep.specs.Steps.Grid.{no_span, span_at, span_with}
 use Rattle.leg_sweep.proofs.GridSpans.{spans_more}
 use Rattle.leg_sweep.proofs.grid.layer_spans.Goals as goal
@@ -22,3 +22,6 @@ loop-item-preserved g c =
     let old : c.index.result.now ≡ span_at spans c.layer-layer.result = get_or_read spans c.layer-layer.result c.index.result.now in_spans c.index.ensures no_span in
     let new : c.with_item.result ≡ span_with (span_at spans (layer_of a)) (rect_of a) = rw (← layer, ← old) c.with_item.ensures.is in
     rw (grown, new, layer) (spans_more rect_of layer_of (g.R.LayeredRule.layers_of fixed) (take i items) spans a so_far c.with_item.ensures.proper below)
+
+pub returns : goal.returns
+returns g c = rw (take_all c.loop-item.item-index c.args.items.now c.loop-item-test.false) at c.loop-item.invariant

@@ -1,10 +1,11 @@
-use Rattle.std.proofs.Common.{◌≡◌, ℕ, ◌+◌, ◌-◌, ◌<◌, ◌≤◌, length, get_or, take, map, count_by, sum_by, refl, ◌∙◌, arith}
-use Rattle.std.proofs.lemmas.List.{length-map, length-take-le, take_more}
-use Rattle.std.proofs.lemmas.List.Sums.{sum_by_push, sum_by-take-le, count_by-le-length}
+use Rattle.std.proofs.Common.{◌≡◌, ℕ, ◌+◌, ◌-◌, ◌<◌, ◌≤◌, length, get_or, take, map, count_by, sum_by, refl, ap, ◌∙◌, arith}
+use Rattle.std.proofs.lemmas.List.{length-map, length-take-le, take_more, take_all}
+use Rattle.std.proofs.lemmas.List.Sums.{sum_by_push, sum_by-take-le}
 use Rattle.std.proofs.lemmas.Nat.{mul-le}
 use Rattle.leg_sweep.specs.Counts.{near_along_x, near_along_both, count_pairs}
-use Rattle.leg_sweep.specs.Steps.Bands.{waiting_at, entries_at, near_in_band, near_both_in_band, met}
+use Rattle.leg_sweep.specs.Steps.Bands.{waiting_at, stretch_at, entries_at, near_in_band, near_both_in_band, met}
 use Rattle.leg_sweep.specs.Steps.Sweep.{test_at}
+use Rattle.leg_sweep.proofs.Tallies.{tests_in_looks, looks_in_bounds, tests_in_bounds}
 use Rattle.leg_sweep.proofs.Counts.{count_pairs_push, count_pairs_square}
 use Rattle.leg_sweep.proofs.FoundSoFar.{first_at, last_at, found_none, found_more, found_all, can_visit, met_near, met_near_both, met_few, reaches_after}
 use Rattle.leg_sweep.proofs.MetItems.{waiting_none}
@@ -116,9 +117,9 @@ loop-i-preserved g c =
           i (rule.tests_of c.loop-i.rule) (count_by counts seen) within bands c.visit.new.bands c.args.sink.now c.loop-i.sink c.visit.new.sink so_far.found so_far.reaches so_far.count visited found);
       reaches = λ k. reaches_after narrow (first_at stretches n) (last_at stretches n) n bands c.visit.new.bands visited k ∙ so_far.reaches k;
       count = visited.count ∙ so_far.count;
-      looks = omega (arith, looks, left, so_far.looks, few_near, near_more, entries_more);
-      tests = omega (arith, tests, so_far.tests, few_both, both_more);
-      counts = omega (arith, looks, tests, so_far.counts, count_by-le-length counts seen);
+      looks = looks_in_bounds _ _ _ _ _ _ _ _ _ _ _ _ looks left so_far.looks few_near near_more entries_more;
+      tests = tests_in_bounds _ _ _ _ _ _ tests so_far.tests few_both both_more;
+      counts = tests_in_looks counts seen _ _ _ _ so_far.counts looks tests;
       same = c.visit.ensures.same ∙ so_far.same;
       same_room = c.visit.ensures.same_room ∙ so_far.same_room;
     }
@@ -130,3 +131,32 @@ returns-clause-pairs g c =
     let end : c.loop-i.i ≡ length c.args.order.now = omega arith in
     found_all g.S.PairSink.Takes (rule.Holds fixed) (g.met.R.PairRule.symmetric fixed) (rule.rect_of fixed) c.args.items.now c.args.stretches.now c.args.bands.now c.requires.stretches c.args.order.now c.requires.order
     c.loop-i.bands (rule.tests_of c.loop-i.rule) c.args.sink.now c.loop-i.sink (rw end at c.loop-i.invariant.found)
+
+less_of : (a b n : ℕ) → a + b ≤ n → a ≤ n
+less_of a b n le = omega arith
+
+pub returns-clause-few_tests : goal.returns-clause-few_tests
+returns-clause-few_tests g c =
+    let past : length c.args.order.now ≤ c.loop-i.i = omega arith in
+    let whole : take c.loop-i.i c.args.order.now ≡ c.args.order.now = take_all c.loop-i.i c.args.order.now past in
+    rw whole at c.loop-i.invariant.tests
+
+pub returns-clause-few_looks : goal.returns-clause-few_looks
+returns-clause-few_looks g c =
+    let past : length c.args.order.now ≤ c.loop-i.i = omega arith in
+    let whole : take c.loop-i.i c.args.order.now ≡ c.args.order.now = take_all c.loop-i.i c.args.order.now past in
+    less_of _ _ _ (rw whole at c.loop-i.invariant.looks)
+
+pub returns-clause-looks : goal.returns-clause-looks
+returns-clause-looks g c = c.loop-i.invariant.counts
+
+pub returns-clause-same : goal.returns-clause-same
+returns-clause-same g c = c.loop-i.invariant.same
+
+pub returns-in_err-visit-clause-same : goal.returns-in_err-visit-clause-same
+returns-in_err-visit-clause-same g c = c.visit.ensures.same ∙ c.loop-i.invariant.same
+
+pub index-requires : goal.index-requires
+index-requires g c =
+    let long : length c.in_ok-in_order.in_order.items ≡ length c.args.order.now = ap length c.in_ok-in_order.ensures ∙ length-map c.args.order.now (stretch_at c.args.stretches.now) in
+    omega (arith, long, c.in_ok-in_order.in_order.ok.0)

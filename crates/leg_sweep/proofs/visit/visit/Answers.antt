@@ -1,10 +1,11 @@
-use Rattle.std.proofs.Common.{◌≡◌, ℕ, suc, ◌+◌, ◌-◌, ◌<◌, length, map, count_by, cond, Contains, ap, ◌∙◌, arith}
+use Rattle.std.proofs.Common.{◌≡◌, ℕ, suc, ◌+◌, ◌-◌, ◌<◌, ◌≤◌, length, map, count_by, cond, Contains, refl, ap, ◌∙◌, arith}
 use Rattle.std.proofs.lemmas.List.{length-append}
 use Rattle.std.proofs.lemmas.List.Sums.{sum_by-append, count_by-le-length}
 use Rattle.leg_sweep.specs.Pairs.{IsPair}
 use Rattle.leg_sweep.specs.Counts.{near_along_x, near_along_both}
 use Rattle.leg_sweep.specs.Steps.Bands.{Waiting, waiting_at, met}
 use Rattle.leg_sweep.specs.Steps.Sweep.{test_at}
+use Rattle.leg_sweep.proofs.Tallies.{looks_at_both, tests_at_both, tests_in_looks, next_above, next_from_first, next_to_last, next_number, next_there, left_at_both}
 use Rattle.leg_sweep.proofs.MetItems.{begun_in, met_new, met_next, met_longer, count_begin, count_pass, visited_first, visited_more}
 use Rattle.leg_sweep.proofs.Turns.{new_pairs_append}
 use Rattle.leg_sweep.proofs.visit.visit.Goals as goal
@@ -88,39 +89,40 @@ loop-k-preserved g c =
     let last : ℕ = c.args.stretch.last in
     let new : ℕ = c.args.new in
     let k : ℕ = c.loop-k.k in
+    let upward : first ≤ k = omega arith in
+    let earlier : k < last = omega arith in
     let can = c.requires.can in
     let so_far = c.loop-k.invariant in
     let bands = c.loop-k.bands in
     let reach : ℕ = (waiting_at old first).reach in
     let narrow = λ (x : ℕ). test_at (near_along_x reach) rects x new in
     let counts = λ (x : ℕ). test_at (near_along_both reach) rects x new in
-    let here : waiting_at bands (k + 1) ≡ waiting_at old (k + 1) = so_far.visited.above (k + 1) (omega arith) in
-    let one = can.one_reach (k + 1) (omega arith) (omega arith) in
+    let here : waiting_at bands (k + 1) ≡ waiting_at old (k + 1) = so_far.visited.above (k + 1) (next_above k) in
+    let one = can.one_reach (k + 1) (next_from_first first k upward) (next_to_last k last earlier) in
     let seen = met old first (k - first) in
     let begun = begun_in old (k + 1) in
-    let next = met_next old first k (omega arith) in
-    let within : k + 1 < length bands = omega (arith, so_far.visited.count, can.there) in
+    let next = met_next old first k upward in
+    let within : k + 1 < length bands = next_there k last (length old) (length bands) earlier can.there so_far.visited.count in
     let passed = rw (so_far.same, here, one) at c.in_ok-pass.ensures.bands in
     let found = rw (so_far.same, here, one) at c.in_ok-pass.ensures.found in
     let looks = rw here at c.in_ok-pass.ensures.looks in
     let tests = rw (so_far.same, here, one) at c.in_ok-pass.ensures.tests in
     let same_begun : begun_in bands (k + 1) ≡ begun = ap (λ (w : Waiting). w.begun) here in
-    let number : first + suc (k - first) ≡ k + 1 = omega arith in
-    let differ : (x : ℕ) → Contains seen x → Contains begun x → ⊥ = λ x earlier there.
-    met_new old first last (λ j low high. (can.begun j low high).apart) can.passing.apart can.apart can.apart_passing (k - first) x (omega (arith, number)) earlier (rw number there) in
+    let number : first + suc (k - first) ≡ k + 1 = next_number first k upward in
+    let not_past : first + suc (k - first) ≤ last = rw number (next_to_last k last earlier) in
+    let differ : (x : ℕ) → Contains seen x → Contains begun x → ⊥ = λ x seen_there there.
+    met_new old first last (λ j low high. (can.begun j low high).apart) can.passing.apart can.apart can.apart_passing (k - first) x not_past seen_there (rw number there) in
     let count_more = sum_by-append (λ x. cond (counts x) 1 0) seen begun in
-    let near_more = sum_by-append (λ x. cond (narrow x) 1 0) seen begun in
-    let longer = length-append seen begun in
     record {
-      visited = rw passed (rw (here, one) at (visited_more narrow first k new old bands (omega arith) (omega (arith, can.there)) so_far.visited));
+      visited = rw passed (rw (here, one) at (visited_more narrow first k new old bands upward (next_there k last (length old) (length old) earlier can.there refl) so_far.visited));
       found =
           rw (next, count_more)
           (new_pairs_append g.S.PairSink.Takes (IsPair (rule.Holds fixed) items) new c.args.sink.now seen begun (count_by counts seen) (count_by counts begun) c.loop-k.sink c.pass.new.sink
           differ so_far.found found);
-      looks = rw next (omega (arith, looks, so_far.looks, longer));
-      tests = rw next (omega (arith, tests, so_far.tests, count_more));
-      left = rw (next, passed) (omega (arith, so_far.left, near_more, longer, rw (same_begun, here, one) at (count_pass narrow new bands (k + 1) within)));
-      counts = omega (arith, looks, tests, so_far.counts, count_by-le-length counts begun);
+      looks = rw next (looks_at_both seen begun _ _ _ so_far.looks looks);
+      tests = rw next (tests_at_both seen begun counts _ _ _ so_far.tests tests);
+      left = rw (next, passed) (left_at_both narrow seen begun first k _ _ _ upward so_far.left (rw (same_begun, here, one) at (count_pass narrow new bands (k + 1) within)));
+      counts = tests_in_looks counts begun _ _ _ _ so_far.counts looks tests;
       same = c.pass.ensures.same ∙ so_far.same;
       same_room = c.pass.ensures.same_room ∙ so_far.same_room;
     }

@@ -1,4 +1,5 @@
-use Rattle.std.proofs.Common.{◌∷◌, [], get_or, Contains, arith}
+use Rattle.std.proofs.Common.{ℕ, ◌<◌, ◌≤◌, ◌∷◌, [], get_or, Contains, arith}
+use Rattle.std.proofs.lemmas.List.Elements.{All-nil}
 use Rattle.std.proofs.lemmas.List.{take_all}
 use Rattle.leg_walk.specs.declared.mark.Mark.TheVariants.{Far}
 use Rattle.leg_walk.specs.declared.side.Side.{Side}
@@ -9,6 +10,9 @@ use Rattle.leg_walk.specs.Steps.Dive.{IsFarFrom}
 use Rattle.leg_walk.proofs.Marks.{noted_push_mark}
 use Rattle.leg_walk.proofs.WalksBack.{far_more, far_less, far_beyond, far_from_sides, back_push, known_far}
 use Rattle.leg_walk.proofs.dive.+dive.Goals as goal
+
+at_least_one : (n : ℕ) → 0 < n → 1 ≤ n
+at_least_one n some = omega arith
 
 pub returns-then-is_start-clause-found : goal.returns-then-is_start-clause-found
 returns-then-is_start-clause-found g t c =
@@ -73,3 +77,48 @@ pub returns-clause-noted : goal.returns-clause-noted
 returns-clause-noted g t c =
     rw c.in_ok-push-2.ensures.items
     (noted_push_mark c.loop-side.marks c.loop-side.touched.items c.args.node (Far c.loop-side.steps) (omega (arith, c.requires.count, c.requires.within)) c.loop-side.invariant.noted)
+
+pub returns-in-Some-walk-clause-known : goal.returns-in-Some-walk-clause-known
+returns-in-Some-walk-clause-known g t c = c.in_ok-walk.ensures.known
+
+pub returns-in_err-push-clause-known : goal.returns-in_err-push-clause-known
+returns-in_err-push-clause-known g t c = c.in_ok-walk.ensures.known
+
+pub returns-in_err-walk-clause-known : goal.returns-in_err-walk-clause-known
+returns-in_err-walk-clause-known g t c = c.in_err-walk.ensures.known
+
+pub returns-in-Some-walk-clause-noted : goal.returns-in-Some-walk-clause-noted
+returns-in-Some-walk-clause-noted g t c = c.in_ok-walk.ensures.noted
+
+pub returns-in_err-push-clause-noted : goal.returns-in_err-push-clause-noted
+returns-in_err-push-clause-noted g t c = c.in_ok-walk.ensures.noted
+
+pub returns-in_err-walk-clause-noted : goal.returns-in_err-walk-clause-noted
+returns-in_err-walk-clause-noted g t c = c.in_err-walk.ensures.noted
+
+pub returns-in_err-from-clause-known : goal.returns-in_err-from-clause-known
+returns-in_err-from-clause-known g t c = c.in_err-from.ensures.known c.args.starts.now c.loop-side.invariant.known
+
+pub returns-in_err-from-clause-noted : goal.returns-in_err-from-clause-noted
+returns-in_err-from-clause-noted g t c = c.in_err-from.ensures.noted
+
+pub returns-in_err-push-2-clause-noted : goal.returns-in_err-push-2-clause-noted
+returns-in_err-push-2-clause-noted g t c = rw c.in_err-push-2.ensures.items c.loop-side.invariant.noted
+
+pub returns-in_err-push-2-clause-known : goal.returns-in_err-push-2-clause-known
+returns-in_err-push-2-clause-known g t c = c.loop-side.invariant.known
+
+pub steps_left-requires-clause-within : goal.steps_left-requires-clause-within
+steps_left-requires-clause-within g t c = let entered = rw c.in-Some.is at c.in_ok-from.ensures.entered in entered.0
+
+pub loop-side-init : goal.loop-side-init
+loop-side-init g t c =
+    let graph = g.G.Graph in
+    let at_graph = c.args.graph.now in record {
+      noted = c.requires.noted;
+      known = c.requires.known;
+      far = All-nil (λ side. IsFarFrom (graph.IsBeside at_graph) (graph.OpenStep at_graph) (graph.OpenNode at_graph) (Contains c.args.starts.now) _ c.args.node side);
+    }
+
+pub overflow_sub-left : goal.overflow_sub-left
+overflow_sub-left g t c = let entered = rw c.in-Some.is at c.in_ok-from.ensures.entered in at_least_one c.args.left entered.1

@@ -23,3 +23,24 @@ pub returns-clause-only : goal.returns-clause-only
 returns-clause-only g c last beside =
     let here = c.args.graph.now in
     only_beyond (g.G.Graph.IsBeside here) (g.met.G.Graph.both_ways here) c.args.side c.args.node c.in-Some.from c.in-Some.ensures.is last beside
+
+pub returns-clause-known : goal.returns-clause-known
+returns-clause-known g c = c.in_ok-is_open.ensures.known
+
+pub returns-clause-noted : goal.returns-clause-noted
+returns-clause-noted g c = c.in_ok-is_open.ensures.noted
+
+pub returns-then-not-branch-clause-known : goal.returns-then-not-branch-clause-known
+returns-then-not-branch-clause-known g c = c.in_ok-is_open.ensures.known
+
+pub returns-then-not-branch-clause-noted : goal.returns-then-not-branch-clause-noted
+returns-then-not-branch-clause-noted g c = c.in_ok-is_open.ensures.noted
+
+pub returns-in_err-is_open-clause-known : goal.returns-in_err-is_open-clause-known
+returns-in_err-is_open-clause-known g c = c.in_err-is_open.ensures.known
+
+pub returns-in_err-is_open-clause-noted : goal.returns-in_err-is_open-clause-noted
+returns-in_err-is_open-clause-noted g c = c.in_err-is_open.ensures.noted
+
+pub returns-clause-is_open : goal.returns-clause-is_open
+returns-clause-is_open g c starts known = (c.in_ok-is_open.ensures.is starts known).0 c.if-not-branch.false

@@ -41,3 +41,30 @@ returns-in-Some-clause-found g c =
 pub least_left-left-requires-in-rounds-clause-within : goal.least_left-left-requires-in-rounds-clause-within
 least_left-left-requires-in-rounds-clause-within g c a there =
     All-contains (λ a. a < g.G.Graph.size_of c.args.graph.now) c.args.ends.now a c.requires.ends ((c.in_ok-ends.ensures.same a).0 (rw c.deref-in-rounds-3.ensures.value at there))
+
+pub returns-then-not-is_none_left-clause-noted : goal.returns-then-not-is_none_left-clause-noted
+returns-then-not-is_none_left-clause-noted g c = noted_none c.args.marks.now c.args.touched.now.items c.requires.unseen c.requires.untouched
+
+pub returns-in_err-starts-clause-noted : goal.returns-in_err-starts-clause-noted
+returns-in_err-starts-clause-noted g c = noted_none c.args.marks.now c.args.touched.now.items c.requires.unseen c.requires.untouched
+
+pub returns-in_err-ends-clause-noted : goal.returns-in_err-ends-clause-noted
+returns-in_err-ends-clause-noted g c = noted_none c.args.marks.now c.args.touched.now.items c.requires.unseen c.requires.untouched
+
+pub dive_from_ends-requires-clause-in_order : goal.dive_from_ends-requires-clause-in_order
+dive_from_ends-requires-clause-in_order g c = rw c.deref-in-rounds.ensures.value c.in_ok-starts.ensures.in_order
+
+pub dive_from_ends-requires-clause-known : goal.dive_from_ends-requires-clause-known
+dive_from_ends-requires-clause-known g c = rw c.deref-in-rounds.ensures.value c.rounds.invariant.known
+
+pub returns-in-Some-clause-noted : goal.returns-in-Some-clause-noted
+returns-in-Some-clause-noted g c = c.in_ok-walk.ensures.noted
+
+pub rounds-preserved : goal.rounds-preserved
+rounds-preserved g c =
+    let known = rw c.deref-in-rounds.ensures.value at c.in_ok-walk.ensures.known in
+    record {
+      noted = c.in_ok-walk.ensures.noted;
+      known = known;
+      far = rw c.deref-in-rounds-3.ensures.value at c.least_left-left-in-rounds.ensures c.in_ok-starts.starts.items known;
+    }

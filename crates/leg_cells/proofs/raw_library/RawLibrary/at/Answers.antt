@@ -1,37 +1,116 @@
-use Rattle.std.proofs.Common.{◌≢◌, List, refl}
-use Rattle.std.proofs.lemmas.Result.{err_from_is_err_and}
-use Rattle.leg_cells.specs.declared.scale_fault.ScaleKind.TheVariants.{Memory}
-use Rattle.leg_cells.specs.Records.{ViaSaid, MasterSaid, Contents}
-use Rattle.leg_cells.specs.Scale.{IsViaAt, IsMasterAt, OneForOne, IsLibraryAt}
+use Rattle.std.proofs.Common.{refl}
+use Rattle.std.proofs.lemmas.Result.{IfOk-from_err, err_from_is_err_and}
+use Rattle.leg_cells.specs.Records.{Contents}
+use Rattle.leg_cells.specs.Scale.{IsLibraryAt}
+use Rattle.leg_cells.proofs.Scaled.{one_library}
 use Rattle.leg_cells.proofs.Sound.{sound_at}
 use Rattle.leg_cells.proofs.raw_library.RawLibrary.at.Goals as goal
 
+pub returns-in_err-layers-clause-ok : goal.returns-in_err-layers-clause-ok
+returns-in_err-layers-clause-ok g c = IfOk-from_err _ _ c.from_residual.ensures.0
+
+pub returns-in_err-layers-clause-only : goal.returns-in_err-layers-clause-only
+returns-in_err-layers-clause-only g c = IfOk-from_err _ _ c.from_residual.ensures.0
+
+pub returns-in_err-layers-clause-none : goal.returns-in_err-layers-clause-none
+returns-in_err-layers-clause-none g c =
+    let p = err_from_is_err_and c.from_residual.result c.from_residual.ensures.1 in
+    rw (p.1, p.2, ← c.self.view_is) (λ not_memory library is. c.in_err-layers.ensures.none not_memory library.layers is.layers)
+
+pub returns-in_err-layers-clause-nameless : goal.returns-in_err-layers-clause-nameless
+returns-in_err-layers-clause-nameless g c =
+    let p = err_from_is_err_and c.from_residual.result c.from_residual.ensures.1 in
+    rw (p.1, p.2) c.in_err-layers.ensures.nameless
+
+pub returns-in_err-sites-clause-ok : goal.returns-in_err-sites-clause-ok
+returns-in_err-sites-clause-ok g c = IfOk-from_err _ _ c.from_residual-in_err-sites.ensures.0
+
+pub returns-in_err-sites-clause-only : goal.returns-in_err-sites-clause-only
+returns-in_err-sites-clause-only g c = IfOk-from_err _ _ c.from_residual-in_err-sites.ensures.0
+
+pub returns-in_err-sites-clause-none : goal.returns-in_err-sites-clause-none
+returns-in_err-sites-clause-none g c =
+    let p = err_from_is_err_and c.from_residual-in_err-sites.result c.from_residual-in_err-sites.ensures.1 in
+    rw (p.1, p.2, ← c.self.view_is) (λ not_memory library is. c.in_err-sites.ensures.none not_memory library.sites is.sites)
+
+pub returns-in_err-sites-clause-nameless : goal.returns-in_err-sites-clause-nameless
+returns-in_err-sites-clause-nameless g c =
+    let p = err_from_is_err_and c.from_residual-in_err-sites.result c.from_residual-in_err-sites.ensures.1 in
+    rw (p.1, p.2) c.in_err-sites.ensures.nameless
+
+pub returns-in_err-masters-clause-ok : goal.returns-in_err-masters-clause-ok
+returns-in_err-masters-clause-ok g c = IfOk-from_err _ _ c.from_residual-in_err-masters.ensures.0
+
+pub returns-in_err-masters-clause-only : goal.returns-in_err-masters-clause-only
+returns-in_err-masters-clause-only g c = IfOk-from_err _ _ c.from_residual-in_err-masters.ensures.0
+
 pub returns-in_err-masters-clause-none : goal.returns-in_err-masters-clause-none
 returns-in_err-masters-clause-none g c =
-    let none : c.in_err-masters.field-0.0.kind ≢ Memory → (masters : List MasterSaid) → ¬ OneForOne (IsMasterAt c.args.n) c.args.self.now.masters masters = rw (← c.masters.ensures) c.in_err-masters.ensures.none in
     let p = err_from_is_err_and c.from_residual-in_err-masters.result c.from_residual-in_err-masters.ensures.1 in
-    rw (p.1, p.2) (λ not_memory library is. none not_memory library.masters is.masters)
+    rw (p.1, p.2, ← c.self.view_is) (λ not_memory library is. c.in_err-masters.ensures.none not_memory library.masters is.masters)
+
+pub returns-in_err-masters-clause-nameless : goal.returns-in_err-masters-clause-nameless
+returns-in_err-masters-clause-nameless g c =
+    let p = err_from_is_err_and c.from_residual-in_err-masters.result c.from_residual-in_err-masters.ensures.1 in
+    rw (p.1, p.2) c.in_err-masters.ensures.nameless
+
+pub returns-in_err-vias-clause-ok : goal.returns-in_err-vias-clause-ok
+returns-in_err-vias-clause-ok g c = IfOk-from_err _ _ c.from_residual-in_err-vias.ensures.0
+
+pub returns-in_err-vias-clause-only : goal.returns-in_err-vias-clause-only
+returns-in_err-vias-clause-only g c = IfOk-from_err _ _ c.from_residual-in_err-vias.ensures.0
 
 pub returns-in_err-vias-clause-none : goal.returns-in_err-vias-clause-none
 returns-in_err-vias-clause-none g c =
-    let none : c.in_err-vias.field-0.0.kind ≢ Memory → (vias : List ViaSaid) → ¬ OneForOne (IsViaAt c.args.n) c.args.self.now.vias vias = rw (← c.vias.ensures) c.in_err-vias.ensures.none in
     let p = err_from_is_err_and c.from_residual-in_err-vias.result c.from_residual-in_err-vias.ensures.1 in
-    rw (p.1, p.2) (λ not_memory library is. none not_memory library.vias is.vias)
+    rw (p.1, p.2, ← c.self.view_is) (λ not_memory library is. c.in_err-vias.ensures.none not_memory library.vias is.vias)
 
-pub with_names-requires-clause-sound : goal.with_names-requires-clause-sound
-with_names-requires-clause-sound g c =
+pub returns-in_err-vias-clause-nameless : goal.returns-in_err-vias-clause-nameless
+returns-in_err-vias-clause-nameless g c =
+    let p = err_from_is_err_and c.from_residual-in_err-vias.result c.from_residual-in_err-vias.ensures.1 in
+    rw (p.1, p.2) c.in_err-vias.ensures.nameless
+
+pub invariant_of-result : goal.invariant_of-result
+invariant_of-result g c =
     let library : Contents = record {
       units = c.args.n;
-      layers = c.in_ok-layers.layers.items;
-      sites = c.in_ok-sites.sites.items;
-      vias = c.in_ok-vias.vias.items;
-      masters = c.in_ok-masters.masters.items;
+      layers = c.in_ok-layers.layers;
+      sites = c.in_ok-sites.sites;
+      vias = c.in_ok-vias.vias;
+      masters = c.in_ok-masters.masters;
     } in
-    let at : IsLibraryAt c.args.n c.args.self.now library = record {
+    let at : IsLibraryAt c.args.n c.args.self.now library = rw (← c.self.view_is) (record {
       units = refl;
-      layers = rw c.layers.ensures.is at c.in_ok-layers.ensures.ok;
-      sites = rw c.sites.ensures at c.in_ok-sites.ensures.ok;
-      vias = rw c.vias.ensures at c.in_ok-vias.ensures.ok;
-      masters = rw c.masters.ensures at c.in_ok-masters.ensures.ok;
+      layers = c.in_ok-layers.ensures.ok;
+      sites = c.in_ok-sites.ensures.ok;
+      vias = c.in_ok-vias.ensures.ok;
+      masters = c.in_ok-masters.ensures.ok;
+    }) in
+    sound_at c.args.n c.args.self.now library c.requires.above c.requires.within (rw (← c.self.view_is) c.self.invariant) at
+
+pub returns-clause-ok : goal.returns-clause-ok
+returns-clause-ok g c = rw (← c.self.view_is) (record {
+  units = refl;
+  layers = c.in_ok-layers.ensures.ok;
+  sites = c.in_ok-sites.ensures.ok;
+  vias = c.in_ok-vias.ensures.ok;
+  masters = c.in_ok-masters.ensures.ok;
+})
+
+pub returns-clause-only : goal.returns-clause-only
+returns-clause-only g c =
+    let library : Contents = record {
+      units = c.args.n;
+      layers = c.in_ok-layers.layers;
+      sites = c.in_ok-sites.sites;
+      vias = c.in_ok-vias.vias;
+      masters = c.in_ok-masters.masters;
     } in
-    sound_at c.args.n c.args.self.now library c.requires.above c.requires.within c.layers.ensures.proper at
+    let at : IsLibraryAt c.args.n c.args.self.now library = rw (← c.self.view_is) (record {
+      units = refl;
+      layers = c.in_ok-layers.ensures.ok;
+      sites = c.in_ok-sites.ensures.ok;
+      vias = c.in_ok-vias.ensures.ok;
+      masters = c.in_ok-masters.ensures.ok;
+    }) in
+    λ said is. one_library c.args.n c.args.self.now said library is at
