@@ -1,6 +1,14 @@
+use Rattle.std.proofs.lemmas.List.{get_or_default}
+use Rattle.leg_sweep.specs.Steps.Grid.{no_span}
 use Rattle.leg_sweep.proofs.GridPlaces.{all_begin, few_entries}
 use Rattle.leg_sweep.proofs.GridStretches.{bands_by_layer, bands_are_stretches}
 use Rattle.leg_sweep.proofs.grid.stretches_and_bands.Goals as goal
+
+pub layer_bands-requires-clause-small : goal.layer_bands-requires-clause-small
+layer_bands-requires-clause-small g c =
+    let spans = c.in_ok-spans.spans.items in
+    let are_spans = c.in_ok-spans.ensures in
+    rw c.deref.ensures.value (λ layer d within. rw (get_or_default spans layer d no_span within) (are_spans.each layer (rw are_spans.many at within)).small)
 
 pub item_stretches-requires-clause-begin : goal.item_stretches-requires-clause-begin
 item_stretches-requires-clause-begin g c =

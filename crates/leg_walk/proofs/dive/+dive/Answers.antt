@@ -1,6 +1,7 @@
 use Rattle.std.proofs.Common.{ℕ, ◌<◌, ◌≤◌, ◌∷◌, [], get_or, Contains, arith}
 use Rattle.std.proofs.lemmas.List.Elements.{All-nil}
 use Rattle.std.proofs.lemmas.List.{take_all}
+use Rattle.std.proofs.lemmas.Result.{IfOk-from_err}
 use Rattle.leg_walk.specs.declared.mark.Mark.TheVariants.{Far}
 use Rattle.leg_walk.specs.declared.side.Side.{Side}
 use Rattle.leg_walk.specs.declared.side.Side.TheVariants.{West, East, South, North, Below, Above}
@@ -122,3 +123,12 @@ loop-side-init g t c =
 
 pub overflow_sub-left : goal.overflow_sub-left
 overflow_sub-left g t c = let entered = rw c.in-Some.is at c.in_ok-from.ensures.entered in at_least_one c.args.left entered.1
+
+pub returns-in_err-push-clause-found : goal.returns-in_err-push-clause-found
+returns-in_err-push-clause-found g t c = IfOk-from_err _ _ c.from_residual-in_err-push.ensures.0
+
+pub returns-in_err-walk-clause-found : goal.returns-in_err-walk-clause-found
+returns-in_err-walk-clause-found g t c = IfOk-from_err _ _ c.from_residual-in_err-walk.ensures.0
+
+pub returns-clause-found : goal.returns-clause-found
+returns-clause-found g t c = tt

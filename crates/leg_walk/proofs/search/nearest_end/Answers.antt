@@ -5,6 +5,7 @@ use Rattle.std.proofs.lemmas.List.Elements.{All-contains, Contains-get_or}
 use Rattle.std.proofs.lemmas.Option.{slice_get_within}
 use Rattle.leg_walk.specs.declared.mark.Mark.TheVariants.{Reached}
 use Rattle.leg_walk.specs.Walk.{IsStep}
+use Rattle.leg_walk.proofs.Marks.{noted_none}
 use Rattle.leg_walk.proofs.Underway.{underway_begun, underway_more, nearest_found, none_found}
 use Rattle.leg_walk.proofs.search.nearest_end.Goals as goal
 
@@ -59,3 +60,21 @@ returns-clause-found g c =
     let empty : length c.levels.front.items ≡ 0 = grind (arith, nat_tests, c.is_empty.ensures, c.levels-test.false, c.levels.front.ok.0) in
     none_found (graph.OpenNode here) (IsStep (graph.IsBeside here) (graph.OpenStep here)) (Contains c.args.starts.now) (Contains c.args.ends.now) (graph.bound_of here) c.args.limit
     c.levels.level.number _ _ _ c.levels.invariant.underway empty
+
+pub seed-requires-clause-noted : goal.seed-requires-clause-noted
+seed-requires-clause-noted g c = noted_none c.args.marks.now c.args.touched.now.items c.requires.unseen c.requires.untouched
+
+pub returns-in-Some-clause-low : goal.returns-in-Some-clause-low
+returns-in-Some-clause-low g c = c.levels.invariant.low
+
+pub returns-in-Some-clause-noted : goal.returns-in-Some-clause-noted
+returns-in-Some-clause-noted g c = c.levels.invariant.noted
+
+pub returns-clause-low : goal.returns-clause-low
+returns-clause-low g c = c.levels.invariant.low
+
+pub returns-clause-noted : goal.returns-clause-noted
+returns-clause-noted g c = c.levels.invariant.noted
+
+pub returns-in_err-one_level-clause-noted : goal.returns-in_err-one_level-clause-noted
+returns-in_err-one_level-clause-noted g c = c.in_err-one_level.ensures.noted
