@@ -1,4 +1,4 @@
-//! The texts of a small block, for tests: two inverters in a row, and what goes between them.
+//! The texts of small blocks, for tests: inverters in a row, and what goes between them.
 #![tactic(auto)]
 
 /// The library, a form in a line: two routing layers, a via between them, a site, an inverter, and two blocks with
@@ -95,6 +95,69 @@ END COMPONENTS
 NETS 1 ;
 - n1 ( u1 Y ) ( u2 A )
   + ROUTED m1 ( 300 900 ) ( 500 900 ) ;
+END NETS
+END DESIGN
+"
+}
+
+/// The same, with its wire twice.
+pub fn wired_twice() -> &'static [u8] {
+    b"VERSION 5.8 ;
+DESIGN top ;
+UNITS DISTANCE MICRONS 1000 ;
+DIEAREA ( 0 0 ) ( 800 2000 ) ;
+ROW r0 core 0 0 N DO 4 BY 1 STEP 200 0 ;
+TRACKS X 100 DO 4 STEP 200 LAYER m2 ;
+TRACKS Y 100 DO 10 STEP 200 LAYER m1 ;
+COMPONENTS 2 ;
+- u1 INV + PLACED ( 0 0 ) N ;
+- u2 INV + PLACED ( 400 0 ) N ;
+END COMPONENTS
+NETS 1 ;
+- n1 ( u1 Y ) ( u2 A )
+  + ROUTED m1 ( 300 900 ) ( 500 900 )
+  NEW m1 ( 300 900 ) ( 500 900 ) ;
+END NETS
+END DESIGN
+"
+}
+
+/// A block with each form that is printed, in the bytes that are printed of it. It is not legal.
+pub fn every_form() -> &'static [u8] {
+    b"VERSION 5.8 ;
+DIVIDERCHAR / ;
+BUSBITCHARS [] ;
+DESIGN all ;
+UNITS DISTANCE MICRONS 1000 ;
+DIEAREA ( 0 0 ) ( 2400 2000 ) ;
+ROW r0 core 0 0 N DO 12 BY 1 STEP 200 0 ;
+TRACKS X 100 DO 12 STEP 200 LAYER m1 m2 ;
+TRACKS Y 100 DO 10 STEP 200 ;
+VIAS 1 ;
+- v + RECT m1 ( -50 -50 ) ( 50 50 ) + RECT v1 ( -50 -50 ) ( 50 50 ) + RECT m2 ( -50 -50 ) ( 50 50 ) ;
+END VIAS
+COMPONENTS 4 ;
+- u1 INV + PLACED ( 0 0 ) N ;
+- u2 INV + PLACED ( 400 0 ) N ;
+- u3 INV + PLACED ( 701 0 ) N ;
+- u4 INV + UNPLACED ;
+END COMPONENTS
+PINS 1 ;
+- p + NET n1 + DIRECTION INPUT + USE SIGNAL + PORT + LAYER m2 ( 0 0 ) ( 100 100 ) + PLACED ( 2000 1800 ) N ;
+END PINS
+SPECIALNETS 1 ;
+- P ( u1 VDD ) ( u2 VDD ) + USE POWER
+  + ROUTED m1 100 ( 1700 400 ) ( 1900 400 )
+  NEW m1 0 ( 1700 400 ) v ;
+END SPECIALNETS
+NETS 2 ;
+- n1 ( u1 Y ) ( u2 A ) ( PIN p )
+  + ROUTED m1 ( 300 900 ) ( 500 900 ) ;
+- n2 ( u2 Y ) ( u3 A ) + USE SIGNAL
+  + ROUTED m1 ( 1500 1500 ) ( 1700 1500 )
+  NEW m1 ( 1500 1500 ) V12
+  NEW m1 ( 1700 1500 ) V12
+  NEW m1 ( 1700 1500 ) RECT ( -50 -50 50 50 ) ;
 END NETS
 END DESIGN
 "

@@ -11,6 +11,7 @@ use leg_app::{
     Asked, FILE_LIMIT, Halt, InputFault, Line, RunFault, STREAM_LIMIT, Status, asked_by, read_all,
     run, run_help, run_out, run_stream,
 };
+use leg_message::{NotingWriter, Texts, message, stream_message};
 use std::alloc::{AllocError, Allocator};
 use std::fs::File;
 use std::process::ExitCode;
@@ -24,8 +25,8 @@ fn main(rt: HostRuntime) -> ExitCode {
 // Why there is no answer of a run.
 #[derive(Drop)]
 enum Stop<'a> {
-    // The program ends without one.
-    Halt(Halt<'a>),
+    // The program ends without one, for this cause where the system gave one.
+    Halt(Halt<'a>, Option<io::Error>),
     // An allocation failed.
     Memory,
 }
@@ -33,12 +34,6 @@ enum Stop<'a> {
 impl From<AllocError> for Stop<'_> {
     fn from(_e: AllocError) -> Self {
         Stop::Memory
-    }
-}
-
-impl From<RunFault> for Stop<'_> {
-    fn from(fault: RunFault) -> Self {
-        Stop::Halt(Halt::from(fault))
     }
 }
 
@@ -59,7 +54,7 @@ fn words<R: Runtime + AllocGlobal>(rt: &R) -> Result<Vec<String>, Stop<'static>>
     match env::args(rt) {
         Ok(args) => Ok(args.skip(1).collect(rt.alloc())?),
         Err(e) if e.kind() == io::ErrorKind::OutOfMemory => Err(Stop::Memory),
-        Err(_) => Err(Stop::Halt(Halt::Usage)),
+        Err(_) => Err(Stop::Halt(Halt::Usage, None)),
     }
 }
 
@@ -69,14 +64,16 @@ fn answered<'a, R: Runtime + AllocGlobal>(rt: &R, words: &'a [String]) -> Result
         Some(Asked::Stream) => on_stream(rt),
         Some(Asked::Help) => on_help(rt),
         Some(Asked::Files(line)) => on_files(rt, &line),
-        None => Err(Stop::Halt(Halt::Usage)),
+        None => Err(Stop::Halt(Halt::Usage, None)),
     }
 }
 
 // The help on the program.
 fn on_help<R: Runtime + AllocGlobal>(rt: &R) -> Result<Status, Stop<'static>> {
     let help = help_text(rt.alloc())?;
-    Ok(run_help(&mut io::writer(rt), help.as_bytes())?)
+    let mut out = NotingWriter::new(io::writer(rt));
+    let ran = run_help(&mut out, help.as_bytes());
+    written(ran, out.error())
 }
 
 // The answer to files: the LEFs are read in turn and then the DEF, before any of them is judged.
@@ -84,57 +81,141 @@ fn on_files<'a, R: Runtime + AllocGlobal, A: Allocator>(
     rt: &R,
     line: &Line<'a, A>,
 ) -> Result<Status, Stop<'a>> {
-    let mut texts = Vec::new(rt.alloc());
-    for lef in line.lefs {
-        texts
-            .push(file(rt, lef.as_str())?)
-            .map_err(AllocError::from)?;
-    }
+    let texts = texts_of(rt, line.lefs)?;
     let def = file(rt, line.def)?;
-    let lefs: Vec<&[u8]> = texts
-        .iter()
-        .map(|text| text.as_slice())
-        .collect(rt.alloc())?;
-    Ok(run(rt.alloc(), line.command, &lefs, &def, &mut io::writer(rt))?)
+    let lefs = as_slices(rt, &texts)?;
+    on_texts(rt, line, &lefs, &def)
+}
+
+// The bytes of these files.
+fn texts_of<'a, R: Runtime + AllocGlobal, A: Allocator>(
+    rt: &R,
+    paths: &'a [String<A>],
+) -> Result<Vec<Vec<u8>>, Stop<'a>> {
+    let mut texts = Vec::new(rt.alloc());
+    for path in paths {
+        let text = file(rt, path.as_str())?;
+        texts.push(text).map_err(AllocError::from)?;
+    }
+    Ok(texts)
+}
+
+// The texts, to be lent.
+fn as_slices<'t, R: Runtime + AllocGlobal>(
+    rt: &R,
+    texts: &'t [Vec<u8>],
+) -> Result<Vec<&'t [u8]>, AllocError> {
+    let mut slices = Vec::new(rt.alloc());
+    for text in texts {
+        slices.push(text.as_slice())?;
+    }
+    Ok(slices)
+}
+
+// The answer to the texts of files.
+fn on_texts<R: Runtime + AllocGlobal, A: Allocator>(
+    rt: &R,
+    line: &Line<'_, A>,
+    lefs: &[&[u8]],
+    def: &[u8],
+) -> Result<Status, Stop<'static>> {
+    let texts = Texts {
+        line: Some(line),
+        lefs,
+        def,
+    };
+    let mut out = NotingWriter::new(io::writer(rt));
+    let ran = run(rt.alloc(), line.command, lefs, def, &mut out);
+    let status = written(ran, out.error())?;
+    if is_explained(status) {
+        explain(rt, message(rt.alloc(), &texts, out.word()));
+    }
+    Ok(status)
 }
 
 // The bytes of a file.
 fn file<'a, R: Runtime + AllocGlobal>(rt: &R, path: &'a str) -> Result<Vec<u8>, Stop<'a>> {
-    let Ok(mut file) = File::open(rt, path) else {
-        return Err(Stop::Halt(Halt::NotRead(path)));
+    let mut file = match File::open(rt, path) {
+        Ok(file) => file,
+        Err(cause) => return Err(Stop::Halt(Halt::NotRead(path), Some(cause))),
     };
-    read_all(rt.alloc(), &mut file, FILE_LIMIT).map_err(|fault| no_input(fault, path))
+    match read_all(rt.alloc(), &mut file, FILE_LIMIT) {
+        Ok(bytes) => Ok(bytes),
+        Err(fault) => Err(no_input(fault, path)),
+    }
 }
 
 // The answer to standard input.
 fn on_stream<R: Runtime + AllocGlobal>(rt: &R) -> Result<Status, Stop<'static>> {
-    let stream = read_all(rt.alloc(), &mut rt.reader(), STREAM_LIMIT).map_err(|fault| no_input(
-        fault, "-",
-    ))?;
-    Ok(run_stream(rt.alloc(), &stream, &mut io::writer(rt))?)
+    match read_all(rt.alloc(), &mut rt.reader(), STREAM_LIMIT) {
+        Ok(stream) => on_stream_text(rt, &stream),
+        Err(fault) => Err(no_input(fault, "-")),
+    }
+}
+
+// The answer to the bytes of standard input.
+fn on_stream_text<R: Runtime + AllocGlobal>(
+    rt: &R,
+    stream: &[u8],
+) -> Result<Status, Stop<'static>> {
+    let mut out = NotingWriter::new(io::writer(rt));
+    let ran = run_stream(rt.alloc(), stream, &mut out);
+    let status = written(ran, out.error())?;
+    if is_explained(status) {
+        explain(rt, stream_message(rt.alloc(), stream, out.word()));
+    }
+    Ok(status)
 }
 
 // Why an input ends the program.
 fn no_input(fault: InputFault, path: &str) -> Stop<'_> {
     match fault {
-        InputFault::Unreadable => Stop::Halt(Halt::NotRead(path)),
+        InputFault::Unreadable(cause) => Stop::Halt(Halt::NotRead(path), Some(cause)),
         InputFault::Memory => Stop::Memory,
+    }
+}
+
+// The status of a run, or that its output failed, for this cause.
+fn written(
+    ran: Result<Status, RunFault>,
+    cause: Option<io::Error>,
+) -> Result<Status, Stop<'static>> {
+    match ran {
+        Ok(status) => Ok(status),
+        Err(fault) => Err(Stop::Halt(Halt::from(fault), cause)),
+    }
+}
+
+// Whether there is a message on a run that ended so.
+fn is_explained(status: Status) -> bool {
+    matches!(status, Status::Refused | Status::Unsolved)
+}
+
+// Writes a message on standard error. One that can't be made or written changes no status.
+fn explain<R: Runtime + AllocGlobal>(rt: &R, message: Result<Vec<u8>, AllocError>) {
+    if let Ok(message) = message {
+        if let Ok(text) = str::from_utf8(&message) {
+            let _ = eprint!(rt; "{text}");
+        }
     }
 }
 
 // Says why there is no answer, and gives the exit status.
 fn stopped<R: Runtime + AllocGlobal>(rt: &R, stop: Stop<'_>) -> u8 {
     match stop {
-        Stop::Halt(halt) => halted(rt, &halt),
-        Stop::Memory => match run_out(&mut io::writer(rt)) {
-            Ok(status) => status.code(),
-            Err(fault) => halted(rt, &Halt::from(fault)),
-        },
+        Stop::Halt(halt, cause) => halted(rt, &halt, cause),
+        Stop::Memory => {
+            let mut out = NotingWriter::new(io::writer(rt));
+            match run_out(&mut out) {
+                Ok(status) => status.code(),
+                Err(fault) => halted(rt, &Halt::from(fault), out.error()),
+            }
+        }
     }
 }
 
 // Says on standard error why the program ends without an answer, and gives the exit status.
-fn halted<R: Runtime + AllocGlobal>(rt: &R, halt: &Halt<'_>) -> u8 {
+fn halted<R: Runtime + AllocGlobal>(rt: &R, halt: &Halt<'_>, cause: Option<io::Error>) -> u8 {
     let said = match halt {
         Halt::NotRead(path) => eprintln!(rt; "cannot read {path}"),
         Halt::NotWritten => eprintln!(rt; "cannot write"),
@@ -142,5 +223,8 @@ fn halted<R: Runtime + AllocGlobal>(rt: &R, halt: &Halt<'_>) -> u8 {
     };
     // A message that can't be written changes no status.
     let _ = said;
+    if let Some(cause) = cause {
+        let _ = eprintln!(rt; "{cause}");
+    }
     halt.code()
 }

@@ -3,16 +3,17 @@
 ghost use Rattle.std.specs.Prelude.{◌≡◌, ◌≤◌, take, IfOk, IfSome, vec_len};
 
 use std::alloc::{AllocError, Allocator};
+use std::io;
 use std::io::Read;
 
 // How many bytes are asked for at once. They are on the stack, and where the stack can't grow the program ends.
 const CHUNK: usize = 8_192;
 
 /// Why an input has no bytes.
-#[derive(Clone, Copy, PartialEq, Eq, Debug)]
+#[derive(Debug, Drop)]
 pub enum InputFault {
-    /// It can't be read.
-    Unreadable,
+    /// It can't be read, for this cause.
+    Unreadable(io::Error),
     /// An allocation failed.
     Memory,
 }
@@ -39,7 +40,7 @@ pub fn read_all<R: Read, A: Allocator>(
         match reader.read(&mut chunk[..room]) {
             Ok(0) => break,
             Ok(count) => bytes.extend_from_slice(&chunk[..count])?,
-            Err(_) => return Err(InputFault::Unreadable),
+            Err(cause) => return Err(InputFault::Unreadable(cause)),
         }
     }
     Ok(bytes)

@@ -8,6 +8,9 @@ use std::cell::Cell;
 
 #[cfg(test)]
 mod tests;
+mod turn;
+
+pub use turn::{Turn, Turns};
 
 /// Which growths are refused.
 #[derive(Clone, Copy, PartialEq, Eq, Debug)]
@@ -55,6 +58,14 @@ impl<B: Allocator> RefusingAlloc<B> {
     /// How many growths were asked for since `refuse` was last called, including those that it refused.
     pub fn growths(&self) -> u64 {
         self.growths.get().asked
+    }
+
+    /// What came of the call since `refuse` was last called, which answered that memory ran out, or did not. From now on no growth is
+    /// refused.
+    pub fn turn_ended(&self, refused: bool) -> Turn {
+        let growths = self.growths();
+        self.refuse(Refused::Nothing);
+        Turn { growths, refused }
     }
 }
 

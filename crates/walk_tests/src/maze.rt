@@ -49,14 +49,40 @@ impl Place {
     }
 }
 
-/// How large a maze is.
+/// A maze without walls.
 #[derive(Clone, Copy)]
-pub struct Size {
+pub struct Plan {
     pub width: u32,
     pub height: u32,
     pub layers: u32,
     /// Whether all steps of a layer go along one axis: along x on the lowest layer, along y on the next, and so on.
     pub one_way: bool,
+    pub start: Position,
+    pub goal: Position,
+    pub known: Known,
+}
+
+/// Where a place lies: along x, along y, and on which layer.
+pub type Position = (u32, u32, u32);
+
+/// What is known of how many steps lie between a place and the start, and between it and the goal.
+#[derive(Clone, Copy)]
+pub enum Known {
+    /// Both are at least the distance along x, y and the layers.
+    Both,
+    /// The same of the goal; the start is taken to be a step away from each place, the start too. So no search dives.
+    Goal,
+    /// Nothing: there may be none.
+    Nothing,
+}
+
+/// A wall: what it closes.
+#[derive(Clone, Copy)]
+pub enum Wall {
+    /// The place of this number.
+    At(usize),
+    /// The step to the east of the place of this number, and the step back.
+    EastOf(usize),
 }
 
 /// What a maze was asked.
@@ -79,58 +105,43 @@ pub struct Maze<A: Allocator> {
 }
 
 impl<A: Allocator + Copy> Maze<A> {
-    /// A maze without walls. The steps from the start to each place, and from there to the goal, are at least the
-    /// distance along x, y and the layers.
-    pub fn new(
-        alloc: A,
-        size: Size,
-        start: (u32, u32, u32),
-        goal: (u32, u32, u32),
-    ) -> Result<Maze<A>, AllocError> {
+    /// The maze that is planned, without walls.
+    pub fn new(alloc: A, plan: &Plan) -> Result<Maze<A>, AllocError> {
+        let area = plan.width.wrapping_mul(plan.height);
         let mut places = Vec::new(alloc);
+        let mut position = (0, 0, 0);
+        for number in 0..area.wrapping_mul(plan.layers) {
+            places.push(open_place(plan, number, position))?;
+            position = position_after(plan, position);
+        }
         let mut asked = Vec::new(alloc);
-        let mut number = 0u32;
-        for layer in 0..size.layers {
-            for y in 0..size.height {
-                for x in 0..size.width {
-                    places.push(open_place(size, number, (x, y, layer), start, goal))?;
-                    for _ in 0..QUESTIONS {
-                        asked.push(Cell::new(0))?;
-                    }
-                    number = number.wrapping_add(1);
-                }
-            }
+        for _ in 0..places.len().wrapping_mul(QUESTIONS) {
+            asked.push(Cell::new(0))?;
         }
         Ok(Maze { places, asked })
     }
 
-    /// Closes the place.
-    pub fn close(&mut self, node: usize) {
-        if node < self.places.len() {
-            self.places[node].is_open = false;
+    /// Builds the walls, one after the other.
+    pub fn close_all(&mut self, walls: &[Wall]) {
+        for wall in walls {
+            self.close(*wall);
         }
     }
 
-    /// Closes the step to the east of the place, and the step back.
-    pub fn close_east(&mut self, node: usize) {
-        if node < self.places.len() && node + 1 < self.places.len() {
-            self.places[node].opens_east = false;
-            self.places[node + 1].opens_west = false;
-        }
-    }
-
-    /// Forgets how far the start and the goal are.
-    pub fn forget_goal(&mut self) {
-        for place in &mut self.places {
-            place.gone = 0;
-            place.left = 0;
-        }
-    }
-
-    /// Takes the start to be a step away from each place, the start too. So no search dives.
-    pub fn hide_start(&mut self) {
-        for place in &mut self.places {
-            place.gone = 1;
+    /// Builds a wall.
+    pub fn close(&mut self, wall: Wall) {
+        match wall {
+            Wall::At(node) => {
+                if let Some(place) = self.places.get_mut(node) {
+                    place.is_open = false;
+                }
+            }
+            Wall::EastOf(node) => {
+                if node < self.places.len() && node + 1 < self.places.len() {
+                    self.places[node].opens_east = false;
+                    self.places[node + 1].opens_west = false;
+                }
+            }
         }
     }
 
@@ -140,8 +151,8 @@ impl<A: Allocator + Copy> Maze<A> {
         for node in 0..self.places.len() {
             number = number.wrapping_mul(1_664_525).wrapping_add(1_013_904_223);
             match number >> 28 {
-                0..=3 => self.close(node),
-                4..=5 => self.close_east(node),
+                0..=3 => self.close(Wall::At(node)),
+                4..=5 => self.close(Wall::EastOf(node)),
                 _ => {}
             }
         }
@@ -180,37 +191,49 @@ impl<A: Allocator + Copy> Maze<A> {
 /// How many questions are counted of each place: one for each side, and one of itself.
 const QUESTIONS: usize = 7;
 
+/// The position of the next number.
+fn position_after(plan: &Plan, position: Position) -> Position {
+    let (x, y, layer) = position;
+    if x.wrapping_add(1) < plan.width {
+        (x.wrapping_add(1), y, layer)
+    } else if y.wrapping_add(1) < plan.height {
+        (0, y.wrapping_add(1), layer)
+    } else {
+        (0, 0, layer.wrapping_add(1))
+    }
+}
+
 /// An open place.
-fn open_place(
-    size: Size,
-    number: u32,
-    place: (u32, u32, u32),
-    start: (u32, u32, u32),
-    goal: (u32, u32, u32),
-) -> Place {
-    let (x, y, layer) = place;
-    let area = size.width.wrapping_mul(size.height);
-    let along_x = !size.one_way || layer % 2 == 0;
-    let along_y = !size.one_way || layer % 2 == 1;
+fn open_place(plan: &Plan, number: u32, position: Position) -> Place {
+    let (x, y, layer) = position;
+    let (width, area) = (plan.width, plan.width.wrapping_mul(plan.height));
+    let along_x = !plan.one_way || layer % 2 == 0;
+    let along_y = !plan.one_way || layer % 2 == 1;
+    let (gone, left) = match plan.known {
+        Known::Both => (
+            steps_between(plan.start, position),
+            steps_between(position, plan.goal),
+        ),
+        Known::Goal => (1, steps_between(position, plan.goal)),
+        Known::Nothing => (0, 0),
+    };
     Place {
         west: (along_x && x > 0).then_some(number.wrapping_sub(1)),
-        east: (along_x && x.wrapping_add(1) < size.width).then_some(number.wrapping_add(1)),
-        south: (along_y && y > 0).then_some(number.wrapping_sub(size.width)),
-        north: (along_y && y.wrapping_add(1) < size.height).then_some(number.wrapping_add(
-            size.width,
-        )),
+        east: (along_x && x.wrapping_add(1) < width).then_some(number.wrapping_add(1)),
+        south: (along_y && y > 0).then_some(number.wrapping_sub(width)),
+        north: (along_y && y.wrapping_add(1) < plan.height).then_some(number.wrapping_add(width)),
         below: (layer > 0).then_some(number.wrapping_sub(area)),
-        above: (layer.wrapping_add(1) < size.layers).then_some(number.wrapping_add(area)),
+        above: (layer.wrapping_add(1) < plan.layers).then_some(number.wrapping_add(area)),
         is_open: true,
         opens_west: true,
         opens_east: true,
-        gone: steps_between(start, place),
-        left: steps_between(place, goal),
+        gone,
+        left,
     }
 }
 
 /// How many steps there are at least from one place to another.
-fn steps_between(from: (u32, u32, u32), to: (u32, u32, u32)) -> u32 {
+fn steps_between(from: Position, to: Position) -> u32 {
     let along = from.0.abs_diff(to.0).wrapping_add(from.1.abs_diff(to.1));
     along.wrapping_add(from.2.abs_diff(to.2))
 }

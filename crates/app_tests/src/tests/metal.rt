@@ -1,16 +1,15 @@
 //! Metal from its texts to its violations and their lines.
 
 use leg_app::check_texts;
-use leg_block::Fault;
-use leg_cells::Library;
+use leg_block::{Design, Fault};
+use leg_cells::{Library, RawLibrary};
 use leg_design::read_def;
-use leg_flat::flatten;
+use leg_flat::{Flat, flatten};
 use leg_geom::Rect;
 use leg_lib::read_lefs;
 use leg_print::print_faults;
 use leg_wire::{clean, joined, spacing_faults};
-use std::alloc::{AllocError, Global};
-use std::test::Fail;
+use std::alloc::Global;
 
 fn layer_text() -> &'static [u8] {
     b"LAYER m1 TYPE ROUTING ; DIRECTION HORIZONTAL ; WIDTH 0.1 ; SPACING 0.1 ; END m1
@@ -18,146 +17,217 @@ END LIBRARY
 "
 }
 
-// A block with these sections.
-fn block_text(alloc: Global, sections: &[u8]) -> Result<Vec<u8>, AllocError> {
-    let mut text = Vec::from_slice(
-        alloc,
-        b"DESIGN top ;
-UNITS DISTANCE MICRONS 1000 ;
-DIEAREA ( 0 0 ) ( 800 2000 ) ;
-",
-    )?;
-    text.extend_from_slice(sections)?;
-    text.extend_from_slice(b"END DESIGN\n")?;
-    Ok(text)
-}
-
-// The lines of the spacing of the design that the text denotes.
-fn lines_of(alloc: Global, library: &Library<'_, Global>, def: &[u8]) -> Result<Vec<u8>, Fail> {
-    let design = read_def(alloc, library, def)?;
-    let flat = flatten(alloc, design.library(), &design)?;
-    let found = spacing_faults(alloc, design.library(), &flat)?;
-    let text = print_faults(alloc, design.library(), &design, Some(&flat), &found)?;
-    Ok(text)
-}
-
-// The lines of the spacing of a block with these sections.
-fn spacing_lines(alloc: Global, sections: &[u8]) -> Result<Vec<u8>, Fail> {
-    let def = block_text(alloc, sections)?;
-    let library = read_lefs(alloc, &[layer_text()])?.at(alloc, 1000)?;
-    lines_of(alloc, &library, &def)
-}
-
-#[test]
-fn metal_is_told_where_it_is_too_near(rt: HostRuntime) -> Result<(), Fail> {
-    // 60 and 80 apart, which is a Euclidean distance of 100: exactly the spacing.
-    let apart = spacing_lines(
-        rt.alloc(),
-        b"SPECIALNETS 2 ;
-- a + ROUTED m1 100 ( 100 400 ) ( 300 400 ) ;
-- b + ROUTED m1 100 ( 360 580 ) ( 560 580 ) ;
-END SPECIALNETS
-",
-    )?;
-    assert_eq!(rt; apart.as_slice(), b"".as_slice());
-    let near = spacing_lines(
-        rt.alloc(),
-        b"SPECIALNETS 2 ;
-- a + ROUTED m1 100 ( 100 400 ) ( 300 400 ) ;
-- b + ROUTED m1 100 ( 360 579 ) ( 560 579 ) ;
-END SPECIALNETS
-",
-    )?;
-    assert_eq!(rt;
-        near.as_slice(),
-        b"TOONEAR m1 NET a 100 350 300 450 NET b 360 529 560 629\n".as_slice()
-    );
-    Ok(())
-}
-
-// Which pieces of the first net are joined to its first one.
-fn marks_of(alloc: Global, library: &Library<'_, Global>, def: &[u8]) -> Result<Vec<bool>, Fail> {
-    let design = read_def(alloc, library, def)?;
-    let flat = flatten(alloc, design.library(), &design)?;
-    if flat.net_count() == 0 {
-        return Err(Fail::from("no net"));
+// Whether the metal of the design that the text denotes passes the test.
+fn passes(
+    alloc: Global,
+    def: &[u8],
+    test: fn(Global, &Design<'_, Global>, &Flat<Global>) -> bool,
+) -> bool
+    requires callable { IsAlwaysCallable test }
+{
+    match read_lefs(alloc, &[layer_text()]) {
+        Ok(raw) => passes_under_raw(alloc, &raw, def, test),
+        Err(_) => false,
     }
-    Ok(joined(alloc, &flat, 0)?)
 }
 
-// The same of a block with these sections.
-fn joined_pieces(alloc: Global, sections: &[u8]) -> Result<Vec<bool>, Fail> {
-    let def = block_text(alloc, sections)?;
-    let library = read_lefs(alloc, &[layer_text()])?.at(alloc, 1000)?;
-    marks_of(alloc, &library, &def)
+fn passes_under_raw(
+    alloc: Global,
+    raw: &RawLibrary<'_, Global>,
+    def: &[u8],
+    test: fn(Global, &Design<'_, Global>, &Flat<Global>) -> bool,
+) -> bool
+    requires callable { IsAlwaysCallable test }
+{
+    match raw.at(alloc, 1000) {
+        Ok(library) => passes_under(alloc, &library, def, test),
+        Err(_) => false,
+    }
 }
 
-#[test]
-fn a_bare_corner_joins_nothing(rt: HostRuntime) -> Result<(), Fail> {
-    let corner = joined_pieces(
-        rt.alloc(),
-        b"NETS 1 ;
-- n + ROUTED m1 ( 100 400 ) ( 200 400 ) NEW m1 ( 300 500 ) ( 400 500 ) ;
-END NETS
-",
-    )?;
-    assert_eq!(rt; corner.as_slice(), [true, false].as_slice());
-    let edge = joined_pieces(
-        rt.alloc(),
-        b"NETS 1 ;
-- n + ROUTED m1 ( 100 400 ) ( 200 400 ) NEW m1 ( 299 500 ) ( 400 500 ) ;
-END NETS
-",
-    )?;
-    assert_eq!(rt; edge.as_slice(), [true, true].as_slice());
-    Ok(())
-}
-
-#[test]
-fn violations_of_texts_are_told_by_numbers(rt: HostRuntime) -> Result<(), Fail> {
-    let def = block_text(
-        rt.alloc(),
-        b"NETS 1 ;
-- n + ROUTED m1 ( 100 400 ) ( 200 400 ) NEW m1 ( 300 500 ) ( 400 500 ) ;
-END NETS
-",
-    )?;
-    let found = check_texts(rt.alloc(), &[layer_text()], &def);
-    assert!(rt; found.is_ok_and(|found| found.as_slice() == [Fault::OpenNet(0, 1)].as_slice()));
-    Ok(())
-}
-
-// Whether metal of net `net` may lie there, on the first layer of the design that the text denotes.
-fn is_clean(
+fn passes_under(
     alloc: Global,
     library: &Library<'_, Global>,
     def: &[u8],
-    net: u32,
-    rect: Rect,
-) -> Result<bool, Fail> {
-    let design = read_def(alloc, library, def)?;
-    let flat = flatten(alloc, design.library(), &design)?;
-    Ok(clean(design.library(), &flat, net, 0, rect))
+    test: fn(Global, &Design<'_, Global>, &Flat<Global>) -> bool,
+) -> bool
+    requires callable { IsAlwaysCallable test }
+{
+    match read_def(alloc, library, def) {
+        Ok(design) => passes_in(alloc, &design, test),
+        Err(_) => false,
+    }
 }
 
-// The same next to one wire, of net 0, whose right edge is at 300.
-fn is_clean_beside(alloc: Global, net: u32, x1: i64) -> Result<bool, Fail> {
-    let def = block_text(
+fn passes_in(
+    alloc: Global,
+    design: &Design<'_, Global>,
+    test: fn(Global, &Design<'_, Global>, &Flat<Global>) -> bool,
+) -> bool
+    requires callable { IsAlwaysCallable test }
+{
+    match flatten(alloc, design.library(), design) {
+        Ok(flat) => test(alloc, design, &flat),
+        Err(_) => false,
+    }
+}
+
+// Whether these are the lines of the spacing.
+fn prints(
+    alloc: Global,
+    design: &Design<'_, Global>,
+    flat: &Flat<Global>,
+    expected: &[u8],
+) -> bool {
+    match spacing_faults(alloc, design.library(), flat) {
+        Ok(found) => are_lines(alloc, design, flat, &found, expected),
+        Err(_) => false,
+    }
+}
+
+fn are_lines(
+    alloc: Global,
+    design: &Design<'_, Global>,
+    flat: &Flat<Global>,
+    found: &[Fault],
+    expected: &[u8],
+) -> bool {
+    match print_faults(alloc, design.library(), design, Some(flat), found) {
+        Ok(lines) => lines.as_slice() == expected,
+        Err(_) => false,
+    }
+}
+
+// Two wires 60 and 80 apart, which is a Euclidean distance of 100: exactly the spacing.
+const APART: &[u8] = b"DESIGN top ;
+UNITS DISTANCE MICRONS 1000 ;
+DIEAREA ( 0 0 ) ( 800 2000 ) ;
+SPECIALNETS 2 ;
+- a + ROUTED m1 100 ( 100 400 ) ( 300 400 ) ;
+- b + ROUTED m1 100 ( 360 580 ) ( 560 580 ) ;
+END SPECIALNETS
+END DESIGN
+";
+
+fn prints_nothing(alloc: Global, design: &Design<'_, Global>, flat: &Flat<Global>) -> bool {
+    prints(alloc, design, flat, b"")
+}
+
+// One unit less apart.
+const NEAR: &[u8] = b"DESIGN top ;
+UNITS DISTANCE MICRONS 1000 ;
+DIEAREA ( 0 0 ) ( 800 2000 ) ;
+SPECIALNETS 2 ;
+- a + ROUTED m1 100 ( 100 400 ) ( 300 400 ) ;
+- b + ROUTED m1 100 ( 360 579 ) ( 560 579 ) ;
+END SPECIALNETS
+END DESIGN
+";
+
+fn prints_too_near(alloc: Global, design: &Design<'_, Global>, flat: &Flat<Global>) -> bool {
+    prints(
         alloc,
-        b"SPECIALNETS 1 ; - a + ROUTED m1 100 ( 100 400 ) ( 300 400 ) ; END SPECIALNETS\n",
-    )?;
-    let library = read_lefs(alloc, &[layer_text()])?.at(alloc, 1000)?;
-    match Rect::new(x1, 350, 600, 450) {
-        Some(rect) => is_clean(alloc, &library, &def, net, rect),
-        None => Err(Fail::from("no rectangle")),
+        design,
+        flat,
+        b"TOONEAR m1 NET a 100 350 300 450 NET b 360 529 560 629\n",
+    )
+}
+
+#[test]
+fn metal_is_reported_where_it_is_too_near(rt: HostRuntime) {
+    assert!(rt;
+        passes(rt.alloc(), APART, prints_nothing) && passes(rt.alloc(), NEAR, prints_too_near)
+    );
+}
+
+// Whether these tell which pieces of the first net are joined to its first one.
+fn joins(alloc: Global, flat: &Flat<Global>, expected: [bool; 2]) -> bool {
+    if flat.net_count() == 0 {
+        return false;
+    }
+    match joined(alloc, flat, 0) {
+        Ok(marks) => marks.as_slice() == expected.as_slice(),
+        Err(_) => false,
+    }
+}
+
+// Two wires of a net that share a corner alone.
+const CORNER: &[u8] = b"DESIGN top ;
+UNITS DISTANCE MICRONS 1000 ;
+DIEAREA ( 0 0 ) ( 800 2000 ) ;
+NETS 1 ;
+- n + ROUTED m1 ( 100 400 ) ( 200 400 ) NEW m1 ( 300 500 ) ( 400 500 ) ;
+END NETS
+END DESIGN
+";
+
+fn joins_nothing(alloc: Global, _design: &Design<'_, Global>, flat: &Flat<Global>) -> bool {
+    joins(alloc, flat, [true, false])
+}
+
+// The same, where they share an edge.
+const EDGE: &[u8] = b"DESIGN top ;
+UNITS DISTANCE MICRONS 1000 ;
+DIEAREA ( 0 0 ) ( 800 2000 ) ;
+NETS 1 ;
+- n + ROUTED m1 ( 100 400 ) ( 200 400 ) NEW m1 ( 299 500 ) ( 400 500 ) ;
+END NETS
+END DESIGN
+";
+
+fn joins_all(alloc: Global, _design: &Design<'_, Global>, flat: &Flat<Global>) -> bool {
+    joins(alloc, flat, [true, true])
+}
+
+#[test]
+fn a_bare_corner_joins_nothing(rt: HostRuntime) {
+    assert!(rt; passes(rt.alloc(), CORNER, joins_nothing) && passes(rt.alloc(), EDGE, joins_all));
+}
+
+// Whether just one net is open, at its second piece, in the design that the text denotes.
+fn has_an_open_net(alloc: Global, def: &[u8]) -> bool {
+    match check_texts(alloc, &[layer_text()], def) {
+        Ok(found) => found.as_slice() == [Fault::OpenNet(0, 1)].as_slice(),
+        Err(_) => false,
     }
 }
 
 #[test]
-fn metal_is_clean_from_the_spacing_on(rt: HostRuntime) -> Result<(), Fail> {
-    assert!(rt; is_clean_beside(rt.alloc(), 1, 400)?);
-    assert!(rt; !is_clean_beside(rt.alloc(), 1, 399)?);
-    assert!(rt; !is_clean_beside(rt.alloc(), 1, 200)?);
-    assert!(rt; is_clean_beside(rt.alloc(), 0, 200)?);
-    Ok(())
+fn violations_of_texts_are_reported_by_numbers(rt: HostRuntime) {
+    assert!(rt; has_an_open_net(rt.alloc(), CORNER));
+}
+
+// A wire of net 0, whose right edge is at 300.
+const WIRE: &[u8] = b"DESIGN top ;
+UNITS DISTANCE MICRONS 1000 ;
+DIEAREA ( 0 0 ) ( 800 2000 ) ;
+SPECIALNETS 1 ; - a + ROUTED m1 100 ( 100 400 ) ( 300 400 ) ; END SPECIALNETS
+END DESIGN
+";
+
+// Whether metal of net `net` may lie from `x1` on, on the first layer.
+fn is_clean_from(
+    design: &Design<'_, Global>,
+    flat: &Flat<Global>,
+    net: u32,
+    x1: i64,
+) -> Option<bool> {
+    let rect = Rect::new(x1, 350, 600, 450)?;
+    Some(clean(design.library(), flat, net, 0, rect))
+}
+
+fn is_clean_from_the_spacing_on(
+    _alloc: Global,
+    design: &Design<'_, Global>,
+    flat: &Flat<Global>,
+) -> bool {
+    is_clean_from(design, flat, 1, 400) == Some(true)
+        && is_clean_from(design, flat, 1, 399) == Some(false)
+        && is_clean_from(design, flat, 1, 200) == Some(false)
+        && is_clean_from(design, flat, 0, 200) == Some(true)
+}
+
+#[test]
+fn metal_is_clean_from_the_spacing_on(rt: HostRuntime) {
+    assert!(rt; passes(rt.alloc(), WIRE, is_clean_from_the_spacing_on));
 }

@@ -1,10 +1,36 @@
 //! Numbers by worked values.
 
 use leg_lex::{NumFault, micron, whole};
+use std::process::Abort;
+
+/// As what a word is read.
+#[derive(Clone, Copy)]
+enum Number {
+    /// A whole number.
+    Whole,
+    /// A length, in millionths of a micron.
+    Millionths,
+    /// A length, in database units of a thousandth of a micron.
+    Thousandths,
+}
+
+fn value_of(word: &[u8], read_as: Number) -> Result<i64, NumFault> {
+    match read_as {
+        Number::Whole => whole(word),
+        Number::Millionths => Ok(micron(word)?.millionths()),
+        Number::Thousandths => micron(word)?.to_units(1000),
+    }
+}
+
+fn check_numbers(rt: &impl Abort, read_as: Number, answers: &[(&str, Result<i64, NumFault>)]) {
+    for (word, answer) in answers {
+        assert_eq!(rt; value_of(word.as_bytes(), read_as), *answer, "of {word}");
+    }
+}
 
 #[test]
 fn lengths_at_a_thousand_units(rt: HostRuntime) {
-    let answers = [
+    static ANSWERS: [(&str, Result<i64, NumFault>); 18] = [
         ("0.005", Ok(5)),
         (".5", Ok(500)),
         ("0.5000000", Ok(500)),
@@ -24,18 +50,12 @@ fn lengths_at_a_thousand_units(rt: HostRuntime) {
         ("200000.001", Err(NumFault::TooLarge)),
         ("-200000.001", Err(NumFault::TooLarge)),
     ];
-    for (word, answer) in answers {
-        assert_eq!(rt; units_at_a_thousand(word), answer, "of {word}");
-    }
-}
-
-fn units_at_a_thousand(word: &str) -> Result<i64, NumFault> {
-    micron(word.as_bytes())?.to_units(1000)
+    check_numbers(&rt, Number::Thousandths, &ANSWERS);
 }
 
 #[test]
 fn millionths(rt: HostRuntime) {
-    let answers = [
+    static ANSWERS: [(&str, Result<i64, NumFault>); 7] = [
         (".5", Ok(500_000)),
         ("-0.000001", Ok(-1)),
         ("200000000", Ok(200_000_000_000_000)),
@@ -44,18 +64,12 @@ fn millionths(rt: HostRuntime) {
         ("99999999999999999999", Err(NumFault::TooLarge)),
         ("00000000000000000000000001.0000000", Ok(1_000_000)),
     ];
-    for (word, answer) in answers {
-        assert_eq!(rt; millionths_of(word), answer, "of {word}");
-    }
-}
-
-fn millionths_of(word: &str) -> Result<i64, NumFault> {
-    Ok(micron(word.as_bytes())?.millionths())
+    check_numbers(&rt, Number::Millionths, &ANSWERS);
 }
 
 #[test]
 fn whole_numbers(rt: HostRuntime) {
-    let answers = [
+    static ANSWERS: [(&str, Result<i64, NumFault>); 14] = [
         ("-12", Ok(-12)),
         ("+7", Ok(7)),
         ("007", Ok(7)),
@@ -74,14 +88,12 @@ fn whole_numbers(rt: HostRuntime) {
         ("1.0", Err(NumFault::BadNumber)),
         ("1a", Err(NumFault::BadNumber)),
     ];
-    for (word, answer) in answers {
-        assert_eq!(rt; whole(word.as_bytes()), answer, "of {word}");
-    }
+    check_numbers(&rt, Number::Whole, &ANSWERS);
 }
 
 #[test]
 fn lengths_compare_by_their_millionths(rt: HostRuntime) {
     let half = micron(b".5");
-    assert_eq!(rt; half, micron(b"+0.500000"));
-    assert_ne!(rt; half, micron(b"0.500001"));
+    assert!(rt; half == micron(b"+0.500000"));
+    assert!(rt; half != micron(b"0.500001"));
 }

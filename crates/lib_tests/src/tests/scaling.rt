@@ -1,173 +1,157 @@
 //! Lengths in database units.
 
-ghost use Rattle.std.specs.Prelude.{◌≤◌};
-ghost use Rattle.leg_lex.specs.declared.limits.TheConstants.{UNITS_LIMIT};
-
-use super::standard::{are_shapes, standard_library};
-use leg_cells::{Library, RawLibrary, ScaleKind, Site};
+use super::frame::{
+    changed, fault_at, is_named, passes_at, reads, reads_changed, standard_library,
+};
+use super::standard::are_shapes;
+use leg_cells::{Library, RawLibrary, ScaleFault, ScaleKind};
+use leg_lex::UNITS_LIMIT;
 use leg_lib::read_lefs;
 use std::alloc::Global;
-use std::test::Fail;
 
-// The text with one part of it replaced.
-fn changed(alloc: Global, from: &str, to: &str) -> Result<String, Fail> {
-    let (before, after) = standard_library().split_once(from).ok_or("not there")?;
-    let mut text = String::from_str(alloc, before)?;
-    text.push_str(to)?;
-    text.push_str(after)?;
-    Ok(text)
-}
-
-// Whether the first macro has this size, and the first shape of its first pin, on the first layer, these sides.
-fn is_drawn_at(library: &Library<'_, Global>, size: (i64, i64), sides: [i64; 4]) -> bool {
+// Whether the first macro has INV's size, and its first pin lies 0.1 microns further to the right.
+fn is_shifted(library: &Library<'_, Global>) -> bool {
     let [master, ..] = library.masters() else {
         return false;
     };
     let [pin, ..] = master.pins.as_slice() else {
         return false;
     };
-    (master.size.width(), master.size.height()) == size
-        && are_shapes(pin.shapes.as_slice(), &[(0, sides)])
+    [master.size.width(), master.size.height()] == [400, 2000]
+        && are_shapes(
+            pin.shapes.as_slice(),
+            &[(0, [150_000, 850_000, 250_000, 1_050_000])],
+        )
 }
 
-// The same of the library at 1000 units a micron.
-fn is_drawn_in_units(
-    alloc: Global,
-    raw: &RawLibrary<'_, Global>,
-    size: (i64, i64),
-    sides: [i64; 4],
-) -> bool {
-    match raw.at(alloc, 1000) {
-        Ok(library) => is_drawn_at(&library, size, sides),
-        Err(_) => false,
-    }
+fn is_shifted_in_units(alloc: Global, raw: &RawLibrary<'_, Global>) -> bool {
+    passes_at(alloc, raw, 1000, is_shifted)
 }
 
 #[test]
-fn an_origin_shifts_what_is_drawn(rt: HostRuntime) -> Result<(), Fail> {
-    let text = changed(rt.alloc(), "ORIGIN 0 0", "ORIGIN 0.1 0")?;
-    let raw: RawLibrary<'_, Global> = read_lefs(rt.alloc(), &[text.as_bytes()])?;
-    assert!(rt; is_drawn_in_units(rt.alloc(), &raw, (400, 2000), [150, 850, 250, 1050]));
-    Ok(())
-}
-
-// What is written in place of what, the name that is reported, and why.
-fn refused() -> [(&'static str, &'static str, &'static [u8], ScaleKind); 6] {
-    [
-        ("WIDTH 0.1 ;", "WIDTH 0.101 ;", b"m1", ScaleKind::OddWidth),
-        ("WIDTH 0.1 ;", "WIDTH 0.1005 ;", b"m1", ScaleKind::NotOnUnit),
-        (
-            "TYPE CUT ; SPACING 0.1",
-            "TYPE CUT ; SPACING 0.0005",
-            b"v1",
-            ScaleKind::NotOnUnit,
-        ),
-        (
-            "SIZE 0.2 BY 2.0",
-            "SIZE 0.2 BY 2.00001",
-            b"core",
-            ScaleKind::NotOnUnit,
-        ),
-        (
-            "RECT 0 -0.1 0.4 0.1",
-            "RECT 0 -0.10001 0.4 0.1",
-            b"INV",
-            ScaleKind::NotOnUnit,
-        ),
-        (
+fn an_origin_shifts_what_is_drawn(rt: HostRuntime) {
+    assert!(rt;
+        reads_changed(
+            rt.alloc(),
             "ORIGIN 0 0",
-            "ORIGIN 0 0.0001",
-            b"INV",
-            ScaleKind::NotOnUnit,
-        ),
-    ]
+            "ORIGIN 0.1 0",
+            is_shifted_in_units
+        )
+    );
 }
 
-// Whether the library has no lengths at n units a micron, for this cause in what has this name.
-fn is_refused_at(
-    alloc: Global,
-    raw: &RawLibrary<'_, Global>,
-    n: u32,
-    name: &[u8],
-    kind: ScaleKind,
-) -> bool
-    requires above { 1 ≤ n }
-    requires within { n ≤ UNITS_LIMIT }
-{
-    match &raw.at(alloc, n) {
-        Ok(_) => false,
-        Err(fault) => fault.kind == kind && fault.name.bytes() == name,
-    }
+/// What is written in place of what, and at how many units a micron this fault is reported, if one is.
+struct Scaling {
+    from: &'static str,
+    to: &'static str,
+    units: u32,
+    fault: Option<(&'static [u8], ScaleKind)>,
 }
 
-// The same of the changed library at 1000 units a micron.
-fn is_refused(
-    alloc: Global,
-    from: &str,
-    to: &str,
-    name: &[u8],
-    kind: ScaleKind,
-) -> Result<bool, Fail> {
-    let text = changed(alloc, from, to)?;
-    let raw: RawLibrary<'_, Global> = read_lefs(alloc, &[text.as_bytes()])?;
-    Ok(is_refused_at(alloc, &raw, 1000, name, kind))
-}
+static SCALINGS: [Scaling; 8] = [
+    Scaling {
+        from: "WIDTH 0.1 ;",
+        to: "WIDTH 0.101 ;",
+        units: 1000,
+        fault: Some((b"m1", ScaleKind::OddWidth)),
+    },
+    Scaling {
+        from: "WIDTH 0.1 ;",
+        to: "WIDTH 0.1005 ;",
+        units: 1000,
+        fault: Some((b"m1", ScaleKind::NotOnUnit)),
+    },
+    Scaling {
+        from: "TYPE CUT ; SPACING 0.1",
+        to: "TYPE CUT ; SPACING 0.0005",
+        units: 1000,
+        fault: Some((b"v1", ScaleKind::NotOnUnit)),
+    },
+    Scaling {
+        from: "SIZE 0.2 BY 2.0",
+        to: "SIZE 0.2 BY 2.00001",
+        units: 1000,
+        fault: Some((b"core", ScaleKind::NotOnUnit)),
+    },
+    Scaling {
+        from: "RECT 0 -0.1 0.4 0.1",
+        to: "RECT 0 -0.10001 0.4 0.1",
+        units: 1000,
+        fault: Some((b"INV", ScaleKind::NotOnUnit)),
+    },
+    Scaling {
+        from: "ORIGIN 0 0",
+        to: "ORIGIN 0 0.0001",
+        units: 1000,
+        fault: Some((b"INV", ScaleKind::NotOnUnit)),
+    },
+    // 200,000,000 units are the limit.
+    Scaling {
+        from: "SIZE 0.2 BY 2.0",
+        to: "SIZE 0.2 BY 200000",
+        units: 1000,
+        fault: None,
+    },
+    Scaling {
+        from: "SIZE 0.2 BY 2.0",
+        to: "SIZE 0.2 BY 200000",
+        units: 2000,
+        fault: Some((b"core", ScaleKind::TooLarge)),
+    },
+];
 
-#[test]
-fn lengths_off_the_units_are_told(rt: HostRuntime) -> Result<(), Fail> {
-    for (from, to, name, kind) in &refused() {
-        assert!(rt; is_refused(rt.alloc(), from, to, name, *kind)?, "at {to}");
-    }
-    Ok(())
-}
-
-// Whether the library has lengths at n units a micron.
-fn is_scaled_at(alloc: Global, raw: &RawLibrary<'_, Global>, n: u32) -> bool
-    requires above { 1 ≤ n }
-    requires within { n ≤ UNITS_LIMIT }
-{
-    raw.at(alloc, n).is_ok()
-}
-
-#[test]
-fn a_length_beyond_the_limit_is_told(rt: HostRuntime) -> Result<(), Fail> {
-    let text = changed(rt.alloc(), "SIZE 0.2 BY 2.0", "SIZE 0.2 BY 200000")?;
-    let raw: RawLibrary<'_, Global> = read_lefs(rt.alloc(), &[text.as_bytes()])?;
-    assert!(rt; is_scaled_at(rt.alloc(), &raw, 1000));
-    assert!(rt; is_refused_at(rt.alloc(), &raw, 2000, b"core", ScaleKind::TooLarge));
-    Ok(())
-}
-
-// Whether the library has n units a micron, and its one site a height of two microns.
-fn is_said_at(alloc: Global, raw: &RawLibrary<'_, Global>, n: u32) -> bool
-    requires above { 1 ≤ n }
-    requires within { n ≤ UNITS_LIMIT }
-{
-    match raw.at(alloc, n) {
-        Ok(library) => library.units() == n && is_site_high(library.sites(), i64::from(n) * 2),
-        Err(_) => false,
-    }
-}
-
-fn is_site_high(sites: &[Site<'_>], height: i64) -> bool {
-    match sites {
-        [site] => site.size.height() == height,
+fn is_fault(fault: &Option<ScaleFault<'_>>, expected: &Option<(&[u8], ScaleKind)>) -> bool {
+    match (fault, expected) {
+        (None, None) => true,
+        (Some(fault), Some((name, kind))) => fault.kind == *kind && is_named(&fault.name, name),
         _ => false,
     }
 }
 
-fn is_said_at_each(alloc: Global, raw: &RawLibrary<'_, Global>) -> bool {
-    is_said_at(alloc, raw, 100)
-        && is_said_at(alloc, raw, 1000)
-        && is_said_at(alloc, raw, 2000)
-        && is_said_at(alloc, raw, 20000)
+fn faults_so(alloc: Global, raw: &RawLibrary<'_, Global>, scaling: &Scaling) -> bool {
+    let units = scaling.units;
+    0 < units && units <= UNITS_LIMIT && is_fault(&fault_at(alloc, raw, units), &scaling.fault)
+}
+
+fn reads_so(alloc: Global, text: &str, scaling: &Scaling) -> bool {
+    match read_lefs(alloc, &[text.as_bytes()]) {
+        Ok(raw) => faults_so(alloc, &raw, scaling),
+        Err(_) => false,
+    }
+}
+
+fn is_scaled_so(alloc: Global, scaling: &Scaling) -> bool {
+    match changed(alloc, scaling.from, scaling.to) {
+        Ok(text) => reads_so(alloc, &text, scaling),
+        Err(_) => false,
+    }
+}
+
+#[test]
+fn lengths_off_the_units_or_the_limit_are_reported(rt: HostRuntime) {
+    for scaling in &SCALINGS {
+        assert!(rt; is_scaled_so(rt.alloc(), scaling), "at {}", scaling.to);
+    }
+}
+
+// Whether the one site has a height of two microns.
+fn is_two_microns_high(library: &Library<'_, Global>) -> bool {
+    match library.sites() {
+        [site] => site.size.height() == i64::from(library.units()) * 2,
+        _ => false,
+    }
+}
+
+fn is_scaled_at_each(alloc: Global, raw: &RawLibrary<'_, Global>) -> bool {
+    fault_at(alloc, raw, 1).is_some()
+        && passes_at(alloc, raw, 100, is_two_microns_high)
+        && passes_at(alloc, raw, 1000, is_two_microns_high)
+        && passes_at(alloc, raw, 2000, is_two_microns_high)
+        && passes_at(alloc, raw, 20000, is_two_microns_high)
 }
 
 // The library that was read is as it was, and may be scaled again.
 #[test]
-fn a_library_is_scaled_more_than_once(rt: HostRuntime) -> Result<(), Fail> {
-    let raw: RawLibrary<'_, Global> = read_lefs(rt.alloc(), &[standard_library().as_bytes()])?;
-    assert!(rt; !is_scaled_at(rt.alloc(), &raw, 1));
-    assert!(rt; is_said_at_each(rt.alloc(), &raw));
-    Ok(())
+fn a_library_is_scaled_more_than_once(rt: HostRuntime) {
+    assert!(rt; reads(rt.alloc(), standard_library(), is_scaled_at_each));
 }

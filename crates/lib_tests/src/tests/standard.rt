@@ -1,285 +1,340 @@
 //! A small standard-cell library, every field of its record written down by hand.
 
+use super::frame::{is_named, passes_at, reads, standard_library};
 use leg_cells::{
-    Direction, Layer, LayerKind, Library, Master, RawKind, RawLayer, RawLibrary, RawMaster, RawPin,
-    RawRect, RawShape, RawSite, RawVia, Shape, Site, Supply, Via,
+    Direction, Layer, LayerKind, Library, Master, MasterPin, RawKind, RawLayer, RawLibrary,
+    RawMaster, RawPin, RawShape, RawSite, RawVia, Shape, Site, Supply, Via,
 };
-use leg_geom::Rect;
-use leg_lib::read_lefs;
 use std::alloc::Global;
-use std::test::Fail;
 
-pub(super) fn standard_library() -> &'static str {
-    "LAYER m1 TYPE ROUTING ; DIRECTION HORIZONTAL ; WIDTH 0.1 ; SPACING 0.1 ; END m1
-LAYER v1 TYPE CUT ; SPACING 0.1 ; END v1
-LAYER m2 TYPE ROUTING ; DIRECTION VERTICAL ; WIDTH 0.1 ; SPACING 0.1 ; END m2
-VIA V12 DEFAULT LAYER m1 ; RECT -0.05 -0.05 0.05 0.05 ; LAYER v1 ; RECT -0.05 -0.05 0.05 0.05 ; LAYER m2 ; RECT -0.05 -0.05 0.05 0.05 ; END V12
-SITE core CLASS CORE ; SIZE 0.2 BY 2.0 ; END core
-MACRO INV CLASS CORE ; ORIGIN 0 0 ; SIZE 0.4 BY 2.0 ; SYMMETRY X Y ; SITE core ;
-PIN A DIRECTION INPUT ; PORT LAYER m1 ; RECT 0.05 0.85 0.15 1.05 ; END END A
-PIN Y DIRECTION OUTPUT ; PORT LAYER m1 ; RECT 0.25 0.85 0.35 1.05 ; END END Y
-PIN VDD USE POWER ; PORT LAYER m1 ; RECT 0 1.9 0.4 2.1 ; END END VDD
-PIN VSS USE GROUND ; PORT LAYER m1 ; RECT 0 -0.1 0.4 0.1 ; END END VSS
-END INV
-MACRO BLK CLASS BLOCK ; SIZE 0.4 BY 2.0 ; OBS LAYER m1 ; RECT 0.1 0.7 0.3 1.2 ; END END BLK
-MACRO BLK2 CLASS BLOCK ; SIZE 0.4 BY 2.0 ; OBS LAYER m1 ; RECT 0.1 0.7 0.3 1.2 ; LAYER m2 ; RECT -0.3 0 0.7 2 ; END END BLK2
-END LIBRARY
-"
+/// A shape: its layer, and its left, lower, right and upper side in millionths of a micron.
+type Drawn = (usize, [i64; 4]);
+
+/// A layer: its name, its direction if it is a routing layer and not a cut layer, and its width and spacing of 0.1 microns.
+type Plane = (&'static [u8], Option<Direction>);
+
+/// A pin: its name, its supply, and its one shape.
+type Terminal = (&'static [u8], Supply, [Drawn; 1]);
+
+/// A macro of 0.4 by 2 microns with its origin at zero.
+struct Block {
+    name: &'static [u8],
+    y_symmetric: bool,
+    site: Option<usize>,
+    pins: &'static [Terminal],
+    obstructions: &'static [Drawn],
 }
 
-// The sides of a rectangle: left, lower, right, upper.
-fn raw_sides(rect: &RawRect) -> [i64; 4] {
-    [
+static LAYERS: [Plane; 3] = [
+    (b"m1", Some(Direction::Horizontal)),
+    (b"v1", None),
+    (b"m2", Some(Direction::Vertical)),
+];
+
+static VIA: [Drawn; 3] = [
+    (0, [-50_000, -50_000, 50_000, 50_000]),
+    (1, [-50_000, -50_000, 50_000, 50_000]),
+    (2, [-50_000, -50_000, 50_000, 50_000]),
+];
+
+static MASTERS: [Block; 3] = [
+    Block {
+        name: b"INV",
+        y_symmetric: true,
+        site: Some(0),
+        pins: &[
+            (
+                b"A",
+                Supply::NoSupply,
+                [(0, [50_000, 850_000, 150_000, 1_050_000])],
+            ),
+            (
+                b"Y",
+                Supply::NoSupply,
+                [(0, [250_000, 850_000, 350_000, 1_050_000])],
+            ),
+            (
+                b"VDD",
+                Supply::Power,
+                [(0, [0, 1_900_000, 400_000, 2_100_000])],
+            ),
+            (
+                b"VSS",
+                Supply::Ground,
+                [(0, [0, -100_000, 400_000, 100_000])],
+            ),
+        ],
+        obstructions: &[],
+    },
+    Block {
+        name: b"BLK",
+        y_symmetric: false,
+        site: None,
+        pins: &[],
+        obstructions: &[(0, [100_000, 700_000, 300_000, 1_200_000])],
+    },
+    Block {
+        name: b"BLK2",
+        y_symmetric: false,
+        site: None,
+        pins: &[],
+        obstructions: &[
+            (0, [100_000, 700_000, 300_000, 1_200_000]),
+            (2, [-300_000, 0, 700_000, 2_000_000]),
+        ],
+    },
+];
+
+fn is_raw_layer(layer: &RawLayer<'_>, expected: &Plane) -> bool {
+    is_named(&layer.name, expected.0)
+        && layer.spacing.millionths() == 100_000
+        && is_raw_kind(layer, expected.1)
+}
+
+fn are_raw_layers(items: &[RawLayer<'_>], expected: &[Plane]) -> bool {
+    if items.len() != expected.len() {
+        return false;
+    }
+    for i in 0..expected.len() {
+        if !is_raw_layer(&items[i], &expected[i]) {
+            return false;
+        }
+    }
+    true
+}
+
+fn is_raw_kind(layer: &RawLayer<'_>, expected: Option<Direction>) -> bool {
+    match layer.kind {
+        RawKind::Routing { direction, width } => {
+            expected == Some(direction) && width.millionths() == 100_000
+        }
+        RawKind::Cut => expected.is_none(),
+        RawKind::Other => false,
+    }
+}
+
+fn is_raw_shape(shape: &RawShape, expected: &Drawn) -> bool {
+    let rect = shape.rect;
+    let sides = [
         rect.x1().millionths(),
         rect.y1().millionths(),
         rect.x2().millionths(),
         rect.y2().millionths(),
-    ]
+    ];
+    shape.layer == expected.0 && sides == expected.1
 }
 
-pub(super) fn sides(rect: &Rect) -> [i64; 4] {
-    [rect.x1(), rect.y1(), rect.x2(), rect.y2()]
-}
-
-// Whether the shapes are these, each as its layer and its sides.
-fn are_raw_shapes(shapes: &[RawShape], expected: &[(usize, [i64; 4])]) -> bool {
-    shapes.len() == expected.len()
-        && shapes.iter().zip(expected).all(|(shape, (layer, at))| shape.layer == *layer
-            && raw_sides(&shape.rect) == *at)
-}
-
-pub(super) fn are_shapes(shapes: &[Shape], expected: &[(usize, [i64; 4])]) -> bool {
-    shapes.len() == expected.len()
-        && shapes.iter().zip(expected).all(|(shape, (layer, at))| shape.layer == *layer
-            && sides(&shape.rect) == *at)
-}
-
-// A routing layer of this name and direction, 0.1 micron wide and apart.
-fn is_raw_routing(layer: &RawLayer<'_>, name: &[u8], wanted: Direction) -> bool {
-    match layer.kind {
-        RawKind::Routing { direction, width } => {
-            layer.name.bytes() == name
-                && direction == wanted
-                && width.millionths() == 100_000
-                && layer.spacing.millionths() == 100_000
-        }
-        _ => false,
-    }
-}
-
-fn are_raw_layers(layers: &[RawLayer<'_>]) -> bool {
-    let [m1, v1, m2] = layers else {
+fn are_raw_shapes(items: &[RawShape], expected: &[Drawn]) -> bool {
+    if items.len() != expected.len() {
         return false;
-    };
-    is_raw_routing(m1, b"m1", Direction::Horizontal)
-        && v1.name.bytes() == b"v1".as_slice()
-        && matches!(v1.kind, RawKind::Cut)
-        && v1.spacing.millionths() == 100_000
-        && is_raw_routing(m2, b"m2", Direction::Vertical)
+    }
+    for i in 0..expected.len() {
+        if !is_raw_shape(&items[i], &expected[i]) {
+            return false;
+        }
+    }
+    true
 }
 
 fn are_raw_vias(vias: &[RawVia<'_, Global>]) -> bool {
     let [via] = vias else {
         return false;
     };
-    let square = [-50_000, -50_000, 50_000, 50_000];
-    via.name.bytes() == b"V12".as_slice()
+    is_named(&via.name, b"V12")
         && via.default_via
         && via.good
-        && are_raw_shapes(
-            via.shapes.as_slice(),
-            &[(0, square), (1, square), (2, square)],
-        )
+        && are_raw_shapes(via.shapes.as_slice(), &VIA)
 }
 
 fn are_raw_sites(sites: &[RawSite<'_>]) -> bool {
     let [site] = sites else {
         return false;
     };
-    site.name.bytes() == b"core".as_slice()
+    is_named(&site.name, b"core")
         && site.size.width().millionths() == 200_000
         && site.size.height().millionths() == 2_000_000
 }
 
-// The name, the supply and the one shape of each pin of INV, in millionths of a micron.
-fn pins_of_inverter() -> [(&'static [u8], Supply, [i64; 4]); 4] {
-    [
-        (
-            b"A",
-            Supply::NoSupply,
-            [50_000, 850_000, 150_000, 1_050_000],
-        ),
-        (
-            b"Y",
-            Supply::NoSupply,
-            [250_000, 850_000, 350_000, 1_050_000],
-        ),
-        (b"VDD", Supply::Power, [0, 1_900_000, 400_000, 2_100_000]),
-        (b"VSS", Supply::Ground, [0, -100_000, 400_000, 100_000]),
-    ]
+fn is_raw_pin(pin: &RawPin<'_, Global>, expected: &Terminal) -> bool {
+    is_named(&pin.name, expected.0)
+        && pin.supply == expected.1
+        && are_raw_shapes(pin.shapes.as_slice(), &expected.2)
 }
 
-// Whether these are the pins of INV.
-fn are_pins(pins: &[RawPin<'_, Global>]) -> bool {
-    pins.len() == pins_of_inverter().len()
-        && pins.iter().zip(&pins_of_inverter()).all(|(pin, (name, supply, at))| {
-            pin.name.bytes() == *name
-                && pin.supply == *supply
-                && are_raw_shapes(pin.shapes.as_slice(), &[(0, *at)])
-        })
-}
-
-fn is_inverter(master: &RawMaster<'_, Global>) -> bool {
-    master.name.bytes() == b"INV".as_slice()
-        && master.size.width().millionths() == 400_000
-        && master.size.height().millionths() == 2_000_000
-        && master.origin.x().millionths() == 0
-        && master.origin.y().millionths() == 0
-        && master.y_symmetric
-        && master.site == Some(0)
-        && master.obstructions.as_slice().is_empty()
-}
-
-// A macro of this name and INV's size, without an origin, a site and pins.
-fn is_bare(master: &RawMaster<'_, Global>, name: &[u8]) -> bool {
-    master.name.bytes() == name
-        && master.origin.x().millionths() == 0
-        && master.origin.y().millionths() == 0
-        && !master.y_symmetric
-        && master.site.is_none()
-        && master.pins.as_slice().is_empty()
-        && master.size.width().millionths() == 400_000
-        && master.size.height().millionths() == 2_000_000
-}
-
-fn are_raw_masters(masters: &[RawMaster<'_, Global>]) -> bool {
-    let [inverter, block, bar] = masters else {
+fn are_raw_pins(items: &[RawPin<'_, Global>], expected: &[Terminal]) -> bool {
+    if items.len() != expected.len() {
         return false;
-    };
-    let square = (0, [100_000, 700_000, 300_000, 1_200_000]);
-    let strip = (2, [-300_000, 0, 700_000, 2_000_000]);
-    is_inverter(inverter)
-        && are_pins(inverter.pins.as_slice())
-        && is_bare(block, b"BLK")
-        && are_raw_shapes(block.obstructions.as_slice(), &[square])
-        && is_bare(bar, b"BLK2")
-        && are_raw_shapes(bar.obstructions.as_slice(), &[square, strip])
+    }
+    for i in 0..expected.len() {
+        if !is_raw_pin(&items[i], &expected[i]) {
+            return false;
+        }
+    }
+    true
+}
+
+fn is_raw_frame(master: &RawMaster<'_, Global>, expected: &Block) -> bool {
+    let lengths = [
+        master.size.width().millionths(),
+        master.size.height().millionths(),
+        master.origin.x().millionths(),
+        master.origin.y().millionths(),
+    ];
+    is_named(&master.name, expected.name)
+        && lengths == [400_000, 2_000_000, 0, 0]
+        && master.y_symmetric == expected.y_symmetric
+        && master.site == expected.site
+}
+
+fn is_raw_master(master: &RawMaster<'_, Global>, expected: &Block) -> bool {
+    is_raw_frame(master, expected)
+        && are_raw_pins(master.pins.as_slice(), expected.pins)
+        && are_raw_shapes(master.obstructions.as_slice(), expected.obstructions)
+}
+
+fn are_raw_masters(items: &[RawMaster<'_, Global>], expected: &[Block]) -> bool {
+    if items.len() != expected.len() {
+        return false;
+    }
+    for i in 0..expected.len() {
+        if !is_raw_master(&items[i], &expected[i]) {
+            return false;
+        }
+    }
+    true
+}
+
+fn has_raw_records(_alloc: Global, raw: &RawLibrary<'_, Global>) -> bool {
+    are_raw_layers(raw.layers(), &LAYERS)
+        && are_raw_vias(raw.vias())
+        && are_raw_sites(raw.sites())
+        && are_raw_masters(raw.masters(), &MASTERS)
 }
 
 #[test]
-fn a_text_says_every_field_of_its_records(rt: HostRuntime) -> Result<(), Fail> {
-    let raw: RawLibrary<'_, Global> = read_lefs(rt.alloc(), &[standard_library().as_bytes()])?;
-    assert!(rt; are_raw_layers(raw.layers()) && are_raw_vias(raw.vias()));
-    assert!(rt; are_raw_sites(raw.sites()) && are_raw_masters(raw.masters()));
-    Ok(())
+fn a_text_denotes_every_field_of_its_records(rt: HostRuntime) {
+    assert!(rt; reads(rt.alloc(), standard_library(), has_raw_records));
 }
 
-// A routing layer of this name and direction, 100 units wide and apart.
-fn is_routing(layer: &Layer<'_>, name: &[u8], wanted: Direction) -> bool {
-    match layer.kind {
-        LayerKind::Routing { direction, width } => {
-            layer.name.bytes() == name
-                && direction == wanted
-                && width == 100
-                && layer.spacing == 100
+fn is_layer(layer: &Layer<'_>, expected: &Plane) -> bool {
+    is_named(&layer.name, expected.0) && layer.spacing == 100 && is_kind(layer, expected.1)
+}
+
+fn are_layers(items: &[Layer<'_>], expected: &[Plane]) -> bool {
+    if items.len() != expected.len() {
+        return false;
+    }
+    for i in 0..expected.len() {
+        if !is_layer(&items[i], &expected[i]) {
+            return false;
         }
-        _ => false,
+    }
+    true
+}
+
+fn is_kind(layer: &Layer<'_>, expected: Option<Direction>) -> bool {
+    match layer.kind {
+        LayerKind::Routing { direction, width } => expected == Some(direction) && width == 100,
+        LayerKind::Cut => expected.is_none(),
+        LayerKind::Other => false,
     }
 }
 
-fn are_layers(layers: &[Layer<'_>]) -> bool {
-    let [m1, v1, m2] = layers else {
+// A database unit is a thousand millionths of a micron.
+fn is_shape(shape: &Shape, expected: &Drawn) -> bool {
+    let rect = shape.rect;
+    let [x1, y1, x2, y2] = expected.1;
+    shape.layer == expected.0
+        && [rect.x1(), rect.y1(), rect.x2(), rect.y2()]
+            == [x1 / 1000, y1 / 1000, x2 / 1000, y2 / 1000]
+}
+
+pub(super) fn are_shapes(items: &[Shape], expected: &[Drawn]) -> bool {
+    if items.len() != expected.len() {
         return false;
-    };
-    is_routing(m1, b"m1", Direction::Horizontal)
-        && v1.name.bytes() == b"v1".as_slice()
-        && matches!(v1.kind, LayerKind::Cut)
-        && v1.spacing == 100
-        && is_routing(m2, b"m2", Direction::Vertical)
+    }
+    for i in 0..expected.len() {
+        if !is_shape(&items[i], &expected[i]) {
+            return false;
+        }
+    }
+    true
 }
 
 fn are_vias(vias: &[Via<'_, Global>]) -> bool {
     let [via] = vias else {
         return false;
     };
-    let square = [-50, -50, 50, 50];
-    via.name.bytes() == b"V12".as_slice()
+    is_named(&via.name, b"V12")
         && via.default_via
         && via.good
-        && are_shapes(
-            via.shapes.as_slice(),
-            &[(0, square), (1, square), (2, square)],
-        )
+        && are_shapes(via.shapes.as_slice(), &VIA)
 }
 
 fn are_sites(sites: &[Site<'_>]) -> bool {
     let [site] = sites else {
         return false;
     };
-    site.name.bytes() == b"core".as_slice()
-        && site.size.width() == 200
-        && site.size.height() == 2000
+    is_named(&site.name, b"core") && site.size.width() == 200 && site.size.height() == 2000
 }
 
-fn is_scaled_inverter(master: &Master<'_, Global>) -> bool {
-    let pins = master.pins.as_slice();
-    master.name.bytes() == b"INV".as_slice()
-        && master.size.width() == 400
-        && master.size.height() == 2000
-        && master.y_symmetric
-        && master.site == Some(0)
-        && master.obstructions.as_slice().is_empty()
-        && pins.len() == 4
-        && pins.iter().zip(&pins_of_inverter()).all(|(pin, (name, supply, at))| {
-            let [x1, y1, x2, y2] = *at;
-            let scaled = [x1 / 1000, y1 / 1000, x2 / 1000, y2 / 1000];
-            pin.name.bytes() == *name
-                && pin.supply == *supply
-                && are_shapes(pin.shapes.as_slice(), &[(0, scaled)])
-        })
+fn is_pin(pin: &MasterPin<'_, Global>, expected: &Terminal) -> bool {
+    is_named(&pin.name, expected.0)
+        && pin.supply == expected.1
+        && are_shapes(pin.shapes.as_slice(), &expected.2)
 }
 
-// A master of this name and INV's size, without a site and without pins.
-fn is_scaled_bare(master: &Master<'_, Global>, name: &[u8]) -> bool {
-    master.name.bytes() == name
-        && !master.y_symmetric
-        && master.site.is_none()
-        && master.pins.as_slice().is_empty()
-        && master.size.width() == 400
-        && master.size.height() == 2000
-}
-
-fn are_masters(masters: &[Master<'_, Global>]) -> bool {
-    let [inverter, block, bar] = masters else {
+fn are_pins(items: &[MasterPin<'_, Global>], expected: &[Terminal]) -> bool {
+    if items.len() != expected.len() {
         return false;
-    };
-    let square = (0, [100, 700, 300, 1200]);
-    let strip = (2, [-300, 0, 700, 2000]);
-    is_scaled_inverter(inverter)
-        && is_scaled_bare(block, b"BLK")
-        && are_shapes(block.obstructions.as_slice(), &[square])
-        && is_scaled_bare(bar, b"BLK2")
-        && are_shapes(bar.obstructions.as_slice(), &[square, strip])
+    }
+    for i in 0..expected.len() {
+        if !is_pin(&items[i], &expected[i]) {
+            return false;
+        }
+    }
+    true
 }
 
-fn is_said_in_units(alloc: Global, raw: &RawLibrary<'_, Global>) -> bool {
-    match raw.at(alloc, 1000) {
-        Ok(library) => {
-            library.units() == 1000
-                && are_layers(library.layers())
-                && are_vias(library.vias())
-                && are_sites(library.sites())
-                && are_masters(library.masters())
-        }
-        Err(_) => false,
+fn is_frame(master: &Master<'_, Global>, expected: &Block) -> bool {
+    is_named(&master.name, expected.name)
+        && [master.size.width(), master.size.height()] == [400, 2000]
+        && master.y_symmetric == expected.y_symmetric
+        && master.site == expected.site
+}
+
+fn is_master(master: &Master<'_, Global>, expected: &Block) -> bool {
+    is_frame(master, expected)
+        && are_pins(master.pins.as_slice(), expected.pins)
+        && are_shapes(master.obstructions.as_slice(), expected.obstructions)
+}
+
+fn are_masters(items: &[Master<'_, Global>], expected: &[Block]) -> bool {
+    if items.len() != expected.len() {
+        return false;
     }
+    for i in 0..expected.len() {
+        if !is_master(&items[i], &expected[i]) {
+            return false;
+        }
+    }
+    true
+}
+
+fn has_records(library: &Library<'_, Global>) -> bool {
+    are_layers(library.layers(), &LAYERS)
+        && are_vias(library.vias())
+        && are_sites(library.sites())
+        && are_masters(library.masters(), &MASTERS)
+}
+
+fn has_records_in_units(alloc: Global, raw: &RawLibrary<'_, Global>) -> bool {
+    passes_at(alloc, raw, 1000, has_records)
 }
 
 #[test]
-fn every_field_is_said_in_database_units(rt: HostRuntime) -> Result<(), Fail> {
-    let raw: RawLibrary<'_, Global> = read_lefs(rt.alloc(), &[standard_library().as_bytes()])?;
-    assert!(rt; is_said_in_units(rt.alloc(), &raw));
-    Ok(())
+fn every_field_is_denoted_in_database_units(rt: HostRuntime) {
+    assert!(rt; reads(rt.alloc(), standard_library(), has_records_in_units));
 }
 
 fn finds_by_name(library: &Library<'_, Global>) -> bool {
@@ -292,16 +347,10 @@ fn finds_by_name(library: &Library<'_, Global>) -> bool {
 }
 
 fn finds_by_name_in_units(alloc: Global, raw: &RawLibrary<'_, Global>) -> bool {
-    match raw.at(alloc, 1000) {
-        Ok(library) => finds_by_name(&library),
-        Err(_) => false,
-    }
+    raw.master_named(b"BLK") == Some(1) && passes_at(alloc, raw, 1000, finds_by_name)
 }
 
 #[test]
-fn finds_records_by_their_names(rt: HostRuntime) -> Result<(), Fail> {
-    let raw: RawLibrary<'_, Global> = read_lefs(rt.alloc(), &[standard_library().as_bytes()])?;
-    assert_eq!(rt; raw.master_named(b"BLK"), Some(1));
-    assert!(rt; finds_by_name_in_units(rt.alloc(), &raw));
-    Ok(())
+fn finds_records_by_their_names(rt: HostRuntime) {
+    assert!(rt; reads(rt.alloc(), standard_library(), finds_by_name_in_units));
 }

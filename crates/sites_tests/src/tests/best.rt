@@ -1,14 +1,14 @@
 //! The best position at values.
 
-ghost use Rattle.std.specs.Prelude.{◌≡◌, ◌≤◌, length, pos, All, IfOk};
+ghost use Rattle.std.specs.Prelude.{◌≡◌, ◌≤◌, length, pos, All};
 ghost use Rattle.sites_tests.specs.Made.{BeginsAtZero, HasFewSites};
 
 use leg_block::Row;
 use leg_geom::{Orient, Point};
 use leg_lex::Name;
 use leg_sites::{Candidate, FreeSites, Wanted, best_position, row_order};
-use std::alloc::{AllocError, Global};
-use std::test::Fail;
+use std::alloc::Global;
+use std::process::Abort;
 
 /// A row: its y, and from which site up to which one it is free.
 #[derive(Clone, Copy)]
@@ -18,129 +18,262 @@ struct Made {
     end: u64,
 }
 
-fn row_of(y: i64, from: u64, end: u64) -> Made {
-    Made { y, from, end }
-}
-
 /// The rows, each with its left edge at 0.
-fn rows_of(alloc: Global, places: &[Made]) -> Result<Vec<Row<'static>>, Fail>
-    ensures left { IfOk result (λ rows. All BeginsAtZero rows.items) }
-    ensures many { IfOk result (λ rows. length rows.items ≡ length places.now) }
+fn rows_of(rt: &impl Abort, alloc: Global, places: &[Made]) -> Vec<Row<'static>>
+    ensures left { All BeginsAtZero result.items }
+    ensures many { length result.items ≡ length places.now }
 {
     let mut rows = Vec::new(alloc);
     for place in places {
-        let at = Point::new(0, place.y).ok_or("too far away")?;
-        rows.push(Row {
+        let at = Point::new(0, place.y).expect(rt, "too far away");
+        let row = Row {
             name: Name::new(b"row"),
             site: 0,
             at,
             orient: Orient::N,
             count: 100,
-        })?;
+        };
+        rows.push(row).expect(rt, "memory");
     }
-    Ok(rows)
+    rows
 }
 
 /// The free sites of each row, at most 100.
-fn free_of(alloc: Global, places: &[Made]) -> Result<Vec<FreeSites<Global>>, AllocError>
-    ensures few { IfOk result (λ free. All HasFewSites free.items) }
-    ensures many { IfOk result (λ free. length free.items ≡ length places.now) }
+fn free_of(rt: &impl Abort, alloc: Global, places: &[Made]) -> Vec<FreeSites<Global>>
+    ensures few { All HasFewSites result.items }
+    ensures many { length result.items ≡ length places.now }
 {
     let mut free = Vec::new(alloc);
     for place in places {
-        free.push(FreeSites::new(alloc, place.from, place.end.min(100))?)?;
+        let sites = FreeSites::new(alloc, place.from, place.end.min(100)).expect(rt, "memory");
+        free.push(sites).expect(rt, "memory");
     }
-    Ok(free)
+    free
 }
 
-/// The best position for a component of this many sites that are 10 wide.
-fn best(
-    alloc: Global,
-    places: &[Made],
+/// Where a component of this many sites that are 10 wide is wanted, and the best position for it.
+#[derive(Clone, Copy)]
+struct Case {
     start: (i64, i64),
     many: u64,
     orient: Option<Orient>,
     y_symmetric: bool,
-) -> Result<Option<Candidate>, Fail>
-    requires { 1 ≤ many }
+    found: Option<Candidate>,
+}
+
+fn best(rt: &impl Abort, alloc: Global, places: &[Made], case: &Case) -> Option<Candidate>
+    requires { 1 ≤ case.now.many }
 {
-    let rows = rows_of(alloc, places)?;
-    let free = free_of(alloc, places)?;
-    let order = row_order(alloc, &rows)?;
-    let start = Point::new(start.0, start.1).ok_or("too far away")?;
+    let start = Point::new(case.start.0, case.start.1).expect(rt, "too far away");
+    let rows = rows_of(rt, alloc, places);
+    let free = free_of(rt, alloc, places);
+    let order = row_order(alloc, &rows).expect(rt, "memory");
     let wanted = Wanted {
         start,
         site: 0,
         site_width: 10,
-        many,
-        orient,
-        y_symmetric,
+        many: case.many,
+        orient: case.orient,
+        y_symmetric: case.y_symmetric,
     };
-    Ok(best_position(&rows, &order, &free, &wanted))
+    best_position(&rows, &order, &free, &wanted)
 }
 
-fn candidate(distance: u64, row: usize, first: u64) -> Option<Candidate> {
-    Some(Candidate {
-        distance,
-        turned: false,
-        row,
-        first,
-    })
-}
-
-#[test]
-fn the_lower_of_two_sites_as_near(rt: HostRuntime) -> Result<(), Fail> {
-    let places = [row_of(0, 0, 10)];
-    let found = best(rt.alloc(), &places, (25, 0), 1, None, false)?;
-    assert_eq!(rt; found, candidate(5, 0, 2));
-    let found = best(rt.alloc(), &places, (26, 0), 1, None, false)?;
-    assert_eq!(rt; found, candidate(4, 0, 3));
-    Ok(())
+fn check_best(rt: &impl Abort, alloc: Global, places: &[Made], cases: &[Case]) {
+    for case in cases {
+        assert!(rt; 1 <= case.many);
+        assert_eq!(rt; best(rt, alloc, places, case), case.found);
+    }
 }
 
 #[test]
-fn as_many_sites_as_are_asked_for(rt: HostRuntime) -> Result<(), Fail> {
-    let places = [row_of(0, 3, 6)];
-    let found = best(rt.alloc(), &places, (0, 0), 3, None, false)?;
-    assert_eq!(rt; found, candidate(30, 0, 3));
-    let found = best(rt.alloc(), &places, (70, 0), 2, None, false)?;
-    assert_eq!(rt; found, candidate(30, 0, 4));
-    let found = best(rt.alloc(), &places, (0, 0), 4, None, false)?;
-    assert_eq!(rt; found, None);
-    Ok(())
+fn the_lower_of_two_sites_as_near(rt: HostRuntime) {
+    static PLACES: [Made; 1] = [Made {
+        y: 0,
+        from: 0,
+        end: 10,
+    }];
+    static CASES: [Case; 2] = [
+        Case {
+            start: (25, 0),
+            many: 1,
+            orient: None,
+            y_symmetric: false,
+            found: Some(Candidate {
+                distance: 5,
+                turned: false,
+                row: 0,
+                first: 2,
+            }),
+        },
+        Case {
+            start: (26, 0),
+            many: 1,
+            orient: None,
+            y_symmetric: false,
+            found: Some(Candidate {
+                distance: 4,
+                turned: false,
+                row: 0,
+                first: 3,
+            }),
+        },
+    ];
+    check_best(&rt, rt.alloc(), &PLACES, &CASES);
 }
 
 #[test]
-fn the_row_of_the_lower_number_of_two_as_near(rt: HostRuntime) -> Result<(), Fail> {
-    let places = [row_of(10, 0, 10), row_of(-10, 0, 10), row_of(-30, 0, 10)];
-    let found = best(rt.alloc(), &places, (0, 0), 1, None, false)?;
-    assert_eq!(rt; found, candidate(10, 0, 0));
-    let found = best(rt.alloc(), &places, (0, -20), 1, None, false)?;
-    assert_eq!(rt; found, candidate(10, 1, 0));
-    Ok(())
+fn as_many_sites_as_are_asked_for(rt: HostRuntime) {
+    static PLACES: [Made; 1] = [Made {
+        y: 0,
+        from: 3,
+        end: 6,
+    }];
+    static CASES: [Case; 3] = [
+        Case {
+            start: (0, 0),
+            many: 3,
+            orient: None,
+            y_symmetric: false,
+            found: Some(Candidate {
+                distance: 30,
+                turned: false,
+                row: 0,
+                first: 3,
+            }),
+        },
+        Case {
+            start: (70, 0),
+            many: 2,
+            orient: None,
+            y_symmetric: false,
+            found: Some(Candidate {
+                distance: 30,
+                turned: false,
+                row: 0,
+                first: 4,
+            }),
+        },
+        Case {
+            start: (0, 0),
+            many: 4,
+            orient: None,
+            y_symmetric: false,
+            found: None,
+        },
+    ];
+    check_best(&rt, rt.alloc(), &PLACES, &CASES);
 }
 
 #[test]
-fn a_row_farther_off_that_is_nearer_along_x(rt: HostRuntime) -> Result<(), Fail> {
-    let places = [row_of(0, 50, 60), row_of(100, 0, 10)];
-    let found = best(rt.alloc(), &places, (0, 0), 1, None, false)?;
-    assert_eq!(rt; found, candidate(100, 1, 0));
-    Ok(())
+fn the_row_of_the_lower_number_of_two_as_near(rt: HostRuntime) {
+    static PLACES: [Made; 3] = [
+        Made {
+            y: 10,
+            from: 0,
+            end: 10,
+        },
+        Made {
+            y: -10,
+            from: 0,
+            end: 10,
+        },
+        Made {
+            y: -30,
+            from: 0,
+            end: 10,
+        },
+    ];
+    static CASES: [Case; 2] = [
+        Case {
+            start: (0, 0),
+            many: 1,
+            orient: None,
+            y_symmetric: false,
+            found: Some(Candidate {
+                distance: 10,
+                turned: false,
+                row: 0,
+                first: 0,
+            }),
+        },
+        Case {
+            start: (0, -20),
+            many: 1,
+            orient: None,
+            y_symmetric: false,
+            found: Some(Candidate {
+                distance: 10,
+                turned: false,
+                row: 1,
+                first: 0,
+            }),
+        },
+    ];
+    check_best(&rt, rt.alloc(), &PLACES, &CASES);
 }
 
 #[test]
-fn turned_only_where_the_orientation_does_not_fit(rt: HostRuntime) -> Result<(), Fail> {
-    let places = [row_of(0, 0, 10)];
-    let flipped = Some(Orient::FN);
-    let found = best(rt.alloc(), &places, (0, 0), 1, flipped, true)?;
-    assert_eq!(rt; found, candidate(0, 0, 0));
-    let found = best(rt.alloc(), &places, (0, 0), 1, flipped, false)?;
-    let turned = Some(Candidate {
-        distance: 0,
-        turned: true,
-        row: 0,
-        first: 0,
-    });
-    assert_eq!(rt; found, turned);
-    Ok(())
+fn a_row_farther_off_that_is_nearer_along_x(rt: HostRuntime) {
+    static PLACES: [Made; 2] = [
+        Made {
+            y: 0,
+            from: 50,
+            end: 60,
+        },
+        Made {
+            y: 100,
+            from: 0,
+            end: 10,
+        },
+    ];
+    static CASES: [Case; 1] = [Case {
+        start: (0, 0),
+        many: 1,
+        orient: None,
+        y_symmetric: false,
+        found: Some(Candidate {
+            distance: 100,
+            turned: false,
+            row: 1,
+            first: 0,
+        }),
+    }];
+    check_best(&rt, rt.alloc(), &PLACES, &CASES);
+}
+
+#[test]
+fn turned_only_where_the_orientation_does_not_fit(rt: HostRuntime) {
+    static PLACES: [Made; 1] = [Made {
+        y: 0,
+        from: 0,
+        end: 10,
+    }];
+    static CASES: [Case; 2] = [
+        Case {
+            start: (0, 0),
+            many: 1,
+            orient: Some(Orient::FN),
+            y_symmetric: true,
+            found: Some(Candidate {
+                distance: 0,
+                turned: false,
+                row: 0,
+                first: 0,
+            }),
+        },
+        Case {
+            start: (0, 0),
+            many: 1,
+            orient: Some(Orient::FN),
+            y_symmetric: false,
+            found: Some(Candidate {
+                distance: 0,
+                turned: true,
+                row: 0,
+                first: 0,
+            }),
+        },
+    ];
+    check_best(&rt, rt.alloc(), &PLACES, &CASES);
 }

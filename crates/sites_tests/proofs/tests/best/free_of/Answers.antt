@@ -6,10 +6,13 @@ use Rattle.sites_tests.proofs.Ready.{few_between}
 use Rattle.sites_tests.proofs.tests.best.free_of.Goals as goal
 
 pub loop-place-preserved : goal.loop-place-preserved
-loop-place-preserved c =
-    let few : HasFewSites c.in_ok-new.field-0 = few_between _ c.min.result c.in_ok-new.field-0 (omega arith) c.in_ok-new.ensures in
-    let longer = length_push c.loop-place.free.items c.in_ok-new.field-0 in
-    let many = c.loop-place.invariant.1 in (
-      rw c.in_ok-push.ensures.items (All-push HasFewSites c.loop-place.free.items c.in_ok-new.field-0 c.loop-place.invariant.0 few),
-      rw c.in_ok-push.ensures.items (omega arith),
+loop-place-preserved g c =
+    let sites = c.expect-sites.result in
+    let between = rw c.expect-sites.ensures at c.new.ensures in
+    let few : HasFewSites sites = few_between _ c.min.result sites (omega arith) between in
+    let longer = length_push c.loop-place.free.items sites in
+    let many = c.loop-place.invariant.1 in
+    let pushed = rw c.expect.ensures at c.push.ensures.items in (
+      rw pushed (All-push HasFewSites c.loop-place.free.items sites c.loop-place.invariant.0 few),
+      rw pushed (omega arith),
     )

@@ -3,4 +3,4 @@ use Rattle.sites_tests.specs.Made.{BeginsAtZero}
 use Rattle.sites_tests.proofs.tests.best.rows_of.Given as goal
 
 abbrev pub invariant-loop-place : goal.invariant-loop-place
-invariant-loop-place l = All BeginsAtZero l.rows.items × (length l.rows.items ≡ l.place-index)
+invariant-loop-place g l = All BeginsAtZero l.rows.items × (length l.rows.items ≡ l.place-index)

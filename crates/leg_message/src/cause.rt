@@ -1,0 +1,57 @@
+//! Why texts are refused, found by reading them again.
+
+ghost use Rattle.leg_message.specs.Length.{HasUnits};
+
+use leg_cells::{Library, ScaleFault};
+use leg_design::{def_units, read_def};
+use leg_lex::ReadFault;
+use leg_lib::read_lefs;
+use std::alloc::Allocator;
+
+/// Why texts are refused.
+#[derive(Drop)]
+pub(crate) enum Cause<'a> {
+    /// The text of this number isn't read; LEFs count from 0, and the DEF is next.
+    Read(usize, ReadFault),
+    /// A length of the library isn't one in the DEF's units, of which so many are a micron.
+    Scale(ScaleFault<'a>, u32),
+    /// They are not refused.
+    Nothing,
+}
+
+/// Why these texts are refused. They are read in the order in which a run reads them.
+pub(crate) fn cause_of<'a, A: Allocator + Copy>(
+    alloc: A,
+    lefs: &[&'a [u8]],
+    def: &[u8],
+) -> Cause<'a>
+    ensures { HasUnits result }
+{
+    let raw = match read_lefs(alloc, lefs) {
+        Ok(raw) => raw,
+        Err(fault) => return Cause::Read(fault.file as usize, fault),
+    };
+    let units = match def_units(alloc, def) {
+        Ok(units) => units,
+        Err(fault) => return Cause::Read(lefs.len(), fault),
+    };
+    match raw.at(alloc, units) {
+        Ok(library) => design_cause(alloc, lefs.len(), &library, def),
+        Err(fault) => Cause::Scale(fault, units),
+    }
+}
+
+/// Why the DEF, which is the text of this number, is refused under the library.
+fn design_cause<'e, A: Allocator + Copy>(
+    alloc: A,
+    number: usize,
+    library: &Library<'_, A>,
+    def: &[u8],
+) -> Cause<'e>
+    ensures { HasUnits result }
+{
+    match read_def(alloc, library, def) {
+        Ok(_) => Cause::Nothing,
+        Err(fault) => Cause::Read(number, fault),
+    }
+}

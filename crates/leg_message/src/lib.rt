@@ -1,0 +1,21 @@
+//! Messages on standard error: where a text is refused and why, and what to do where a command stops without a design.
+//!
+//! They are made after a run has answered, from its texts and from the first word of its last line.
+#![tactic(auto)]
+
+mod advice;
+mod cause;
+mod limits;
+mod note;
+mod noting_writer;
+mod parts;
+mod refused;
+mod run_message;
+mod scaling;
+mod sentence;
+mod text_line;
+mod texts;
+
+pub use noting_writer::NotingWriter;
+pub use run_message::{message, stream_message};
+pub use texts::Texts;

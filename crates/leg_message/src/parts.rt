@@ -1,0 +1,31 @@
+//! Messages from their parts.
+
+ghost use Rattle.std.specs.Prelude.{◌≡◌, ◌++◌, decimal, OnOk};
+ghost use Rattle.std.specs.List.{flat_map};
+
+use itoa::Buffer;
+use std::alloc::{AllocError, Allocator};
+
+/// Adds these parts to a message, one after the other.
+pub(crate) fn push_parts<A: Allocator>(
+    message: &mut Vec<u8, A>,
+    parts: &[&[u8]],
+) -> Result<(), AllocError>
+    ensures { OnOk result (message.new.items ≡ message.old.items ++ flat_map (λ part. part.now) parts.now) }
+{
+    for part in parts {
+        message.extend_from_slice(part)?;
+    }
+    Ok(())
+}
+
+/// Adds a number.
+pub(crate) fn push_number<A: Allocator>(
+    message: &mut Vec<u8, A>,
+    number: u32,
+) -> Result<(), AllocError>
+    ensures { OnOk result (message.new.items ≡ message.old.items ++ decimal number) }
+{
+    let mut buffer = Buffer::new();
+    message.extend_from_slice(buffer.format(number).as_bytes())
+}
