@@ -1,5 +1,5 @@
 -- Why texts are refused.
-use Rattle.std.specs.Prelude.{◌≢◌}
+use Rattle.std.specs.Prelude.{◌≡◌, ◌≢◌}
 use Rattle.leg_lex.specs.declared.read_fault.FaultKind.TheVariants as kinds
 use Rattle.leg_cells.specs.declared.scale_fault.ScaleKind.TheVariants as scale
 use Rattle.leg_flat.specs.declared.fault.FlatFault.{FlatFault}
@@ -18,3 +18,10 @@ Refuses nothing much (Read fault) = fault.kind ≢ kinds.Memory → nothing
 Refuses nothing much (Scale fault) = fault.kind ≢ scale.Memory → nothing
 Refuses nothing much TooMany = much
 Refuses nothing much Memory = Unit {0}
+
+-- Texts are refused for want of memory.
+abbrev pub IsOutOfMemory : TextFault → Type 0
+IsOutOfMemory (Read fault) = fault.kind ≡ kinds.Memory
+IsOutOfMemory (Scale fault) = fault.kind ≡ scale.Memory
+IsOutOfMemory TooMany = ⊥
+IsOutOfMemory Memory = Unit {0}

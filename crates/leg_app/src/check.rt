@@ -8,7 +8,8 @@ ghost use Rattle.leg_flat.specs.Metal.{metal_of};
 ghost use Rattle.leg_app.specs.Say.{SayDesign, SayNothing, SayTooMany};
 ghost use Rattle.leg_app.specs.Steps.SaidLibrary.{SaysJust};
 ghost use Rattle.leg_app.specs.Violations.{IsViolation, IsJudgedBy, AreAllViolations, AreViolationsOf};
-ghost use Rattle.leg_app.specs.Refusal.{Refuses};
+ghost use Rattle.leg_app.specs.Refusal.{Refuses, IsOutOfMemory};
+ghost use Rattle.leg_app.specs.declared.text_fault.TextFault.TheVariants.{Memory};
 
 use crate::text_fault::TextFault;
 use crate::texts::{behind_lefs, library_for};
@@ -32,9 +33,27 @@ pub struct Checked<A: Allocator> {
 /// Everything that is not legal about the design that the texts of the LEFs, in order, and of the DEF denote: all
 /// violations that hold, each once, in order; so the block is legal if and only if there are none (lefdef's own rules).
 ///
-/// `Read` and `Scale` are returned, for another cause than memory, only where the texts denote no design;
-/// `TooMany` only where they denote one with more than `leg_design::PART_LIMIT` shapes.
+/// `Read` and `Scale` are returned only where the texts denote no design; `TooMany` only where they denote one with more
+/// than `leg_design::PART_LIMIT` shapes; `Memory` alone where an allocation failed.
 pub fn check_texts<'a, A: Allocator + Copy>(
+    alloc: A,
+    lefs: &[&'a [u8]],
+    def: &[u8],
+) -> Result<Vec<Fault, A>, TextFault<'a>>
+    ensures found { IfOk result (λ found. AreViolationsOf (map (λ t. t.now) lefs.now) def.now found.items) }
+    ensures refused { IfErr result (λ fault. Refuses (SayNothing (map (λ t. t.now) lefs.now) def.now)
+        (SayTooMany (map (λ t. t.now) lefs.now) def.now) fault) }
+    ensures memory { IfErr result (λ fault. IsOutOfMemory fault → fault ≡ Memory) }
+{
+    match violations_in(alloc, lefs, def) {
+        Ok(violations) => Ok(violations),
+        Err(fault) if fault.is_out_of_memory() => Err(TextFault::Memory),
+        Err(fault) => Err(fault),
+    }
+}
+
+/// The violations of the design that the texts denote.
+fn violations_in<'a, A: Allocator + Copy>(
     alloc: A,
     lefs: &[&'a [u8]],
     def: &[u8],

@@ -1,12 +1,12 @@
 //! Why texts are refused.
 
-ghost use Rattle.std.specs.Prelude.{◌≡◌};
+ghost use Rattle.std.specs.Prelude.{◌≡◌, ◌↔◌, IsTrue};
 ghost use Rattle.leg_app.specs.declared.text_fault.TextFault.TheVariants as faults;
-ghost use Rattle.leg_app.specs.Refusal.{of_flat};
+ghost use Rattle.leg_app.specs.Refusal.{of_flat, IsOutOfMemory};
 
-use leg_cells::ScaleFault;
+use leg_cells::{ScaleFault, ScaleKind};
 use leg_flat::FlatFault;
-use leg_lex::ReadFault;
+use leg_lex::{FaultKind, ReadFault};
 use std::alloc::AllocError;
 
 /// Why a block's texts are refused.
@@ -20,6 +20,20 @@ pub enum TextFault<'a> {
     TooMany,
     /// An allocation failed.
     Memory,
+}
+
+impl TextFault<'_> {
+    /// Whether an allocation failed.
+    pub(crate) fn is_out_of_memory(&self) -> bool
+        ensures memory { IsTrue result ↔ IsOutOfMemory self.now }
+    {
+        match self {
+            TextFault::Read(fault) => fault.kind == FaultKind::Memory,
+            TextFault::Scale(fault) => fault.kind == ScaleKind::Memory,
+            TextFault::TooMany => false,
+            TextFault::Memory => true,
+        }
+    }
 }
 
 impl From<ReadFault> for TextFault<'_> {

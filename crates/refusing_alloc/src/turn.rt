@@ -1,7 +1,5 @@
 //! A call that is made again and again, each time with another growth refused.
 
-use std::test::Fail;
-
 /// What came of a call of which one growth was to be refused.
 #[derive(Clone, Copy)]
 pub struct Turn {
@@ -34,27 +32,27 @@ impl Turns {
     /// ample memory if it can do without the growth that is refused.
     ///
     /// It fails if the call answers that memory ran out although no growth was refused, or if it never answers so.
-    pub fn is_last(&mut self, number: u64, turn: Turn) -> Result<bool, Fail> {
+    pub fn is_last(&mut self, number: u64, turn: Turn) -> Result<bool, &'static str> {
         if turn.growths >= number {
             self.refusals = self.refusals || turn.refused;
             return Ok(false);
         }
         if turn.refused {
-            return Err(Fail::new("memory ran out although no growth was refused"));
+            return Err("memory ran out although no growth was refused");
         }
         if !self.refusals {
-            return Err(Fail::new("memory never ran out"));
+            return Err("memory never ran out");
         }
         self.ended = true;
         Ok(true)
     }
 
     /// It fails if no turn was the last one.
-    pub fn end(&self) -> Result<(), Fail> {
+    pub fn end(&self) -> Result<(), &'static str> {
         if self.ended {
             Ok(())
         } else {
-            Err(Fail::new("growths without end"))
+            Err("growths without end")
         }
     }
 }
