@@ -1,5 +1,0 @@
-//! What no clause of `leg_print` states: tests of its public calls by values.
-#![tactic(auto)]
-
-#[cfg(test)]
-mod tests;
