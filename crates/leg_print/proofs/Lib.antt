@@ -1,4 +1,4 @@
-mod SidesInTurn
+mod ShapeText
 -- The text of a design
 pub mod InTurn
 pub mod SectionText

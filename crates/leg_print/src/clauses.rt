@@ -5,12 +5,13 @@ ghost use Rattle.leg_text.specs.Spaced.{spaced};
 ghost use Rattle.leg_print.specs.Text.Clauses.{clause_words, kept_clause, shape_clause, status_word, placement_clause};
 
 use crate::name::layer_name;
-use crate::points::{push_corners, push_place};
+use crate::points::{orient_word, push_corners};
+use itoa::Buffer;
 use leg_block::{Design, Status};
 use leg_cells::Shape;
 use leg_geom::Place;
 use leg_lex::Name;
-use leg_text::push_word;
+use leg_text::push_words;
 use std::alloc::{AllocError, Allocator};
 
 /// Adds a keyword and a word as a clause, where the word was kept.
@@ -24,9 +25,7 @@ pub(crate) fn push_kept<A: Allocator>(
     let Some(word) = word else {
         return Ok(());
     };
-    push_word(text, b"+")?;
-    push_word(text, keyword)?;
-    push_word(text, word.bytes())
+    push_words(text, &[b"+", keyword, word.bytes()])
 }
 
 /// Adds a rectangle on a layer as a clause of this keyword.
@@ -38,9 +37,7 @@ fn push_shape<A: Allocator + Copy>(
 ) -> Result<(), AllocError>
     ensures { OnOk result (text.new.items ≡ text.old.items ++ spaced (codes "+" ∷ shape_clause keyword.now design.now shape.now)) }
 {
-    push_word(text, b"+")?;
-    push_word(text, keyword)?;
-    push_word(text, layer_name(design, shape.layer))?;
+    push_words(text, &[b"+", keyword, layer_name(design, shape.layer)])?;
     push_corners(text, &shape.rect)
 }
 
@@ -79,10 +76,21 @@ pub(crate) fn push_placement<A: Allocator>(
 ) -> Result<(), AllocError>
     ensures { OnOk result (text.new.items ≡ text.old.items ++ spaced (codes "+" ∷ placement_clause status (option_map (λ place. place.now) place.entry))) }
 {
-    push_word(text, b"+")?;
-    push_word(text, status_word(status))?;
-    match place {
-        Some(place) => push_place(text, place),
-        None => Ok(()),
-    }
+    let Some(place) = place else {
+        return push_words(text, &[b"+", status_word(status)]);
+    };
+    let mut x = Buffer::new();
+    let mut y = Buffer::new();
+    push_words(
+        text,
+        &[
+            b"+",
+            status_word(status),
+            b"(",
+            x.format(place.at.x()).as_bytes(),
+            y.format(place.at.y()).as_bytes(),
+            b")",
+            orient_word(place.orient),
+        ],
+    )
 }

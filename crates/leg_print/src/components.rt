@@ -1,7 +1,6 @@
 //! The section of components.
 
 ghost use Rattle.std.specs.Prelude.{◌≡◌, ◌++◌, OnOk};
-ghost use Rattle.std.specs.List.{flat_map};
 ghost use Rattle.leg_text.specs.Spaced.{line};
 ghost use Rattle.leg_print.specs.Text.Components.{component_words};
 ghost use Rattle.leg_print.specs.Text.Whole.{components_text};
@@ -9,8 +8,9 @@ ghost use Rattle.leg_print.specs.Text.Whole.{components_text};
 use crate::clauses::push_placement;
 use crate::name::master_name;
 use crate::sections::{push_section_end, push_section_start};
+use crate::words::push_start;
 use leg_block::{Component, Design};
-use leg_text::{push_end, push_first, push_word};
+use leg_text::push_end;
 use std::alloc::{AllocError, Allocator};
 
 /// Adds the entry of a component.
@@ -21,25 +21,10 @@ fn push_component<A: Allocator + Copy>(
 ) -> Result<(), AllocError>
     ensures { OnOk result (text.new.items ≡ text.old.items ++ line (component_words design.now component.now)) }
 {
-    push_first(text, b"-")?;
-    push_word(text, component.name.bytes())?;
-    push_word(text, master_name(design, component.master))?;
+    let master = master_name(design, component.master);
+    push_start(text, b"-", &[component.name.bytes(), master])?;
     push_placement(text, component.status, component.place.as_ref())?;
     push_end(text)
-}
-
-/// Adds an entry for each component.
-fn push_component_entries<A: Allocator + Copy>(
-    text: &mut Vec<u8, A>,
-    design: &Design<'_, A>,
-    components: &[Component<'_>],
-) -> Result<(), AllocError>
-    ensures { OnOk result (text.new.items ≡ text.old.items ++ flat_map (λ component. line (component_words design.now component)) components.now) }
-{
-    for component in components {
-        push_component(text, design, component)?;
-    }
-    Ok(())
 }
 
 /// Adds the section of components, where there are any.
@@ -55,6 +40,8 @@ pub(crate) fn push_components<A: Allocator + Copy>(
         return Ok(());
     }
     push_section_start(text, b"COMPONENTS", components.len())?;
-    push_component_entries(text, design, components)?;
+    for component in components {
+        push_component(text, design, component)?;
+    }
     push_section_end(text, b"COMPONENTS")
 }

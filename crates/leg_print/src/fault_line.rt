@@ -1,18 +1,21 @@
 //! The lines of violations.
 
-ghost use Rattle.std.specs.Prelude.{◌≡◌, ◌++◌, None, IfOk, OnOk, option_map, codes};
+ghost use Rattle.std.specs.Prelude.{◌≡◌, ◌++◌, ◌∷◌, [], None, IfOk, OnOk, option_map, codes};
 ghost use Rattle.std.specs.List.{flat_map};
 ghost use Rattle.std.specs.Fmt.{signed_decimal};
+ghost use Rattle.leg_text.specs.Spaced.{spaced};
 ghost use Rattle.leg_block.specs.declared.fault.Fault.TheVariants.{Overlap};
 ghost use Rattle.leg_print.specs.Names.{component_name};
-ghost use Rattle.leg_print.specs.Lines.{sides_text, shape_text, shape_at, piece_at, pair_line, open_line, violation_line, violations_text};
+ghost use Rattle.leg_print.specs.Lines.{shape_text, shape_at, piece_at, pair_line, open_line, violation_line, violations_text};
 
 use crate::name::{component_name, layer_name, net_name, push_owner, push_piece};
+use crate::words::push_parts;
 use itoa::Buffer;
 use leg_block::{Design, Fault};
 use leg_cells::Library;
 use leg_flat::{Flat, Piece, Shape};
 use leg_geom::Rect;
+use leg_text::{push_first, push_line_feed, push_words};
 use std::alloc::{AllocError, Allocator};
 
 /// A line for each violation, in their order.
@@ -99,9 +102,7 @@ fn push_component<A: Allocator + Copy>(
 ) -> Result<(), AllocError>
     ensures { OnOk result (text.new.items ≡ text.old.items ++ word.now ++ component_name design.now component ++ codes "\n") }
 {
-    text.extend_from_slice(word)?;
-    text.extend_from_slice(component_name(design, component))?;
-    text.extend_from_slice(b"\n")
+    push_parts(text, &[word, component_name(design, component), b"\n"])
 }
 
 /// Adds the line of two overlapping components.
@@ -113,11 +114,9 @@ fn push_overlap<A: Allocator + Copy>(
 ) -> Result<(), AllocError>
     ensures { OnOk result (text.new.items ≡ text.old.items ++ violation_line design.now None (Overlap first second)) }
 {
-    text.extend_from_slice(b"OVERLAP ")?;
-    text.extend_from_slice(component_name(design, first))?;
-    text.extend_from_slice(b" ")?;
-    text.extend_from_slice(component_name(design, second))?;
-    text.extend_from_slice(b"\n")
+    let first = component_name(design, first);
+    let second = component_name(design, second);
+    push_parts(text, &[b"OVERLAP ", first, b" ", second, b"\n"])
 }
 
 /// Adds the line of a violation that speaks of two shapes, if there are both.
@@ -133,48 +132,42 @@ fn push_pair<A: Allocator + Copy>(
     let (Some(first), Some(second)) = (first, second) else {
         return Ok(());
     };
-    text.extend_from_slice(word)?;
-    text.extend_from_slice(b" ")?;
-    text.extend_from_slice(layer_name(design, first.layer))?;
-    text.extend_from_slice(b" ")?;
+    push_parts(text, &[word, b" ", layer_name(design, first.layer)])?;
     push_shape(text, design, first)?;
-    text.extend_from_slice(b" ")?;
     push_shape(text, design, second)?;
-    text.extend_from_slice(b"\n")
+    push_line_feed(text)
 }
 
-/// Adds whose a shape is and where it lies.
+/// Adds whose a shape is and where it lies, after a blank.
 fn push_shape<A: Allocator + Copy>(
     text: &mut Vec<u8, A>,
     design: &Design<'_, A>,
     shape: &Shape,
 ) -> Result<(), AllocError>
-    ensures { OnOk result (text.new.items ≡ text.old.items ++ shape_text design.now shape.now) }
+    ensures { OnOk result (text.new.items ≡ text.old.items ++ (codes " " ++ shape_text design.now shape.now)) }
 {
+    push_first(text, b" ")?;
     push_owner(text, design, &shape.owner)?;
-    text.extend_from_slice(b" ")?;
     push_sides(text, &shape.rect)
 }
 
-/// Adds the sides of a rectangle: left, lower, right, upper.
+/// Adds the sides of a rectangle, each after a blank: left, lower, right, upper.
 fn push_sides<A: Allocator>(text: &mut Vec<u8, A>, rect: &Rect) -> Result<(), AllocError>
-    ensures { OnOk result (text.new.items ≡ text.old.items ++ sides_text rect.now) }
+    ensures { OnOk result (text.new.items ≡ text.old.items ++ spaced (signed_decimal rect.now.x1 ∷ signed_decimal rect.now.y1 ∷ signed_decimal rect.now.x2 ∷ signed_decimal rect.now.y2 ∷ [])) }
 {
-    push_number(text, rect.x1())?;
-    text.extend_from_slice(b" ")?;
-    push_number(text, rect.y1())?;
-    text.extend_from_slice(b" ")?;
-    push_number(text, rect.x2())?;
-    text.extend_from_slice(b" ")?;
-    push_number(text, rect.y2())
-}
-
-/// Adds a number in decimals, with its sign where it lies below 0.
-fn push_number<A: Allocator>(text: &mut Vec<u8, A>, number: i64) -> Result<(), AllocError>
-    ensures { OnOk result (text.new.items ≡ text.old.items ++ signed_decimal number) }
-{
-    let mut buffer = Buffer::new();
-    text.extend_from_slice(buffer.format(number).as_bytes())
+    let mut left = Buffer::new();
+    let mut lower = Buffer::new();
+    let mut right = Buffer::new();
+    let mut upper = Buffer::new();
+    push_words(
+        text,
+        &[
+            left.format(rect.x1()).as_bytes(),
+            lower.format(rect.y1()).as_bytes(),
+            right.format(rect.x2()).as_bytes(),
+            upper.format(rect.y2()).as_bytes(),
+        ],
+    )
 }
 
 /// Adds the line of a piece of a net that isn't joined to the first one, if there is such a piece.
@@ -189,9 +182,7 @@ fn push_open<A: Allocator + Copy>(
     let Some(piece) = piece else {
         return Ok(());
     };
-    text.extend_from_slice(b"OPEN ")?;
-    text.extend_from_slice(net_name(design, net))?;
-    text.extend_from_slice(b" ")?;
+    push_parts(text, &[b"OPEN ", net_name(design, net), b" "])?;
     push_piece(text, design, piece)?;
-    text.extend_from_slice(b"\n")
+    push_line_feed(text)
 }

@@ -17,6 +17,7 @@ mod vias;
 mod wirelength;
 mod wirelength_box;
 mod wires;
+mod words;
 
 pub use design_text::print_def;
 pub use fault_line::print_faults;

@@ -1,12 +1,15 @@
 //! How lines name what they speak of.
 
-ghost use Rattle.std.specs.Prelude.{◌≡◌, ◌++◌, OnOk, option_map};
+ghost use Rattle.std.specs.Prelude.{◌≡◌, ◌++◌, ◌∷◌, [], OnOk, option_map, codes};
 ghost use Rattle.leg_print.specs.Names.{layer_name, site_name, master_name, via_numbered, via_name, component_name, net_name, component_pin_name, design_pin_name, terminal_text, owner_text, piece_text};
+ghost use Rattle.leg_print.specs.Text.Nets.{terminal_words};
 
+use crate::words::push_parts;
 use itoa::Buffer;
 use leg_block::{Design, Terminal};
 use leg_cells::Via;
 use leg_flat::{Owner, Piece};
+use leg_text::push_first;
 use std::alloc::{AllocError, Allocator};
 
 /// The name of the layer of this number; empty where there is none.
@@ -133,24 +136,20 @@ pub(crate) fn design_pin_name<'d, A: Allocator + Copy>(
     }
 }
 
-/// Adds a terminal: a pin of a component after the component's name, or a pin of the design after its word.
-fn push_terminal<A: Allocator + Copy>(
-    text: &mut Vec<u8, A>,
-    design: &Design<'_, A>,
+/// The words that name a terminal: a component and its pin, or `PIN` and a pin of the design.
+pub(crate) fn terminal_names<'d, A: Allocator + Copy>(
+    design: &'d Design<'_, A>,
     terminal: &Terminal,
-) -> Result<(), AllocError>
-    ensures { OnOk result (text.new.items ≡ text.old.items ++ terminal_text design.now terminal.now) }
+) -> (&'d [u8], &'d [u8])
+    ensures text { terminal_text design.now terminal.now ≡ result.0.now ++ codes " " ++ result.1.now }
+    ensures words { terminal_words design.now terminal.now ≡ codes "(" ∷ result.0.now ∷ result.1.now ∷ codes ")" ∷ [] }
 {
     match terminal {
-        Terminal::Comp { component, pin } => {
-            text.extend_from_slice(component_name(design, *component))?;
-            text.extend_from_slice(b" ")?;
-            text.extend_from_slice(component_pin_name(design, *component, *pin))
-        }
-        Terminal::Pin(number) => {
-            text.extend_from_slice(b"PIN ")?;
-            text.extend_from_slice(design_pin_name(design, *number))
-        }
+        Terminal::Comp { component, pin } => (
+            component_name(design, *component),
+            component_pin_name(design, *component, *pin),
+        ),
+        Terminal::Pin(number) => (b"PIN", design_pin_name(design, *number)),
     }
 }
 
@@ -163,20 +162,14 @@ pub(crate) fn push_owner<A: Allocator + Copy>(
     ensures { OnOk result (text.new.items ≡ text.old.items ++ owner_text design.now owner.now) }
 {
     match owner {
-        Owner::Net(net) => {
-            text.extend_from_slice(b"NET ")?;
-            text.extend_from_slice(net_name(design, *net))
-        }
+        Owner::Net(net) => push_parts(text, &[b"NET ", net_name(design, *net)]),
         Owner::Lone(terminal) => {
-            text.extend_from_slice(b"TERM ")?;
-            push_terminal(text, design, terminal)
+            let (owner, pin) = terminal_names(design, terminal);
+            push_parts(text, &[b"TERM ", owner, b" ", pin])
         }
-        Owner::Power => text.extend_from_slice(b"POWER"),
-        Owner::Ground => text.extend_from_slice(b"GROUND"),
-        Owner::Obs(component) => {
-            text.extend_from_slice(b"OBS ")?;
-            text.extend_from_slice(component_name(design, *component))
-        }
+        Owner::Power => push_first(text, b"POWER"),
+        Owner::Ground => push_first(text, b"GROUND"),
+        Owner::Obs(component) => push_parts(text, &[b"OBS ", component_name(design, *component)]),
     }
 }
 
@@ -189,11 +182,14 @@ pub(crate) fn push_piece<A: Allocator + Copy>(
     ensures { OnOk result (text.new.items ≡ text.old.items ++ piece_text design.now piece.now) }
 {
     match piece {
-        Piece::Term(terminal) => push_terminal(text, design, terminal),
+        Piece::Term(terminal) => {
+            let (owner, pin) = terminal_names(design, terminal);
+            push_parts(text, &[owner, b" ", pin])
+        }
         Piece::Wire(number) => {
-            text.extend_from_slice(b"WIRE ")?;
-            let mut buffer = Buffer::new();
-            text.extend_from_slice(buffer.format(u64::from(*number) + 1).as_bytes())
+            let mut digits = Buffer::new();
+            let count = digits.format(u64::from(*number) + 1);
+            push_parts(text, &[b"WIRE ", count.as_bytes()])
         }
     }
 }

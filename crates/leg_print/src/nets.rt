@@ -1,43 +1,22 @@
 //! The sections of nets.
 
-ghost use Rattle.std.specs.Prelude.{◌≡◌, ◌++◌, OnOk, map, codes, ◌∷◌};
+ghost use Rattle.std.specs.Prelude.{◌≡◌, ◌++◌, OnOk, map};
 ghost use Rattle.std.specs.List.{flat_map};
 ghost use Rattle.leg_text.specs.Spaced.{spaced};
 ghost use Rattle.leg_print.specs.Text.Wires.{wire_words};
-ghost use Rattle.leg_print.specs.Text.Nets.{terminal_words, net_head, wiring_words, wire_line, net_text};
-ghost use Rattle.leg_print.specs.Text.Sections.{section_text};
+ghost use Rattle.leg_print.specs.Text.Nets.{terminal_words, wiring_words, wire_line, net_text};
 ghost use Rattle.leg_print.specs.Text.Whole.{net_section, nets_text};
 
 use crate::clauses::push_kept;
-use crate::name::{component_name, component_pin_name, design_pin_name};
+use crate::name::terminal_names;
 use crate::sections::{push_section_end, push_section_start};
 use crate::wires::push_wire;
+use crate::words::push_start;
 use leg_block::{Design, Net, Terminal, Wire};
-use leg_text::{push_end, push_first, push_word, push_words};
+use leg_text::{push_end, push_words};
 use std::alloc::{AllocError, Allocator};
 
-/// Adds a terminal, in its parentheses.
-fn push_terminal<A: Allocator + Copy>(
-    text: &mut Vec<u8, A>,
-    design: &Design<'_, A>,
-    terminal: &Terminal,
-) -> Result<(), AllocError>
-    ensures { OnOk result (text.new.items ≡ text.old.items ++ spaced (terminal_words design.now terminal.now)) }
-{
-    let (owner, pin) = match terminal {
-        Terminal::Comp { component, pin } => (
-            component_name(design, *component),
-            component_pin_name(design, *component, *pin),
-        ),
-        Terminal::Pin(pin) => (b"PIN".as_slice(), design_pin_name(design, *pin)),
-    };
-    push_word(text, b"(")?;
-    push_word(text, owner)?;
-    push_word(text, pin)?;
-    push_word(text, b")")
-}
-
-/// Adds the terminals of a net.
+/// Adds the terminals of a net, each in its parentheses.
 fn push_terminals<A: Allocator + Copy>(
     text: &mut Vec<u8, A>,
     design: &Design<'_, A>,
@@ -46,59 +25,24 @@ fn push_terminals<A: Allocator + Copy>(
     ensures { OnOk result (text.new.items ≡ text.old.items ++ spaced (flat_map (terminal_words design.now) terminals.now)) }
 {
     for terminal in terminals {
-        push_terminal(text, design, terminal)?;
+        let (owner, pin) = terminal_names(design, terminal);
+        push_words(text, &[b"(", owner, pin, b")"])?;
     }
     Ok(())
 }
 
-/// Begins a line of a wire.
-fn push_wire_start<A: Allocator>(text: &mut Vec<u8, A>) -> Result<(), AllocError>
-    ensures { OnOk result (text.new.items ≡ text.old.items ++ codes "\n ") }
-{
-    text.extend_from_slice(b"\n ")
-}
-
-/// Adds the line of a net's first wire.
-fn push_first_wire<A: Allocator + Copy>(
+/// Adds the line of a wire, which begins with these words.
+fn push_wire_line<A: Allocator + Copy>(
     text: &mut Vec<u8, A>,
     design: &Design<'_, A>,
     special: bool,
+    words: &[&[u8]],
     wire: &Wire,
 ) -> Result<(), AllocError>
-    ensures { OnOk result (text.new.items ≡ text.old.items ++ wire_line (codes "+" ∷ codes "ROUTED" ∷ wire_words design.now special wire.now)) }
+    ensures { OnOk result (text.new.items ≡ text.old.items ++ wire_line (map (λ word. word.now) words.now ++ wire_words design.now special wire.now)) }
 {
-    push_wire_start(text)?;
-    push_words(text, &[b"+".as_slice(), b"ROUTED".as_slice()])?;
+    push_start(text, b"\n ", words)?;
     push_wire(text, design, special, wire)
-}
-
-/// Adds the line of another wire.
-fn push_new_wire<A: Allocator + Copy>(
-    text: &mut Vec<u8, A>,
-    design: &Design<'_, A>,
-    special: bool,
-    wire: &Wire,
-) -> Result<(), AllocError>
-    ensures { OnOk result (text.new.items ≡ text.old.items ++ wire_line (codes "NEW" ∷ wire_words design.now special wire.now)) }
-{
-    push_wire_start(text)?;
-    push_word(text, b"NEW")?;
-    push_wire(text, design, special, wire)
-}
-
-/// Adds the lines of wires after a net's first one.
-fn push_new_wires<A: Allocator + Copy>(
-    text: &mut Vec<u8, A>,
-    design: &Design<'_, A>,
-    special: bool,
-    wires: &[Wire],
-) -> Result<(), AllocError>
-    ensures { OnOk result (text.new.items ≡ text.old.items ++ flat_map wire_line (map (λ other. codes "NEW" ∷ wire_words design.now special other) wires.now)) }
-{
-    for wire in wires {
-        push_new_wire(text, design, special, wire)?;
-    }
-    Ok(())
 }
 
 /// Adds the lines of a net's wires.
@@ -113,21 +57,11 @@ fn push_wires<A: Allocator + Copy>(
     let Some((first, others)) = wires.split_first() else {
         return Ok(());
     };
-    push_first_wire(text, design, special, first)?;
-    push_new_wires(text, design, special, others)
-}
-
-/// Adds the words of a net up to its wires.
-fn push_net_head<A: Allocator + Copy>(
-    text: &mut Vec<u8, A>,
-    design: &Design<'_, A>,
-    net: &Net<'_, A>,
-) -> Result<(), AllocError>
-    ensures { OnOk result (text.new.items ≡ text.old.items ++ spaced (net_head design.now net.now)) }
-{
-    push_word(text, net.name.bytes())?;
-    push_terminals(text, design, net.terminals.as_slice())?;
-    push_kept(text, b"USE", &net.usage)
+    push_wire_line(text, design, special, &[b"+", b"ROUTED"], first)?;
+    for wire in others {
+        push_wire_line(text, design, special, &[b"NEW"], wire)?;
+    }
+    Ok(())
 }
 
 /// Adds the entry of a net.
@@ -139,25 +73,11 @@ fn push_net<A: Allocator + Copy>(
 ) -> Result<(), AllocError>
     ensures { OnOk result (text.new.items ≡ text.old.items ++ net_text design.now special net.now) }
 {
-    push_first(text, b"-")?;
-    push_net_head(text, design, net)?;
+    push_start(text, b"-", &[net.name.bytes()])?;
+    push_terminals(text, design, net.terminals.as_slice())?;
+    push_kept(text, b"USE", &net.usage)?;
     push_wires(text, design, special, net.wires.as_slice())?;
     push_end(text)
-}
-
-/// Adds entries of nets.
-fn push_net_entries<A: Allocator + Copy>(
-    text: &mut Vec<u8, A>,
-    design: &Design<'_, A>,
-    special: bool,
-    nets: &[Net<'_, A>],
-) -> Result<(), AllocError>
-    ensures { OnOk result (text.new.items ≡ text.old.items ++ flat_map (net_text design.now special) nets.now) }
-{
-    for net in nets {
-        push_net(text, design, special, net)?;
-    }
-    Ok(())
 }
 
 /// The word of the section.
@@ -167,26 +87,8 @@ fn net_section(special: bool) -> &'static [u8]
     if special { b"SPECIALNETS" } else { b"NETS" }
 }
 
-/// Adds a section of these nets, where there are any.
+/// Adds the section of these nets, which are those of `SPECIALNETS` or those of `NETS`, where there are any.
 #[tactic(auto, using(crate::proofs::SectionText::no_section))]
-fn push_net_section<A: Allocator + Copy>(
-    text: &mut Vec<u8, A>,
-    design: &Design<'_, A>,
-    special: bool,
-    keyword: &[u8],
-    nets: &[Net<'_, A>],
-) -> Result<(), AllocError>
-    ensures { OnOk result (text.new.items ≡ text.old.items ++ section_text keyword.now (net_text design.now special) nets.now) }
-{
-    if nets.is_empty() {
-        return Ok(());
-    }
-    push_section_start(text, keyword, nets.len())?;
-    push_net_entries(text, design, special, nets)?;
-    push_section_end(text, keyword)
-}
-
-/// Adds the section of these nets, which are those of `SPECIALNETS` or those of `NETS`.
 pub(crate) fn push_nets<A: Allocator + Copy>(
     text: &mut Vec<u8, A>,
     design: &Design<'_, A>,
@@ -195,5 +97,13 @@ pub(crate) fn push_nets<A: Allocator + Copy>(
 ) -> Result<(), AllocError>
     ensures { OnOk result (text.new.items ≡ text.old.items ++ nets_text design.now special nets.now) }
 {
-    push_net_section(text, design, special, net_section(special), nets)
+    if nets.is_empty() {
+        return Ok(());
+    }
+    let keyword = net_section(special);
+    push_section_start(text, keyword, nets.len())?;
+    for net in nets {
+        push_net(text, design, special, net)?;
+    }
+    push_section_end(text, keyword)
 }

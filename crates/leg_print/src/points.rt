@@ -1,12 +1,12 @@
-//! Points, corners and places as words.
+//! Points, corners and orientations as words.
 
 ghost use Rattle.std.specs.Prelude.{◌≡◌, ◌++◌, OnOk};
 ghost use Rattle.leg_text.specs.Spaced.{spaced};
-ghost use Rattle.leg_print.specs.Text.Points.{spot_words, corner_words, orient_word, place_words};
+ghost use Rattle.leg_print.specs.Text.Points.{spot_words, corner_words, orient_word};
 
 use itoa::Buffer;
-use leg_geom::{Orient, Place, Point, Rect};
-use leg_text::{push_word, push_words};
+use leg_geom::{Orient, Point, Rect};
+use leg_text::push_words;
 use std::alloc::{AllocError, Allocator};
 
 /// Adds a point, in its parentheses.
@@ -18,10 +18,10 @@ pub(crate) fn push_spot<A: Allocator>(text: &mut Vec<u8, A>, spot: &Point) -> Re
     push_words(
         text,
         &[
-            b"(".as_slice(),
+            b"(",
             x.format(spot.x()).as_bytes(),
             y.format(spot.y()).as_bytes(),
-            b")".as_slice(),
+            b")",
         ],
     )
 }
@@ -40,14 +40,14 @@ pub(crate) fn push_corners<A: Allocator>(
     push_words(
         text,
         &[
-            b"(".as_slice(),
+            b"(",
             left.format(rect.x1()).as_bytes(),
             bottom.format(rect.y1()).as_bytes(),
-            b")".as_slice(),
-            b"(".as_slice(),
+            b")",
+            b"(",
             right.format(rect.x2()).as_bytes(),
             top.format(rect.y2()).as_bytes(),
-            b")".as_slice(),
+            b")",
         ],
     )
 }
@@ -66,15 +66,4 @@ pub(crate) fn orient_word(orient: Orient) -> &'static [u8]
         Orient::FW => b"FW",
         Orient::FE => b"FE",
     }
-}
-
-/// Adds a place: its point and its orientation.
-pub(crate) fn push_place<A: Allocator>(
-    text: &mut Vec<u8, A>,
-    place: &Place,
-) -> Result<(), AllocError>
-    ensures { OnOk result (text.new.items ≡ text.old.items ++ spaced (place_words place.now)) }
-{
-    push_spot(text, &place.at)?;
-    push_word(text, orient_word(place.orient))
 }

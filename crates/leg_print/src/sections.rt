@@ -4,8 +4,8 @@ ghost use Rattle.std.specs.Prelude.{◌≡◌, ◌++◌, OnOk};
 ghost use Rattle.leg_text.specs.Spaced.{line};
 ghost use Rattle.leg_print.specs.Text.Sections.{section_start_words, end_words};
 
+use crate::words::push_line;
 use itoa::Buffer;
-use leg_text::{push_end, push_first, push_line_feed, push_word};
 use std::alloc::{AllocError, Allocator};
 
 /// Adds the line that begins a section of this many entries.
@@ -17,9 +17,7 @@ pub(crate) fn push_section_start<A: Allocator>(
     ensures { OnOk result (text.new.items ≡ text.old.items ++ line (section_start_words keyword.now count)) }
 {
     let mut digits = Buffer::new();
-    push_first(text, keyword)?;
-    push_word(text, digits.format(count).as_bytes())?;
-    push_end(text)
+    push_line(text, keyword, &[digits.format(count).as_bytes(), b";"])
 }
 
 /// Adds the line that ends a section, or the whole text.
@@ -29,7 +27,5 @@ pub(crate) fn push_section_end<A: Allocator>(
 ) -> Result<(), AllocError>
     ensures { OnOk result (text.new.items ≡ text.old.items ++ line (end_words keyword.now)) }
 {
-    push_first(text, b"END")?;
-    push_word(text, keyword)?;
-    push_line_feed(text)
+    push_line(text, b"END", &[keyword])
 }

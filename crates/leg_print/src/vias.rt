@@ -1,16 +1,16 @@
 //! The section of vias.
 
 ghost use Rattle.std.specs.Prelude.{◌≡◌, ◌++◌, OnOk};
-ghost use Rattle.std.specs.List.{flat_map};
 ghost use Rattle.leg_text.specs.Spaced.{line};
 ghost use Rattle.leg_print.specs.Text.Vias.{via_words};
 ghost use Rattle.leg_print.specs.Text.Whole.{vias_text};
 
 use crate::clauses::push_shapes;
 use crate::sections::{push_section_end, push_section_start};
+use crate::words::push_start;
 use leg_block::Design;
 use leg_cells::Via;
-use leg_text::{push_end, push_first, push_word};
+use leg_text::push_end;
 use std::alloc::{AllocError, Allocator};
 
 /// Adds the entry of a via.
@@ -21,24 +21,9 @@ fn push_via<A: Allocator + Copy>(
 ) -> Result<(), AllocError>
     ensures { OnOk result (text.new.items ≡ text.old.items ++ line (via_words design.now via.now)) }
 {
-    push_first(text, b"-")?;
-    push_word(text, via.name.bytes())?;
+    push_start(text, b"-", &[via.name.bytes()])?;
     push_shapes(text, design, b"RECT", via.shapes.as_slice())?;
     push_end(text)
-}
-
-/// Adds an entry for each via.
-fn push_via_entries<A: Allocator + Copy>(
-    text: &mut Vec<u8, A>,
-    design: &Design<'_, A>,
-    vias: &[Via<'_, A>],
-) -> Result<(), AllocError>
-    ensures { OnOk result (text.new.items ≡ text.old.items ++ flat_map (λ via. line (via_words design.now via)) vias.now) }
-{
-    for via in vias {
-        push_via(text, design, via)?;
-    }
-    Ok(())
 }
 
 /// Adds the section of vias, where there are any.
@@ -54,6 +39,8 @@ pub(crate) fn push_vias<A: Allocator + Copy>(
         return Ok(());
     }
     push_section_start(text, b"VIAS", vias.len())?;
-    push_via_entries(text, design, vias)?;
+    for via in vias {
+        push_via(text, design, via)?;
+    }
     push_section_end(text, b"VIAS")
 }

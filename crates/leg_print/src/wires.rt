@@ -18,14 +18,17 @@ use leg_geom::{Point, Rect};
 use leg_text::{push_number, push_word, push_words};
 use std::alloc::{AllocError, Allocator};
 
-/// Adds the width of a path, which is written in `SPECIALNETS` only.
-fn push_width<A: Allocator>(
+/// Adds what a path begins with: its layer, and its width, which is written in `SPECIALNETS` only.
+fn push_path_start<A: Allocator + Copy>(
     text: &mut Vec<u8, A>,
+    design: &Design<'_, A>,
     special: bool,
+    layer: usize,
     width: i64,
 ) -> Result<(), AllocError>
-    ensures { OnOk result (text.new.items ≡ text.old.items ++ spaced (width_words special width)) }
+    ensures { OnOk result (text.new.items ≡ text.old.items ++ spaced (layer_name design.now layer ∷ width_words special width)) }
 {
+    push_word(text, layer_name(design, layer))?;
     if special {
         push_number(text, width)
     } else {
@@ -55,49 +58,34 @@ fn default_extension<A: Allocator + Copy>(
     }
 }
 
-/// Adds what a point begins with: its parenthesis and its coordinates.
-fn push_open<A: Allocator>(text: &mut Vec<u8, A>, spot: &Point) -> Result<(), AllocError>
-    ensures { OnOk result (text.new.items ≡ text.old.items ++ spaced (codes "(" ∷ signed_decimal spot.now.x ∷ signed_decimal spot.now.y ∷ [])) }
+/// Adds an end of a segment on this layer, with its extension where that isn't the one that holds without.
+fn push_segment_end<A: Allocator + Copy>(
+    text: &mut Vec<u8, A>,
+    design: &Design<'_, A>,
+    special: bool,
+    layer: usize,
+    spot: &Point,
+    extension: i64,
+) -> Result<(), AllocError>
+    ensures { OnOk result (text.new.items ≡ text.old.items ++ spaced (point_words spot.now (given_extension design.now.library special layer extension))) }
 {
+    let default = default_extension(design, special, layer);
+    if extension == default {
+        return push_spot(text, spot);
+    }
     let mut x = Buffer::new();
     let mut y = Buffer::new();
+    let mut past = Buffer::new();
     push_words(
         text,
         &[
-            b"(".as_slice(),
+            b"(",
             x.format(spot.x()).as_bytes(),
             y.format(spot.y()).as_bytes(),
+            past.format(extension).as_bytes(),
+            b")",
         ],
     )
-}
-
-/// Adds an extension where it isn't this one.
-fn push_extension<A: Allocator>(
-    text: &mut Vec<u8, A>,
-    extension: i64,
-    default: i64,
-) -> Result<(), AllocError>
-    ensures { OnOk result (text.new.items ≡ text.old.items ++ spaced (number_words (if int_eq extension default then None else Some extension))) }
-{
-    if extension == default {
-        Ok(())
-    } else {
-        push_number(text, extension)
-    }
-}
-
-/// Adds a point, with its extension where that isn't this one.
-fn push_point<A: Allocator>(
-    text: &mut Vec<u8, A>,
-    spot: &Point,
-    extension: i64,
-    default: i64,
-) -> Result<(), AllocError>
-    ensures { OnOk result (text.new.items ≡ text.old.items ++ spaced (point_words spot.now (if int_eq extension default then None else Some extension))) }
-{
-    push_open(text, spot)?;
-    push_extension(text, extension, default)?;
-    push_word(text, b")")
 }
 
 /// The lowest layer that the shapes lie on; 0 where there are none.
@@ -134,35 +122,12 @@ fn push_via<A: Allocator + Copy>(
 ) -> Result<(), AllocError>
     ensures { OnOk result (text.new.items ≡ text.old.items ++ spaced (via_wire_words design.now special via at.now)) }
 {
-    push_word(text, layer_name(design, layer_of_via(design, via)))?;
-    push_width(text, special, 0)?;
+    push_path_start(text, design, special, layer_of_via(design, via), 0)?;
     push_spot(text, at)?;
     push_word(text, via_name(design, via))
 }
 
-/// Adds a rectangle that is given from a point.
-fn push_rect<A: Allocator>(text: &mut Vec<u8, A>, rect: &Rect) -> Result<(), AllocError>
-    ensures { OnOk result (text.new.items ≡ text.old.items ++ spaced (codes "RECT" ∷ codes "(" ∷ signed_decimal rect.now.x1 ∷ signed_decimal rect.now.y1 ∷ signed_decimal rect.now.x2 ∷ signed_decimal rect.now.y2 ∷ codes ")" ∷ [])) }
-{
-    let mut left = Buffer::new();
-    let mut bottom = Buffer::new();
-    let mut right = Buffer::new();
-    let mut top = Buffer::new();
-    push_words(
-        text,
-        &[
-            b"RECT".as_slice(),
-            b"(".as_slice(),
-            left.format(rect.x1()).as_bytes(),
-            bottom.format(rect.y1()).as_bytes(),
-            right.format(rect.x2()).as_bytes(),
-            top.format(rect.y2()).as_bytes(),
-            b")".as_slice(),
-        ],
-    )
-}
-
-/// Adds the path of a rectangle.
+/// Adds the path of a rectangle, which is given from a point.
 fn push_patch<A: Allocator + Copy>(
     text: &mut Vec<u8, A>,
     design: &Design<'_, A>,
@@ -172,38 +137,26 @@ fn push_patch<A: Allocator + Copy>(
 ) -> Result<(), AllocError>
     ensures { OnOk result (text.new.items ≡ text.old.items ++ spaced (patch_words design.now layer at.now rect.now)) }
 {
-    push_word(text, layer_name(design, layer))?;
-    push_spot(text, at)?;
-    push_rect(text, rect)
-}
-
-/// Adds what the path of a segment begins with: its layer and its width.
-fn push_path_start<A: Allocator + Copy>(
-    text: &mut Vec<u8, A>,
-    design: &Design<'_, A>,
-    special: bool,
-    layer: usize,
-    width: i64,
-) -> Result<(), AllocError>
-    ensures { OnOk result (text.new.items ≡ text.old.items ++ spaced (layer_name design.now layer ∷ width_words special width)) }
-{
-    push_word(text, layer_name(design, layer))?;
-    push_width(text, special, width)
-}
-
-/// Adds an end of a segment on this layer, with its extension where that isn't the one that holds without.
-fn push_segment_end<A: Allocator + Copy>(
-    text: &mut Vec<u8, A>,
-    design: &Design<'_, A>,
-    special: bool,
-    layer: usize,
-    spot: &Point,
-    extension: i64,
-) -> Result<(), AllocError>
-    ensures { OnOk result (text.new.items ≡ text.old.items ++ spaced (point_words spot.now (given_extension design.now.library special layer extension))) }
-{
-    let default = default_extension(design, special, layer);
-    push_point(text, spot, extension, default)
+    let (mut x, mut y) = (Buffer::new(), Buffer::new());
+    let (mut left, mut bottom) = (Buffer::new(), Buffer::new());
+    let (mut right, mut top) = (Buffer::new(), Buffer::new());
+    push_words(
+        text,
+        &[
+            layer_name(design, layer),
+            b"(",
+            x.format(at.x()).as_bytes(),
+            y.format(at.y()).as_bytes(),
+            b")",
+            b"RECT",
+            b"(",
+            left.format(rect.x1()).as_bytes(),
+            bottom.format(rect.y1()).as_bytes(),
+            right.format(rect.x2()).as_bytes(),
+            top.format(rect.y2()).as_bytes(),
+            b")",
+        ],
+    )
 }
 
 /// Adds the path of a wire.

@@ -2,7 +2,7 @@ use Rattle.std.proofs.Common.{◌≡◌, ◌++◌, take}
 use Rattle.std.specs.List.{flat_map}
 use Rattle.leg_text.specs.Spaced.{line}
 use Rattle.leg_print.specs.Text.Components.{component_words}
-use Rattle.leg_print.proofs.components.push_component_entries.Given as goal
+use Rattle.leg_print.proofs.components.push_components.Given as goal
 
 abbrev pub invariant-loop-component : goal.invariant-loop-component
-invariant-loop-component g l = l.text.items ≡ l.fn.text.items ++ flat_map (λ component. line (component_words l.design component)) (take l.component-index l.components)
+invariant-loop-component g l = l.text.items ≡ l.initial.text.items ++ flat_map (λ component. line (component_words l.design component)) (take l.component-index l.components)

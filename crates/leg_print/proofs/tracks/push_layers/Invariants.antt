@@ -1,7 +1,7 @@
 use Rattle.std.proofs.Common.{◌≡◌, ◌++◌, map, take}
 use Rattle.leg_text.specs.Spaced.{spaced}
 use Rattle.leg_print.specs.Names.{layer_name}
-use Rattle.leg_print.proofs.tracks.push_layer_names.Given as goal
+use Rattle.leg_print.proofs.tracks.push_layers.Given as goal
 
 abbrev pub invariant-loop-layer : goal.invariant-loop-layer
-invariant-loop-layer g l = l.text.items ≡ l.fn.text.items ++ spaced (map (layer_name l.design) (take l.layer-index l.layers))
+invariant-loop-layer g l = l.text.items ≡ l.initial.text.items ++ spaced (map (layer_name l.design) (take l.layer-index l.layers))

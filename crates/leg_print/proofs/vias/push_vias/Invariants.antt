@@ -2,7 +2,7 @@ use Rattle.std.proofs.Common.{◌≡◌, ◌++◌, take}
 use Rattle.std.specs.List.{flat_map}
 use Rattle.leg_text.specs.Spaced.{line}
 use Rattle.leg_print.specs.Text.Vias.{via_words}
-use Rattle.leg_print.proofs.vias.push_via_entries.Given as goal
+use Rattle.leg_print.proofs.vias.push_vias.Given as goal
 
 abbrev pub invariant-loop-via : goal.invariant-loop-via
-invariant-loop-via g l = l.text.items ≡ l.fn.text.items ++ flat_map (λ via. line (via_words l.design via)) (take l.via-index l.vias)
+invariant-loop-via g l = l.text.items ≡ l.initial.text.items ++ flat_map (λ via. line (via_words l.design via)) (take l.via-index l.vias)

@@ -1,0 +1,11 @@
+use Rattle.std.proofs.Common.{◌++◌, sym, ap, ◌∙◌}
+use Rattle.leg_text.specs.Spaced.{spaced}
+use Rattle.leg_print.specs.Text.Nets.{terminal_words}
+use Rattle.leg_print.proofs.InTurn.{next_run}
+use Rattle.leg_print.proofs.nets.push_terminals.Goals as goal
+
+pub loop-terminal-preserved : goal.loop-terminal-preserved
+loop-terminal-preserved g c =
+    next_run (terminal_words c.args.design.now) c.args.terminals.now c.loop-terminal.terminal-index _ _ c.loop-terminal.text.items _
+    c.loop-terminal-test.true c.loop-terminal.invariant
+    (c.in_ok-push_words.ensures ∙ ap (λ run. c.loop-terminal.text.items ++ spaced run) (sym c.terminal_names.ensures.words))
