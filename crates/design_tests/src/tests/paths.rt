@@ -3,7 +3,6 @@
 use super::frame::{has_sides, is_at, says};
 use leg_block::{Design, Wire};
 use std::alloc::Global;
-use std::test::Fail;
 
 // The ends of a segment, and its width and its extensions.
 fn is_segment(wire: &Wire, on: usize, ends: [i64; 4], numbers: [i64; 3]) -> bool {
@@ -60,9 +59,8 @@ fn has_a_segment(design: &Design<'_, Global>) -> bool {
 }
 
 #[test]
-fn an_extension_goes_with_its_end(rt: HostRuntime) -> Result<(), Fail> {
-    assert!(rt; says(rt.alloc(), a_segment(), has_a_segment)?);
-    Ok(())
+fn an_extension_goes_with_its_end(rt: HostRuntime) {
+    assert!(rt; says(rt.alloc(), a_segment(), has_a_segment));
 }
 
 // The 7 is where the path repeats its second point.
@@ -80,9 +78,8 @@ fn has_a_corner(design: &Design<'_, Global>) -> bool {
 }
 
 #[test]
-fn an_extension_holds_for_both_segments(rt: HostRuntime) -> Result<(), Fail> {
-    assert!(rt; says(rt.alloc(), a_corner(), has_a_corner)?);
-    Ok(())
+fn an_extension_holds_for_both_segments(rt: HostRuntime) {
+    assert!(rt; says(rt.alloc(), a_corner(), has_a_corner));
 }
 
 fn a_change_of_layer() -> &'static str {
@@ -104,9 +101,8 @@ fn has_a_change_of_layer(design: &Design<'_, Global>) -> bool {
 
 // A via leads to its other layer, which has a width and a default extension of its own.
 #[test]
-fn a_via_changes_the_layer(rt: HostRuntime) -> Result<(), Fail> {
-    assert!(rt; says(rt.alloc(), a_change_of_layer(), has_a_change_of_layer)?);
-    Ok(())
+fn a_via_changes_the_layer(rt: HostRuntime) {
+    assert!(rt; says(rt.alloc(), a_change_of_layer(), has_a_change_of_layer));
 }
 
 fn a_special_path() -> &'static str {
@@ -130,7 +126,6 @@ fn has_a_special_path(design: &Design<'_, Global>) -> bool {
 
 // The written width stays, and the vias of the DEF count after the library's.
 #[test]
-fn a_special_path_has_its_own_width(rt: HostRuntime) -> Result<(), Fail> {
-    assert!(rt; says(rt.alloc(), a_special_path(), has_a_special_path)?);
-    Ok(())
+fn a_special_path_has_its_own_width(rt: HostRuntime) {
+    assert!(rt; says(rt.alloc(), a_special_path(), has_a_special_path));
 }

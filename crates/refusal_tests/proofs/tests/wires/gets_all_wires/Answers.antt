@@ -3,11 +3,11 @@ use Rattle.std.proofs.Common.{rules, ◌≡◌, ◌<◌, [], ◌∷◌, All, fal
 use Rattle.std.proofs.lemmas.List.{nil_from_length}
 use Rattle.std.proofs.lemmas.List.Elements.{All-cons}
 use Rattle.leg_block.specs.WellFormedNets.{IsWire}
-use Rattle.design_tests.proofs.Wires.{spelled_of, wire_count_with}
-use Rattle.design_tests.proofs.tests.changes.gets_all_wires.Goals as goal
+use Rattle.refusal_tests.proofs.Wires.{spelled_of, wire_count_with}
+use Rattle.refusal_tests.proofs.tests.wires.gets_all_wires.Goals as goal
 
 pub with_all_wires-requires-clause-spelled : goal.with_all_wires-requires-clause-spelled
-with_all_wires-requires-clause-spelled c =
+with_all_wires-requires-clause-spelled g c =
     let wired = c.args.wired.now in
     let design = c.args.open in
     let library : wired.library ≡ design.library = sym c.library.ensures.is ∙ c.if-not-fits.ensures.0 refl in
@@ -20,7 +20,7 @@ with_all_wires-requires-clause-spelled c =
     rw lists (All-cons (λ w. All (IsWire design.library design.vias false) w.items) c.in_ok-wires.wires [] wires (λ k d less. absurd (omega (arith, less))))
 
 pub with_all_wires-requires-clause-few : goal.with_all_wires-requires-clause-few
-with_all_wires-requires-clause-few c =
+with_all_wires-requires-clause-few g c =
     let design = c.args.open in
     let none : length c.index-nets-0.result.wires ≡ 0 = rw (← ap (λ net. net.wires) c.before-2.view_is, ← c.as_slice.ensures) c.if-as_slice-ne0.false in
     let one : length design.nets ≡ 1 = rw (← c.nets.ensures.is) c.if-nets-ne1.false in

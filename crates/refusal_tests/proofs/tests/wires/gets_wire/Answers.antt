@@ -1,11 +1,11 @@
 -- What the other net has, this one may get.
 use Rattle.std.proofs.Common.{◌≡◌, ◌<◌, [], length, refl, sym, ap, ◌∙◌, arith}
 use Rattle.std.proofs.lemmas.List.{nil_from_length}
-use Rattle.design_tests.proofs.Wires.{spelled_of, wire_count_one}
-use Rattle.design_tests.proofs.tests.changes.gets_wire.Goals as goal
+use Rattle.refusal_tests.proofs.Wires.{spelled_of, wire_count_one}
+use Rattle.refusal_tests.proofs.tests.wires.gets_wire.Goals as goal
 
 pub with_wires-requires-clause-spelled : goal.with_wires-requires-clause-spelled
-with_wires-requires-clause-spelled c =
+with_wires-requires-clause-spelled g c =
     let wired = c.args.wired.now in
     let design = c.args.open in
     let library : wired.library ≡ design.library = sym c.library.ensures.is ∙ c.if-not-fits.ensures.0 refl in
@@ -16,7 +16,7 @@ with_wires-requires-clause-spelled c =
     rw (c.in_ok-wires.ensures.items ∙ c.as_slice-2.ensures ∙ ap (λ net. net.wires) c.net.view_is) spelled
 
 pub with_wires-requires-clause-few : goal.with_wires-requires-clause-few
-with_wires-requires-clause-few c =
+with_wires-requires-clause-few g c =
     let design = c.args.open in
     let none : length c.index-nets-0.result.wires ≡ 0 = rw (← ap (λ net. net.wires) c.before-2.view_is, ← c.as_slice.ensures) c.if-as_slice-ne0.false in
     let one : length design.nets ≡ 1 = rw (← c.nets.ensures.is) c.if-nets-ne1.false in

@@ -1,0 +1,254 @@
+//! Calls that are lent a design.
+
+use super::turn::{is_last, turn_of_list};
+use leg_app::check_design;
+use leg_block::Design;
+use leg_cells::Library;
+use leg_design::read_def;
+use leg_flat::{Flat, FlatFault, flatten};
+use leg_place::place_faults;
+use leg_print::{print_def, print_faults};
+use leg_wire::{joined, open_faults, spacing_faults};
+use refusing_alloc::{Refused, RefusingAlloc, Turn, Turns};
+use std::alloc::{Allocator, Global};
+
+/// A call on a design, or on its flat.
+#[derive(Clone, Copy)]
+pub(super) enum DesignCall {
+    Flatten,
+    /// Its first net gets its first wire a second time.
+    AddWire,
+    CheckDesign,
+    PlaceFaults,
+    SpacingFaults,
+    /// Of its first net.
+    Joined,
+    OpenFaults,
+    PrintDef,
+    /// Of all its violations.
+    PrintFaults,
+}
+
+/// Whether these have the same shapes, and nets with the same pieces.
+fn are_same_flats<A: Allocator + Copy>(flat: &Flat<A>, other: &Flat<A>) -> bool {
+    if flat.shapes() != other.shapes() || flat.net_count() != other.net_count() {
+        return false;
+    }
+    for net in 0..flat.net_count() {
+        if flat.pieces(net) != other.pieces(net) {
+            return false;
+        }
+    }
+    true
+}
+
+fn flatten_in_turn<A: Allocator + Copy>(
+    alloc: A,
+    refusing: &RefusingAlloc<Global>,
+    design: &Design<'_, A>,
+    number: u64,
+) -> Option<Turn> {
+    let ample = flatten(alloc, design.library(), design).ok()?;
+    refusing.refuse(Refused::Growth(number));
+    let found = flatten(alloc, design.library(), design);
+    let turn = refusing.turn_ended(found.is_err());
+    let is_right = match found {
+        Ok(flat) => are_same_flats(&flat, &ample),
+        Err(fault) => fault == FlatFault::Memory,
+    };
+    is_right.then_some(turn)
+}
+
+/// The flat of the design, whose first net has its first wire a second time.
+fn with_a_wire_more<A: Allocator + Copy>(alloc: A, design: &Design<'_, A>) -> Option<Flat<A>> {
+    let mut flat = flatten(alloc, design.library(), design).ok()?;
+    add_first_wire(&mut flat, design)?.ok()?;
+    Some(flat)
+}
+
+/// Adds the first wire of the first net to this net. There may be no such wire.
+fn add_first_wire<A: Allocator + Copy>(
+    flat: &mut Flat<A>,
+    design: &Design<'_, A>,
+) -> Option<Result<(), FlatFault>> {
+    if flat.net_count() == 0 || design.nets().len() == 0 {
+        return None;
+    }
+    let net = &design.nets()[0];
+    let wires = net.wires.as_slice();
+    if wires.len() == 0 {
+        return None;
+    }
+    Some(flat.add_wire(design.library(), design, 0, &wires[0]))
+}
+
+fn add_wire_in_turn<A: Allocator + Copy>(
+    alloc: A,
+    refusing: &RefusingAlloc<Global>,
+    design: &Design<'_, A>,
+    number: u64,
+) -> Option<Turn> {
+    let before = flatten(alloc, design.library(), design).ok()?;
+    let ample = with_a_wire_more(alloc, design)?;
+    let mut flat = flatten(alloc, design.library(), design).ok()?;
+    refusing.refuse(Refused::Growth(number));
+    let added = add_first_wire(&mut flat, design)?;
+    let turn = refusing.turn_ended(added.is_err());
+    let is_right = match added {
+        Ok(()) => are_same_flats(&flat, &ample),
+        Err(fault) => fault == FlatFault::Memory && are_same_flats(&flat, &before),
+    };
+    is_right.then_some(turn)
+}
+
+fn check_design_in_turn<A: Allocator + Copy>(
+    alloc: A,
+    refusing: &RefusingAlloc<Global>,
+    design: &Design<'_, A>,
+    number: u64,
+) -> Option<Turn> {
+    let ample = check_design(alloc, design).ok()?;
+    refusing.refuse(Refused::Growth(number));
+    let found = check_design(alloc, design);
+    let turn = refusing.turn_ended(found.is_err());
+    let is_right = match found {
+        Ok(checked) => {
+            are_same_flats(&checked.flat, &ample.flat)
+                && checked.violations.as_slice() == ample.violations.as_slice()
+        }
+        Err(fault) => fault == FlatFault::Memory,
+    };
+    is_right.then_some(turn)
+}
+
+fn place_faults_in_turn<A: Allocator + Copy>(
+    alloc: A,
+    refusing: &RefusingAlloc<Global>,
+    design: &Design<'_, A>,
+    number: u64,
+) -> Option<Turn> {
+    let ample = place_faults(alloc, design.library(), design).ok()?;
+    refusing.refuse(Refused::Growth(number));
+    let found = place_faults(alloc, design.library(), design);
+    turn_of_list(refusing, found, &ample)
+}
+
+fn spacing_faults_in_turn<A: Allocator + Copy>(
+    alloc: A,
+    refusing: &RefusingAlloc<Global>,
+    design: &Design<'_, A>,
+    number: u64,
+) -> Option<Turn> {
+    let flat = flatten(alloc, design.library(), design).ok()?;
+    let ample = spacing_faults(alloc, design.library(), &flat).ok()?;
+    refusing.refuse(Refused::Growth(number));
+    let found = spacing_faults(alloc, design.library(), &flat);
+    turn_of_list(refusing, found, &ample)
+}
+
+fn joined_in_turn<A: Allocator + Copy>(
+    alloc: A,
+    refusing: &RefusingAlloc<Global>,
+    design: &Design<'_, A>,
+    number: u64,
+) -> Option<Turn> {
+    let flat = flatten(alloc, design.library(), design).ok()?;
+    if flat.net_count() == 0 {
+        return None;
+    }
+    let ample = joined(alloc, &flat, 0).ok()?;
+    refusing.refuse(Refused::Growth(number));
+    let found = joined(alloc, &flat, 0);
+    turn_of_list(refusing, found, &ample)
+}
+
+fn open_faults_in_turn<A: Allocator + Copy>(
+    alloc: A,
+    refusing: &RefusingAlloc<Global>,
+    design: &Design<'_, A>,
+    number: u64,
+) -> Option<Turn> {
+    let flat = flatten(alloc, design.library(), design).ok()?;
+    let ample = open_faults(alloc, design, &flat).ok()?;
+    refusing.refuse(Refused::Growth(number));
+    let found = open_faults(alloc, design, &flat);
+    turn_of_list(refusing, found, &ample)
+}
+
+fn print_def_in_turn<A: Allocator + Copy>(
+    alloc: A,
+    refusing: &RefusingAlloc<Global>,
+    design: &Design<'_, A>,
+    number: u64,
+) -> Option<Turn> {
+    let ample = print_def(alloc, design.library(), design).ok()?;
+    refusing.refuse(Refused::Growth(number));
+    let found = print_def(alloc, design.library(), design);
+    turn_of_list(refusing, found, &ample)
+}
+
+fn print_faults_in_turn<A: Allocator + Copy>(
+    alloc: A,
+    refusing: &RefusingAlloc<Global>,
+    design: &Design<'_, A>,
+    number: u64,
+) -> Option<Turn> {
+    let checked = check_design(alloc, design).ok()?;
+    let (library, flat) = (design.library(), Some(&checked.flat));
+    let ample = print_faults(alloc, library, design, flat, &checked.violations).ok()?;
+    refusing.refuse(Refused::Growth(number));
+    let found = print_faults(alloc, library, design, flat, &checked.violations);
+    turn_of_list(refusing, found, &ample)
+}
+
+fn turn_of<A: Allocator + Copy>(
+    alloc: A,
+    refusing: &RefusingAlloc<Global>,
+    call: DesignCall,
+    design: &Design<'_, A>,
+    number: u64,
+) -> Option<Turn> {
+    match call {
+        DesignCall::Flatten => flatten_in_turn(alloc, refusing, design, number),
+        DesignCall::AddWire => add_wire_in_turn(alloc, refusing, design, number),
+        DesignCall::CheckDesign => check_design_in_turn(alloc, refusing, design, number),
+        DesignCall::PlaceFaults => place_faults_in_turn(alloc, refusing, design, number),
+        DesignCall::SpacingFaults => spacing_faults_in_turn(alloc, refusing, design, number),
+        DesignCall::Joined => joined_in_turn(alloc, refusing, design, number),
+        DesignCall::OpenFaults => open_faults_in_turn(alloc, refusing, design, number),
+        DesignCall::PrintDef => print_def_in_turn(alloc, refusing, design, number),
+        DesignCall::PrintFaults => print_faults_in_turn(alloc, refusing, design, number),
+    }
+}
+
+fn goes_right_on<A: Allocator + Copy>(
+    alloc: A,
+    refusing: &RefusingAlloc<Global>,
+    call: DesignCall,
+    design: &Design<'_, A>,
+) -> bool {
+    let mut turns = Turns::new();
+    for number in 1..Turns::LIMIT {
+        let turn = turn_of(alloc, refusing, call, design, number);
+        match is_last(&mut turns, number, turn) {
+            Some(false) => {}
+            Some(true) => return true,
+            None => return false,
+        }
+    }
+    false
+}
+
+/// Whether the call on the design that a DEF denotes answers rightly whichever growth is refused.
+pub(super) fn goes_right<A: Allocator + Copy>(
+    alloc: A,
+    refusing: &RefusingAlloc<Global>,
+    library: &Library<'_, A>,
+    call: DesignCall,
+    def: &[u8],
+) -> bool {
+    match read_def(alloc, library, def) {
+        Ok(design) => goes_right_on(alloc, refusing, call, &design),
+        Err(_) => false,
+    }
+}
