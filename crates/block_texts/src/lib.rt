@@ -58,6 +58,27 @@ END DESIGN
 "
 }
 
+/// The same, with a wire.
+pub fn net_at_one_place_with_a_wire() -> &'static [u8] {
+    b"VERSION 5.8 ;
+DESIGN top ;
+UNITS DISTANCE MICRONS 1000 ;
+DIEAREA ( 0 0 ) ( 800 2000 ) ;
+ROW r0 core 0 0 N DO 4 BY 1 STEP 200 0 ;
+TRACKS X 100 DO 4 STEP 200 LAYER m2 ;
+TRACKS Y 100 DO 10 STEP 200 LAYER m1 ;
+COMPONENTS 2 ;
+- u1 INV + PLACED ( 0 0 ) N ;
+- u2 INV + PLACED ( 0 0 ) N ;
+END COMPONENTS
+NETS 1 ;
+- n1 ( u1 Y ) ( u2 A )
+  + ROUTED m1 ( 300 900 ) ( 500 900 ) ;
+END NETS
+END DESIGN
+"
+}
+
 /// Two inverters in a net, and a block with an obstruction between them.
 pub fn around_an_obstruction() -> &'static [u8] {
     b"VERSION 5.8 ;
@@ -74,6 +95,28 @@ COMPONENTS 3 ;
 END COMPONENTS
 NETS 1 ;
 - n1 ( u1 Y ) ( u2 A ) ;
+END NETS
+END DESIGN
+"
+}
+
+/// The same, with a wire through the obstruction.
+pub fn around_an_obstruction_with_a_wire() -> &'static [u8] {
+    b"VERSION 5.8 ;
+DESIGN top ;
+UNITS DISTANCE MICRONS 1000 ;
+DIEAREA ( 0 0 ) ( 1200 2000 ) ;
+ROW r0 core 0 0 N DO 6 BY 1 STEP 200 0 ;
+TRACKS X 100 DO 6 STEP 200 LAYER m2 ;
+TRACKS Y 100 DO 10 STEP 200 LAYER m1 ;
+COMPONENTS 3 ;
+- u1 INV + PLACED ( 0 0 ) N ;
+- b1 BLK + FIXED ( 400 0 ) N ;
+- u2 INV + PLACED ( 800 0 ) N ;
+END COMPONENTS
+NETS 1 ;
+- n1 ( u1 Y ) ( u2 A )
+  + ROUTED m1 ( 300 900 ) ( 500 900 ) ;
 END NETS
 END DESIGN
 "

@@ -1,5 +1,9 @@
 //! A call that is made again and again, each time with another growth refused.
 
+ghost use Rattle.std.specs.Prelude.{◌≡◌, ◌<◌, ◌≤◌, ◌↔◌, IsTrue, true, false, IfOk, IfErr, IsOk};
+
+use std::marker::Model;
+
 /// What came of a call of which one growth was to be refused.
 #[derive(Clone, Copy)]
 pub struct Turn {
@@ -16,12 +20,23 @@ pub struct Turns {
     ended: bool,
 }
 
+impl Model for Turns {
+    ghost use Rattle.refusing_alloc.specs.TurnsSoFar.{TurnsSoFar};
+
+    ghost Value = { TurnsSoFar };
+
+    ghost view = { λ t. record { refusals = t.refusals; ended = t.ended } };
+}
+
 impl Turns {
     /// More growths than any call asks for.
     pub const LIMIT: u64 = 100_000;
 
     /// No turn so far.
-    pub fn new() -> Turns {
+    pub fn new() -> Turns
+        ensures refusals { result.refusals ≡ false }
+        ensures ended { result.ended ≡ false }
+    {
         Turns {
             refusals: false,
             ended: false,
@@ -32,7 +47,16 @@ impl Turns {
     /// ample memory if it can do without the growth that is refused.
     ///
     /// It fails if the call answers that memory ran out although no growth was refused, or if it never answers so.
-    pub fn is_last(&mut self, number: u64, turn: Turn) -> Result<bool, &'static str> {
+    pub fn is_last(&mut self, number: u64, turn: Turn) -> Result<bool, &'static str>
+        ensures last { IfOk result (λ last. IsTrue last ↔ turn.growths < number) }
+        ensures answered { IfOk result (λ last. IsTrue last → IsTrue self.old.refusals) }
+        ensures refused { IfOk result (λ last. IsTrue last → turn.refused ≡ false) }
+        ensures wrong { IfErr result (λ _. turn.growths < number) }
+        ensures because { IfErr result (λ _. turn.refused ≡ false → self.old.refusals ≡ false) }
+        ensures ended { IfOk result (λ last. IsTrue last → IsTrue self.new.ended) }
+        ensures noted { number ≤ turn.growths → (IsTrue self.new.refusals ↔ (turn.refused ≡ false → IsTrue self.old.refusals)) }
+        ensures open { number ≤ turn.growths → self.new.ended ≡ self.old.ended }
+    {
         if turn.growths >= number {
             self.refusals = self.refusals || turn.refused;
             return Ok(false);
@@ -48,7 +72,9 @@ impl Turns {
     }
 
     /// It fails if no turn was the last one.
-    pub fn end(&self) -> Result<(), &'static str> {
+    pub fn end(&self) -> Result<(), &'static str>
+        ensures { IsOk result ↔ IsTrue self.now.ended }
+    {
         if self.ended {
             Ok(())
         } else {

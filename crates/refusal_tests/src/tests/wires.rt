@@ -1,11 +1,12 @@
 //! Calls by which nets get wires.
 
 use super::turn::{has_text, is_last};
-use block_texts::wired;
-use leg_block::{Design, Wire};
+use block_texts::{
+    around_an_obstruction_with_a_wire, net_at_one_place, net_at_one_place_with_a_wire, wired,
+};
+use leg_block::Design;
 use leg_cells::Library;
 use leg_design::read_def;
-use leg_geom::Point;
 use refusing_alloc::{Refused, RefusingAlloc, Turn, Turns};
 use std::alloc::{AllocError, Allocator, Global};
 
@@ -18,37 +19,24 @@ pub(super) enum WireCall {
     WithAllWires,
 }
 
-fn is_at(point: &Point, x: i64, y: i64) -> bool {
-    point.x() == x && point.y() == y
-}
-
-fn has_wire<A: Allocator + Copy>(design: &Design<'_, A>) -> bool {
-    let [net] = design.nets() else {
-        return false;
-    };
-    match net.wires.as_slice() {
-        [Wire::Segment { from, to, .. }] => is_at(from, 300, 900) && is_at(to, 500, 900),
-        _ => false,
+/// The text of the design of an open DEF whose net got the wire.
+fn text_with_wire(def: &[u8]) -> &'static [u8] {
+    if def == net_at_one_place() {
+        net_at_one_place_with_a_wire()
+    } else {
+        around_an_obstruction_with_a_wire()
     }
 }
 
-/// The turn of a call that gave this design the wire.
-fn turn_with_wire<A: Allocator + Copy>(
-    refusing: &RefusingAlloc<Global>,
-    design: &Design<'_, A>,
-) -> Option<Turn> {
-    let turn = refusing.turn_ended(false);
-    has_wire(design).then_some(turn)
-}
-
-/// The turn of a call that handed this design back, in the bytes that are printed of it.
-fn turn_without_wire<A: Allocator + Copy>(
+/// The turn of a call that handed this design back, refused or not, in the bytes that are printed of it.
+fn turn_of_design<A: Allocator + Copy>(
     alloc: A,
     refusing: &RefusingAlloc<Global>,
     design: &Design<'_, A>,
+    refused: bool,
     text: &[u8],
 ) -> Option<Turn> {
-    let turn = refusing.turn_ended(true);
+    let turn = refusing.turn_ended(refused);
     has_text(alloc, design, text).then_some(turn)
 }
 
@@ -74,8 +62,8 @@ fn gets_wire<A: Allocator + Copy>(
     let wires = Vec::from_slice(alloc, net.wires.as_slice())?;
     refusing.refuse(Refused::Growth(number));
     match open.with_wires(0, wires) {
-        Ok(design) => Ok(turn_with_wire(refusing, &design)),
-        Err((back, _refusal)) => Ok(turn_without_wire(alloc, refusing, &back, text)),
+        Ok(design) => Ok(turn_of_design(alloc, refusing, &design, false, text_with_wire(text))),
+        Err((back, _refusal)) => Ok(turn_of_design(alloc, refusing, &back, true, text)),
     }
 }
 
@@ -103,8 +91,8 @@ fn gets_all_wires<A: Allocator + Copy>(
     lists.push(wires)?;
     refusing.refuse(Refused::Growth(number));
     match open.with_all_wires(lists) {
-        Ok(design) => Ok(turn_with_wire(refusing, &design)),
-        Err((back, _refusal)) => Ok(turn_without_wire(alloc, refusing, &back, text)),
+        Ok(design) => Ok(turn_of_design(alloc, refusing, &design, false, text_with_wire(text))),
+        Err((back, _refusal)) => Ok(turn_of_design(alloc, refusing, &back, true, text)),
     }
 }
 
