@@ -3,16 +3,16 @@ use Rattle.std.proofs.Common.{◌≡◌, ℤ, arith}
 use Rattle.std.proofs.lemmas.Int.{ints}
 use Rattle.leg_geom.specs.Plane.{Spot, Sides, IsRect, HasPoint, HasAllPoints}
 
-abbrev lower_left : Sides → Spot
+abbrev pub lower_left : Sides → Spot
 lower_left r = record { x = r.x1; y = r.y1 }
 
-abbrev upper_right : Sides → Spot
+abbrev pub upper_right : Sides → Spot
 upper_right r = record { x = r.x2; y = r.y2 }
 
-HasPoint-lower_left : (r : Sides) → IsRect r → HasPoint r (lower_left r)
+pub HasPoint-lower_left : (r : Sides) → IsRect r → HasPoint r (lower_left r)
 HasPoint-lower_left r p = record { left = omega (arith, ints); right = omega (arith, ints); bottom = omega (arith, ints); top = omega (arith, ints) }
 
-HasPoint-upper_right : (r : Sides) → IsRect r → HasPoint r (upper_right r)
+pub HasPoint-upper_right : (r : Sides) → IsRect r → HasPoint r (upper_right r)
 HasPoint-upper_right r p = record { left = omega (arith, ints); right = omega (arith, ints); bottom = omega (arith, ints); top = omega (arith, ints) }
 
 abbrev pub sides : ℤ → ℤ → ℤ → ℤ → Sides
