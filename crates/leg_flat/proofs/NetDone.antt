@@ -135,13 +135,13 @@ unfolding place_below
 nets_started design pieces counts placed special no_pieces no_counts nothing = record { pieces = no_pieces; counts = no_counts; place = nothing }
 
 -- one more net
-pub nets_more : (design : DesignContents) (n count : ℕ) (made : List Piece) (pieces longer : List (List Piece)) (counts more : List ℕ) (placed after : List (Terminal × (ℕ × ℕ))) (special : List ℕ) → AreNetsBelow design n (record { pieces = pieces; counts = counts; placed = placed; special = special }) → made ≡ pieces_of design n → count ≡ length (terminals_of design n) → longer ≡ pieces ++ made ∷ [] → more ≡ counts ++ count ∷ [] → ((t : Terminal) → place_in after t ≡ place_below design (suc n) t) → AreNetsBelow design (n + 1) (record { pieces = longer; counts = more; placed = after; special = special })
-nets_more design n count made pieces longer counts more placed after special nets is counted pushed pushed_count known = record {
+pub nets_more : (design : DesignContents) (n : ℕ) (nets more : NetsSaid) → AreNetsBelow design n nets → more.pieces ≡ nets.pieces ++ pieces_of design n ∷ [] → more.counts ≡ nets.counts ++ length (terminals_of design n) ∷ [] → ((t : Terminal) → place_in more.placed t ≡ place_below design (suc n) t) → AreNetsBelow design (n + 1) more
+nets_more design n nets more below pushed pushed_count known = record {
   pieces =
-      pushed ∙ rw (is, nets.pieces) (sym (map-range_with_len_more (pieces_of design) 0 n n (omega arith)));
+      pushed ∙ rw below.pieces (sym (map-range_with_len_more (pieces_of design) 0 n n (omega arith)));
   counts =
       pushed_count
-      ∙ rw (counted, nets.counts) (sym (map-range_with_len_more (λ k. length (terminals_of design k)) 0 n n (omega arith)));
+      ∙ rw below.counts (sym (map-range_with_len_more (λ k. length (terminals_of design k)) 0 n n (omega arith)));
   place = λ t. known t ∙ ap (λ m. place_below design m t) (omega arith);
 }
 

@@ -1,6 +1,6 @@
 //! The nets of a design: their pieces, and where terminals are.
 
-ghost use Rattle.std.specs.Prelude.{◌≡◌, ◌≢◌, ℕ, ◌<◌, ◌^◌, suc, ◌+◌, ◌++◌, length, map, Some, option_map, All, AllPairs, IfOk, OnOk, slice_get};
+ghost use Rattle.std.specs.Prelude.{◌≡◌, ◌≢◌, ℕ, ◌<◌, ◌^◌, suc, ◌+◌, ◌++◌, ◌∷◌, [], length, map, Some, option_map, All, AllPairs, IfOk, OnOk, slice_get};
 ghost use Rattle.std.specs.List.{range_with_len};
 ghost use Rattle.leg_block.specs.declared.records.Terminal.{Terminal};
 ghost use Rattle.leg_flat.specs.declared.piece.Piece.TheVariants.{Term, Wire};
@@ -155,6 +155,26 @@ fn net_pieces<A: Allocator + Copy>(
     Ok((pieces, terminals))
 }
 
+/// Adds net `n` to the nets below it.
+fn add_net<A: Allocator + Copy>(
+    alloc: A,
+    index: &NetIndex<'_, '_, A>,
+    nets: &mut Nets<A>,
+    n: usize,
+) -> Result<(), AllocError>
+    requires within { n < length index.now.nets + length index.now.special }
+    requires below { (terminal : Terminal) → place_in nets.old.placed terminal ≡ place_below index.now n terminal }
+    ensures pieces { OnOk result (nets.new.pieces ≡ nets.old.pieces ++ pieces_of index.now n ∷ []) }
+    ensures counts { OnOk result (nets.new.counts ≡ nets.old.counts ++ length (terminals_of index.now n) ∷ []) }
+    ensures places { OnOk result ((terminal : Terminal) → place_in nets.new.placed terminal ≡ place_below index.now (suc n) terminal) }
+    ensures special { OnOk result (nets.new.special ≡ nets.old.special) }
+{
+    let (made, terminals) = net_pieces(alloc, index, &mut nets.places, n)?;
+    nets.pieces.push(Items::from_vec(made))?;
+    nets.counts.push(terminals)?;
+    Ok(())
+}
+
 /// The nets of a design.
 pub(crate) fn nets_of<A: Allocator + Copy>(
     alloc: A,
@@ -167,18 +187,14 @@ pub(crate) fn nets_of<A: Allocator + Copy>(
 {
     let index = NetIndex::new(alloc, design)?;
     let special = special_numbers(alloc, &index)?;
-    let mut places = PieceNumbers::new(alloc);
-    let mut pieces = Vec::new(alloc);
-    let mut counts = Vec::new(alloc);
-    for n in 0..design.nets().len() + design.special().len() {
-        let (made, terminals) = net_pieces(alloc, &index, &mut places, n)?;
-        pieces.push(Items::from_vec(made))?;
-        counts.push(terminals)?;
-    }
-    Ok(Nets {
-        pieces,
-        counts,
-        places,
+    let mut nets = Nets {
+        pieces: Vec::new(alloc),
+        counts: Vec::new(alloc),
+        places: PieceNumbers::new(alloc),
         special,
-    })
+    };
+    for n in 0..design.nets().len() + design.special().len() {
+        add_net(alloc, &index, &mut nets, n)?;
+    }
+    Ok(nets)
 }

@@ -4,23 +4,29 @@ use Rattle.leg_flat.proofs.NetDone.{nets_started, nets_more, nets_done}
 use Rattle.leg_flat.proofs.nets.nets_of.Goals as goal
 
 pub loop-n-init : goal.loop-n-init
-loop-n-init g c =
-    nets_started c.args.design.now c.new-pieces.result.items c.new-counts.result.items c.new-places.result c.in_ok-special.special.items c.new-pieces.ensures.items c.new-counts.ensures.items c.new-places.ensures
+loop-n-init g c = record {
+  below =
+      nets_started c.args.design.now c.new-2.result.items c.new-3.result.items c.new-4.result c.in_ok-special.special.items c.new-2.ensures.items c.new-3.ensures.items c.new-4.ensures;
+  special = rw c.in_ok-index.ensures at c.in_ok-special.ensures;
+}
 
-pub net_pieces-requires-clause-below : goal.net_pieces-requires-clause-below
-net_pieces-requires-clause-below g c = λ t. rw c.in_ok-index.ensures (c.loop-n.invariant.place t)
+pub add_net-requires-clause-below : goal.add_net-requires-clause-below
+add_net-requires-clause-below g c = λ t. rw c.in_ok-index.ensures (c.loop-n.invariant.below.place t)
 
 pub loop-n-preserved : goal.loop-n-preserved
 loop-n-preserved g c =
-    let pieces = rw c.in_ok-index.ensures at c.in_ok-made.ensures.pieces in
-    let count = rw c.in_ok-index.ensures at c.in_ok-made.ensures.count in
-    let places = rw c.in_ok-index.ensures at c.in_ok-made.ensures.places in
-    nets_more c.args.design.now c.loop-n.n c.in_ok-made.terminals c.from_vec.result c.loop-n.pieces.items c.push.new.self.items c.loop-n.counts.items c.push-in-loop-n.new.self.items c.loop-n.places c.net_pieces.new.places c.in_ok-special.special.items c.loop-n.invariant (c.from_vec.ensures ∙ pieces) count c.in_ok-push.ensures.items c.in_ok-push-2.ensures.items places
+    let pieces = rw c.in_ok-index.ensures at c.in_ok-add_net.ensures.pieces in
+    let counts = rw c.in_ok-index.ensures at c.in_ok-add_net.ensures.counts in
+    let places = rw c.in_ok-index.ensures at c.in_ok-add_net.ensures.places in
+    record {
+      below = nets_more c.args.design.now c.loop-n.n c.loop-n.nets c.add_net.new.nets c.loop-n.invariant.below pieces counts places;
+      special = rw c.in_ok-add_net.ensures.special c.loop-n.invariant.special;
+    }
 
 pub returns-clause-is : goal.returns-clause-is
 returns-clause-is g c =
     let all : c.loop-n.n ≡ length c.args.design.now.nets + length c.args.design.now.special = omega (arith, ap length c.nets.ensures.is, ap length c.special.ensures.is, c.loop-n-test.false, c.loop-n.auto.n-end) in
-    nets_done c.args.design.now c.nets.ensures.proper.nets c.loop-n.n _ all c.loop-n.invariant (rw c.in_ok-index.ensures at c.in_ok-special.ensures)
+    nets_done c.args.design.now c.nets.ensures.proper.nets c.loop-n.n _ all c.loop-n.invariant.below c.loop-n.invariant.special
 
 pub returns-clause-nets : goal.returns-clause-nets
 returns-clause-nets g c = few_nets c.args.design.now c.nets.ensures.proper.nets _ (returns-clause-is g c).pieces

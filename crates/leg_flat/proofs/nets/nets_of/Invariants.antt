@@ -1,6 +1,6 @@
+use Rattle.leg_flat.specs.Steps.Places.{AreSpecialNumbers}
 use Rattle.leg_flat.proofs.NetDone.{AreNetsBelow}
 use Rattle.leg_flat.proofs.nets.nets_of.Given as goal
 
 abbrev pub invariant-loop-n : goal.invariant-loop-n
-invariant-loop-n g l =
-    AreNetsBelow l.design l.n (record { pieces = l.pieces.items; counts = l.counts.items; placed = l.places; special = l.special.items })
+invariant-loop-n g l = record { below : AreNetsBelow l.design l.n l.nets; special : AreSpecialNumbers l.design l.nets.special }
