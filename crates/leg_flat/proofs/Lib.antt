@@ -34,6 +34,7 @@ mod PieceMetal
 -- Limits
 mod Counted
 mod FlatWithin
+mod GotElements
 -- What the proofs of other crates cite
 pub mod OneFlat
 -- A net that gets a wire
