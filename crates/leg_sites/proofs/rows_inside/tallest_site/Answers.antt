@@ -34,3 +34,13 @@ pub returns : goal.returns
 returns g c =
     let all : c.loop-row.row-index ≡ length c.args.design.now.rows = rw (← c.rows-row-items.ensures.is) (omega arith) in
     tallest_of_all c.args.design.now c.loop-row.row-index _ all c.loop-row.invariant
+
+pub bounds-sites-row : goal.bounds-sites-row
+bounds-sites-row g c =
+    let design = c.args.design.now in
+    let row = c.row-item.result in
+    let at : slice_get design.rows c.loop-row.row-index ≡ Some row =
+    rw (← c.rows-row-items.ensures.is) (slice_get_read c.rows-row-items.result.now _ c.loop-row.row-index row refl (omega arith) c.row-item.is) in
+    let is_row = of_all (IsRow design.library) design.rows c.loop-row.row-index row c.rows-row-items.ensures.proper.rows at in
+    let same : c.sites.result.now ≡ design.library.sites = c.sites.ensures ∙ ap (λ l. l.sites) c.library.ensures.is in
+    rw same (slice_get_within design.library.sites row.site is_row.site is_row.there)
