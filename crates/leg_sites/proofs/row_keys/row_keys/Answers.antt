@@ -1,5 +1,5 @@
 -- The key of one more row.
-use Rattle.std.proofs.Common.{◌≡◌, slice_get, Some, FitsSigned, w64, refl, arith, rules}
+use Rattle.std.proofs.Common.{◌≡◌, length, slice_get, Some, FitsSigned, w64, refl, arith, rules}
 use Rattle.std.proofs.lemmas.Int.{to_z-of_z}
 use Rattle.std.proofs.lemmas.Option.{slice_get_read}
 use Rattle.leg_sites.proofs.KeysSorted.{keys_more}
@@ -12,3 +12,8 @@ loop-i-preserved g c =
     let fits : FitsSigned w64 c.y.result = search rules in
     let grown = simp to_z-of_z at c.in_ok-push.ensures.items in
     rw (grown, c.y.ensures.is) (keys_more c.args.rows.now c.loop-i.keys.items c.loop-i.i c.index-rows-i.result there c.loop-i.invariant)
+
+pub returns : goal.returns
+returns g c =
+    let all : c.loop-i.i ≡ length c.args.rows.now = omega arith in
+    rw (← all) c.loop-i.invariant
