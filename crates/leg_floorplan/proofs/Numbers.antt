@@ -54,9 +54,6 @@ number_kept z number = to_z-of_z w64 z (number_fits z number)
 pub one_less : (z : ℤ) → IsNumber z → int_lt z (pos 1) ≡ false → IsNumber (z -ℤ pos 1)
 one_less z number some = grind (arith, ints)
 
--- whether there is one at least
-pub at_least_one : (z : ℤ) → int_lt z (pos 1) ≡ false → int_le (pos 1) z ≡ true
-at_least_one z some = grind (arith, ints)
-
+-- a number below one is not one or more
 pub below_one : (z : ℤ) → int_lt z (pos 1) ≡ true → int_le (pos 1) z ≡ false
 below_one z none = grind (arith, ints)
