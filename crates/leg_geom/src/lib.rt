@@ -14,6 +14,3 @@ pub use orient::Orient;
 pub use place::Place;
 pub use point::Point;
 pub use rect::Rect;
-
-#[cfg(test)]
-mod tests;

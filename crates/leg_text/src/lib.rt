@@ -5,8 +5,6 @@
 #![tactic(auto)]
 
 pub mod laws;
-#[cfg(test)]
-mod tests;
 mod word_text;
 
 pub use word_text::{push_end, push_first, push_line_feed, push_number, push_word, push_words};

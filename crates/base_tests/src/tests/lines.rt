@@ -1,6 +1,6 @@
 //! Texts by worked values: that memory suffices, and how lines look.
 
-use crate::{push_end, push_first, push_line_feed, push_number, push_word, push_words};
+use leg_text::{push_end, push_first, push_line_feed, push_number, push_word, push_words};
 use std::test::Fail;
 
 #[test]

@@ -1,5 +1,7 @@
 //! What no clause states, by values from outside.
 
 mod forms;
+mod lines;
 mod numbers;
+mod plane;
 mod texts;
