@@ -2,7 +2,7 @@
 use Rattle.std.proofs.Common.{◌≡◌, ℕ, false, List, Option, None, Some, is_some, option_map, Result, Ok, Err, IfOk, IfErr, OnErr, codes, inl, inr, refl, sym, arith}
 use Rattle.std.proofs.lemmas.Fmt.{decimal_digit}
 use Rattle.std.proofs.lemmas.Bool.{false≢true}
-use Rattle.leg_app.specs.declared.command.Command.{Command}
+use Rattle.leg_input.specs.declared.command.Command.{Command}
 use Rattle.leg_app.specs.declared.status.Status.{Status}
 use Rattle.leg_app.specs.declared.status.Status.TheVariants.{Success, Violations, Refused, Unsolved, Memory}
 use Rattle.leg_app.specs.declared.text_fault.TextFault.{TextFault}

@@ -5,11 +5,11 @@ use Rattle.std.proofs.lemmas.List.{take_all, length-take-le}
 use Rattle.std.proofs.Math.Seq.{take-append-add}
 use Rattle.leg_lex.specs.declared.limits.TheConstants.{TEXT_LIMIT}
 use Rattle.leg_lex.specs.declared.read_fault.FaultKind.TheVariants as kinds
-use Rattle.leg_app.specs.declared.command.Command.TheVariants.{Check}
+use Rattle.leg_input.specs.declared.command.Command.TheVariants.{Check}
 use Rattle.leg_app.specs.declared.status.Status.{Status}
 use Rattle.leg_app.specs.declared.status.Status.TheVariants.{Success, Violations, Refused, Unsolved, Memory}
 use Rattle.leg_app.specs.Say.{SayNothing}
-use Rattle.leg_app.specs.Stream.{end_library}
+use Rattle.leg_input.specs.Stream.{end_library}
 use Rattle.leg_app.specs.Lines.{no_library_text}
 use Rattle.leg_app.specs.Answer.{IsAnswer, IsStreamAnswer, AnswersParts, TellsNoLibrary}
 

@@ -12,7 +12,7 @@ use Rattle.leg_lib.specs.Say.{Extend}
 use Rattle.leg_block.specs.Records.{DesignContents}
 use Rattle.leg_design.specs.Header.{units_in}
 use Rattle.leg_design.specs.Form.{design_in}
-use Rattle.leg_app.specs.declared.command.Command.{Command}
+use Rattle.leg_input.specs.declared.command.Command.{Command}
 use Rattle.leg_app.specs.declared.status.Status.{Status}
 use Rattle.leg_app.specs.declared.status.Status.TheVariants.{Success, Violations, Refused, Unsolved, Memory}
 use Rattle.leg_app.specs.Say.{SayDesign}

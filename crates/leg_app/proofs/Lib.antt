@@ -1,7 +1,5 @@
 -- What texts say
 mod Sayings
-mod SplitLemmas
-mod WordsAsked
 -- What is answered
 mod KindsJoined
 mod AnswerLemmas

@@ -18,8 +18,8 @@ use Rattle.leg_flat.specs.Metal.{metal_of}
 use Rattle.leg_flat.proofs.OneFlat.{one_flat}
 use Rattle.leg_print.specs.Wirelength.{IsWirelength}
 use Rattle.leg_print.proofs.OneWirelength.{one_wirelength}
-use Rattle.leg_app.specs.declared.command.Command.{Command}
-use Rattle.leg_app.specs.declared.command.Command.TheVariants.{PlaceCheck, Check, Measure, Legalise, Route, Flow}
+use Rattle.leg_input.specs.declared.command.Command.{Command}
+use Rattle.leg_input.specs.declared.command.Command.TheVariants.{PlaceCheck, Check, Measure, Legalise, Route, Flow}
 use Rattle.leg_app.specs.declared.status.Status.{Status}
 use Rattle.leg_app.specs.declared.status.Status.TheVariants.{Success, Violations, Refused, Unsolved, Memory}
 use Rattle.leg_app.specs.Say.{SayLibraryFor, SayDesign}

@@ -5,8 +5,8 @@ use Rattle.leg_lex.specs.declared.read_fault.ReadFault.{ReadFault}
 use Rattle.leg_lex.specs.declared.read_fault.FaultKind.TheVariants as kinds
 use Rattle.leg_cells.specs.declared.scale_fault.ScaleKind.{ScaleKind}
 use Rattle.leg_cells.specs.declared.scale_fault.ScaleKind.TheVariants as scale
-use Rattle.leg_app.specs.declared.command.Command.{Command}
-use Rattle.leg_app.specs.declared.command.Command.TheVariants.{PlaceCheck, Check, Measure, Legalise, Route, Flow}
+use Rattle.leg_input.specs.declared.command.Command.{Command}
+use Rattle.leg_input.specs.declared.command.Command.TheVariants.{PlaceCheck, Check, Measure, Legalise, Route, Flow}
 use Rattle.leg_app.specs.declared.status.Status.{Status}
 use Rattle.leg_app.specs.declared.status.Status.TheVariants.{Success, Violations, Refused, Unsolved, Memory}
 use Rattle.leg_cells.specs.Records.{Contents}
@@ -18,7 +18,7 @@ use Rattle.leg_place.specs.Faults.{Holds}
 use Rattle.leg_print.specs.Wirelength.{IsWirelength}
 use Rattle.leg_app.specs.Say.{SayDesign, SayNothing, SayTooMany}
 use Rattle.leg_app.specs.Violations.{IsViolation, IsJudgedBy}
-use Rattle.leg_app.specs.Stream.{HasEndLibrary, IsSplit}
+use Rattle.leg_input.specs.Stream.{HasEndLibrary, IsSplit}
 use Rattle.leg_app.specs.Lines.{listing_text, legal_text, wirelength_text, memory_text, no_library_text, refused_text, scale_text, too_many_text}
 use Rattle.leg_app.specs.Made.{PrintsMade, TellsUnsolved}
 

@@ -4,12 +4,10 @@ pub mod Refusal
 pub mod Lines
 pub mod LegaliseLines
 pub mod RouteLines
-pub mod Stream
 pub mod Legalised
 pub mod Routed
 pub mod Flow
 pub mod Made
 pub mod Answer
-pub mod Line
 pub mod End
 pub mod Steps

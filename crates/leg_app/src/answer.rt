@@ -1,7 +1,7 @@
 //! What a command answers.
 
 ghost use Rattle.std.specs.Prelude.{◌≡◌, ℕ, List, map, option_map, IfOk};
-ghost use Rattle.leg_app.specs.declared.command.Command.TheVariants.{PlaceCheck, Check, Measure};
+ghost use Rattle.leg_input.specs.declared.command.Command.TheVariants.{PlaceCheck, Check, Measure};
 ghost use Rattle.leg_app.specs.Say.{SayDesign, SayNothing, SayTooMany};
 ghost use Rattle.leg_app.specs.Steps.SaidLibrary.{SaysJust};
 ghost use Rattle.leg_app.specs.Refusal.{Refuses};
@@ -9,7 +9,6 @@ ghost use Rattle.leg_app.specs.Answer.{IsAnswer};
 ghost use Rattle.leg_app.specs.Answer.{IsListing};
 
 use crate::check::check_design;
-use crate::command::Command;
 use crate::flow_answer::flow_answer;
 use crate::legalise_answer::legalise_answer;
 use crate::lines::{listing_text, refused_text, scale_text, wirelength_text};
@@ -21,6 +20,7 @@ use leg_block::{Design, Fault};
 use leg_cells::{Library, ScaleKind};
 use leg_design::DefText;
 use leg_flat::{Flat, FlatFault};
+use leg_input::Command;
 use leg_lex::FaultKind;
 use leg_place::place_faults;
 use leg_print::hpwl;

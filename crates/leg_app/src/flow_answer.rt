@@ -3,7 +3,7 @@
 ghost use Rattle.std.specs.Prelude.{IfOk};
 ghost use Rattle.leg_block.specs.Records.{DesignContents};
 ghost use Rattle.leg_legal.specs.Moves.{AreMoves};
-ghost use Rattle.leg_app.specs.declared.command.Command.TheVariants.{Flow};
+ghost use Rattle.leg_input.specs.declared.command.Command.TheVariants.{Flow};
 ghost use Rattle.leg_app.specs.Legalised.{Legalises};
 ghost use Rattle.leg_app.specs.Steps.Making.{IsMaking};
 

@@ -2,7 +2,7 @@
 
 ghost use Rattle.std.specs.Prelude.{IfOk};
 ghost use Rattle.leg_legal.specs.Refusals.{IsRefusal};
-ghost use Rattle.leg_app.specs.declared.command.Command.TheVariants.{Legalise};
+ghost use Rattle.leg_input.specs.declared.command.Command.TheVariants.{Legalise};
 ghost use Rattle.leg_app.specs.Legalised.{TellsNotLegalised};
 ghost use Rattle.leg_app.specs.Steps.Making.{IsMaking};
 

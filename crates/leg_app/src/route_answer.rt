@@ -2,7 +2,7 @@
 
 ghost use Rattle.std.specs.Prelude.{IfOk};
 ghost use Rattle.leg_route.specs.Refusal.{IsRefusal};
-ghost use Rattle.leg_app.specs.declared.command.Command.TheVariants.{Route};
+ghost use Rattle.leg_input.specs.declared.command.Command.TheVariants.{Route};
 ghost use Rattle.leg_app.specs.Routed.{TellsNotRouted};
 ghost use Rattle.leg_app.specs.Steps.Making.{IsMaking};
 

@@ -7,9 +7,8 @@ ghost use Rattle.leg_app.specs.Answer.{IsAnswer, IsStreamAnswer, TakesAnswer, Ta
 ghost use Rattle.leg_app.specs.Lines.{memory_text};
 
 use crate::answer::answer_to;
-use crate::command::Command;
 use crate::status::Status;
-use crate::stream::split_stream;
+use leg_input::{Command, split_stream};
 use std::alloc::Allocator;
 use std::io::Write;
 use thiserror::Error;

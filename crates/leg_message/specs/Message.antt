@@ -5,7 +5,7 @@ use Rattle.leg_lex.specs.declared.limits.TheConstants.{TEXT_LIMIT}
 use Rattle.leg_lex.specs.declared.read_fault.ReadFault.{ReadFault}
 use Rattle.leg_lex.specs.declared.read_fault.FaultKind.{FaultKind}
 use Rattle.leg_cells.specs.declared.scale_fault.ScaleKind.{ScaleKind}
-use Rattle.leg_app.specs.Stream.{HasEndLibrary, IsSplit}
+use Rattle.leg_input.specs.Stream.{HasEndLibrary, IsSplit}
 use Rattle.leg_message.specs.declared.note.Note.{Note}
 use Rattle.leg_message.specs.Advice.{advice_of}
 use Rattle.leg_message.specs.Length.{HasFault}

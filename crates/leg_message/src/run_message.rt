@@ -11,8 +11,8 @@ use crate::note::note_of;
 use crate::refused::{line_message, refused_message};
 use crate::scaling::scale_message;
 use crate::texts::Texts;
-use leg_app::split_stream;
 use leg_cells::ScaleKind;
+use leg_input::split_stream;
 use leg_lex::FaultKind;
 use std::alloc::{AllocError, Allocator};
 

@@ -3,7 +3,7 @@
 ghost use Rattle.std.specs.Prelude.{◌≡◌, length};
 ghost use Rattle.leg_message.specs.Texts.{path_of, text_of, part_of};
 
-use leg_app::Line;
+use leg_input::Line;
 use std::alloc::Allocator;
 use std::marker::Model;
 

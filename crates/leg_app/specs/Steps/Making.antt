@@ -1,7 +1,7 @@
 -- What is known of an answer that makes a design, before it is known which texts denote the design that it is made of.
 use Rattle.std.specs.Prelude.{ℕ, List}
 use Rattle.leg_block.specs.Records.{DesignContents}
-use Rattle.leg_app.specs.declared.command.Command.{Command}
+use Rattle.leg_input.specs.declared.command.Command.{Command}
 use Rattle.leg_app.specs.declared.status.Status.{Status}
 use Rattle.leg_app.specs.declared.status.Status.TheVariants.{Success, Violations, Refused, Unsolved, Memory}
 use Rattle.leg_app.specs.Made.{IsTextMade, IsReason}

@@ -1,4 +1,4 @@
-use Rattle.leg_app.specs.declared.command.Command.TheVariants.{Legalise, Route, Flow}
+use Rattle.leg_input.specs.declared.command.Command.TheVariants.{Legalise, Route, Flow}
 use Rattle.leg_app.proofs.AnswerLemmas.{ok_weaker, made_answer}
 use Rattle.leg_app.proofs.answer.design_answer.Goals as goal
 

@@ -1,10 +1,10 @@
 -- The command line: what the words after the program's name ask.
 use Rattle.std.specs.Prelude.{◌≡◌, ◌≢◌, ℕ, List, [], ◌∷◌, map, string_bytes, Option, None, Some, option_map, codes, if◌then◌else◌}
 use Rattle.std.specs.Str.{bytes_eq}
-use Rattle.leg_app.specs.declared.command.Command.{Command}
-use Rattle.leg_app.specs.declared.line.Asked.{Asked}
-use Rattle.leg_app.specs.declared.line.Asked.TheVariants.{Stream, Help, Files}
-use Rattle.leg_app.specs.declared.command.Command.TheVariants.{PlaceCheck, Check, Measure, Legalise, Route, Flow}
+use Rattle.leg_input.specs.declared.command.Command.{Command}
+use Rattle.leg_input.specs.declared.line.Asked.{Asked}
+use Rattle.leg_input.specs.declared.line.Asked.TheVariants.{Stream, Help, Files}
+use Rattle.leg_input.specs.declared.command.Command.TheVariants.{PlaceCheck, Check, Measure, Legalise, Route, Flow}
 
 -- the command of exactly this name
 abbrev pub command_named : List ℕ → Option Command

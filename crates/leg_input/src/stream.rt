@@ -1,7 +1,7 @@
 //! LEF and DEF in one stream of bytes.
 
 ghost use Rattle.std.specs.Prelude.{IfSome, IfNone};
-ghost use Rattle.leg_app.specs.Stream.{IsSplit, HasEndLibrary};
+ghost use Rattle.leg_input.specs.Stream.{IsSplit, HasEndLibrary};
 
 use memchr::memmem;
 

@@ -1,8 +1,8 @@
 use Rattle.std.proofs.Common.{take, ◌∙◌, ◌≤◌, length, sym, take-append-drop, arith}
 use Rattle.std.proofs.lemmas.List.{length-take-le}
-use Rattle.leg_app.specs.Stream.{end_library}
-use Rattle.leg_app.proofs.SplitLemmas.{front_from_occurs, stands_nowhere, stands_no_earlier}
-use Rattle.leg_app.proofs.stream.split_stream.Goals as goal
+use Rattle.leg_input.specs.Stream.{end_library}
+use Rattle.leg_input.proofs.SplitLemmas.{front_from_occurs, stands_nowhere, stands_no_earlier}
+use Rattle.leg_input.proofs.stream.split_stream.Goals as goal
 
 pub returns-in_err-at-clause-none : goal.returns-in_err-at-clause-none
 returns-in_err-at-clause-none c =

@@ -1,7 +1,7 @@
 //! The words of a command line.
 
 ghost use Rattle.std.specs.Prelude.{◌≡◌, map, option_map, string_bytes, IfSome, IfNone};
-ghost use Rattle.leg_app.specs.Line.{command_named, line_of, Asks, AsksNothing};
+ghost use Rattle.leg_input.specs.Line.{command_named, line_of, Asks, AsksNothing};
 
 use crate::command::Command;
 use std::alloc::Allocator;

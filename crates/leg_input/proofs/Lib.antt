@@ -1,0 +1,3 @@
+-- Words and places in texts
+mod SplitLemmas
+mod WordsAsked

@@ -1,0 +1,3 @@
+-- What a run is given
+pub mod Line
+pub mod Stream

@@ -1,0 +1,12 @@
+//! What a run is given: the words of a command line, the bytes of an input, and a LEF and a DEF in one stream.
+#![tactic(auto)]
+
+mod command;
+mod input;
+mod line;
+mod stream;
+
+pub use command::Command;
+pub use input::{InputFault, read_all};
+pub use line::{Asked, Line, asked_by, line_of};
+pub use stream::split_stream;
