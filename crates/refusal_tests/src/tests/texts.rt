@@ -51,15 +51,27 @@ fn tokens_in_turn<A: Allocator + Copy>(
     is_right.then_some(turn)
 }
 
+/// Whether this library comes of the other one at 1000 units a micron.
+fn comes_of<A: Allocator + Copy>(
+    alloc: A,
+    library: &Library<'_, A>,
+    raw: &RawLibrary<'_, A>,
+) -> bool {
+    match raw.at(alloc, 1000) {
+        Ok(other) => library.equals(&other),
+        Err(_) => false,
+    }
+}
+
 /// Whether both give the same library at 1000 units a micron.
 fn are_same_libraries<A: Allocator + Copy>(
     alloc: A,
     raw: &RawLibrary<'_, A>,
     other: &RawLibrary<'_, A>,
 ) -> bool {
-    match (raw.at(alloc, 1000), other.at(alloc, 1000)) {
-        (Ok(library), Ok(other)) => library.equals(&other),
-        _ => false,
+    match raw.at(alloc, 1000) {
+        Ok(library) => comes_of(alloc, &library, other),
+        Err(_) => false,
     }
 }
 
@@ -79,7 +91,24 @@ fn read_lefs_in_turn<A: Allocator + Copy>(
     is_right.then_some(turn)
 }
 
-/// Lends a library that `at` was asked for before with its growth of this number refused.
+/// Lends a library, of which there is a second one, to `at` with its growth of this number refused.
+fn at_with_refusal<A: Allocator + Copy>(
+    alloc: A,
+    refusing: &RefusingAlloc<Global>,
+    raw: &RawLibrary<'_, A>,
+    again: &RawLibrary<'_, A>,
+    number: u64,
+) -> Option<Turn> {
+    refusing.refuse(Refused::Growth(number));
+    let found = raw.at(alloc, 1000);
+    let turn = refusing.turn_ended(found.is_err());
+    let is_right = match found {
+        Ok(found) => comes_of(alloc, &found, again),
+        Err(fault) => fault.kind == ScaleKind::Memory && fault.name.bytes().is_empty(),
+    };
+    is_right.then_some(turn)
+}
+
 fn at_in_turn<A: Allocator + Copy>(
     alloc: A,
     refusing: &RefusingAlloc<Global>,
@@ -87,15 +116,8 @@ fn at_in_turn<A: Allocator + Copy>(
 ) -> Option<Turn> {
     let raw = read_lefs(alloc, &[cells()]).ok()?;
     let again = read_lefs(alloc, &[cells()]).ok()?;
-    refusing.refuse(Refused::Growth(number));
-    let found = raw.at(alloc, 1000);
-    let turn = refusing.turn_ended(found.is_err());
-    let is_right = match (found, again.at(alloc, 1000)) {
-        (Ok(found), Ok(ample)) => found.equals(&ample),
-        (Err(fault), Ok(_)) => fault.kind == ScaleKind::Memory && fault.name.bytes().is_empty(),
-        _ => false,
-    };
-    (is_right && are_same_libraries(alloc, &raw, &again)).then_some(turn)
+    let turn = at_with_refusal(alloc, refusing, &raw, &again, number)?;
+    are_same_libraries(alloc, &raw, &again).then_some(turn)
 }
 
 fn def_units_in_turn<A: Allocator + Copy>(
