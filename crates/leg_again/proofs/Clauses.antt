@@ -15,7 +15,7 @@ use Rattle.leg_cells.specs.Sound.{IsSound}
 use Rattle.leg_block.specs.Layers.{is_metal}
 use Rattle.leg_block.specs.Records.{DesignContents}
 use Rattle.leg_block.specs.WellFormedParts.{IsMetalShape}
-use Rattle.leg_floorplan.specs.Layers.{layer_named_at}
+use Rattle.leg_section.specs.Layers.{layer_named_at}
 use Rattle.leg_print.specs.Names.{layer_name}
 use Rattle.leg_print.specs.Text.Clauses.{clause_words, shape_clause}
 use Rattle.leg_again.specs.PrintedNames.{names_of_layers}

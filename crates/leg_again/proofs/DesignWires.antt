@@ -18,7 +18,7 @@ use Rattle.leg_block.specs.Wires.{default_extension}
 use Rattle.leg_block.specs.Records.{DesignContents}
 use Rattle.leg_block.specs.WellFormedParts.{IsPosition, IsDesignVia, AreVias}
 use Rattle.leg_block.specs.WellFormedNets.{IsSegment, IsWire}
-use Rattle.leg_floorplan.specs.Namespace.{via_named}
+use Rattle.leg_section.specs.Namespace.{via_named}
 use Rattle.leg_nets.specs.PathItem.{at_path_end}
 use Rattle.leg_nets.specs.Wiring.{path_at}
 use Rattle.leg_print.specs.Names.{layer_name, via_numbered, via_name}

@@ -5,7 +5,7 @@ use Rattle.std.proofs.lemmas.Bool.{false≢true}
 use Rattle.std.proofs.lemmas.Int.{ints}
 use Rattle.std.proofs.lemmas.Bool.Decides.{nat_tests}
 use Rattle.leg_lex.specs.Number.{IsNumber}
-use Rattle.leg_floorplan.specs.Guard.{is_within}
+use Rattle.leg_section.specs.Guard.{is_within}
 
 pub within_is : (z : ℤ) → IsNumber z → is_within z ≡ true
 within_is z is = grind (arith, nat_tests)

@@ -16,7 +16,7 @@ use Rattle.leg_cells.specs.GoodVia.{use_of, uses_of, holds_origin, parts_of, is_
 use Rattle.leg_cells.specs.Records.{Contents, ViaSaid}
 use Rattle.leg_block.specs.Layers.{is_routing, wire_width}
 use Rattle.leg_block.proofs.SameTerminal.{Passes, passes_from, some_passes, number_itself}
-use Rattle.leg_floorplan.specs.Namespace.{KnownSaid, via_numbered}
+use Rattle.leg_section.specs.Namespace.{KnownSaid, via_numbered}
 use Rattle.leg_nets.specs.Path.{across}
 use Rattle.leg_print.specs.Text.Wires.{lowest_layer}
 use Rattle.leg_again.proofs.Facts.{both}

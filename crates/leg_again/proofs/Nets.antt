@@ -19,7 +19,7 @@ use Rattle.leg_block.specs.declared.records.Wire.{Wire}
 use Rattle.leg_block.specs.Records.{DesignContents, NetSaid, net_names, terminal_count, wire_count}
 use Rattle.leg_block.specs.WellFormedParts.{IsKept, AreVias, AreComponents, ArePins}
 use Rattle.leg_block.specs.WellFormedNets.{IsWire, IsNet, AreNets, AreInOneNet}
-use Rattle.leg_floorplan.specs.Guard.{is_over}
+use Rattle.leg_section.specs.Guard.{is_over}
 use Rattle.leg_nets.specs.Terminal.{at_no_terminal}
 use Rattle.leg_nets.specs.Net.{NetParts, no_net_parts, use_clause, wiring_clause, clause_at, net_clause, net_name_at, net_in, are_too_many, net_entry, nets_at}
 use Rattle.leg_nets.proofs.NetEntries.{net_entry_shortens}

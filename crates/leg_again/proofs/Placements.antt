@@ -5,7 +5,7 @@ use Rattle.leg_geom.specs.declared.place.Place.{Place}
 use Rattle.leg_block.specs.declared.records.Status.{Status}
 use Rattle.leg_block.specs.declared.records.Status.TheVariants.{Unplaced, Placed, Fixed, Cover}
 use Rattle.leg_block.specs.WellFormedParts.{IsPosition, IsPlaced}
-use Rattle.leg_floorplan.specs.Placement.{place_at, place_as, placed_in}
+use Rattle.leg_section.specs.Placement.{place_at, place_as, placed_in}
 use Rattle.leg_floorplan.specs.Component.{unplaced_in, placement_in, placement_of}
 use Rattle.leg_print.specs.Text.Points.{place_words}
 use Rattle.leg_print.specs.Text.Clauses.{placement_clause}

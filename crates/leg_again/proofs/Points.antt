@@ -12,7 +12,7 @@ use Rattle.leg_geom.specs.declared.orient.Orient.TheVariants.{N, S, W, E, FN, FS
 use Rattle.leg_geom.specs.declared.place.Place.{Place}
 use Rattle.leg_cells.specs.Measure.{IsProper, rect_between}
 use Rattle.leg_block.specs.WellFormedParts.{IsPosition, IsArea}
-use Rattle.leg_floorplan.specs.Placement.{spot_at, rect_at, orient_of, orient_at, place_at}
+use Rattle.leg_section.specs.Placement.{spot_at, rect_at, orient_of, orient_at, place_at}
 use Rattle.leg_print.specs.Text.Points.{spot_words, corner_words, orient_word, place_words}
 use Rattle.leg_again.proofs.FreeWords.{IsFree, AreFree, free_literal, free_number, free_nil, free_cons, free_append}
 

@@ -8,7 +8,7 @@ use Rattle.leg_lex.specs.Until.{until}
 use Rattle.leg_lex.specs.Statements.{at_end}
 use Rattle.leg_lex.proofs.Until.{Shortens}
 use Rattle.leg_text.proofs.Lines.{Lines, lines_nil, lines_append, lines_each, lines_of_words}
-use Rattle.leg_floorplan.specs.Section.{section_start, section_at}
+use Rattle.leg_section.specs.Section.{section_start, section_at}
 use Rattle.leg_print.specs.Text.Sections.{section_start_words, end_words, section_text}
 use Rattle.leg_again.proofs.FreeWords.{IsFree, free_number, free_nil, free_cons}
 use Rattle.leg_again.proofs.Again.{all_again}

@@ -16,7 +16,7 @@ use Rattle.leg_block.specs.declared.records.Axis.{Axis}
 use Rattle.leg_block.specs.declared.records.Axis.TheVariants.{X, Y}
 use Rattle.leg_block.specs.Records.{DesignContents, TrackSaid}
 use Rattle.leg_block.specs.WellFormedParts.{IsTrack}
-use Rattle.leg_floorplan.specs.Guard.{is_over}
+use Rattle.leg_section.specs.Guard.{is_over}
 use Rattle.leg_floorplan.specs.Track.{axis_at, one_layer, layers_in, track_in, track_at}
 use Rattle.leg_floorplan.proofs.Tracks.{one_layer_shortens}
 use Rattle.leg_print.specs.Names.{layer_name}

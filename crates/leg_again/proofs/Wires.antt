@@ -19,7 +19,7 @@ use Rattle.leg_block.specs.Layers.{is_routing}
 use Rattle.leg_block.specs.Wires.{is_straight, default_extension, is_even}
 use Rattle.leg_block.specs.WellFormedParts.{IsPosition, IsArea}
 use Rattle.leg_block.specs.WellFormedNets.{IsWidth, written, IsExtension}
-use Rattle.leg_floorplan.specs.Namespace.{KnownSaid, via_named}
+use Rattle.leg_section.specs.Namespace.{KnownSaid, via_named}
 use Rattle.leg_nets.specs.Path.{is_same_spot, extension_at, segment_width, segment_to, across, wires_from}
 use Rattle.leg_nets.specs.PathItem.{count_at, coordinate_at, extension_in_point, point_item, first_point_at, rect_item, past_north, via_item, item_at, one_item, at_path_end}
 use Rattle.leg_nets.specs.Wiring.{routing_at, past_taper, written_width_at, written_at, path_at}

@@ -6,14 +6,14 @@ use Rattle.leg_lex.proofs.Shorter.{keyword_below, end_below}
 use Rattle.leg_lex.proofs.Statements.{statement_below}
 use Rattle.leg_lex.proofs.Passed.{past_below}
 use Rattle.leg_cells.specs.Records.{Contents}
-use Rattle.leg_floorplan.specs.Guard.{when, unless}
-use Rattle.leg_floorplan.specs.Namespace.{KnownSaid}
+use Rattle.leg_section.specs.Guard.{when, unless}
+use Rattle.leg_section.specs.Namespace.{KnownSaid}
 use Rattle.leg_block.specs.Records.{NetSaid}
 use Rattle.leg_nets.specs.Net.{net_entry, section_word, nets_at}
 use Rattle.leg_design.specs.Parts.{DesignParts, known, divider_form, bus_form, name_form, units_form, die_form, row_form, track_form, vias_form, components_form, pins_form, nets_form, special_form}
 use Rattle.leg_design.specs.Skipped.{is_past_statement, is_past_section, past_def_section, past_def_extension, past_def_form}
 use Rattle.leg_design.specs.Form.{header_form, def_form_at}
-use Rattle.leg_floorplan.proofs.Sections.{section_below}
+use Rattle.leg_section.proofs.Sections.{section_below}
 use Rattle.leg_design.proofs.Headers.{word_after_below, design_name_below, units_below}
 use Rattle.leg_floorplan.proofs.Dies.{die_below}
 use Rattle.leg_floorplan.proofs.Rows.{row_below}

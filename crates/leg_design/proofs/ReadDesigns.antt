@@ -11,13 +11,13 @@ use Rattle.leg_cells.specs.Records.{Contents}
 use Rattle.leg_block.specs.declared.limits.TheConstants.{PART_LIMIT}
 use Rattle.leg_block.specs.declared.records.Terminal.{Terminal}
 use Rattle.leg_block.specs.declared.records.Terminal.TheVariants.{Comp, Pin}
-use Rattle.leg_floorplan.specs.Guard.{when}
+use Rattle.leg_section.specs.Guard.{when}
 use Rattle.leg_block.specs.Records.{NetSaid, DesignContents, terminal_count}
 use Rattle.leg_design.specs.Parts.{DesignParts, no_parts, known}
 use Rattle.leg_design.specs.Form.{def_form_at, all_nets, design_with, design_of, design_in}
 use Rattle.leg_block.specs.WellFormedNets.{IsTerminal, IsNet, HasNets}
 use Rattle.leg_block.specs.WellFormed.{IsWellFormed}
-use Rattle.leg_floorplan.proofs.Gives.{Gives, gives_some, gives_bind, gives_skip, unless_gives, until_gives}
+use Rattle.leg_section.proofs.Gives.{Gives, gives_some, gives_bind, gives_skip, unless_gives, until_gives}
 use Rattle.leg_nets.proofs.ReadTerminals.{IsKnownTerminal}
 use Rattle.leg_nets.proofs.ReadNets.{IsKnownNet}
 use Rattle.leg_nets.proofs.LonePinsListed.{lone_pins_listed}

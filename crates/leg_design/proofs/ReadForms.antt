@@ -6,7 +6,7 @@ use Rattle.leg_geom.specs.Plane.{Sides}
 use Rattle.leg_cells.specs.Records.{Contents, ViaSaid}
 use Rattle.leg_block.specs.declared.records.Component.{Component}
 use Rattle.leg_block.specs.declared.records.Row.{Row}
-use Rattle.leg_floorplan.specs.Guard.{when, unless}
+use Rattle.leg_section.specs.Guard.{when, unless}
 use Rattle.leg_design.specs.Header.{word_after, design_name_at, units_at}
 use Rattle.leg_nets.specs.Net.{nets_at}
 use Rattle.leg_block.specs.Records.{TrackSaid, PinSaid}
@@ -14,7 +14,7 @@ use Rattle.leg_design.specs.Parts.{DesignParts, no_parts, known, divider_form, b
 use Rattle.leg_design.specs.Skipped.{past_def_form}
 use Rattle.leg_design.specs.Form.{header_form, def_form_at}
 use Rattle.leg_block.specs.WellFormedParts.{IsKept, IsNameIfAny, IsArea, AreComponents, IsRow, IsTrack, AreVias, ArePins}
-use Rattle.leg_floorplan.proofs.Gives.{Gives, gives_none, gives_some, gives_bind, gives_skip, gives_if, name_gives, word_gives}
+use Rattle.leg_section.proofs.Gives.{Gives, gives_none, gives_some, gives_bind, gives_skip, gives_if, name_gives, word_gives}
 use Rattle.leg_floorplan.proofs.ReadDie.{die_gives}
 use Rattle.leg_floorplan.proofs.ReadComponents.{components_give, no_components}
 use Rattle.leg_floorplan.proofs.ReadRows.{row_gives}

@@ -5,8 +5,8 @@ use Rattle.std.proofs.lemmas.List.Elements.{All-nil, Contains-append_left, Conta
 use Rattle.leg_lex.specs.Words.{Words, is_at}
 use Rattle.leg_cells.specs.Records.{Contents}
 use Rattle.leg_block.specs.declared.limits.TheConstants.{ENTRY_LIMIT, PART_LIMIT}
-use Rattle.leg_floorplan.specs.Guard.{when, unless}
-use Rattle.leg_floorplan.specs.Namespace.{KnownSaid}
+use Rattle.leg_section.specs.Guard.{when, unless}
+use Rattle.leg_section.specs.Namespace.{KnownSaid}
 use Rattle.leg_design.specs.Header.{word_after, design_name_at, units_at}
 use Rattle.leg_floorplan.specs.Die.{die_at}
 use Rattle.leg_floorplan.specs.Row.{row_at}
@@ -20,7 +20,7 @@ use Rattle.leg_design.specs.Parts.{DesignParts, no_parts, known, divider_form, b
 use Rattle.leg_design.specs.Skipped.{past_def_form}
 use Rattle.leg_design.specs.Form.{header_form, def_form_at}
 use Rattle.leg_block.specs.WellFormedNets.{AreInOneNet}
-use Rattle.leg_floorplan.proofs.Gives.{Gives, gives_some, gives_bind, gives_skip, gives_if, unless_gives}
+use Rattle.leg_section.proofs.Gives.{Gives, gives_some, gives_bind, gives_skip, gives_if, unless_gives}
 use Rattle.leg_nets.proofs.ReadNets.{IsKnownNet, AreEntries, nets_give}
 use Rattle.leg_nets.proofs.ReadLonePins.{HasEntries}
 use Rattle.leg_nets.proofs.MoreKnown.{Grows, nets_grow, vias_grow, components_grow, pins_grow}

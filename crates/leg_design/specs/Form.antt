@@ -6,7 +6,7 @@ use Rattle.leg_lex.specs.Statements.{at_end}
 use Rattle.leg_geom.specs.Plane.{Sides}
 use Rattle.leg_cells.specs.Records.{Contents}
 use Rattle.leg_block.specs.declared.limits.TheConstants.{PART_LIMIT}
-use Rattle.leg_floorplan.specs.Guard.{when, unless}
+use Rattle.leg_section.specs.Guard.{when, unless}
 use Rattle.leg_nets.specs.LonePins.{NetLists, with_lone_pins}
 use Rattle.leg_block.specs.Records.{DesignContents, terminal_count}
 use Rattle.leg_design.specs.Parts.{DesignParts, no_parts, divider_form, bus_form, name_form, units_form, die_form, row_form, track_form, vias_form, components_form, pins_form, nets_form, special_form}

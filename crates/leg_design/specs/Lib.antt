@@ -3,11 +3,11 @@ pub use Rattle.leg_block.specs.WellFormedParts
 pub use Rattle.leg_block.specs.WellFormedNets
 pub use Rattle.leg_block.specs.WellFormed
 pub use Rattle.leg_block.specs.Violation
-pub use Rattle.leg_floorplan.specs.Guard
-pub use Rattle.leg_floorplan.specs.Placement
-pub use Rattle.leg_floorplan.specs.Clause
-pub use Rattle.leg_floorplan.specs.Layers
-pub use Rattle.leg_floorplan.specs.Section
+pub use Rattle.leg_section.specs.Guard
+pub use Rattle.leg_section.specs.Placement
+pub use Rattle.leg_section.specs.Clause
+pub use Rattle.leg_section.specs.Layers
+pub use Rattle.leg_section.specs.Section
 pub use Rattle.leg_floorplan.specs.Die
 pub use Rattle.leg_floorplan.specs.Row
 pub use Rattle.leg_floorplan.specs.Track
@@ -16,7 +16,7 @@ pub use Rattle.leg_floorplan.specs.Component
 pub use Rattle.leg_floorplan.specs.Port
 pub use Rattle.leg_floorplan.specs.PinClauses
 pub use Rattle.leg_floorplan.specs.Pin
-pub use Rattle.leg_floorplan.specs.Namespace
+pub use Rattle.leg_section.specs.Namespace
 pub use Rattle.leg_nets.specs.Terminal
 pub use Rattle.leg_nets.specs.Path
 pub use Rattle.leg_nets.specs.PathItem

@@ -5,8 +5,8 @@ use Rattle.leg_geom.specs.Plane.{Sides}
 use Rattle.leg_cells.specs.Records.{Contents, ViaSaid}
 use Rattle.leg_block.specs.declared.records.Row.{Row}
 use Rattle.leg_block.specs.declared.records.Component.{Component}
-use Rattle.leg_floorplan.specs.Guard.{when, unless}
-use Rattle.leg_floorplan.specs.Namespace.{KnownSaid}
+use Rattle.leg_section.specs.Guard.{when, unless}
+use Rattle.leg_section.specs.Namespace.{KnownSaid}
 use Rattle.leg_design.specs.Header.{word_after, design_name_at, units_at}
 use Rattle.leg_floorplan.specs.Die.{die_at}
 use Rattle.leg_floorplan.specs.Row.{row_at}

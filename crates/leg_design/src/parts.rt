@@ -4,7 +4,7 @@ ghost use Rattle.std.specs.Prelude.{◌≡◌, ℕ, List, ◌≢◌, ◌≤◌, 
 ghost use Rattle.leg_lex.specs.declared.read_fault.FaultKind.TheVariants.{Memory};
 ghost use Rattle.leg_lex.specs.Words.{Reads, Means};
 ghost use Rattle.leg_block.specs.declared.limits.TheConstants.{PART_LIMIT};
-ghost use Rattle.leg_floorplan.specs.Guard.{unless};
+ghost use Rattle.leg_section.specs.Guard.{unless};
 ghost use Rattle.leg_block.specs.Records.{terminal_count};
 ghost use Rattle.leg_cells.specs.Records.{Contents};
 ghost use Rattle.leg_design.specs.Parts.{no_parts, divider_form, bus_form, name_form, units_form, die_form, row_form, track_form};

@@ -8,11 +8,11 @@ use Rattle.leg_lex.proofs.Statements.{statement_below}
 use Rattle.leg_cells.specs.Records.{Contents}
 use Rattle.leg_block.specs.declared.limits.TheConstants.{ENTRY_LIMIT}
 use Rattle.leg_block.specs.declared.records.Component.{Component}
-use Rattle.leg_floorplan.specs.Guard.{unless}
+use Rattle.leg_section.specs.Guard.{unless}
 use Rattle.leg_block.specs.Records.{component_names}
 use Rattle.leg_floorplan.specs.Component.{component_in, component_entry, components_at}
 use Rattle.leg_floorplan.proofs.ReadComponents.{component_gives}
-use Rattle.leg_floorplan.proofs.Sections.{section_below}
+use Rattle.leg_section.proofs.Sections.{section_below}
 
 -- a component that is read has a new name
 pub name_is_fresh : (library : Contents) (names : List (List ℕ)) (parts : List Words) (component : Component) → component_in library names parts ≡ Some component → place_of component.name names ≡ None

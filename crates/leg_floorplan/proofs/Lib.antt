@@ -1,9 +1,4 @@
--- What the crates above cite: what every reading keeps, conditions, numbers and sections ..
-pub mod Gives
-pub mod Guards
-pub mod Numbers
-pub mod Sections
--- .. that each form shortens the words that are left ..
+-- What the crates above cite: that each form shortens the words that are left ..
 pub mod Dies
 pub mod Rows
 pub mod Tracks
@@ -11,19 +6,15 @@ pub mod Vias
 pub mod Components
 pub mod Pins
 -- .. and that what a form says is well-formed.
-pub mod ReadPlacement
 pub mod ReadDie
 pub mod ReadRows
 pub mod ReadTracks
 pub mod ReadVias
 pub mod ReadComponents
 pub mod ReadPins
--- Points and corners.
+-- Points.
 mod Spots
-mod Corners
--- Clauses, and the one of them that is sought.
-mod Clauses
+-- Of the clauses, the one that is sought.
 mod Sought
 -- Numbers by which tables tell their entries.
 mod Numbered
-mod ViaNumbers

@@ -7,11 +7,11 @@ use Rattle.leg_lex.proofs.Until.{Below, Shortens, below_some, below_bind, below_
 use Rattle.leg_lex.proofs.Statements.{statement_below}
 use Rattle.leg_cells.specs.Records.{Contents}
 use Rattle.leg_block.specs.declared.limits.TheConstants.{ENTRY_LIMIT}
-use Rattle.leg_floorplan.specs.Guard.{unless}
+use Rattle.leg_section.specs.Guard.{unless}
 use Rattle.leg_block.specs.Records.{PinSaid, pin_names}
 use Rattle.leg_floorplan.specs.Pin.{pin_in, pin_entry, pins_at}
 use Rattle.leg_floorplan.proofs.ReadPins.{pin_in_gives}
-use Rattle.leg_floorplan.proofs.Sections.{section_below}
+use Rattle.leg_section.proofs.Sections.{section_below}
 
 -- a pin that is read has a new name
 pub name_is_fresh : (library : Contents) (names : List (List ℕ)) (parts : List Words) (pin : PinSaid) → pin_in library names parts ≡ Some pin → place_of pin.name names ≡ None

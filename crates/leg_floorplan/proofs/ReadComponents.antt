@@ -12,14 +12,14 @@ use Rattle.leg_lex.proofs.NameLookup.{apart_push}
 use Rattle.leg_cells.specs.Records.{Contents, MasterSaid}
 use Rattle.leg_block.specs.declared.limits.TheConstants.{ENTRY_LIMIT}
 use Rattle.leg_block.specs.declared.records.Component.{Component}
-use Rattle.leg_floorplan.specs.Guard.{when}
-use Rattle.leg_floorplan.specs.Placement.{says_place}
-use Rattle.leg_floorplan.specs.Clause.{is_clause}
+use Rattle.leg_section.specs.Guard.{when}
+use Rattle.leg_section.specs.Placement.{says_place}
+use Rattle.leg_section.specs.Clause.{is_clause}
 use Rattle.leg_floorplan.specs.Component.{is_placement, placement_in, placement_in_any, placement_of, new_name_at, master_at, component_head, component_in, component_entry, components_at}
 use Rattle.leg_block.specs.Records.{component_names}
 use Rattle.leg_block.specs.WellFormedParts.{IsPlaced, IsComponent, AreComponents}
-use Rattle.leg_floorplan.proofs.Gives.{Gives, gives_none, gives_some, gives_bind, gives_skip, gives_if, unless_gives, none_from, named_gives_within, name_gives, section_gives}
-use Rattle.leg_floorplan.proofs.ReadPlacement.{placed_gives}
+use Rattle.leg_section.proofs.Gives.{Gives, gives_none, gives_some, gives_bind, gives_skip, gives_if, unless_gives, none_from, named_gives_within, name_gives, section_gives}
+use Rattle.leg_section.proofs.ReadPlacement.{placed_gives}
 
 placement_gives : (clause : Words) → Gives (λ said. IsPlaced said.0 said.1) (placement_in clause)
 unfolding placement_in

@@ -5,8 +5,8 @@ use Rattle.leg_lex.specs.Words.{Words}
 use Rattle.leg_geom.specs.Plane.{Spot}
 use Rattle.leg_floorplan.specs.Die.{one_spot, at_no_spot, go_round, die_of, die_at}
 use Rattle.leg_block.specs.WellFormedParts.{IsPosition, IsArea}
-use Rattle.leg_floorplan.proofs.Gives.{Gives, gives_none, gives_some, gives_bind, gives_skip, gives_if, until_gives}
-use Rattle.leg_floorplan.proofs.ReadPlacement.{spot_gives, between_gives}
+use Rattle.leg_section.proofs.Gives.{Gives, gives_none, gives_some, gives_bind, gives_skip, gives_if, until_gives}
+use Rattle.leg_section.proofs.ReadPlacement.{spot_gives, between_gives}
 
 one_spot_gives : (spots : List Spot) (words : Words) → All IsPosition spots → Gives (λ said. All IsPosition said.0) (one_spot spots words)
 unfolding one_spot

@@ -10,19 +10,19 @@ use Rattle.leg_lex.specs.NameLookup.{place_of}
 use Rattle.leg_lex.proofs.NameLookup.{apart_push}
 use Rattle.leg_cells.specs.Records.{Contents}
 use Rattle.leg_block.specs.declared.limits.TheConstants.{ENTRY_LIMIT}
-use Rattle.leg_floorplan.specs.Guard.{when, unless}
-use Rattle.leg_floorplan.specs.Clause.{is_clause}
-use Rattle.leg_floorplan.specs.Placement.{says_place}
+use Rattle.leg_section.specs.Guard.{when, unless}
+use Rattle.leg_section.specs.Clause.{is_clause}
+use Rattle.leg_section.specs.Placement.{says_place}
 use Rattle.leg_floorplan.specs.PinClauses.{PinClauses, no_pin_clauses, net_of_pin, word_in, last_port, all_ports, port_start, port_rect, pin_net_clause, direction_clause, pin_use_clause, port_place, pin_clause}
 use Rattle.leg_floorplan.specs.Port.{empty_port, past_rules, layer_rect}
 use Rattle.leg_floorplan.specs.Pin.{pin_head, pin_in, pin_entry, pins_at}
 use Rattle.leg_block.specs.Records.{PortSaid, PinSaid, pin_names}
 use Rattle.leg_block.specs.WellFormedParts.{IsKept, IsNameIfAny, IsPort, IsPin, ArePins}
-use Rattle.leg_floorplan.proofs.Gives.{Gives, gives_none, gives_some, gives_bind, gives_skip, gives_if, unless_gives, none_from, name_gives, word_gives, over_gives, section_gives}
-use Rattle.leg_floorplan.proofs.ReadPlacement.{rect_gives, placed_gives}
+use Rattle.leg_section.proofs.Gives.{Gives, gives_none, gives_some, gives_bind, gives_skip, gives_if, unless_gives, none_from, name_gives, word_gives, over_gives, section_gives}
+use Rattle.leg_section.proofs.ReadPlacement.{rect_gives, placed_gives}
 use Rattle.leg_floorplan.proofs.ReadVias.{with_rect_metal}
 use Rattle.leg_block.specs.WellFormedParts.{IsArea, IsMetalShape}
-use Rattle.leg_floorplan.specs.Layers.{layer_named_at}
+use Rattle.leg_section.specs.Layers.{layer_named_at}
 
 net_of_pin_gives : (clause : Words) → Gives (λ name. is_name name ≡ true) (net_of_pin clause)
 unfolding net_of_pin

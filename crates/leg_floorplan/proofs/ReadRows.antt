@@ -8,13 +8,13 @@ use Rattle.leg_lex.specs.Words.{Words, keyword_at, name_at}
 use Rattle.leg_lex.specs.Statements.{statement_at, clauses_of}
 use Rattle.leg_lex.specs.NameLookup.{place_of}
 use Rattle.leg_cells.specs.Records.{Contents, site_names}
-use Rattle.leg_floorplan.specs.Guard.{when, is_within}
-use Rattle.leg_floorplan.specs.Placement.{orient_at}
+use Rattle.leg_section.specs.Guard.{when, is_within}
+use Rattle.leg_section.specs.Placement.{orient_at}
 use Rattle.leg_block.specs.Rows.{is_upright}
 use Rattle.leg_floorplan.specs.Row.{site_named_at, step_in, sites_in, row_in, head_of, row_at}
 use Rattle.leg_block.specs.WellFormedParts.{IsRow}
-use Rattle.leg_floorplan.proofs.Gives.{Gives, gives_some, gives_bind, gives_skip, gives_itself, name_gives, when_gives}
-use Rattle.leg_floorplan.proofs.ReadPlacement.{whole_gives}
+use Rattle.leg_section.proofs.Gives.{Gives, gives_some, gives_bind, gives_skip, gives_itself, name_gives, when_gives}
+use Rattle.leg_section.proofs.ReadPlacement.{whole_gives}
 
 pub within_is : (z : ℤ) → is_within z ≡ true → IsNumber z
 within_is z within = grind (arith, nat_tests)

@@ -5,11 +5,11 @@ use Rattle.leg_lex.specs.Words.{Words, keyword_at, name_at}
 use Rattle.leg_lex.specs.Statements.{statement_at}
 use Rattle.leg_cells.specs.declared.records.Layer.{Layer}
 use Rattle.leg_cells.specs.Records.{Contents}
-use Rattle.leg_floorplan.specs.Guard.{is_over, is_within}
+use Rattle.leg_section.specs.Guard.{is_over, is_within}
 use Rattle.leg_floorplan.specs.Track.{axis_at, one_layer, layers_in, track_in, track_at}
 use Rattle.leg_block.specs.WellFormedParts.{IsTrack}
-use Rattle.leg_floorplan.proofs.Gives.{Gives, gives_some, gives_bind, gives_skip, named_gives_within, when_gives, until_gives}
-use Rattle.leg_floorplan.proofs.ReadPlacement.{whole_gives}
+use Rattle.leg_section.proofs.Gives.{Gives, gives_some, gives_bind, gives_skip, named_gives_within, when_gives, until_gives}
+use Rattle.leg_section.proofs.ReadPlacement.{whole_gives}
 use Rattle.leg_floorplan.proofs.ReadRows.{within_is, le_is}
 
 module _ (library : Contents) where

@@ -10,15 +10,15 @@ use Rattle.leg_lex.proofs.NameLookup.{apart_push}
 use Rattle.leg_geom.specs.Plane.{Sides}
 use Rattle.leg_cells.specs.declared.records.Shape.{Shape}
 use Rattle.leg_cells.specs.Records.{Contents, ViaSaid, via_names}
-use Rattle.leg_floorplan.specs.Guard.{when}
-use Rattle.leg_floorplan.specs.Clause.{is_clause}
-use Rattle.leg_floorplan.specs.Layers.{layer_named_at, with_rect}
+use Rattle.leg_section.specs.Guard.{when}
+use Rattle.leg_section.specs.Clause.{is_clause}
+use Rattle.leg_section.specs.Layers.{layer_named_at, with_rect}
 use Rattle.leg_block.specs.Layers.{has_metal}
 use Rattle.leg_floorplan.specs.Via.{via_rect, is_other_via, via_clause, via_head, via_in, via_entry, vias_at}
 use Rattle.leg_block.specs.Records.{design_via_names}
 use Rattle.leg_block.specs.WellFormedParts.{IsArea, IsMetalShape, IsDesignVia, AreVias}
-use Rattle.leg_floorplan.proofs.Gives.{Gives, gives_none, gives_some, gives_bind, gives_skip, gives_if, unless_gives, none_from, name_gives, over_gives, section_gives}
-use Rattle.leg_floorplan.proofs.ReadPlacement.{rect_gives}
+use Rattle.leg_section.proofs.Gives.{Gives, gives_none, gives_some, gives_bind, gives_skip, gives_if, unless_gives, none_from, name_gives, over_gives, section_gives}
+use Rattle.leg_section.proofs.ReadPlacement.{rect_gives}
 
 module _ (library : Contents) where
   -- the rectangles are on layers with metal

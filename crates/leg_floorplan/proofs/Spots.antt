@@ -3,7 +3,7 @@ use Rattle.std.proofs.Common.{length, arith}
 use Rattle.leg_lex.specs.Words.{Words}
 use Rattle.leg_lex.proofs.Shorter.{mark_below, whole_below}
 use Rattle.leg_lex.proofs.Until.{Below, below_some, below_bind}
-use Rattle.leg_floorplan.specs.Placement.{spot_at}
+use Rattle.leg_section.specs.Placement.{spot_at}
 
 pub spot_below : (words : Words) → Below (length words) (spot_at words)
 unfolding spot_at

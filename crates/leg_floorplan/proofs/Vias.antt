@@ -9,7 +9,7 @@ use Rattle.leg_cells.specs.Records.{Contents, ViaSaid}
 use Rattle.leg_block.specs.Records.{design_via_names}
 use Rattle.leg_floorplan.specs.Via.{via_in, via_entry, vias_at}
 use Rattle.leg_floorplan.proofs.ReadVias.{via_in_gives}
-use Rattle.leg_floorplan.proofs.Sections.{section_below}
+use Rattle.leg_section.proofs.Sections.{section_below}
 
 -- a via that is read has a new name
 pub name_is_fresh : (library : Contents) (vias : List ViaSaid) (parts : List Words) (via : ViaSaid) → via_in library vias parts ≡ Some via → place_of via.name (design_via_names vias) ≡ None

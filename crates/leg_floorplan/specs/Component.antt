@@ -10,10 +10,10 @@ use Rattle.leg_block.specs.declared.limits.TheConstants.{ENTRY_LIMIT}
 use Rattle.leg_block.specs.declared.records.Status.{Status}
 use Rattle.leg_block.specs.declared.records.Status.TheVariants.{Unplaced}
 use Rattle.leg_block.specs.declared.records.Component.{Component}
-use Rattle.leg_floorplan.specs.Guard.{when, unless}
-use Rattle.leg_floorplan.specs.Placement.{says_place, placed_in}
-use Rattle.leg_floorplan.specs.Clause.{is_clause}
-use Rattle.leg_floorplan.specs.Section.{section_at}
+use Rattle.leg_section.specs.Guard.{when, unless}
+use Rattle.leg_section.specs.Placement.{says_place, placed_in}
+use Rattle.leg_section.specs.Clause.{is_clause}
+use Rattle.leg_section.specs.Section.{section_at}
 use Rattle.leg_block.specs.Records.{component_names}
 
 -- whether a clause gives the place of the component

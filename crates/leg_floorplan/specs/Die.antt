@@ -5,7 +5,7 @@ use Rattle.leg_lex.specs.Words.{Words, ◌>>=◌, is_at, keyword_at, mark_at}
 use Rattle.leg_lex.specs.Until.{until}
 use Rattle.leg_geom.specs.Plane.{Spot, Sides}
 use Rattle.leg_cells.specs.Measure.{rect_between}
-use Rattle.leg_floorplan.specs.Placement.{spot_at}
+use Rattle.leg_section.specs.Placement.{spot_at}
 
 -- one more point
 unfoldable pub one_spot : List Spot → Words → Option (List Spot × Words)

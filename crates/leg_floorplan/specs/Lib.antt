@@ -1,9 +1,4 @@
 pub use Rattle.leg_block.specs.Records
-pub mod Guard
-pub mod Placement
-pub mod Clause
-pub mod Layers
-pub mod Section
 pub mod Die
 pub mod Row
 pub mod Track
@@ -12,4 +7,3 @@ pub mod Component
 pub mod Port
 pub mod PinClauses
 pub mod Pin
-pub mod Namespace

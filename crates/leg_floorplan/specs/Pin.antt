@@ -6,8 +6,8 @@ use Rattle.leg_lex.specs.Statements.{statement_at, clauses_of}
 use Rattle.leg_lex.specs.NameLookup.{place_of}
 use Rattle.leg_cells.specs.Records.{Contents}
 use Rattle.leg_block.specs.declared.limits.TheConstants.{ENTRY_LIMIT}
-use Rattle.leg_floorplan.specs.Guard.{unless}
-use Rattle.leg_floorplan.specs.Section.{section_at}
+use Rattle.leg_section.specs.Guard.{unless}
+use Rattle.leg_section.specs.Section.{section_at}
 use Rattle.leg_block.specs.Records.{PinSaid, pin_names}
 use Rattle.leg_floorplan.specs.PinClauses.{no_pin_clauses, all_ports, pin_clause}
 

@@ -2,10 +2,10 @@
 use Rattle.std.specs.Prelude.{ℕ, ◌||◌, if◌then◌else◌, List, [], ◌∷◌, ◌++◌, Option, None, Some, is_some, codes}
 use Rattle.leg_lex.specs.Words.{Words, ◌>>=◌, is_at, keyword_at, name_at, word_at, nothing_at}
 use Rattle.leg_cells.specs.Records.{Contents}
-use Rattle.leg_floorplan.specs.Guard.{when, unless}
-use Rattle.leg_floorplan.specs.Placement.{says_place, placed_in}
-use Rattle.leg_floorplan.specs.Clause.{is_clause}
-use Rattle.leg_floorplan.specs.Layers.{with_rect}
+use Rattle.leg_section.specs.Guard.{when, unless}
+use Rattle.leg_section.specs.Placement.{says_place, placed_in}
+use Rattle.leg_section.specs.Clause.{is_clause}
+use Rattle.leg_section.specs.Layers.{with_rect}
 use Rattle.leg_block.specs.Records.{PortSaid}
 use Rattle.leg_floorplan.specs.Port.{empty_port, layer_rect}
 

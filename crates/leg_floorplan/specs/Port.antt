@@ -4,8 +4,8 @@ use Rattle.leg_lex.specs.Words.{Words, ◌>>=◌, is_at, keyword_at, whole_at, n
 use Rattle.leg_geom.specs.Plane.{Sides}
 use Rattle.leg_cells.specs.Records.{Contents}
 use Rattle.leg_block.specs.declared.records.Status.TheVariants.{Unplaced}
-use Rattle.leg_floorplan.specs.Placement.{rect_at}
-use Rattle.leg_floorplan.specs.Layers.{layer_named_at}
+use Rattle.leg_section.specs.Placement.{rect_at}
+use Rattle.leg_section.specs.Layers.{layer_named_at}
 use Rattle.leg_block.specs.Records.{PortSaid}
 
 abbrev pub empty_port : PortSaid

@@ -6,8 +6,8 @@ use Rattle.leg_lex.specs.Statements.{statement_at, clauses_of}
 use Rattle.leg_lex.specs.NameLookup.{place_of}
 use Rattle.leg_cells.specs.declared.records.Site.{Site}
 use Rattle.leg_cells.specs.Records.{Contents, site_names}
-use Rattle.leg_floorplan.specs.Guard.{when, is_within}
-use Rattle.leg_floorplan.specs.Placement.{orient_at}
+use Rattle.leg_section.specs.Guard.{when, is_within}
+use Rattle.leg_section.specs.Placement.{orient_at}
 use Rattle.leg_block.specs.declared.records.Row.{Row}
 use Rattle.leg_block.specs.Rows.{is_upright}
 

@@ -7,11 +7,11 @@ use Rattle.leg_lex.specs.NameLookup.{place_of}
 use Rattle.leg_cells.specs.declared.records.Shape.{Shape}
 use Rattle.leg_cells.specs.Records.{Contents, ViaSaid, via_names}
 use Rattle.leg_cells.specs.GoodVia.{is_good_via}
-use Rattle.leg_floorplan.specs.Guard.{when, unless}
-use Rattle.leg_floorplan.specs.Placement.{rect_at}
-use Rattle.leg_floorplan.specs.Clause.{is_clause}
-use Rattle.leg_floorplan.specs.Layers.{layer_named_at, with_rect}
-use Rattle.leg_floorplan.specs.Section.{section_at}
+use Rattle.leg_section.specs.Guard.{when, unless}
+use Rattle.leg_section.specs.Placement.{rect_at}
+use Rattle.leg_section.specs.Clause.{is_clause}
+use Rattle.leg_section.specs.Layers.{layer_named_at, with_rect}
+use Rattle.leg_section.specs.Section.{section_at}
 use Rattle.leg_block.specs.Records.{design_via_names}
 
 -- RECT NAME corners

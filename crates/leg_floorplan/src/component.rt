@@ -7,13 +7,13 @@ ghost use Rattle.leg_lex.specs.Statements.{at_most_one, at_end};
 ghost use Rattle.leg_block.specs.Records.{component_names};
 ghost use Rattle.leg_floorplan.specs.Component.{is_placement, unplaced_in, placement_in, placement_in_any, placement_of, new_name_at, master_at, component_head, component_in, component_entry, components_at};
 
-use crate::clause::all_clauses;
-use crate::placement::{placed, says_place};
-use crate::section::section_start;
 use leg_block::{Component, ENTRY_LIMIT, Status};
 use leg_cells::Library;
 use leg_geom::Place;
 use leg_lex::{Cursor, FaultKind, Name, NamedList, ReadFault, clauses, is_keyword};
+use leg_section::clause::all_clauses;
+use leg_section::placement::{placed, says_place};
+use leg_section::section_start;
 use std::alloc::Allocator;
 
 /// Whether a clause gives the place of the component.
@@ -186,7 +186,7 @@ fn entries<'a, A: Allocator + Copy>(
 }
 
 /// The section `COMPONENTS`.
-#[tactic(auto, unfolding(crate::specs::Component::components_at, crate::specs::Section::section_at))]
+#[tactic(auto, unfolding(crate::specs::Component::components_at, leg_section::specs::Section::section_at))]
 pub fn components<'a, A: Allocator + Copy>(
     alloc: A,
     library: &Library<'_, A>,

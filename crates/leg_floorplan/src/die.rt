@@ -5,9 +5,9 @@ ghost use Rattle.leg_lex.specs.Words.{Reads};
 ghost use Rattle.leg_lex.specs.Until.{until};
 ghost use Rattle.leg_floorplan.specs.Die.{at_no_spot, one_spot, have_one_x, have_one_y, go_round, die_of, die_at};
 
-use crate::placement::{point, rect_between};
 use leg_geom::{Point, Rect};
 use leg_lex::{Cursor, FaultKind, ReadFault};
+use leg_section::placement::{point, rect_between};
 use std::alloc::Allocator;
 
 /// Points, one after the other.

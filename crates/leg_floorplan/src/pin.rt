@@ -8,10 +8,10 @@ ghost use Rattle.leg_block.specs.Records.{pin_names};
 ghost use Rattle.leg_floorplan.specs.Pin.{pin_head, pin_in, pin_entry, pins_at};
 
 use crate::pin_parts::all_parts;
-use crate::section::section_start;
 use leg_block::{ENTRY_LIMIT, Pin};
 use leg_cells::{Items, Library};
 use leg_lex::{Cursor, FaultKind, Name, NamedList, ReadFault, clauses};
+use leg_section::section_start;
 use std::alloc::Allocator;
 
 /// The entry's head: `- NAME`, a name that no pin before has.
@@ -95,7 +95,7 @@ fn entries<'a, A: Allocator + Copy>(
 }
 
 /// The section `PINS`.
-#[tactic(auto, unfolding(crate::specs::Pin::pins_at, crate::specs::Section::section_at))]
+#[tactic(auto, unfolding(crate::specs::Pin::pins_at, leg_section::specs::Section::section_at))]
 pub fn pins<'a, A: Allocator + Copy>(
     alloc: A,
     library: &Library<'_, A>,

@@ -5,13 +5,13 @@ ghost use Rattle.leg_lex.specs.Words.{Means};
 ghost use Rattle.leg_lex.specs.Until.{over};
 ghost use Rattle.leg_floorplan.specs.PinClauses.{no_pin_clauses, net_of_pin, word_in, last_port, all_ports, port_start, port_rect, port_place, pin_net_clause, direction_clause, pin_use_clause, pin_clause};
 
-use crate::clause::clause;
-use crate::layers::push_rect;
-use crate::placement::{placed, says_place};
 use crate::port::{OpenPort, layer_rect};
 use leg_block::Port;
 use leg_cells::Library;
 use leg_lex::{Cursor, FaultKind, Name, ReadFault};
+use leg_section::clause::clause;
+use leg_section::layers::push_rect;
+use leg_section::placement::{placed, says_place};
 use std::alloc::{AllocError, Allocator};
 use std::marker::Model;
 

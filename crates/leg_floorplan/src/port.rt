@@ -4,12 +4,12 @@ ghost use Rattle.std.specs.Prelude.{◌≡◌};
 ghost use Rattle.leg_lex.specs.Words.{Reads, Means};
 ghost use Rattle.leg_floorplan.specs.Port.{empty_port, past_number, past_rules, layer_rect};
 
-use crate::clause::rect_or_mask;
-use crate::layers::layer;
 use leg_block::{Port, Status};
 use leg_cells::{Items, Library, Shape};
 use leg_geom::{Place, Rect};
 use leg_lex::{Cursor, ReadFault};
+use leg_section::clause::rect_or_mask;
+use leg_section::layers::layer;
 use std::alloc::Allocator;
 use std::marker::Model;
 

@@ -3,15 +3,15 @@
 ghost use Rattle.std.specs.Prelude.{◌≡◌, ◌+ℤ◌, ◌*ℤ◌, IfOk};
 ghost use Rattle.leg_lex.specs.Number.{IsNumber};
 ghost use Rattle.leg_lex.specs.Words.{Reads, Means};
-ghost use Rattle.leg_floorplan.specs.Guard.{is_within};
+ghost use Rattle.leg_section.specs.Guard.{is_within};
 ghost use Rattle.leg_block.specs.Rows.{is_upright};
 ghost use Rattle.leg_floorplan.specs.Row.{site_named_at, step_in, sites_in, row_in, head_of, row_at};
 
-use crate::placement::orient;
 use leg_block::Row;
 use leg_cells::{Library, Site};
 use leg_geom::{Orient, Point};
 use leg_lex::{Cursor, FaultKind, NUMBER_LIMIT, Name, ReadFault, clauses};
+use leg_section::placement::orient;
 use std::alloc::Allocator;
 
 /// Whether a row may have this orientation: it may be mirrored, but not turned.
@@ -71,7 +71,7 @@ fn step(width: i64, count: i64, words: &mut Cursor<'_, '_>) -> Result<(), ReadFa
 
 /// How many sites a row has: one, where it isn't written. Fewer are `TooLarge`, and more than one line of them
 /// `BadRow`.
-#[tactic(auto, using(crate::proofs::Numbers::whole_is_number), unfolding(crate::specs::Row::sites_in))]
+#[tactic(auto, using(leg_section::proofs::Numbers::whole_is_number), unfolding(crate::specs::Row::sites_in))]
 fn sites(width: i64, words: &mut Cursor<'_, '_>) -> Result<i64, ReadFault>
     ensures said { Means (λ n. n) result (sites_in width words.old) }
     ensures number { IfOk result (λ n. IsNumber n) }
@@ -97,7 +97,7 @@ fn sites(width: i64, words: &mut Cursor<'_, '_>) -> Result<i64, ReadFault>
 
 /// A row, of the words before its first `+`. An orientation that turns it is `BadRow`, and a right end beyond the
 /// limit of numbers `TooLarge`.
-#[tactic(auto, using(crate::proofs::Numbers::whole_is_number, crate::proofs::Numbers::whole_is_coordinate), unfolding(crate::specs::Row::row_in))]
+#[tactic(auto, using(leg_section::proofs::Numbers::whole_is_number, leg_section::proofs::Numbers::whole_is_coordinate), unfolding(crate::specs::Row::row_in))]
 fn row_of<'a, A: Allocator + Copy>(
     library: &Library<'_, A>,
     head: &mut Cursor<'_, 'a>,

@@ -2,7 +2,7 @@
 
 ghost use Rattle.leg_lex.specs.Words.{Reads, Means};
 ghost use Rattle.leg_lex.specs.Until.{until};
-ghost use Rattle.leg_floorplan.specs.Guard.{is_over};
+ghost use Rattle.leg_section.specs.Guard.{is_over};
 ghost use Rattle.leg_floorplan.specs.Track.{axis_at, one_layer, layers_in, track_in, track_at};
 
 use crate::row::ends_within;
@@ -44,7 +44,7 @@ fn one_layer<A: Allocator + Copy>(
 }
 
 /// Adds the numbers of the layers whose names are left.
-#[tactic(auto, using(leg_lex::proofs::Until::ends, leg_lex::proofs::Until::goes_on, leg_lex::proofs::Until::fails, crate::proofs::Guards::over_is, crate::proofs::Guards::not_over_is, crate::proofs::Tracks::one_layer_shortens, crate::proofs::Tracks::one_layer_shorter))]
+#[tactic(auto, using(leg_lex::proofs::Until::ends, leg_lex::proofs::Until::goes_on, leg_lex::proofs::Until::fails, leg_section::proofs::Guards::over_is, leg_section::proofs::Guards::not_over_is, crate::proofs::Tracks::one_layer_shortens, crate::proofs::Tracks::one_layer_shorter))]
 fn more_layers<A: Allocator + Copy>(
     library: &Library<'_, A>,
     numbers: &mut Vec<usize, A>,
@@ -81,7 +81,7 @@ fn layers<A: Allocator + Copy>(
 }
 
 /// Tracks, of a statement. Fewer than one, a step below 1, and a last track beyond the limit of numbers are `TooLarge`.
-#[tactic(auto, using(crate::proofs::Numbers::whole_is_number), unfolding(crate::specs::Track::track_in))]
+#[tactic(auto, using(leg_section::proofs::Numbers::whole_is_number), unfolding(crate::specs::Track::track_in))]
 fn track_of<A: Allocator + Copy>(
     alloc: A,
     library: &Library<'_, A>,

@@ -6,11 +6,11 @@ ghost use Rattle.leg_lex.specs.Until.{over, until};
 ghost use Rattle.leg_lex.specs.Statements.{at_end};
 ghost use Rattle.leg_floorplan.specs.Via.{via_rect, is_other_via, via_clause, via_head, via_in, via_entry, vias_at};
 
-use crate::clause::{clause, rect_or_mask};
-use crate::layers::{layer, push_rect};
-use crate::section::section_start;
 use leg_cells::{Items, Library, Shape, Via};
 use leg_lex::{Cursor, FaultKind, Name, NamedList, ReadFault, clauses};
+use leg_section::clause::{clause, rect_or_mask};
+use leg_section::layers::{layer, push_rect};
+use leg_section::section_start;
 use std::alloc::Allocator;
 
 /// Adds the rectangle of a clause `RECT`, where its layer carries metal. Where a clause `MASK` comes before the corners,
@@ -157,7 +157,7 @@ fn entries<'a, A: Allocator + Copy>(
 }
 
 /// The section `VIAS`.
-#[tactic(auto, unfolding(crate::specs::Via::vias_at, crate::specs::Section::section_at))]
+#[tactic(auto, unfolding(crate::specs::Via::vias_at, leg_section::specs::Section::section_at))]
 pub fn vias<'a, A: Allocator + Copy>(
     alloc: A,
     library: &Library<'_, A>,

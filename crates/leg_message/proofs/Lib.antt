@@ -1,0 +1,2 @@
+-- What holds where texts are not refused.
+mod Causes

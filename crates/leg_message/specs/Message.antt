@@ -8,6 +8,7 @@ use Rattle.leg_cells.specs.declared.scale_fault.ScaleKind.{ScaleKind}
 use Rattle.leg_input.specs.Stream.{HasEndLibrary, IsSplit}
 use Rattle.leg_message.specs.declared.note.Note.{Note}
 use Rattle.leg_message.specs.Advice.{advice_of}
+use Rattle.leg_message.specs.Cause.{DenoteDesign}
 use Rattle.leg_message.specs.Length.{HasFault}
 use Rattle.leg_message.specs.Note.{note_line}
 use Rattle.leg_message.specs.Sentence.{sentence_of, scale_sentence_of}
@@ -75,9 +76,14 @@ pub record ShowsName (message : List ℕ) : Type 0 where
   pub units : ℕ
   pub is : message ≡ name_message name (scale_reason kind units)
 
--- the message on texts that are refused; nothing where memory ran out
+-- nothing, where the texts denote a design and so are not refused
+pub record ShowsNothing (texts : TextsSaid) (message : List ℕ) : Type 0 where
+  pub said : DenoteDesign texts.lefs texts.def
+  pub is : message ≡ []
+
+-- the message on texts that are refused
 abbrev pub IsRefusal : TextsSaid → List ℕ → Type 0
-IsRefusal texts message = (message ≡ []) ⊎ (ShowsLine texts message ⊎ (ShowsLength texts message ⊎ ShowsName message))
+IsRefusal texts message = ShowsNothing texts message ⊎ (ShowsLine texts message ⊎ (ShowsLength texts message ⊎ ShowsName message))
 
 -- The message on a run whose last line begins with this word.
 abbrev pub IsMessage : TextsSaid → List ℕ → List ℕ → Type 0

@@ -1,5 +1,10 @@
 //! Why texts are refused, found by reading them again.
 
+ghost use Rattle.std.specs.Prelude.{map};
+ghost use Rattle.leg_lex.specs.Say.{Says};
+ghost use Rattle.leg_block.specs.Records.{DesignContents};
+ghost use Rattle.leg_design.specs.Form.{design_in};
+ghost use Rattle.leg_message.specs.Cause.{DenoteDesign, IfNothing};
 ghost use Rattle.leg_message.specs.Length.{HasUnits};
 
 use leg_cells::{Library, ScaleFault};
@@ -25,7 +30,8 @@ pub(crate) fn cause_of<'a, A: Allocator + Copy>(
     lefs: &[&'a [u8]],
     def: &[u8],
 ) -> Cause<'a>
-    ensures { HasUnits result }
+    ensures units { HasUnits result }
+    ensures nothing { IfNothing result (DenoteDesign (map (λ l. l.now) lefs.now) def.now) }
 {
     let raw = match read_lefs(alloc, lefs) {
         Ok(raw) => raw,
@@ -48,7 +54,8 @@ fn design_cause<'e, A: Allocator + Copy>(
     library: &Library<'_, A>,
     def: &[u8],
 ) -> Cause<'e>
-    ensures { HasUnits result }
+    ensures units { HasUnits result }
+    ensures nothing { IfNothing result ((design : DesignContents) × Says (design_in library.now) def.now design) }
 {
     match read_def(alloc, library, def) {
         Ok(_) => Cause::Nothing,

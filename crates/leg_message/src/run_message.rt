@@ -18,7 +18,7 @@ use std::alloc::{AllocError, Allocator};
 
 /// The message on a run over these texts whose last line begins with this word; empty where nothing is to be said.
 ///
-/// A run that has refused its texts has them read again here, to find why.
+/// A run that has refused its texts has them read again here, to find why. An error where memory runs out meanwhile.
 pub fn message<A: Allocator + Copy, B: Allocator>(
     alloc: A,
     texts: &Texts<'_, B>,
@@ -33,7 +33,7 @@ pub fn message<A: Allocator + Copy, B: Allocator>(
     }
 }
 
-/// The message on texts that are refused; empty where memory ran out.
+/// The message on texts that are refused; empty where they are not.
 fn refusal_message<A: Allocator + Copy, B: Allocator>(
     alloc: A,
     texts: &Texts<'_, B>,
@@ -41,13 +41,11 @@ fn refusal_message<A: Allocator + Copy, B: Allocator>(
     ensures { IfOk result (λ m. IsRefusal texts.now m.items) }
 {
     match cause_of(alloc, texts.lefs, texts.def) {
-        Cause::Read(number, fault) if fault.kind != FaultKind::Memory => {
-            refused_message(alloc, texts, number, &fault)
-        }
-        Cause::Scale(fault, units) if fault.kind != ScaleKind::Memory => {
-            scale_message(alloc, texts, &fault, units)
-        }
-        _ => Ok(Vec::new(alloc)),
+        Cause::Read(_, fault) if fault.kind == FaultKind::Memory => Err(AllocError),
+        Cause::Read(number, fault) => refused_message(alloc, texts, number, &fault),
+        Cause::Scale(fault, _) if fault.kind == ScaleKind::Memory => Err(AllocError),
+        Cause::Scale(fault, units) => scale_message(alloc, texts, &fault, units),
+        Cause::Nothing => Ok(Vec::new(alloc)),
     }
 }
 
@@ -70,7 +68,8 @@ fn advice_message<A: Allocator + Copy, B: Allocator>(
     Ok(message)
 }
 
-/// The message on a run over standard input whose last line begins with this word; empty where nothing is to be said.
+/// The message on a run over standard input whose last line begins with this word; empty where nothing is to be said. An
+/// error where memory runs out.
 pub fn stream_message<A: Allocator + Copy>(
     alloc: A,
     stream: &[u8],

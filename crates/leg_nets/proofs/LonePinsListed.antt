@@ -8,11 +8,11 @@ use Rattle.leg_lex.specs.NameLookup.{place_of}
 use Rattle.leg_lex.proofs.NameLookup.{none_parts}
 use Rattle.leg_block.specs.declared.records.Terminal.{Terminal}
 use Rattle.leg_block.specs.declared.records.Terminal.TheVariants.{Pin}
-use Rattle.leg_floorplan.specs.Namespace.{KnownSaid}
+use Rattle.leg_section.specs.Namespace.{KnownSaid}
 use Rattle.leg_block.specs.Records.{PinSaid, NetSaid, net_names}
 use Rattle.leg_nets.specs.LonePins.{NetLists, is_listed, to_entry, to_named, with_lone_pin, with_lone_pins}
 use Rattle.leg_block.specs.WellFormedNets.{IsInSomeNet}
-use Rattle.leg_floorplan.proofs.Gives.{named_gives_within}
+use Rattle.leg_section.proofs.Gives.{named_gives_within}
 use Rattle.leg_nets.proofs.ReadListed.{Lists, listed, not_listed}
 use Rattle.leg_nets.proofs.ReadLonePins.{both, HasEntries, AreGrown, to_nets, to_special}
 

@@ -7,7 +7,7 @@ use Rattle.leg_block.specs.declared.records.Terminal.{Terminal}
 use Rattle.leg_block.specs.declared.records.Terminal.TheVariants.{Comp, Pin}
 use Rattle.leg_block.specs.declared.records.Wire.{Wire}
 use Rattle.leg_block.specs.declared.records.Wire.TheVariants.{Segment, ViaAt, Patch}
-use Rattle.leg_floorplan.specs.Namespace.{KnownSaid}
+use Rattle.leg_section.specs.Namespace.{KnownSaid}
 use Rattle.leg_block.specs.Records.{PinSaid, NetSaid}
 use Rattle.leg_block.specs.WellFormedNets.{IsWire}
 use Rattle.leg_nets.proofs.ReadTerminals.{IsKnownTerminal}

@@ -9,11 +9,11 @@ use Rattle.leg_lex.proofs.Until.{Below, Shortens, below_none, below_some, below_
 use Rattle.leg_lex.proofs.Until as loops
 use Rattle.leg_lex.proofs.Said.{rest_is}
 use Rattle.leg_lex.proofs.Shorter.{mark_below, keyword_below, word_below, next_below}
-use Rattle.leg_floorplan.specs.Guard.{unless, is_over}
-use Rattle.leg_floorplan.specs.Namespace.{KnownSaid}
+use Rattle.leg_section.specs.Guard.{unless, is_over}
+use Rattle.leg_section.specs.Namespace.{KnownSaid}
 use Rattle.leg_nets.specs.Wiring.{is_wiring}
 use Rattle.leg_nets.specs.Net.{NetParts, is_left_out, use_clause, wiring_clause, from_plus, past_clause, clause_at, net_clause}
-use Rattle.leg_floorplan.proofs.Guards.{over_is, not_over_is}
+use Rattle.leg_section.proofs.Guards.{over_is, not_over_is}
 use Rattle.leg_nets.proofs.Wirings.{wiring_below}
 
 -- a plus has no capitals

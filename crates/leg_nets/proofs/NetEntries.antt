@@ -15,12 +15,12 @@ use Rattle.leg_lex.proofs.Statements.{statement_below}
 use Rattle.leg_block.specs.declared.limits.TheConstants.{ENTRY_LIMIT, PART_LIMIT}
 use Rattle.leg_block.specs.declared.records.Terminal.{Terminal}
 use Rattle.leg_block.specs.declared.records.Terminal.TheVariants.{Comp}
-use Rattle.leg_floorplan.specs.Guard.{unless}
-use Rattle.leg_floorplan.specs.Namespace.{KnownSaid}
+use Rattle.leg_section.specs.Guard.{unless}
+use Rattle.leg_section.specs.Namespace.{KnownSaid}
 use Rattle.leg_block.specs.Records.{NetSaid, net_names, terminal_count, wire_count}
 use Rattle.leg_nets.specs.Terminal.{pin_terminal, component_terminal, pins_of_all, one_terminal_at, all_terminals_at, past_synthesized, terminals_at, add_terminal, terminal_form, at_no_terminal}
 use Rattle.leg_nets.specs.Net.{net_in, are_too_many, net_entry}
-use Rattle.leg_floorplan.proofs.Gives.{none_from}
+use Rattle.leg_section.proofs.Gives.{none_from}
 use Rattle.leg_nets.proofs.ListedNets.{terminals_more, wires_more}
 
 one_terminal_below : (known : KnownSaid) (words : Words) → Below (length words) (one_terminal_at known words)

@@ -11,8 +11,8 @@ use Rattle.leg_cells.specs.Joins.{is_wiring_word}
 use Rattle.leg_cells.specs.Measure.{rect_between}
 use Rattle.leg_nets.specs.declared.path.Item.{Item}
 use Rattle.leg_nets.specs.declared.path.Item.TheVariants.{ToPoint, AtVia, AtRect}
-use Rattle.leg_floorplan.specs.Guard.{unless}
-use Rattle.leg_floorplan.specs.Namespace.{KnownSaid, via_named}
+use Rattle.leg_section.specs.Guard.{unless}
+use Rattle.leg_section.specs.Namespace.{KnownSaid, via_named}
 use Rattle.leg_nets.specs.PathItem.{count_at, coordinate_at, extension_in_point, point_item, first_point_at, rect_item, past_north, via_item, item_at, one_item, at_path_end}
 
 -- a word that isn't this keyword isn't this mark

@@ -7,7 +7,7 @@ use Rattle.std.proofs.lemmas.Option.{slice_get_within}
 use Rattle.leg_lex.specs.NameLookup.{place_of}
 use Rattle.leg_cells.specs.Records.{MasterSaid}
 use Rattle.leg_block.specs.declared.records.Component.{Component}
-use Rattle.leg_floorplan.specs.Namespace.{KnownSaid}
+use Rattle.leg_section.specs.Namespace.{KnownSaid}
 use Rattle.leg_nets.specs.Terminal.{pin_of_component}
 use Rattle.leg_nets.specs.Steps.Pins.{is_in, pin_of_numbered, place_in, place_at, used_names, IsPinIndex}
 use Rattle.leg_nets.proofs.NamedNumbers.{in_joined}

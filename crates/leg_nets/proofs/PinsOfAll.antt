@@ -8,7 +8,7 @@ use Rattle.leg_lex.proofs.Over.{at_front}
 use Rattle.leg_block.specs.declared.records.Component.{Component}
 use Rattle.leg_block.specs.declared.records.Terminal.{Terminal}
 use Rattle.leg_block.specs.declared.records.Terminal.TheVariants.{Comp}
-use Rattle.leg_floorplan.specs.Namespace.{KnownSaid}
+use Rattle.leg_section.specs.Namespace.{KnownSaid}
 use Rattle.leg_nets.specs.Terminal.{pin_of_component, pins_of_all}
 use Rattle.leg_nets.specs.Steps.Pins.{pin_of_numbered, pins_of_these}
 

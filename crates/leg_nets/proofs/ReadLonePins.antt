@@ -6,7 +6,7 @@ use Rattle.leg_lex.specs.NameLookup.{AreApart}
 use Rattle.leg_block.specs.declared.limits.TheConstants.{ENTRY_LIMIT, PART_LIMIT}
 use Rattle.leg_block.specs.declared.records.Terminal.{Terminal}
 use Rattle.leg_block.specs.declared.records.Terminal.TheVariants.{Pin}
-use Rattle.leg_floorplan.specs.Namespace.{KnownSaid}
+use Rattle.leg_section.specs.Namespace.{KnownSaid}
 use Rattle.leg_block.specs.Records.{NetSaid, net_names, wire_count}
 use Rattle.leg_nets.specs.LonePins.{NetLists, with_terminal}
 use Rattle.leg_block.specs.WellFormedNets.{AreInOneNet}

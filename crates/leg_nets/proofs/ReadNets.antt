@@ -10,15 +10,15 @@ use Rattle.leg_lex.specs.Statements.{statement_at}
 use Rattle.leg_lex.specs.NameLookup.{place_of, AreApart}
 use Rattle.leg_lex.proofs.NameLookup.{apart_push}
 use Rattle.leg_block.specs.declared.limits.TheConstants.{ENTRY_LIMIT, PART_LIMIT}
-use Rattle.leg_floorplan.specs.Guard.{unless, is_over}
-use Rattle.leg_floorplan.specs.Namespace.{KnownSaid}
+use Rattle.leg_section.specs.Guard.{unless, is_over}
+use Rattle.leg_section.specs.Namespace.{KnownSaid}
 use Rattle.leg_nets.specs.Terminal.{is_of_other_net, at_no_terminal, terminal_form}
 use Rattle.leg_nets.specs.Wiring.{is_wiring}
 use Rattle.leg_block.specs.Records.{NetSaid, net_names, terminal_count, wire_count}
 use Rattle.leg_nets.specs.Net.{NetParts, no_net_parts, is_left_out, use_clause, wiring_clause, past_clause, clause_at, net_clause, net_name_at, net_in, are_too_many, net_entry, section_word, nets_at}
 use Rattle.leg_block.specs.WellFormedParts.{IsKept}
 use Rattle.leg_block.specs.WellFormedNets.{IsWire, AreInOneNet}
-use Rattle.leg_floorplan.proofs.Gives.{Gives, gives_none, gives_some, gives_bind, gives_skip, gives_if, unless_gives, none_from, name_gives, word_gives, until_gives, section_gives}
+use Rattle.leg_section.proofs.Gives.{Gives, gives_none, gives_some, gives_bind, gives_skip, gives_if, unless_gives, none_from, name_gives, word_gives, until_gives, section_gives}
 use Rattle.leg_nets.proofs.ReadPaths.{AreWires}
 use Rattle.leg_nets.proofs.ReadWiring.{wiring_gives}
 use Rattle.leg_nets.proofs.ReadListed.{of_this_net}

@@ -12,9 +12,9 @@ use Rattle.leg_cells.specs.declared.records.Shape.{Shape}
 use Rattle.leg_cells.specs.Records.{ViaSaid}
 use Rattle.leg_block.specs.declared.records.Wire.{Wire}
 use Rattle.leg_block.specs.declared.records.Wire.TheVariants.{ViaAt, Patch}
-use Rattle.leg_floorplan.specs.Guard.{when}
+use Rattle.leg_section.specs.Guard.{when}
 use Rattle.leg_block.specs.Layers.{width_of_layer, is_routing}
-use Rattle.leg_floorplan.specs.Namespace.{KnownSaid, via_numbered}
+use Rattle.leg_section.specs.Namespace.{KnownSaid, via_numbered}
 use Rattle.leg_block.specs.Wires.{is_even}
 use Rattle.leg_nets.specs.declared.path.Item.{Item}
 use Rattle.leg_nets.specs.declared.path.Item.TheVariants.{ToPoint, AtVia, AtRect}
@@ -22,7 +22,7 @@ use Rattle.leg_nets.specs.Path.{next_spot, is_same_spot, last_given, extension_a
 use Rattle.leg_block.specs.Wires.{is_straight, default_extension}
 use Rattle.leg_block.specs.WellFormedParts.{IsPosition, IsArea}
 use Rattle.leg_block.specs.WellFormedNets.{IsWidth, written, IsExtension, IsWire}
-use Rattle.leg_floorplan.proofs.Gives.{Gives, gives_none, gives_some, gives_bind, gives_skip, gives_choice, gives_itself, when_gives, unless_gives}
+use Rattle.leg_section.proofs.Gives.{Gives, gives_none, gives_some, gives_bind, gives_skip, gives_choice, gives_itself, when_gives, unless_gives}
 
 -- an extension that is given
 abbrev pub IsGiven : Option ℤ → Type 0

@@ -9,11 +9,11 @@ use Rattle.leg_cells.specs.Records.{Contents, MasterSaid}
 use Rattle.leg_block.specs.declared.records.Component.{Component}
 use Rattle.leg_block.specs.declared.records.Terminal.{Terminal}
 use Rattle.leg_block.specs.declared.records.Terminal.TheVariants.{Comp, Pin}
-use Rattle.leg_floorplan.specs.Namespace.{KnownSaid}
+use Rattle.leg_section.specs.Namespace.{KnownSaid}
 use Rattle.leg_block.specs.Records.{PinSaid, NetSaid, component_names}
 use Rattle.leg_block.specs.Terminals.{is_among}
 use Rattle.leg_nets.specs.Terminal.{pin_of_component, with_pin, pins_of_all, component_terminal, pin_terminal, one_terminal_at, all_terminals_at, past_synthesized, terminals_at, is_of_other_net, add_terminal, terminal_form}
-use Rattle.leg_floorplan.proofs.Gives.{Gives, gives_none, gives_some, gives_bind, gives_skip, gives_choice, gives_if, gives_itself, named_gives_within, each_gives}
+use Rattle.leg_section.proofs.Gives.{Gives, gives_none, gives_some, gives_bind, gives_skip, gives_choice, gives_if, gives_itself, named_gives_within, each_gives}
 use Rattle.leg_nets.proofs.ReadListed.{not_among}
 
 module _ (known : KnownSaid) where

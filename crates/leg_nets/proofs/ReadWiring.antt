@@ -10,9 +10,9 @@ use Rattle.leg_geom.specs.Plane.{Spot}
 use Rattle.leg_cells.specs.Joins.{is_wiring_word}
 use Rattle.leg_cells.specs.Records.{layer_names}
 use Rattle.leg_block.specs.declared.records.Wire.{Wire}
-use Rattle.leg_floorplan.specs.Guard.{unless}
+use Rattle.leg_section.specs.Guard.{unless}
 use Rattle.leg_block.specs.Layers.{is_routing}
-use Rattle.leg_floorplan.specs.Namespace.{KnownSaid, via_named}
+use Rattle.leg_section.specs.Namespace.{KnownSaid, via_named}
 use Rattle.leg_nets.specs.declared.path.Item.{Item}
 use Rattle.leg_nets.specs.Path.{}
 use Rattle.leg_nets.specs.PathItem.{count_at, coordinate_at, extension_in_point, point_item, first_point_at, rect_item, past_north, via_item, item_at, one_item, at_path_end}
@@ -20,8 +20,8 @@ use Rattle.leg_nets.specs.Wiring.{routing_at, past_taper, written_width_at, at_n
 use Rattle.leg_block.specs.Wires.{is_even}
 use Rattle.leg_block.specs.WellFormedParts.{IsPosition}
 use Rattle.leg_block.specs.WellFormedNets.{IsWire}
-use Rattle.leg_floorplan.proofs.Gives.{Gives, gives_some, gives_bind, gives_skip, gives_choice, gives_if, when_gives, unless_gives, until_gives}
-use Rattle.leg_floorplan.proofs.ReadPlacement.{whole_gives, between_gives}
+use Rattle.leg_section.proofs.Gives.{Gives, gives_some, gives_bind, gives_skip, gives_choice, gives_if, when_gives, unless_gives, until_gives}
+use Rattle.leg_section.proofs.ReadPlacement.{whole_gives, between_gives}
 use Rattle.leg_nets.proofs.ReadPaths.{IsGiven, IsNumberIfAny, IsItem, IsWritten, AreWires, path_gives}
 
 least_is : (z : ℤ) → int_lt z (pos 0) ≡ false → pos 0 ≤ℤ z

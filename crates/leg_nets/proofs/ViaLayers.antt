@@ -6,7 +6,7 @@ use Rattle.leg_lex.proofs.Over.{at_front}
 use Rattle.leg_cells.specs.declared.records.Shape.{Shape}
 use Rattle.leg_cells.specs.Records.{Contents, ViaSaid}
 use Rattle.leg_block.specs.Layers.{is_routing}
-use Rattle.leg_floorplan.specs.Namespace.{KnownSaid, via_numbered}
+use Rattle.leg_section.specs.Namespace.{KnownSaid, via_numbered}
 use Rattle.leg_nets.specs.Path.{other_layer, across}
 
 -- The shape lies on another routing layer.

@@ -8,7 +8,7 @@ use Rattle.leg_nets.specs.declared.path.Item.{Item}
 use Rattle.leg_nets.specs.declared.path.Item.TheVariants.{ToPoint, AtVia, AtRect}
 use Rattle.leg_block.specs.declared.records.Wire.{Wire}
 use Rattle.leg_block.specs.declared.records.Wire.TheVariants.{ViaAt, Patch}
-use Rattle.leg_floorplan.specs.Namespace.{KnownSaid}
+use Rattle.leg_section.specs.Namespace.{KnownSaid}
 use Rattle.leg_nets.specs.Path.{next_spot, is_same_spot, extension_at, segment_to, across, wires_from, path_wires}
 use Rattle.leg_nets.specs.Steps.Walk.{Walked, wires_with, walked_to, walked_past}
 

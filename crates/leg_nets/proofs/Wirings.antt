@@ -6,9 +6,9 @@ use Rattle.leg_lex.proofs.Until.{Below, Shortens, below_some, below_bind, below_
 use Rattle.leg_lex.proofs.Shorter.{next_below, keyword_below, mark_below, name_below, word_below}
 use Rattle.leg_cells.specs.Records.{Contents, layer_names}
 use Rattle.leg_block.specs.declared.records.Wire.{Wire}
-use Rattle.leg_floorplan.specs.Guard.{when}
+use Rattle.leg_section.specs.Guard.{when}
 use Rattle.leg_block.specs.Layers.{is_routing}
-use Rattle.leg_floorplan.specs.Namespace.{KnownSaid}
+use Rattle.leg_section.specs.Namespace.{KnownSaid}
 use Rattle.leg_nets.specs.Path.{path_wires}
 use Rattle.leg_nets.specs.PathItem.{one_item, at_path_end}
 use Rattle.leg_nets.specs.Wiring.{routing_at, past_taper, written_width_at, at_no_shape, past_shape, written_at, path_at, at_no_new, new_path, paths_at, wiring_start, wiring_at}

@@ -1,5 +1,5 @@
 pub use Rattle.leg_block.specs.Records
-pub use Rattle.leg_floorplan.specs.Namespace
+pub use Rattle.leg_section.specs.Namespace
 pub mod Terminal
 pub mod Path
 pub mod PathItem

@@ -7,11 +7,11 @@ use Rattle.leg_lex.specs.Statements.{statement_at, is_plus}
 use Rattle.leg_lex.specs.NameLookup.{place_of}
 use Rattle.leg_block.specs.declared.limits.TheConstants.{ENTRY_LIMIT, PART_LIMIT}
 use Rattle.leg_block.specs.declared.records.Wire.{Wire}
-use Rattle.leg_floorplan.specs.Guard.{unless, is_over}
-use Rattle.leg_floorplan.specs.Namespace.{KnownSaid}
+use Rattle.leg_section.specs.Guard.{unless, is_over}
+use Rattle.leg_section.specs.Namespace.{KnownSaid}
 use Rattle.leg_nets.specs.Terminal.{terminal_form, at_no_terminal}
 use Rattle.leg_nets.specs.Wiring.{is_wiring, wiring_at}
-use Rattle.leg_floorplan.specs.Section.{section_at}
+use Rattle.leg_section.specs.Section.{section_at}
 use Rattle.leg_block.specs.Records.{NetSaid, net_names, terminal_count, wire_count}
 
 -- what the clauses before gave

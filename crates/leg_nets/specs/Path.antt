@@ -11,10 +11,10 @@ use Rattle.leg_nets.specs.declared.path.Item.{Item}
 use Rattle.leg_nets.specs.declared.path.Item.TheVariants.{ToPoint, AtVia, AtRect}
 use Rattle.leg_block.specs.declared.records.Wire.{Wire}
 use Rattle.leg_block.specs.declared.records.Wire.TheVariants.{Segment, ViaAt, Patch}
-use Rattle.leg_floorplan.specs.Guard.{when, unless}
+use Rattle.leg_section.specs.Guard.{when, unless}
 use Rattle.leg_block.specs.Layers.{width_of_layer, is_routing}
 use Rattle.leg_block.specs.Wires.{is_straight, default_extension}
-use Rattle.leg_floorplan.specs.Namespace.{KnownSaid, via_numbered}
+use Rattle.leg_section.specs.Namespace.{KnownSaid, via_numbered}
 
 -- An item of a path leads to a point, of which a coordinate that isn't written is that of the point before, with an
 -- extension where one is written; or it is a via, by its number; or a rectangle about the point.

@@ -7,8 +7,8 @@ use Rattle.leg_cells.specs.Joins.{is_wiring_word}
 use Rattle.leg_cells.specs.Measure.{rect_between}
 use Rattle.leg_nets.specs.declared.path.Item.{Item}
 use Rattle.leg_nets.specs.declared.path.Item.TheVariants.{ToPoint, AtVia, AtRect}
-use Rattle.leg_floorplan.specs.Guard.{unless}
-use Rattle.leg_floorplan.specs.Namespace.{KnownSaid, via_named}
+use Rattle.leg_section.specs.Guard.{unless}
+use Rattle.leg_section.specs.Namespace.{KnownSaid, via_named}
 
 -- a number of at least 0
 unfoldable pub count_at : Words → Option (ℤ × Words)

@@ -6,10 +6,10 @@ use Rattle.leg_lex.specs.Until.{until}
 use Rattle.leg_lex.specs.NameLookup.{place_of}
 use Rattle.leg_cells.specs.Records.{Contents, layer_names}
 use Rattle.leg_block.specs.declared.records.Wire.{Wire}
-use Rattle.leg_floorplan.specs.Guard.{when}
+use Rattle.leg_section.specs.Guard.{when}
 use Rattle.leg_block.specs.Layers.{is_routing}
 use Rattle.leg_block.specs.Wires.{is_even}
-use Rattle.leg_floorplan.specs.Namespace.{KnownSaid}
+use Rattle.leg_section.specs.Namespace.{KnownSaid}
 use Rattle.leg_nets.specs.Path.{path_wires}
 use Rattle.leg_nets.specs.PathItem.{count_at, first_point_at, one_item, at_path_end}
 

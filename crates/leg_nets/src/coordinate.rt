@@ -29,7 +29,7 @@ impl Model for Coordinate {
 
 impl Coordinate {
     /// Reads a coordinate. Another word is `BadNumber`, or `TooLarge` beyond the limit.
-    #[tactic(auto, using(leg_floorplan::proofs::Numbers::whole_is_number))]
+    #[tactic(auto, using(leg_section::proofs::Numbers::whole_is_number))]
     pub(crate) fn read(words: &mut Cursor<'_, '_>) -> Result<Coordinate, ReadFault>
         ensures { Reads (λ c. c) result words.new (whole_at words.old) }
     {

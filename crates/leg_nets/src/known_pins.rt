@@ -10,7 +10,7 @@ use crate::by_name::{ByName, joined};
 use crate::pin_index::{PinPlaces, components_of_each, masters_by_pin, places_of_each};
 use leg_block::Terminal;
 use leg_cells::Items;
-use leg_floorplan::Known;
+use leg_section::Known;
 use std::alloc::{AllocError, Allocator};
 use std::marker::Model;
 
@@ -26,7 +26,7 @@ pub(crate) struct KnownPins<'r, 'k, 'a, A: Allocator + Copy> {
 }
 
 impl<'r, 'k, 'a, A: Allocator + Copy> Model for KnownPins<'r, 'k, 'a, A> {
-    ghost use Rattle.leg_floorplan.specs.Namespace.{KnownSaid};
+    ghost use Rattle.leg_section.specs.Namespace.{KnownSaid};
     ghost use Rattle.leg_nets.specs.Steps.Pins.{place_at, numbers_under, IsPinIndex};
 
     ghost Value = { KnownSaid };

@@ -6,7 +6,7 @@ ghost use Rattle.leg_lex.specs.Until.{until, over};
 ghost use Rattle.leg_lex.specs.Statements.{at_end};
 ghost use Rattle.leg_lex.specs.NameLookup.{place_of};
 ghost use Rattle.leg_block.specs.declared.limits.TheConstants.{ENTRY_LIMIT};
-ghost use Rattle.leg_floorplan.specs.Guard.{is_over};
+ghost use Rattle.leg_section.specs.Guard.{is_over};
 ghost use Rattle.leg_block.specs.Records.{net_names};
 ghost use Rattle.leg_nets.specs.Terminal.{add_terminal, terminal_form, at_no_terminal};
 ghost use Rattle.leg_nets.specs.Net.{no_net_parts, is_left_out_of_wiring, is_left_out, use_clause, wiring_clause, from_plus, past_clause, clause_at, net_clause, net_name_at, net_in, net_entry, section_word, nets_at};
@@ -16,8 +16,8 @@ use crate::net_table::{NetTable, NetsBegun};
 use crate::terminal::terminals;
 use crate::wiring::{is_wiring, wiring};
 use leg_block::{ENTRY_LIMIT, Terminal, Wire};
-use leg_floorplan::{Known, section_start};
 use leg_lex::{Cursor, FaultKind, Name, ReadFault, is_keyword};
+use leg_section::{Known, section_start};
 use std::alloc::Allocator;
 use std::marker::Model;
 
@@ -346,7 +346,7 @@ fn section_word(special: bool) -> &'static [u8]
 }
 
 /// The section `NETS`, or `SPECIALNETS` where `special`; the other section has the entries `others`.
-#[tactic(auto, unfolding(crate::specs::Net::nets_at, leg_floorplan::specs::Section::section_at))]
+#[tactic(auto, unfolding(crate::specs::Net::nets_at, leg_section::specs::Section::section_at))]
 pub fn nets<'a, A: Allocator + Copy>(
     alloc: A,
     known: &Known<'_, 'a, A>,

@@ -11,9 +11,10 @@ ghost use Rattle.leg_nets.specs.Steps.Walk.{wires_with, walked_to, walked_past};
 use crate::coordinate::{Coordinate, coordinate_or};
 use leg_block::Wire;
 use leg_cells::{Library, Shape};
-use leg_floorplan::{Known, is_routing, width_of_layer};
 use leg_geom::{Point, Rect};
 use leg_lex::{Cursor, FaultKind, ReadFault};
+use leg_section::Known;
+use leg_section::layers::{is_routing, width_of_layer};
 use std::alloc::Allocator;
 use std::marker::Model;
 

@@ -8,9 +8,10 @@ ghost use Rattle.leg_nets.specs.PathItem.{count_at, coordinate_at, extension_in_
 use crate::coordinate::{Coordinate, point};
 use crate::path::{Item, ItemAt};
 use leg_cells::is_wiring_word;
-use leg_floorplan::{Known, rect_between};
 use leg_geom::Point;
 use leg_lex::{Cursor, FaultKind, ReadFault, is_keyword};
+use leg_section::Known;
+use leg_section::placement::rect_between;
 use std::alloc::Allocator;
 
 /// The words of wiring that are left out by name.

@@ -6,8 +6,8 @@ ghost use Rattle.leg_nets.specs.Terminal.{component_terminal, pin_terminal, one_
 
 use crate::known_pins::KnownPins;
 use leg_block::Terminal;
-use leg_floorplan::Known;
 use leg_lex::{Cursor, FaultKind, ReadFault, is_keyword};
+use leg_section::Known;
 use std::alloc::Allocator;
 
 /// The component of this name, with its pin of this name. The fault of an unknown name is at the words `of_component` or

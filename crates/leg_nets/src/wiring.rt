@@ -10,8 +10,9 @@ use crate::path::{half, path_wires};
 use crate::path_item::{add_items, count, first_point};
 use leg_block::Wire;
 use leg_cells::Library;
-use leg_floorplan::{Known, is_routing};
 use leg_lex::{Cursor, FaultKind, ReadFault};
+use leg_section::Known;
+use leg_section::layers::is_routing;
 use std::alloc::Allocator;
 
 /// A routing layer, by its number. A layer that isn't one is `Unexpected`, and an unknown one `UnknownName`.

@@ -6,12 +6,12 @@ ghost use Rattle.leg_design.specs.Parts.{known, vias_form, components_form, pins
 
 use crate::parts::{Parts, once};
 use leg_cells::Library;
-use leg_floorplan::Known;
 use leg_floorplan::component::components;
 use leg_floorplan::pin::pins;
 use leg_floorplan::via::vias;
 use leg_lex::{Cursor, ReadFault};
 use leg_nets::nets;
+use leg_section::Known;
 use std::alloc::Allocator;
 use std::mem::replace;
 

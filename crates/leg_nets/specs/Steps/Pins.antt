@@ -9,7 +9,7 @@ use Rattle.leg_lex.specs.NameLookup.{place_of}
 use Rattle.leg_cells.specs.Records.{MasterSaid}
 use Rattle.leg_block.specs.declared.records.Component.{Component}
 use Rattle.leg_block.specs.declared.records.Terminal.{Terminal}
-use Rattle.leg_floorplan.specs.Namespace.{KnownSaid}
+use Rattle.leg_section.specs.Namespace.{KnownSaid}
 use Rattle.leg_nets.specs.Terminal.{pin_of_component, with_pin}
 
 abbrev pub is_in : ℕ → List ℕ → Bool

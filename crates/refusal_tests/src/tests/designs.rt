@@ -1,6 +1,6 @@
 //! Calls that are lent a design.
 
-use super::turn::{is_last, turn_of_list};
+use crate::turn::{is_last, turn_of_list};
 use leg_app::check_design;
 use leg_block::Design;
 use leg_cells::Library;

@@ -1,6 +1,6 @@
 //! Calls on texts.
 
-use super::turn::{has_text, is_last};
+use crate::turn::{has_text, is_last};
 use block_texts::cells;
 use leg_app::{TextFault, check_texts};
 use leg_cells::{Library, RawLibrary, ScaleKind};

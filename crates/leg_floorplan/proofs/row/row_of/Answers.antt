@@ -1,4 +1,4 @@
-use Rattle.leg_floorplan.proofs.Numbers.{whole_is_number, number_kept}
+use Rattle.leg_section.proofs.Numbers.{whole_is_number, number_kept}
 use Rattle.leg_floorplan.proofs.row.row_of.Goals as goal
 
 pub ends_within-requires-clause-start : goal.ends_within-requires-clause-start

@@ -1,4 +1,4 @@
-use Rattle.leg_floorplan.proofs.Numbers.{whole_is_number, number_kept}
+use Rattle.leg_section.proofs.Numbers.{whole_is_number, number_kept}
 use Rattle.leg_floorplan.proofs.row.sites.Goals as goal
 
 pub returns-clause-number : goal.returns-clause-number

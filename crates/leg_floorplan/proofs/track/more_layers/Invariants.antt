@@ -1,6 +1,6 @@
 use Rattle.std.proofs.Common.{◌≡◌, length}
 use Rattle.leg_lex.specs.Until.{until}
-use Rattle.leg_floorplan.specs.Guard.{is_over}
+use Rattle.leg_section.specs.Guard.{is_over}
 use Rattle.leg_floorplan.specs.Track.{one_layer}
 use Rattle.leg_floorplan.proofs.track.more_layers.Given as goal
 

@@ -1,6 +1,6 @@
 use Rattle.std.proofs.Common.{refl}
 use Rattle.leg_floorplan.specs.Track.{track_in}
-use Rattle.leg_floorplan.proofs.Numbers.{whole_is_number, number_fits, number_kept, one_less, below_one}
+use Rattle.leg_section.proofs.Numbers.{whole_is_number, number_fits, number_kept, one_less, below_one}
 use Rattle.leg_floorplan.proofs.track.track_of.Goals as goal
 
 pub returns-then-count-lt1 : goal.returns-then-count-lt1

@@ -1,6 +1,6 @@
 use Rattle.std.proofs.Common.{◌≡◌, length}
 use Rattle.leg_lex.specs.Until.{until}
-use Rattle.leg_floorplan.specs.Guard.{is_over}
+use Rattle.leg_section.specs.Guard.{is_over}
 use Rattle.leg_nets.specs.Net.{no_net_parts, net_clause}
 use Rattle.leg_nets.proofs.net.all_clauses.Given as goal
 

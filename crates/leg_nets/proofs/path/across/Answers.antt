@@ -1,7 +1,7 @@
 use Rattle.std.proofs.Common.{◌≡◌, ◌==◌, true, false, Some, sym, ap, ◌∙◌}
 use Rattle.std.specs.List.{list_any}
 use Rattle.std.specs.Option.{option_copied}
-use Rattle.leg_floorplan.specs.Namespace.{via_numbered}
+use Rattle.leg_section.specs.Namespace.{via_numbered}
 use Rattle.leg_nets.proofs.ViaLayers.{across_lacks, across_is}
 use Rattle.leg_nets.specs.Path.{other_layer}
 use Rattle.leg_nets.proofs.path.across.Goals as goal

@@ -2,7 +2,7 @@ use Rattle.std.proofs.Common.{◌≡◌, ◌<◌, slice_get, None, Some, refl, a
 use Rattle.std.proofs.lemmas.Option.{slice_get_read, slice_get_past}
 use Rattle.leg_block.specs.declared.limits.TheConstants.{ENTRY_LIMIT}
 use Rattle.leg_block.specs.declared.records.Component.{Component}
-use Rattle.leg_floorplan.specs.Namespace.{KnownSaid}
+use Rattle.leg_section.specs.Namespace.{KnownSaid}
 use Rattle.leg_nets.specs.Steps.Pins.{place_in, numbers_under}
 use Rattle.leg_nets.proofs.PinLookups.{found_none, found_some, in_any_case}
 use Rattle.leg_nets.proofs.known_pins.KnownPins.pin_of_numbered.Goals as goal

@@ -1,0 +1,136 @@
+//! Calls of which each growth is refused in turn: they answer that memory ran out, and the design that they were given is as it
+//! was, or they answer what they answer with ample memory.
+
+mod changes;
+mod commands;
+mod wires;
+
+use block_texts::{around_an_obstruction, net_at_one_place, two_at_one_place};
+use changes::Change;
+use commands::Asked;
+use leg_app::Command;
+use leg_cells::Library;
+use refusal_tests::library_of_cells;
+use refusing_alloc::RefusingAlloc;
+use std::alloc::{Allocator, Global};
+use wires::WireCall;
+
+/// What is tried under the library, on the design of a DEF.
+#[derive(Clone, Copy)]
+enum Trial {
+    /// It is given.
+    Give(Change),
+    /// It is given, and a wire for its net.
+    Wire(WireCall),
+}
+
+/// Whether the trial goes right with each growth refused in turn.
+fn goes_right<A: Allocator + Copy>(
+    alloc: A,
+    refusing: &RefusingAlloc<Global>,
+    trial: Trial,
+    def: &[u8],
+) -> bool {
+    match library_of_cells(alloc) {
+        Some(library) => goes_right_under(alloc, refusing, &library, trial, def),
+        None => false,
+    }
+}
+
+fn goes_right_under<A: Allocator + Copy>(
+    alloc: A,
+    refusing: &RefusingAlloc<Global>,
+    library: &Library<'_, A>,
+    trial: Trial,
+    def: &[u8],
+) -> bool {
+    match trial {
+        Trial::Give(change) => changes::goes_right(alloc, refusing, library, change, def),
+        Trial::Wire(call) => wires::goes_right(alloc, refusing, library, call, def),
+    }
+}
+
+#[test]
+fn a_legaliser_without_memory(rt: HostRuntime) {
+    let refusing = &RefusingAlloc::new(rt.alloc());
+    assert!(rt;
+        goes_right(
+            refusing,
+            refusing,
+            Trial::Give(Change::Legalise),
+            two_at_one_place()
+        )
+    );
+    assert!(rt;
+        goes_right(
+            refusing,
+            refusing,
+            Trial::Give(Change::Legalise),
+            net_at_one_place()
+        )
+    );
+}
+
+#[test]
+fn a_router_without_memory(rt: HostRuntime) {
+    let refusing = &RefusingAlloc::new(rt.alloc());
+    assert!(rt;
+        goes_right(
+            refusing,
+            refusing,
+            Trial::Give(Change::Route),
+            around_an_obstruction()
+        )
+    );
+}
+
+#[test]
+fn nets_get_wires_without_memory(rt: HostRuntime) {
+    let refusing = &RefusingAlloc::new(rt.alloc());
+    for def in [around_an_obstruction(), net_at_one_place()] {
+        assert!(rt; goes_right(refusing, refusing, Trial::Wire(WireCall::WithWires), def));
+        assert!(rt; goes_right(refusing, refusing, Trial::Wire(WireCall::WithAllWires), def));
+    }
+}
+
+const COMMANDS: [Command; 6] = [
+    Command::Check,
+    Command::PlaceCheck,
+    Command::Measure,
+    Command::Legalise,
+    Command::Route,
+    Command::Flow,
+];
+
+/// Whether each command on the DEF goes right with each growth refused in turn.
+fn are_commands_right<A: Allocator + Copy>(
+    alloc: A,
+    held: Global,
+    refusing: &RefusingAlloc<Global>,
+    def: &[u8],
+) -> bool {
+    for command in COMMANDS {
+        if !commands::goes_right(alloc, held, refusing, Asked { command, def }) {
+            return false;
+        }
+    }
+    true
+}
+
+#[test]
+fn commands_on_cells_at_one_place_without_memory(rt: HostRuntime) {
+    let refusing = &RefusingAlloc::new(rt.alloc());
+    assert!(rt; are_commands_right(refusing, rt.alloc(), refusing, two_at_one_place()));
+}
+
+#[test]
+fn commands_on_a_net_at_one_place_without_memory(rt: HostRuntime) {
+    let refusing = &RefusingAlloc::new(rt.alloc());
+    assert!(rt; are_commands_right(refusing, rt.alloc(), refusing, net_at_one_place()));
+}
+
+#[test]
+fn commands_around_an_obstruction_without_memory(rt: HostRuntime) {
+    let refusing = &RefusingAlloc::new(rt.alloc());
+    assert!(rt; are_commands_right(refusing, rt.alloc(), refusing, around_an_obstruction()));
+}

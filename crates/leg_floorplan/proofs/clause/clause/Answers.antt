@@ -1,5 +1,0 @@
-use Rattle.leg_floorplan.proofs.Clauses.{is_one}
-use Rattle.leg_floorplan.proofs.clause.clause.Goals as goal
-
-pub returns : goal.returns
-returns c = is_one c.args.clause.now c.in_ok-word.field-0.now c.word.new.self (rw (← c.again.ensures) c.in_ok-word.ensures)

@@ -1,0 +1,51 @@
+//! Clauses (LEF/DEF 5.8, "DEF Syntax").
+
+ghost use Rattle.std.specs.List.{list_all};
+ghost use Rattle.leg_lex.specs.Words.{Reads, Means};
+ghost use Rattle.leg_section.specs.Guard.{when};
+ghost use Rattle.leg_section.specs.Clause.{is_clause};
+ghost use Rattle.leg_section.specs.Placement.{rect_at};
+
+use crate::placement::rect;
+use leg_geom::Rect;
+use leg_lex::{Cursor, FaultKind, ReadFault};
+
+/// That a clause begins with a name or a quoted word.
+#[tactic(auto, using(crate::proofs::Clauses::is_one, crate::proofs::Clauses::is_none))]
+pub fn clause(clause: &Cursor<'_, '_>) -> Result<(), ReadFault>
+    ensures { Means (λ x. x) result (when (is_clause clause.now)) }
+{
+    clause.again().word()?;
+    Ok(())
+}
+
+/// A rectangle by two corners. Where a mask is named in its place, it is `Unsupported`.
+pub fn rect_or_mask(is_masked: bool, clause: &mut Cursor<'_, '_>) -> Result<Rect, ReadFault>
+    ensures { Reads (λ r. r) result clause.new (rect_at clause.old) }
+{
+    match rect(clause) {
+        Err(
+            ReadFault {
+                file,
+                line,
+                kind: FaultKind::Unexpected,
+            },
+        ) if is_masked => Err(ReadFault {
+            file,
+            line,
+            kind: FaultKind::Unsupported,
+        }),
+        answer => answer,
+    }
+}
+
+/// That each clause begins with a name or a quoted word.
+#[tactic(auto, using(crate::proofs::Clauses::one_more, crate::proofs::Clauses::one_not, crate::proofs::Clauses::all_are))]
+pub fn all_clauses(clauses: &[Cursor<'_, '_>]) -> Result<(), ReadFault>
+    ensures { Means (λ x. x) result (when (list_all is_clause clauses.now)) }
+{
+    for part in clauses {
+        clause(part)?;
+    }
+    Ok(())
+}

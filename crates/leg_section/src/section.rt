@@ -1,0 +1,16 @@
+//! Sections (LEF/DEF 5.8, "DEF Syntax").
+
+ghost use Rattle.leg_lex.specs.Words.{Reads};
+ghost use Rattle.leg_section.specs.Section.{section_start};
+
+use leg_lex::{Cursor, ReadFault};
+
+/// The start of a section: its keyword, a number, which isn't compared, and `;`.
+#[tactic(auto, unfolding(crate::specs::Section::section_start))]
+pub fn section_start(keyword: &[u8], words: &mut Cursor<'_, '_>) -> Result<(), ReadFault>
+    ensures { Reads (λ x. x) result words.new (section_start keyword.now words.old) }
+{
+    words.keyword(keyword)?;
+    words.whole()?;
+    words.mark(b';')
+}
