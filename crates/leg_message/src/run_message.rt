@@ -18,7 +18,8 @@ use std::alloc::{AllocError, Allocator};
 
 /// The message on a run over these texts whose last line begins with this word; empty where nothing is to be said.
 ///
-/// A run that has refused its texts has them read again here, to find why. An error where memory runs out meanwhile.
+/// A run that has refused its texts has them read again here, to find why. An error where memory runs out, but while a length
+/// that has a fault is looked for: what has it is then named without its line.
 pub fn message<A: Allocator + Copy, B: Allocator>(
     alloc: A,
     texts: &Texts<'_, B>,
@@ -68,8 +69,8 @@ fn advice_message<A: Allocator + Copy, B: Allocator>(
     Ok(message)
 }
 
-/// The message on a run over standard input whose last line begins with this word; empty where nothing is to be said. An
-/// error where memory runs out.
+/// The message on a run over standard input whose last line begins with this word; empty where nothing is to be said. Where
+/// memory runs out it is as `message`.
 pub fn stream_message<A: Allocator + Copy>(
     alloc: A,
     stream: &[u8],
