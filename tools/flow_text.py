@@ -1,6 +1,6 @@
 """What the tools for flows share: a DEF text that is edited at its words, and where the edited text goes.
 
-    text = DefText(path)                     its words, and its statements with the sections in which they stand
+    text = DefText(path)                     its words, and its statements with their sections
     text.replace(at, word), text.put_before(at, words), text.take_out(begin, end)
     text.edited()                            the text with these edits; all else stays byte for byte
 """
@@ -9,18 +9,26 @@ import os
 import sys
 from typing import NamedTuple
 
-from lefdef_text import Refused, Words
+from lefdef_text import Refused, Words, message_of
 from lefdef_text.words import WORD
 
 REFUSED, NO_FILE, USAGE = 2, 5, 64
-STATUSES = ('Exit status: 0: written; 2: a text is refused, with its file and line; 5: a file can not be read or written, or is there already; '
-            '64: the words say nothing. Messages go to standard error.')
+STATUSES = ('Exit status: 0: written; 2: a text is refused, with its file and line; 5: a file cannot be read or written, or exists already; '
+            '64: usage error. Messages go to standard error.')
 ENTRY_SECTIONS = ('VIAS', 'COMPONENTS', 'PINS', 'BLOCKAGES', 'SPECIALNETS', 'NETS', 'GROUPS', 'REGIONS', 'FILLS', 'SLOTS', 'STYLES', 'SCANCHAINS',
                   'NONDEFAULTRULES', 'PINPROPERTIES', 'PROPERTYDEFINITIONS')
 
 
+class UsageFault(Exception):
+    """An argument names what is not there, as the message says."""
+
+
+class NotWritten(Exception):
+    """The edited text could not be written, for the reason in the message."""
+
+
 class Statement(NamedTuple):
-    """The words `begin` to `end`, of which the last is the semicolon, and the section in which they stand ('' outside of one)."""
+    """The words `begin` to `end`, of which the last is the semicolon, and the section that they are in ('' outside of one)."""
     section: str
     begin: int
     end: int
@@ -65,6 +73,15 @@ class DefText(Words):
         starts = [at + 1 for at in range(statement.begin, statement.end) if self.words[at] == '+' and self.words[at - 1] != '+']
         return [(at, (starts[k + 1] - 1 if k + 1 < len(starts) else statement.end)) for k, at in enumerate(starts)]
 
+    def terminals(self, entry):
+        """Yields the two words of each terminal of a net's entry: a component, `*` or PIN, and a pin."""
+        at = entry.begin + 2
+        while self.words[at] == '(' and at < entry.end:
+            yield self.words[at + 1], self.words[at + 2]
+            while self.words[at] != ')' and at < entry.end:
+                at += 1
+            at += 1
+
     def replace(self, at, word):
         self.edits.append((*self.spans[at], word))
 
@@ -73,7 +90,7 @@ class DefText(Words):
         self.edits.append((start, start, words))
 
     def take_out(self, begin, end):
-        """Takes out the words `begin` to `end` with the rest of their line, where nothing else stands on it."""
+        """Takes out the words `begin` to `end` with the rest of their line, where nothing else is on it."""
         start, stop = self.spans[begin][0], self.spans[end][1]
         line_start = self.text.rfind('\n', 0, start) + 1
         line_stop = self.text.find('\n', stop)
@@ -83,7 +100,7 @@ class DefText(Words):
         self.edits.append((start, stop, ''))
 
     def blank(self, begin, end):
-        """Takes out the words `begin` to `end` and keeps their line feeds, so that all that follows stands on the line where it stood."""
+        """Takes out the words `begin` to `end` and keeps their line feeds, so that all that follows keeps its line."""
         start, stop = self.spans[begin][0], self.spans[end][1]
         self.edits.append((start, stop, '\n' * self.text.count('\n', start, stop)))
 
@@ -96,7 +113,7 @@ class DefText(Words):
 
 
 class Arguments(argparse.ArgumentParser):
-    """Words of a command line: a DEF, LEFs where the tool wants them, and where the answer goes."""
+    """Words of a command line: a DEF, LEFs where the tool needs them, and where the answer goes."""
 
     def __init__(self, prog, doc, libraries=None):
         super().__init__(prog=prog, description=doc, formatter_class=argparse.RawDescriptionHelpFormatter, epilog=STATUSES)
@@ -104,7 +121,7 @@ class Arguments(argparse.ArgumentParser):
         if libraries:
             self.add_argument('libraries', metavar='LEF', nargs=libraries, help='its libraries, in the order in which lefdef is given them')
         self.add_argument('-o', '--output', metavar='FILE', help='write the block there, in place of standard output')
-        self.add_argument('--force', action='store_true', help='overwrite FILE if it is there')
+        self.add_argument('--force', action='store_true', help='overwrite FILE if it exists')
 
     def error(self, message):
         self.print_usage(sys.stderr)
@@ -112,28 +129,31 @@ class Arguments(argparse.ArgumentParser):
 
 
 def check_output(asked):
-    """Says why the output can't be written, or nothing: a text that is read is never overwritten, another file only with --force."""
+    """Returns why the output cannot be written, or None: a text that is read is never overwritten, another file only with --force."""
     if asked.output is None or not os.path.exists(asked.output):
         return None
     inputs = [asked.design, *getattr(asked, 'libraries', ())]
     if any(os.path.exists(path) and os.path.samefile(path, asked.output) for path in inputs):
         return f'{asked.output} is read: it is not overwritten'
-    return None if asked.force else f'{asked.output} is there already; with --force it is overwritten'
+    return None if asked.force else f'{asked.output} exists already; with --force it is overwritten'
 
 
 def write(path, text):
     data = text.encode('utf-8', 'surrogateescape')
-    if path is None:
-        sys.stdout.buffer.write(data)
-        sys.stdout.buffer.flush()
-    else:
-        with open(path, 'wb') as file:
-            file.write(data)
+    try:
+        if path is None:
+            sys.stdout.buffer.write(data)
+            sys.stdout.buffer.flush()
+        else:
+            with open(path, 'wb') as file:
+                file.write(data)
+    except OSError as error:
+        raise NotWritten(f'cannot write {path or "standard output"}: {error.strerror}') from error
 
 
 def run(parser, words, edit):
-    """Runs a tool: `edit` takes the arguments and a function that notes a line, and returns the edited text. What it noted is told once
-    the text is written: nothing is told of a text that is refused but why."""
+    """Runs a tool: `edit` takes the arguments and a function that notes a line, and returns the edited text. What it noted is printed once
+    the text is written: of a text that is refused only the reason is printed."""
     asked, notes = parser.parse_args(words), []
     why = check_output(asked)
     status = NO_FILE
@@ -144,10 +164,14 @@ def run(parser, words, edit):
             write(asked.output, edit(asked, notes.append))
             status = 0
         except Refused as refused:
-            print(refused, file=sys.stderr)
+            print(message_of(refused, asked.design, getattr(asked, 'libraries', ())), file=sys.stderr)
             return REFUSED
+        except UsageFault as fault:
+            notes, status = [fault], USAGE
+        except NotWritten as fault:
+            notes = [fault]
         except OSError as error:
-            notes = [error]
+            notes = [f'cannot read {error.filename}: {error.strerror}']
     for line in notes:
         print(f'{parser.prog}: {line}', file=sys.stderr)
     return status

@@ -1,6 +1,6 @@
-"""Where violations lie in a block, and the marker database that KLayout shows beside the layout.
+"""Where violations lie in a block, and the marker database that KLayout shows with the layout.
 
-A violation of where components stand lies at the component's box, or where two boxes overlap; a short or two shapes too near
+A violation of placement lies at the component's box, or where two boxes overlap; a short or two shapes too near
 where the two meet, which is what they share or the gap between them; an open piece of a net at the piece.
 """
 import math
@@ -11,7 +11,7 @@ from lefdef_text import Rect, Refused, Violation, least_box, meets
 KINDS = {
     'UNPLACED': 'a component has no place',
     'OUTSIDE': 'a part of a component is outside the die',
-    'OFFSITE': 'a component does not stand on sites of one row that its orientation fits',
+    'OFFSITE': 'a component is not on consecutive sites of one row that its orientation fits',
     'OVERLAP': 'two components overlap',
     'SHORT': 'metal of two owners on one layer shares a point',
     'TOONEAR': 'metal of two owners on one layer is nearer than the spacing of the layer',

@@ -1,5 +1,7 @@
 """Tests of tools/from-qflow, ease-routing, plain-vias and drop-fillers, and of examples/from-verilog/run as far as it needs no other program."""
+import gzip
 import os
+import shutil
 import subprocess
 import sys
 import tempfile
@@ -150,14 +152,22 @@ class FromQflowTests(FlowCase):
 
     def test_two_entries_with_terminals_are_refused(self):
         text = QFLOW.replace('- n.0\n+ ROUTED m1 40 ( 500', '- n.0 ( u3 A )\n+ ROUTED m1 40 ( 500')
-        self.assertEqual(self.refused('from-qflow', text, STANDARD), 'in.def:23: net n.0 stands twice in SPECIALNETS, the second time with more than wiring')
+        self.assertEqual(self.refused('from-qflow', text, STANDARD), 'in.def:23: net n.0 appears twice in SPECIALNETS, the second time with more than wiring')
 
-    def test_refusals_tell_the_line_of_the_text_as_it_was(self):
+    def test_refusals_name_the_line_of_the_text_as_it_was(self):
         text = QFLOW.replace('END SPECIALNETS', '- w\n+ ROUTED m1 40 ( 0 0 ) ( 5 5 ) ;\nEND SPECIALNETS')
         self.assertEqual(self.refused('from-qflow', text, STANDARD), 'in.def:26: a wire is neither horizontal nor vertical')
 
+    def test_a_terminal_with_synthesized_hides_no_later_one(self):
+        text = QFLOW.replace('( u2 A )', '( u2 A + SYNTHESIZED ) ( u3 VDD )')
+        out, _ = self.edited('from-qflow', text, STANDARD)
+        self.assertEqual(list(self.design(out).special['VDD'].terminals), [])
+
     def test_what_lefdef_refuses_besides_is_refused(self):
-        self.assertEqual(self.refused('from-qflow', QFLOW.replace('u3 INV', 'u3 NOT'), STANDARD), 'in.def:10: there is no macro NOT')
+        for row in ('', 'ROW r core 0 0 N DO 3 BY 1 STEP 200 0 ;\n'):
+            with self.subTest(row=row):
+                text = QFLOW.replace('u3 INV', 'u3 NOT').replace('COMPONENTS 3', row + 'COMPONENTS 3')
+                self.assertEqual(self.refused('from-qflow', text, STANDARD), f'in.def:{11 if row else 10}: there is no macro NOT')
 
 
 class EaseRoutingTests(FlowCase):
@@ -196,8 +206,7 @@ END DESIGN
         status, out, _ = self.run_tool('ease-routing', text, STANDARD, '--first', 'far', '--first', 'near')
         self.assertEqual((status, list(self.design(out).nets)), (0, ['far', 'near', 'wired']))
         status, out, err = self.run_tool('ease-routing', text, STANDARD, '--first', 'none')
-        self.assertEqual((status, out), (2, ''))
-        self.assertIn('in.def:12: there is no net none in NETS', err)
+        self.assertEqual((status, out, err), (64, '', 'ease-routing: there is no net none in NETS\n'))
 
     def test_all_but_the_nets_stays(self):
         out, _ = self.edited('ease-routing', self.BLOCK, STANDARD)
@@ -236,7 +245,22 @@ END DESIGN
 
     def test_a_library_of_one_layer_is_refused(self):
         library = self.file('one.lef', 'LAYER m1 TYPE ROUTING ; DIRECTION HORIZONTAL ; WIDTH 0.1 ; END m1\n')
-        self.assertEqual(self.refused('ease-routing', HEAD + 'END DESIGN\n', library), 'in.def:1: the library has fewer than two routing layers')
+        self.assertEqual(self.refused('ease-routing', HEAD + 'END DESIGN\n', library), 'one.lef:1: the library has fewer than two routing layers')
+
+    def test_layers_without_a_via_between_them_are_refused_in_the_library(self):
+        layer = 'LAYER m{0} TYPE ROUTING ; DIRECTION {1} ; WIDTH 0.1 ; END m{0}\n'
+        library = self.file('two.lef', layer.format(1, 'HORIZONTAL') + layer.format(2, 'VERTICAL'))
+        self.assertEqual(self.refused('ease-routing', HEAD + 'END DESIGN\n', library), 'two.lef:2: m1 and m2 have no via between them, or one direction')
+
+    def test_a_block_without_tracks_of_a_layer_is_refused(self):
+        last = self.BLOCK.count('\n')
+        self.assertEqual(self.refused('ease-routing', self.BLOCK.replace(TRACKS, ''), STANDARD), f'in.def:{last - 2}: there are no TRACKS along m1')
+        text = self.BLOCK.replace(TRACKS, TRACKS.splitlines()[1] + '\n')
+        self.assertEqual(self.refused('ease-routing', text, STANDARD), f'in.def:{last - 1}: there are no TRACKS along m2')
+
+    def test_more_tracks_than_lefdef_routes_on_are_refused(self):
+        text = self.BLOCK.replace('DO 20 STEP 200 LAYER m1', 'DO 100000000 STEP 1 LAYER m1')
+        self.assertEqual(self.refused('ease-routing', text, STANDARD), 'in.def:6: there are more than 4194304 tracks')
 
     def test_a_pin_that_is_not_there_is_refused(self):
         self.assertEqual(self.refused('ease-routing', self.BLOCK.replace('( u2 A )', '( u2 B )'), STANDARD), 'in.def:14: macro INV has no pin B')
@@ -258,13 +282,13 @@ class PlainViasTests(FlowCase):
         self.assertIn('- kept + RECT m1 ( -50 -50 ) ( 50 50 ) ;', out)
         self.assertIn('2 generated vias written out', err)
 
-    def test_what_can_not_be_written_out_is_refused(self):
+    def test_what_cannot_be_written_out_is_refused(self):
         for old, new, why in (
-                ('+ ROWCOL 2 3', '+ ROWCOL 2 3 + PATTERN 2_F', 'in.def:8: a via with + PATTERN can not be written out'),
+                ('+ ROWCOL 2 3', '+ ROWCOL 2 3 + PATTERN 2_F', 'in.def:8: a via with + PATTERN cannot be written out'),
                 ('+ CUTSIZE 20 40 + LAYERS m1 v1 m2 + CUTSPACING 10 30\n', '+ CUTSIZE 20 40 + LAYERS m1 v1 m2\n', 'in.def:7: via made has no + CUTSPACING'),
                 ('+ CUTSIZE 20 40 + LAYERS m1 v1 m2 + CUTSPACING 10 30\n', '+ CUTSIZE 21 40 + LAYERS m1 v1 m2 + CUTSPACING 10 30\n',
                  'in.def:7: via made: its middle lies between two database units'),
-                ('+ ORIGIN 10 0', '+ ORIGIN 10', 'in.def:8: 2 numbers should stand here'),
+                ('+ ORIGIN 10 0', '+ ORIGIN 10', 'in.def:8: 2 numbers expected here'),
                 ('+ ORIGIN 10 0', '+ ORIGIN 10 x', 'in.def:8: a whole number was expected, not x')):
             with self.subTest(new=new):
                 self.assertEqual(self.refused('plain-vias', GENERATED.replace(old, new)), why)
@@ -289,6 +313,11 @@ class DropFillersTests(FlowCase):
         self.assertEqual(self.components(out, library), ['u1', 'f1', 'f2', 'f3'])
         self.assertNotIn('( 1000 0 )', out)
 
+    def test_a_name_that_no_macro_has_is_a_usage_error(self):
+        library = self.file('fill.lef', FILLERS)
+        done = self.run_tool('drop-fillers', self.file('in.def', FILLED), STANDARD, library, '--macro', 'FILL', '--macro', 'FIL')
+        self.assertEqual(done, (64, '', 'drop-fillers: no macro is named FIL\n'))
+
     def test_a_component_without_a_macro_is_refused(self):
         self.assertEqual(self.refused('drop-fillers', FILLED.replace('u1 INV + PLACED ( 0 0 ) N', 'u1'), STANDARD), 'in.def:6: a component has a name and a macro')
 
@@ -303,7 +332,7 @@ class OutputTests(FlowCase):
                 text, out = self.file('in.def', EaseRoutingTests.BLOCK), self.file('out.def', 'kept')
                 status, _, err = self.run_tool(tool, text, *libraries, '-o', out)
                 self.assertEqual(status, 5)
-                self.assertIn('out.def is there already', err)
+                self.assertIn('out.def exists already', err)
                 self.assertEqual(open(out, encoding='utf-8').read(), 'kept')
                 self.assertEqual(self.run_tool(tool, text, *libraries, '-o', out, '--force')[0], 0)
                 self.assertIn('END DESIGN', open(out, encoding='utf-8').read())
@@ -329,9 +358,47 @@ class OutputTests(FlowCase):
     def test_a_file_that_is_missing(self):
         for tool, libraries in self.TOOLS:
             with self.subTest(tool=tool):
-                self.assertEqual(self.run_tool(tool, os.path.join(self.room, 'none.def'), *libraries)[0], 5)
+                self.assertEqual(self.run_tool(tool, 'none.def', *libraries), (5, '', f'{tool}: cannot read none.def: No such file or directory\n'))
 
-    def test_help_and_words_that_say_nothing(self):
+    def test_a_text_of_the_other_format_is_noted(self):
+        text = self.file('in.def', EaseRoutingTests.BLOCK)
+        for tool, libraries in self.TOOLS[:2]:
+            with self.subTest(tool=tool):
+                for words, note in (((*libraries, text), 'this seems to be a DEF, where a LEF is needed'),
+                                    ((*libraries, *libraries), 'this seems to be a LEF, where a DEF is needed')):
+                    status, out, err = self.run_tool(tool, *words)
+                    self.assertEqual((status, out), (2, ''))
+                    self.assertEqual(err.splitlines()[1:], [f'note: {note}: the DEF is named first'])
+
+    def test_a_text_that_is_compressed_is_noted(self):
+        path = os.path.join(self.room, 'in.def.gz')
+        with gzip.open(path, 'wb') as file:
+            file.write(EaseRoutingTests.BLOCK.encode())
+        for tool, libraries in self.TOOLS[:2]:
+            with self.subTest(tool=tool):
+                status, out, err = self.run_tool(tool, path, *libraries)
+                self.assertEqual((status, out), (2, ''))
+                self.assertIn('\nnote: the text is compressed: unpack it first, with gunzip\n', err)
+
+    def test_output_that_fails(self):
+        text = self.file('in.def', EaseRoutingTests.BLOCK)
+        for tool, libraries in self.TOOLS:
+            with self.subTest(tool=tool):
+                status, _, err = self.run_tool(tool, text, *libraries, '-o', 'none/out.def')
+                self.assertEqual((status, err), (5, f'{tool}: cannot write none/out.def: No such file or directory\n'))
+                with open('/dev/full', 'w', encoding='utf-8') as full:
+                    done = subprocess.run([sys.executable, os.path.join(TOP, 'tools', tool), text, *libraries], stdout=full, stderr=subprocess.PIPE,
+                                          text=True, timeout=60, check=False)
+                self.assertEqual((done.returncode, done.stderr), (5, f'{tool}: cannot write standard output: No space left on device\n'))
+
+    def test_nothing_is_left_beside_the_tools(self):
+        tools = os.path.join(self.room, 'tools')
+        shutil.copytree(os.path.join(TOP, 'tools'), tools, ignore=shutil.ignore_patterns('__pycache__'))
+        for tool, _ in self.TOOLS:
+            subprocess.run([sys.executable, os.path.join(tools, tool), '--help'], stdout=subprocess.DEVNULL, timeout=60, check=True)
+        self.assertEqual([name for name in os.listdir(tools) if name == '__pycache__'], [])
+
+    def test_help_and_usage_errors(self):
         for tool, _ in self.TOOLS:
             with self.subTest(tool=tool):
                 status, out, _ = self.run_tool(tool, '--help')
@@ -356,6 +423,40 @@ class ExampleTests(FlowCase):
             found = next(os.path.join(at, name) for at in ('/usr/bin', '/bin') if os.path.exists(os.path.join(at, name)))
             os.symlink(found, os.path.join(folder, name))
         return folder
+
+    def go_through(self, status):
+        """Runs a copy of the script that has its library here, with a qflow that writes a small block and a lefdef, named by a relative
+        path, whose place-check ends with this status."""
+        for folder in ('top/examples/from-verilog', 'commands'):
+            os.makedirs(os.path.join(self.room, folder))
+        os.symlink(os.path.join(TOP, 'tools'), os.path.join(self.room, 'top', 'tools'))
+        shutil.copy(os.path.join(os.path.dirname(self.RUN), 'ring.v'), os.path.join(self.room, 'top', 'examples', 'from-verilog'))
+        with open(self.RUN, encoding='utf-8') as file:
+            text = file.read()
+        copy = self.file('top/examples/from-verilog/run', text.replace('\nlibrary=/usr', f'\nlibrary={STANDARD}\n: /usr'))
+        self.file('placed.def', EaseRoutingTests.BLOCK)
+        programs = {'qflow': f'cp {self.room}/placed.def ring.def', 'yosys': '', 'graywolf': '', 'qrouter': '',
+                    'lefdef': f'echo "$1" >>{self.room}/calls\ncase $1 in place-check) exit {status};; legalise | route) cat "$2";; *) echo "$1";; esac'}
+        for name, body in programs.items():
+            os.chmod(self.file(f'commands/{name}', f'#!/bin/sh\n{body}\n'), 0o755)
+        path = os.pathsep.join([os.path.join(self.room, 'commands'), os.path.dirname(sys.executable), '/usr/bin', '/bin'])
+        done = subprocess.run(['/bin/sh', copy, 'made'], capture_output=True, text=True, cwd=self.room, timeout=60,
+                              env={'PATH': path, 'LEFDEF': 'commands/lefdef'}, check=False)
+        with open(os.path.join(self.room, 'calls'), encoding='utf-8') as calls:
+            return done, calls.read().split()
+
+    def test_a_placement_that_is_legal_is_routed(self):
+        done, calls = self.go_through(0)
+        self.assertEqual((done.returncode, calls), (0, ['place-check', 'route', 'measure', 'check']), done.stderr)
+
+    def test_a_placement_that_is_not_legal_is_legalised(self):
+        done, calls = self.go_through(1)
+        self.assertEqual((done.returncode, calls), (0, ['place-check', 'legalise', 'route', 'measure', 'check']), done.stderr)
+
+    def test_a_placement_that_is_not_judged_ends_the_run(self):
+        done, calls = self.go_through(2)
+        self.assertEqual((done.returncode, calls), (2, ['place-check']), done.stderr)
+        self.assertIn('run: the placement was not checked', done.stderr)
 
     def test_help(self):
         done = subprocess.run(['/bin/sh', self.RUN, '--help'], capture_output=True, text=True, timeout=60)

@@ -123,6 +123,27 @@ class CountTests(unittest.TestCase):
             done = self.count('kinds_stand_in_order', print_it)
             self.assertEqual((done.returncode, done.stdout, done.stderr), (5, '', 'not checked: the list is cut\n'))
 
+    def run_with(self, program, *words):
+        return subprocess.run([sys.executable, COUNT, *words], env={**os.environ, 'LEFDEF': program}, capture_output=True, text=True, check=False)
+
+    def test_a_list_with_another_word(self):
+        done = self.count('kinds_stand_in_order', 'sed s/OFFSITE/OFFROW/')
+        self.assertEqual((done.returncode, done.stdout, done.stderr), (5, '', 'not checked: the list is cut\n'))
+
+    def test_a_program_that_does_not_run_to_its_end(self):
+        done = self.count('kinds_stand_in_order', 'kill -9 $$; :')
+        self.assertEqual((done.returncode, done.stdout, done.stderr), (70, '', 'not checked, status -9:\n'))
+        done = self.run_with('/nosuch', 'a.def', 'b.lef')
+        self.assertEqual((done.returncode, done.stdout, done.stderr), (70, '', 'cannot run /nosuch: No such file or directory\n'))
+
+    def test_usage(self):
+        shown = self.run_with('/nosuch', '--help')
+        self.assertEqual((shown.returncode, shown.stderr), (0, ''))
+        self.assertIn('examples/count-violations BLOCK.def LIBRARY.lef...', shown.stdout)
+        for words in ((), ('a.def',), ('--nothing', 'a.def', 'b.lef')):
+            done = self.run_with('/nosuch', *words)
+            self.assertEqual((done.returncode, done.stdout, done.stderr), (64, '', shown.stdout))
+
     def test_an_answer_that_is_no_list(self):
         done = self.count('a_macro_that_is_not_there')
         self.assertEqual((done.returncode, done.stdout), (2, ''))

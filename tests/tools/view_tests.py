@@ -415,7 +415,7 @@ class RefusalTests(ViewCase):
 
     def test_bad_lefs(self):
         for text, line, why in (
-                ('LAYER m1 TYPE ROUTING ;\nWIDTH 0.1 ;\nEND m1\n', 3, 'routing layer m1 wants a DIRECTION and a WIDTH'),
+                ('LAYER m1 TYPE ROUTING ;\nWIDTH 0.1 ;\nEND m1\n', 3, 'routing layer m1 needs a DIRECTION and a WIDTH'),
                 ('LAYER m1 TYPE ROUTING ;\nDIRECTION VERTICAL ; WIDTH 1e3 ;\nEND m1\n', 2, 'a length of at most six decimals was expected, not 1e3'),
                 ('MACRO a SIZE 1 BY 1 ;\nOBS LAYER m9 ;\nEND END a\n', 2, 'there is no layer m9'),
                 ('MACRO a\nSIZE 1 BY', 2, 'the text ends too early'),
@@ -430,14 +430,14 @@ class RefusalTests(ViewCase):
         for text, line, why in (
                 (head + 'COMPONENTS 1 ;\n- u1 NAND + PLACED ( 0 0 ) N ;\n', 4, 'there is no macro NAND'),
                 (head + 'COMPONENTS 1 ;\n- u1 INV + PLACED ( 0 zero ) N ;\n', 4, 'a whole number was expected, not zero'),
-                (head + 'COMPONENTS 2 ;\n- u1 INV ;\n- u1 INV ;\n', 5, 'component u1 stands twice'),
+                (head + 'COMPONENTS 2 ;\n- u1 INV ;\n- u1 INV ;\n', 5, 'component u1 appears twice'),
                 (head + 'NETS 1 ;\n- n ( u1 A ) ;\nEND NETS\n', 4, 'there is no component u1'),
                 (head + 'NETS 1 ;\n- n + ROUTED m1 ( 0 0 )\n( 9 9 ) ;\nEND NETS\n', 5, 'neither horizontal nor vertical'),
                 (head + 'NETS 1 ;\n- n + ROUTED m2 ( 0 0 ) V99 ;\n', 4, 'there is no via V99'),
-                (head + 'BLOCKAGES 0 ;\n', 3, 'BLOCKAGES are not read'),
-                (head + 'ROW r core 0 0 W ;\n', 3, 'a row of orientation W is not read'),
+                (head + 'BLOCKAGES 0 ;\n', 3, 'BLOCKAGES are not supported'),
+                (head + 'ROW r core 0 0 W ;\n', 3, 'a row of orientation W is not supported'),
                 (head, 2, 'the text ends too early'),
-                ('DESIGN top ;\nEND DESIGN\n', 2, 'UNITS DISTANCE MICRONS stands nowhere')):
+                ('DESIGN top ;\nEND DESIGN\n', 2, 'UNITS DISTANCE MICRONS is missing')):
             with self.subTest(text=text):
                 bad = self.write('bad.def', text)
                 self.refused(2, f'{bad}:{line}: ', bad, STANDARD, '--svg', 'x.svg')
@@ -503,9 +503,9 @@ class RefusalTests(ViewCase):
     def test_words_that_say_nothing(self):
         wired = example('wired.def'), STANDARD
         for words, why in (
-                ((), 'the following arguments are required'), (wired, 'nothing is asked'), ((*wired, '--markers', 'x'), 'want --violations'),
-                ((*wired, '--svg', 'x', '--around', '1'), 'want --violations'), ((*wired, '--svg', 'x', '--margin', '9'), '--margin wants --around'),
-                ((*wired, '--violations', '-', '--markers', 'x', '--around', '1'), '--around wants --svg'),
+                ((), 'the following arguments are required'), (wired, 'nothing is asked'), ((*wired, '--markers', 'x'), 'need --violations'),
+                ((*wired, '--svg', 'x', '--around', '1'), 'need --violations'), ((*wired, '--svg', 'x', '--margin', '9'), '--margin needs --around'),
+                ((*wired, '--violations', '-', '--markers', 'x', '--around', '1'), '--around needs --svg'),
                 ((*wired, '--violations', '-', '--svg', 'x', '--markers', 'x'), 'name one file'),
                 ((*wired, '--violations', '-', '--svg', 'x', '--markers', './x'), 'name one file'),
                 ((*wired, '--violations', '-', '--svg', '-', '--markers', '-'), 'name one file'),
@@ -532,7 +532,7 @@ class OutputTests(ViewCase):
     def test_a_file_that_is_there_is_overwritten_only_when_asked(self):
         self.write('x.svg', 'mine')
         done = self.run_view(example('wired.def'), STANDARD, '--svg', 'x.svg')
-        self.assertEqual((done.returncode, done.stderr), (5, 'x.svg is there already; with --force it is overwritten\n'))
+        self.assertEqual((done.returncode, done.stderr), (5, 'x.svg exists already; with --force it is overwritten\n'))
         self.assertEqual(self.text('x.svg'), 'mine')
         self.view(example('wired.def'), STANDARD, '--svg', 'x.svg', '--force')
         self.assertEqual(len(Picture(self.text('x.svg')).components()), 2)

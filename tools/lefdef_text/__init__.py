@@ -1,15 +1,15 @@
-"""LEF and DEF texts as records, for the tools beside this folder.
+"""LEF and DEF texts as records, for the tools of the folder above.
 
     text = Words(path)                       the words of a text, each with its line
     library = read_library(paths)            layers, sites, vias and macros, in millionths of a micron
-    library.at(units)                        the same in database units, so many a micron
-    design = read_design(path, library)      the block that a DEF says, in its database units
+    library.at(units)                        the same in database units, of which `units` are a micron
+    design = read_design(path, library)      the block that a DEF denotes, in its database units
     design.shapes()                          where its metal lies, and whose it is
     read_violations(path)                    the violations that `lefdef check` or `place-check` listed
 
-The texts are those that lefdef reads, and their meaning is that of docs/FORMATS.md and docs/RULES.md. A text that says
-nothing by them is refused (`Refused`) with its file, the line of the word at fault, and why; only how long a text is and
-how many entries it has is not judged. Keywords are compared without regard to the case of their letters, names as they
+The texts are those that lefdef reads, and they mean what docs/FORMATS.md and docs/RULES.md say. A text that they give no
+meaning is refused (`Refused`), with its file, the line of the word at fault, and the reason; only the length of a text and
+the number of its entries are not judged. Keywords are compared without regard to the case of their letters, names as they
 are written.
 """
 from .def_reader import read_design
@@ -17,10 +17,11 @@ from .design import Component, Design, Net, Patch, Pin, Place, Port, Row, Segmen
 from .lef_reader import read_library
 from .library import Layer, Library, Macro, MacroPin, Site, Via
 from .lines import VIOLATION_LINES, Violation, read_violations
+from .notes import message_of
 from .rects import ORIENTATIONS, TURNS, Rect, grown, least_box, meets, moved, ordered, turned
 from .words import Refused, Words, read_text
 
 __all__ = [
     'Component', 'Design', 'Layer', 'Library', 'Macro', 'MacroPin', 'Net', 'ORIENTATIONS', 'Patch', 'Pin', 'Place', 'Port', 'Rect', 'Refused', 'Row',
-    'Segment', 'Shape', 'Site', 'TURNS', 'Tracks', 'VIOLATION_LINES', 'Via', 'ViaAt', 'Violation', 'Words', 'grown', 'least_box', 'meets', 'moved',
-    'ordered', 'read_design', 'read_library', 'read_text', 'read_violations', 'turned']
+    'Segment', 'Shape', 'Site', 'TURNS', 'Tracks', 'VIOLATION_LINES', 'Via', 'ViaAt', 'Violation', 'Words', 'grown', 'least_box', 'meets',
+    'message_of', 'moved', 'ordered', 'read_design', 'read_library', 'read_text', 'read_violations', 'turned']

@@ -1,4 +1,4 @@
-"""Reading a DEF text (docs/FORMATS.md, "DEF"); nets and their wiring are read by the module beside this one."""
+"""Reading a DEF text (docs/FORMATS.md, "DEF"); nets and their wiring are read by `net_reader`."""
 from .design import Component, Design, Pin, Place, Port, Row, Tracks
 from .library import Via, joined_layers
 from .entries import EntryReader
@@ -10,14 +10,14 @@ GREATEST_UNITS = 20_000
 
 
 def read_design(path, library):
-    """Returns the design that a DEF text says under a library in millionths of a micron."""
+    """Returns the design that a DEF text denotes under a library in millionths of a micron."""
     text = Words(path)
     units = units_of(text)
     return DefReader(text, Design(library.at(units), units)).read()
 
 
 def units_of(text):
-    """Returns the number after the first place where UNITS DISTANCE MICRONS stand in a row."""
+    """Returns the number after the first words UNITS DISTANCE MICRONS that follow one another."""
     for at, word in enumerate(text.words):
         if len(word) == 5 and [it.upper() for it in text.words[at:at + 3]] == ['UNITS', 'DISTANCE', 'MICRONS']:
             text.at = at + 3
@@ -27,7 +27,7 @@ def units_of(text):
             text.expect(';')
             text.at = 0
             return units
-    return text.refuse('UNITS DISTANCE MICRONS stands nowhere', text.count)
+    return text.refuse('UNITS DISTANCE MICRONS is missing', text.count)
 
 
 SKIPPED_LINES = ('VERSION', 'NAMESCASESENSITIVE', 'TECHNOLOGY', 'HISTORY', 'GCELLGRID')
@@ -49,7 +49,7 @@ class DefReader(EntryReader):
         while (word := text.keyword()) != 'END':
             if word in forms or word in sections:
                 if word in self.seen and word not in ('ROW', 'TRACKS'):
-                    text.refuse(f'{word} stands twice')
+                    text.refuse(f'{word} appears twice')
                 self.seen.add(word)
             if word in forms:
                 forms[word]()
@@ -63,7 +63,7 @@ class DefReader(EntryReader):
                 while text.keyword() != 'ENDEXT':
                     pass
             else:
-                text.refuse('BLOCKAGES are not read' if word == 'BLOCKAGES' else f'{text.words[text.at - 1]} is no form of a DEF')
+                text.refuse('BLOCKAGES are not supported' if word == 'BLOCKAGES' else f'{text.words[text.at - 1]} is no form of a DEF')
         self.end()
         return self.design
 
@@ -97,7 +97,7 @@ class DefReader(EntryReader):
         text.expect('DISTANCE')
         text.expect('MICRONS')
         if text.whole() != self.design.units:
-            text.refuse('the units differ from those that stand first')
+            text.refuse('the units differ from those found first')
         text.expect(';')
 
     def die(self):
@@ -108,10 +108,10 @@ class DefReader(EntryReader):
         if len(points) == 4:
             (a, b), (c, d), (e, f), (g, h) = points
             if not (a == c and d == f and e == g and h == b or b == d and c == e and f == h and g == a) or a == e or b == f:
-                text.refuse('a die area that is no rectangle is not read', begin)
+                text.refuse('a die area that is no rectangle is not supported', begin)
             points = [points[0], points[2]]
         if len(points) != 2:
-            text.refuse('a die area of other than two or four points is not read', begin)
+            text.refuse('a die area of other than two or four points is not supported', begin)
         self.design.die = text.with_area(points[0] + points[1], begin)
 
     def row(self):
@@ -121,7 +121,7 @@ class DefReader(EntryReader):
         at = text.at
         x, y, orientation, count = text.whole(), text.whole(), self.orientation(), 1
         if orientation in ('W', 'E', 'FW', 'FE'):
-            text.refuse(f'a row of orientation {orientation} is not read')
+            text.refuse(f'a row of orientation {orientation} is not supported')
         if text.peek() == 'DO':
             count = self.row_sites(site)
         if x + count * site.width > GREATEST_NUMBER:
@@ -163,7 +163,7 @@ class DefReader(EntryReader):
         if start + (count - 1) * step > GREATEST_NUMBER:
             text.refuse(f'the last track is beyond {GREATEST_NUMBER}', at)
         if text.peek() == 'MASK':
-            text.refuse('MASK is not read', text.at)
+            text.refuse('MASK is not supported', text.at)
         if text.peek() == 'LAYER':
             text.expect('LAYER')
             layers.append(self.layer().name)
@@ -186,12 +186,12 @@ class DefReader(EntryReader):
             if word == 'RECT':
                 layer = self.layer()
                 if text.peek() == '+':
-                    text.refuse('a mask is not read', text.at)
+                    text.refuse('a mask is not supported', text.at)
                 rect = text.corners(self.point)
                 if layer.has_metal():
                     shapes.append((layer.name, rect))
             elif word in ('VIARULE', 'POLYGON', 'PATTERNNAME', 'MASK'):
-                text.refuse(f'{word} of a via is not read')
+                text.refuse(f'{word} of a via is not supported')
             else:
                 self.skip_clause()
 
@@ -239,7 +239,7 @@ class DefReader(EntryReader):
                 self.twice(word, port().place)
                 ports[-1] = ports[-1]._replace(status=word, place=self.place())
             elif word in ('POLYGON', 'VIA', 'MASK'):
-                text.refuse(f'{word} of a pin is not read')
+                text.refuse(f'{word} of a pin is not supported')
             else:
                 self.skip_clause()
 
@@ -254,7 +254,7 @@ class DefReader(EntryReader):
                 text.expect(word)
                 text.whole()
         if text.peek() == 'MASK':
-            text.refuse('MASK is not read', text.at)
+            text.refuse('MASK is not supported', text.at)
         rect = text.corners(self.point)
         if layer.has_metal():
             port.shapes.append((layer.name, rect))

@@ -89,7 +89,7 @@ class Net:
 
 
 class Shape(NamedTuple):
-    """A rectangle of metal. Its owner is told as lefdef tells it. Its role is PIN (of the component `of`, or of the design where
+    """A rectangle of metal. Its owner is written as lefdef prints it. Its role is PIN (of the component `of`, or of the design where
     that is ''), OBS or WIRE, and its name the pin's, or the number of the wire in its net."""
     layer: str
     rect: Rect
@@ -100,7 +100,7 @@ class Shape(NamedTuple):
 
 
 class Design:
-    """What a DEF text says, in its database units."""
+    """What a DEF text denotes, in its database units."""
 
     def __init__(self, library, units):
         self.library, self.units = library, units

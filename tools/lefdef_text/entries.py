@@ -25,7 +25,7 @@ class EntryReader:
         text.expect(name)
 
     def clauses(self, clause):
-        """Takes the clauses of an entry and its semicolon; `clause` is given the word behind each +."""
+        """Takes the clauses of an entry and its semicolon; `clause` is given the word after each +."""
         text = self.text
         while (mark := text.take()) == '+':
             clause(text.word('the word of a clause').upper())
@@ -41,9 +41,9 @@ class EntryReader:
         text = self.text
         name = text.name(f'the name of a {kind}')
         if any(name in known for known in records):
-            text.refuse(f'{kind} {name} stands twice')
+            text.refuse(f'{kind} {name} appears twice')
         return name
 
     def twice(self, word, is_given):
         if is_given:
-            self.text.refuse(f'{word} stands here a second time, or beside what it excludes')
+            self.text.refuse(f'{word} is given twice, or with a word that it excludes')

@@ -4,7 +4,7 @@ from .words import Words
 
 
 def read_library(paths):
-    """Returns the library that LEF texts say one after the other, in millionths of a micron."""
+    """Returns the library that LEF texts, read one after the other, denote, in millionths of a micron."""
     library = Library()
     for path in paths:
         LefReader(Words(path), library).read()
@@ -45,12 +45,12 @@ class LefReader:
         text.at += 1
 
     def end(self, name):
-        """Takes the name behind the END of a block."""
+        """Takes the name after the END of a block."""
         if self.text.take() != name:
             self.text.unexpected(f'END {name}')
 
     def new_name(self, kind, records):
-        """Takes the name of a record, which none of its kind may have, and keeps where it stands."""
+        """Takes the name of a record, which none of its kind may have, and keeps its place in the text."""
         text = self.text
         name = text.name(f'the name of a {kind.__name__.lower()}')
         if name in records:
@@ -67,7 +67,7 @@ class LefReader:
 
     def once(self, found, word):
         if word in found:
-            self.text.refuse(f'{word} stands twice')
+            self.text.refuse(f'{word} appears twice')
 
     def layer(self):
         text, found = self.text, {}
@@ -82,7 +82,7 @@ class LefReader:
                 self.once(found, word)
                 found[word] = text.keyword()
                 if found[word] not in ('HORIZONTAL', 'VERTICAL'):
-                    text.refuse(f'the direction {found[word]} is not read')
+                    text.refuse(f'the direction {found[word]} is not supported')
                 text.expect(';')
             elif word != ';':
                 text.skip_statement()
@@ -93,7 +93,7 @@ class LefReader:
         self.layer_end(name, found)
 
     def layer_length(self, found, word, at):
-        """Judges the first width or spacing of one length, which stands at the word number `at`."""
+        """Judges the first width or spacing of one length, which is the word number `at`."""
         if word in found:
             return
         text, after = self.text, self.text.at
@@ -104,7 +104,7 @@ class LefReader:
         text.at = after
 
     def spacing_table(self, found, begin):
-        """Takes the second length behind the first WIDTH of the first table."""
+        """Takes the second length after the first WIDTH of the first table."""
         if 'TABLE' in found:
             return
         text, after = self.text, self.text.at
@@ -130,7 +130,7 @@ class LefReader:
             text.refuse(f'layer {name} has no TYPE', at)
         is_routing = found['TYPE'] == 'ROUTING'
         if is_routing and not ('DIRECTION' in found and 'WIDTH' in found):
-            text.refuse(f'routing layer {name} wants a DIRECTION and a WIDTH', at)
+            text.refuse(f'routing layer {name} needs a DIRECTION and a WIDTH', at)
         self.library.layers[name] = Layer(
             name, found['TYPE'], found.get('DIRECTION'), found.get('WIDTH') if is_routing else None,
             found.get('SPACING', found.get('TABLE')) or 0)
@@ -152,7 +152,7 @@ class LefReader:
                 layer = self.known_layer()
                 text.expect(';')
             elif word == 'RECT' and not layer:
-                text.refuse('RECT stands before any LAYER')
+                text.refuse('RECT comes before any LAYER')
             elif word == 'RECT' and layer.has_metal() and text.peek() != 'MASK':
                 shapes.append((layer.name, text.corners(self.point)))
                 text.expect(';')
@@ -164,7 +164,7 @@ class LefReader:
         self.library.vias[name] = Via(name, 'DEFAULT' in words, lower, upper, shapes if lower else [])
 
     def size(self):
-        """Takes a size behind SIZE."""
+        """Takes a size after SIZE."""
         text, at = self.text, self.text.at
         width = text.length()
         text.expect('BY')
@@ -269,11 +269,11 @@ class LefReader:
             elif word in ('WIDTH', 'CLASS') or layer and not layer.has_metal():
                 text.skip_statement()
             elif word != 'RECT':
-                text.refuse(f'{word} in a geometry is not read')
+                text.refuse(f'{word} in a geometry is not supported')
             elif not layer:
-                text.refuse('RECT stands before any LAYER')
+                text.refuse('RECT comes before any LAYER')
             elif text.peek() in ('MASK', 'ITERATE'):
-                text.refuse(f'RECT {text.peek()} is not read', text.at)
+                text.refuse(f'RECT {text.peek()} is not supported', text.at)
             else:
                 shapes.append((layer.name, text.corners(self.point)))
                 text.expect(';')
@@ -284,6 +284,6 @@ class LefReader:
         layer = self.known_layer()
         while text.peek() != ';':
             if text.word('a word').upper() == 'EXCEPTPGNET':
-                text.refuse('EXCEPTPGNET is not read')
+                text.refuse('EXCEPTPGNET is not supported')
         text.expect(';')
         return layer

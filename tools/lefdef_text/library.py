@@ -73,7 +73,7 @@ class Library:
         return [layer for layer in self.layers.values() if layer.is_routing()]
 
     def at(self, units):
-        """Returns the library in database units, so many a micron, with each macro's origin added to its shapes."""
+        """Returns the library in database units, of which `units` are a micron, with each macro's origin added to its shapes."""
         library = Library()
         scale = Scale(self, units)
         for layer in self.layers.values():

@@ -22,10 +22,10 @@ LAST_LINE = re.compile(r'(violations|FIXEDILLEGAL|NOTCLEAN) ([0-9]+)')
 
 
 class Violation(NamedTuple):
-    """A violation as lefdef listed it: its kind, what stands behind the kind, the line in the list, and its text.
+    """A violation as lefdef listed it: its kind, what it names after the kind, the number of its line in the list, and the line itself.
 
-    What stands behind is a component; two components; a layer and for each of two shapes its owner and its sides (four numbers
-    in one word); or a net and the two words of a piece."""
+    It names a component; two components; a layer and for each of two shapes its owner and its sides (four numbers in one string);
+    or a net and the two words of a piece."""
     kind: str
     names: Tuple[str, ...]
     line: int

@@ -18,7 +18,7 @@ class NetReader(EntryReader):
     def net_entry(self, entries, is_special):
         text = self.text
         if text.peek() == 'MUSTJOIN':
-            text.refuse('MUSTJOIN is not read', text.at)
+            text.refuse('MUSTJOIN is not supported', text.at)
         net = Net(self.new_name('net', entries))
         entries[net.name] = net
         while text.words[text.at] == '(':
@@ -33,7 +33,7 @@ class NetReader(EntryReader):
                 self.twice(word, net.use)
                 net.use = text.word('a use')
             elif word in UNREAD_NET_CLAUSES or is_special and word in ('RECT', 'POLYGON', 'VIA'):
-                text.refuse(f'{word} of a net is not read')
+                text.refuse(f'{word} of a net is not supported')
             else:
                 self.skip_clause()
 
@@ -144,7 +144,7 @@ class NetReader(EntryReader):
             at = text.at
             text.take()
             if text.keyword() != 'SHAPE':
-                text.refuse('only + SHAPE may stand before the first point of a path', at)
+                text.refuse('only + SHAPE is allowed before the first point of a path', at)
             text.word('a shape')
         return width
 
@@ -163,7 +163,7 @@ class NetReader(EntryReader):
         name = text.name('a via')
         word = name.upper()
         if word in ('TAPERRULE', 'STYLE', 'MASK', 'VIRTUAL', 'DO') or word in ORIENTATIONS and word != 'N':
-            text.refuse(f'{word} in wiring is not read')
+            text.refuse(f'{word} in wiring is not supported')
         if word in ('RECT', 'TAPER', 'N'):
             text.unexpected('a via')
         via = self.design.vias.get(name) or text.refuse(f'there is no via {name}')

@@ -5,27 +5,27 @@ use clap::{Arg, ArgAction, Command};
 use std::alloc::{AllocError, Global};
 
 const ABOUT: &str = "Checks, measures, legalises and routes a placed block of standard cells.
-With no words it reads one LEF and after it one DEF from standard input, and checks the block.";
+With no arguments it reads one LEF that ends in END LIBRARY and then one DEF from standard input, and runs check.";
 
 const STATUSES: &str = "Exit status:
   0   the block is legal, or a design, a wirelength or this help was printed
   1   violations were listed
-  2   a text was refused, or a check met too many shapes
+  2   a text was refused, a length is not a whole number of database units, or a check met too many shapes
   3   the block could not be legalised or routed
   4   out of memory
   5   a file could not be read, or the output not written
-  64  the words ask for nothing";
+  64  usage error";
 
 /// The help on the program's words and on its exit statuses.
 pub fn help_text(alloc: Global) -> Result<String, AllocError> {
     let names = [
         PossibleValue::new("check").help("list all violations"),
-        PossibleValue::new("place-check").help("list those of where components stand"),
+        PossibleValue::new("place-check").help("list the violations of placement"),
         PossibleValue::new("legalise").help(
-            "print the block with each movable component on a free place",
+            "print the block with each movable component at its best free position",
         ),
         PossibleValue::new("route").help("print the block with wires added to its open nets"),
-        PossibleValue::new("flow").help("legalise, then route what came of it"),
+        PossibleValue::new("flow").help("legalise, then route the result"),
         PossibleValue::new("measure").help("print the half-perimeter wirelength"),
     ];
     let mut program = program(alloc, names.as_slice())?;
@@ -38,15 +38,13 @@ fn program<'a>(alloc: Global, names: &'a [PossibleValue<'a>]) -> Result<Command<
     let command = Arg::new(alloc, "COMMAND")
         .required(true)
         .value_parser(names)
-        .help("What is asked");
-    let def = Arg::new(alloc, "DEF")
-        .required(true)
-        .help("The file of the block");
+        .help("The command");
+    let def = Arg::new(alloc, "DEF").required(true).help("The DEF file");
     let lefs = Arg::new(alloc, "LEF")
         .required(true)
         .action(ArgAction::Append)
         .num_args(1..)
-        .help("The files of its library, in order");
+        .help("The LEF files, in order");
     let help = Arg::new(alloc, "help")
         .long("help")
         .action(ArgAction::Help)

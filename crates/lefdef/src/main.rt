@@ -1,7 +1,7 @@
 //! lefdef: is a placed block of standard cells legal?
 //!
-//! `lefdef COMMAND DEF LEF...` reads the files, asks `leg_app` and writes its answer. With no words it
-//! reads one LEF and after it one DEF from standard input, and checks the block. `lefdef --help` prints help.
+//! `lefdef COMMAND DEF LEF...` reads the files, asks `leg_app` and writes its answer. With no arguments it reads one
+//! LEF that ends in END LIBRARY and then one DEF from standard input, and runs `check`. `lefdef --help` prints help.
 #![tactic(auto)]
 
 mod help;

@@ -1,0 +1,36 @@
+"""What a refused text seems to be that is no LEF or DEF, or the other one of the two, as lefdef's notes have it (docs/FORMATS.md, "Messages")."""
+import os
+
+SIGNATURES = (
+    (b'\x1f\x8b', 'the text is compressed: unpack it first, with gunzip'),
+    (b'\xef\xbb\xbf', 'the text begins with a byte order mark: save it without one'),
+    (b'\xff\xfe', 'the text is UTF-16: save it as ASCII, or as UTF-8 without a byte order mark'),
+    (b'\xfe\xff', 'the text is UTF-16: save it as ASCII, or as UTF-8 without a byte order mark'),
+    (b'\x7fELF', 'this is a program or an object file (ELF), and no text'))
+FIRST_WORDS = {b'DESIGN': 'DEF', b'DIEAREA': 'DEF', b'LAYER': 'LEF', b'MACRO': 'LEF'}
+
+
+def note_of(path, needed):
+    """Returns what the file seems to be, where a `needed` text, 'LEF' or 'DEF', is expected; None if it may be one."""
+    if not os.path.isfile(path):  # a pipe is read once
+        return None
+    with open(path, 'rb') as file:
+        data = file.read()
+    text = data.lstrip()
+    if not text:
+        return 'the text is empty'
+    for signature, note in SIGNATURES:
+        if text.startswith(signature):
+            return note
+    if b'\0' in data:
+        return 'this is no text: it has a byte 0'
+    words = (line.split(None, 1)[0].upper() for line in data.split(b'\n') if line.strip())
+    found = next((FIRST_WORDS[word] for word in words if word in FIRST_WORDS), needed)
+    return None if found == needed else f'this seems to be a {found}, where a {needed} is needed: the DEF is named first'
+
+
+def message_of(refused, design, libraries):
+    """Returns the message on a refusal, with a line `note: ..` if the text seems to be none of its format."""
+    needed = 'DEF' if refused.path == design else 'LEF' if refused.path in libraries else None
+    note = note_of(refused.path, needed) if needed else None
+    return f'{refused}\nnote: {note}' if note else str(refused)
