@@ -1,4 +1,4 @@
-//! Calls of which each growth is refused in turn: they answer that memory ran out, and the design that they were given is as it
+//! Calls of which each allocation is refused in turn: they answer that memory ran out, and the design that they were given is as it
 //! was, or they answer what they answer with ample memory.
 
 mod changes;
@@ -24,7 +24,7 @@ enum Trial {
     Wire(WireCall),
 }
 
-/// Whether the trial goes right with each growth refused in turn.
+/// Whether the trial goes right with each allocation refused in turn.
 fn goes_right<A: Allocator + Copy>(
     alloc: A,
     refusing: &RefusingAlloc<Global>,
@@ -102,7 +102,7 @@ const COMMANDS: [Command; 6] = [
     Command::Flow,
 ];
 
-/// Whether each command on the DEF goes right with each growth refused in turn.
+/// Whether each command on the DEF goes right with each allocation refused in turn.
 fn are_commands_right<A: Allocator + Copy>(
     alloc: A,
     held: Global,

@@ -1,9 +1,10 @@
--- What texts say
-mod Sayings
+-- What texts say, which the proofs of other crates cite too
+pub mod Sayings
 -- What is answered
 mod KindsJoined
 mod AnswerLemmas
 mod MovesTold
+mod OneMaking
 mod OneAnswer
 mod CutTexts
 mod CutStreams

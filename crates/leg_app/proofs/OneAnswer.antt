@@ -1,19 +1,17 @@
 -- What texts say, and what is answered to them, is one thing at most.
 use Rattle.std.proofs.Common.{◌≡◌, ◌≢◌, ℕ, ◌<◌, List, length, Option, None, Some, inl, inr, refl, sym, ap, ◌∙◌, subst, arith}
-use Rattle.std.proofs.lemmas.List.Elements.{All-contains}
-use Rattle.leg_sweep.proofs.Lists.{same_rising}
 use Rattle.leg_lex.proofs.Saying.{says_one}
 use Rattle.leg_cells.specs.Records.{RawContents, Contents}
 use Rattle.leg_cells.specs.Scale.{IsLibraryAt}
 use Rattle.leg_block.specs.declared.limits.TheConstants.{PART_LIMIT}
 use Rattle.leg_block.specs.Records.{DesignContents}
 use Rattle.leg_block.specs.declared.fault.Fault.{Fault}
-use Rattle.leg_block.specs.Violation.{kind_number, numbers_of, ComesBefore, IsListOf}
+use Rattle.leg_block.specs.Violation.{IsListOf}
 use Rattle.leg_lex.specs.Say.{Says}
 use Rattle.leg_lib.specs.Say.{SayLibrary}
 use Rattle.leg_design.specs.Header.{units_in}
 use Rattle.leg_design.specs.Form.{design_in}
-use Rattle.leg_flat.specs.Flat.{FlatSaid}
+use Rattle.leg_flat.specs.Flat.{FlatSaid, IsJudgedBy}
 use Rattle.leg_flat.specs.Metal.{metal_of}
 use Rattle.leg_flat.proofs.OneFlat.{one_flat}
 use Rattle.leg_print.specs.Wirelength.{IsWirelength}
@@ -23,38 +21,12 @@ use Rattle.leg_input.specs.declared.command.Command.TheVariants.{PlaceCheck, Che
 use Rattle.leg_app.specs.declared.status.Status.{Status}
 use Rattle.leg_app.specs.declared.status.Status.TheVariants.{Success, Violations, Refused, Unsolved, Memory}
 use Rattle.leg_app.specs.Say.{SayLibraryFor, SayDesign}
-use Rattle.leg_app.specs.Violations.{IsViolation, IsJudgedBy, AreAllViolations, AreViolationsOf}
+use Rattle.leg_app.specs.Violations.{IsViolation, AreAllViolations, AreViolationsOf}
 use Rattle.leg_app.specs.Lines.{wirelength_text}
-use Rattle.leg_app.specs.Made.{IsTextMade, IsReason}
+use Rattle.leg_legal.proofs.OneList.{one_list}
+use Rattle.leg_app.specs.Made.{IsTextMade, IsReason, PrintsMade, TellsUnsolved}
 use Rattle.leg_app.specs.Answer.{Lists, IsShown, IsListing, ListsViolations, TellsWirelength, IsAnswer}
-
-ComesBefore-irreflexive : (v : Fault) → ComesBefore v v → ⊥
-ComesBefore-irreflexive v before = omega (arith, before.second refl refl)
-
-module _ (u v w : Fault) (one : ComesBefore u v) (two : ComesBefore v w) where
-  -- of one kind, if the outer two are
-  inner_kinds : kind_number u ≡ kind_number w → (kind_number u ≡ kind_number v) × (kind_number v ≡ kind_number w)
-  inner_kinds same = (omega (arith, same, one.kind, two.kind), omega (arith, same, one.kind, two.kind))
-
-  inner_numbers : kind_number u ≡ kind_number w → (numbers_of u).0 ≡ (numbers_of w).0 → ((numbers_of u).0 ≡ (numbers_of v).0) × ((numbers_of v).0 ≡ (numbers_of w).0)
-  inner_numbers same first =
-      let kinds = inner_kinds same in
-      let a = one.first kinds.0 in
-      let b = two.first kinds.1 in
-      (omega (arith, first, a, b), omega (arith, first, a, b))
-
-  ComesBefore-transitive : ComesBefore u w
-  ComesBefore-transitive = record {
-    kind = omega (arith, one.kind, two.kind);
-    first = λ same. (let kinds = inner_kinds same in omega (arith, one.first kinds.0, two.first kinds.1));
-    second = λ same first. (let kinds = inner_kinds same in let numbers = inner_numbers same first in omega (arith, one.second kinds.0 numbers.0, two.second kinds.1 numbers.1));
-  }
-
--- two lists of the same violations are equal
-pub one_list : (Holds : Fault → Type 0) (xs ys : List Fault) → IsListOf Holds xs → IsListOf Holds ys → xs ≡ ys
-one_list Holds xs ys one two =
-    same_rising ComesBefore ComesBefore-irreflexive ComesBefore-transitive xs ys one.increasing two.increasing
-    (λ v has. two.all v (All-contains Holds xs v one.each has)) (λ v has. one.all v (All-contains Holds ys v two.each has))
+use Rattle.leg_app.proofs.OneMaking.{IsOutcome, one_made, one_reason_told, made_or_not, shown_or_made, no_outcome_of_measure, no_outcome_of_check}
 
 -- LEF texts say one library at most, and at some units one at most
 abbrev pub SayOneRaw : Type 0
@@ -121,23 +93,6 @@ one_listing design flat violations Refused other text words p q = absurd p
 one_listing design flat violations Unsolved other text words p q = absurd p
 one_listing design flat violations Memory other text words p q = absurd p
 
--- a command that makes no design prints none, and has no reason to make none
-makes_nothing : (command : Command) (design : DesignContents) (text : List ℕ) → command ≢ Legalise → command ≢ Route → command ≢ Flow → IsTextMade command design text → ⊥
-makes_nothing PlaceCheck design text first second third made = made
-makes_nothing Check design text first second third made = made
-makes_nothing Measure design text first second third made = made
-makes_nothing Legalise design text first second third made = first refl
-makes_nothing Route design text first second third made = second refl
-makes_nothing Flow design text first second third made = third refl
-
-has_no_reason : (command : Command) (design : DesignContents) (text : List ℕ) → command ≢ Legalise → command ≢ Route → command ≢ Flow → IsReason command design text → ⊥
-has_no_reason PlaceCheck design text first second third reason = reason
-has_no_reason Check design text first second third reason = reason
-has_no_reason Measure design text first second third reason = reason
-has_no_reason Legalise design text first second third reason = first refl
-has_no_reason Route design text first second third reason = second refl
-has_no_reason Flow design text first second third reason = third refl
-
 module _ (command : Command) (lefs : List (List ℕ)) (def : List ℕ) (one : SayOneDesign lefs def) where
   one_judgement : (status other : Status) (text words : List ℕ) → ListsViolations command lefs def status text → ListsViolations command lefs def other words → (status ≡ other) × (text ≡ words)
   one_judgement status other text words p q =
@@ -182,35 +137,87 @@ module _ (command : Command) (lefs : List (List ℕ)) (def : List ℕ) (one : Sa
   measured_not_refused text words p (inl refusal) = refusal.nothing p.library p.design p.say
   measured_not_refused text words p (inr much) = (let both : ◌≡◌ {A = Command} Check Measure = sym much.flattens ∙ p.measures in cc)
 
-  -- of a command that makes no design
-  module _ (first : command ≢ Legalise) (second : command ≢ Route) (third : command ≢ Flow) where
-    nothing_made : (design : DesignContents) (text : List ℕ) → IsTextMade command design text → ⊥
-    nothing_made design text made = makes_nothing command design text first second third made
+  -- a command that lists violations or measures makes no design
+  lists_or_makes : (status : Status) (text words : List ℕ) (design : DesignContents)
+      → ListsViolations command lefs def status text → IsOutcome command design words → ⊥
+  lists_or_makes status text words design p outcome = shown_or_made command p.design design p.flat words p.shown outcome
 
-    no_reason : (design : DesignContents) (text : List ℕ) → IsReason command design text → ⊥
-    no_reason design text reason = has_no_reason command design text first second third reason
+  measures_or_makes : (text words : List ℕ) (design : DesignContents) → TellsWirelength command lefs def text → IsOutcome command design words → ⊥
+  measures_or_makes text words design p outcome = no_outcome_of_measure design words (subst (λ c. IsOutcome c design words) p.measures outcome)
+
+  -- texts whose design has such an outcome are not refused
+  made_not_refused : (library : Contents) (design : DesignContents) (text words : List ℕ) → SayDesign lefs def library design
+      → IsOutcome command design text → IsAnswer command lefs def Refused words → ⊥
+  made_not_refused library design text words say outcome (inl refusal) = refusal.nothing library design say
+  made_not_refused library design text words say outcome (inr much) =
+      no_outcome_of_check design text (subst (λ c. IsOutcome c design text) much.flattens outcome)
+
+  -- of a command that doesn't route
+  module _ (first : command ≢ Route) (second : command ≢ Flow) where
+    one_making : (text words : List ℕ) → PrintsMade command lefs def text → PrintsMade command lefs def words → text ≡ words
+    one_making text words p q =
+        let same = one p.library q.library p.design q.design p.say q.say in
+        let made : IsTextMade command q.design text = subst (λ d. IsTextMade command d text) same.1 p.made in
+        one_made command q.design text words first second made q.made
+
+    one_unsolved : (text words : List ℕ) → TellsUnsolved command lefs def text → TellsUnsolved command lefs def words → text ≡ words
+    one_unsolved text words p q =
+        let same = one p.library q.library p.design q.design p.say q.say in
+        let reason : IsReason command q.design text = subst (λ d. IsReason command d text) same.1 p.reason in
+        one_reason_told command q.design text words first second reason q.reason
+
+    made_or_unsolved : (text words : List ℕ) → PrintsMade command lefs def text → TellsUnsolved command lefs def words → ⊥
+    made_or_unsolved text words p q =
+        let same = one p.library q.library p.design q.design p.say q.say in
+        let made : IsTextMade command q.design text = subst (λ d. IsTextMade command d text) same.1 p.made in
+        made_or_not command q.design text words first second made q.reason
+
+    -- two answers without violations, and without a reason why nothing is made
+    one_success : (text words : List ℕ) → IsAnswer command lefs def Success text → IsAnswer command lefs def Success words → text ≡ words
+    one_success text words (inl p) (inl q) = (one_judgement Success Success text words p q).1
+    one_success text words (inl p) (inr (inl q)) = absurd (lists_nothing Success text words p q)
+    one_success text words (inl p) (inr (inr q)) = absurd (lists_or_makes Success text words q.design p (inl q.made))
+    one_success text words (inr (inl p)) (inl q) = absurd (lists_nothing Success words text q p)
+    one_success text words (inr (inl p)) (inr (inl q)) = one_measure text words p q
+    one_success text words (inr (inl p)) (inr (inr q)) = absurd (measures_or_makes text words q.design p (inl q.made))
+    one_success text words (inr (inr p)) (inl q) = absurd (lists_or_makes Success words text p.design q (inl p.made))
+    one_success text words (inr (inr p)) (inr (inl q)) = absurd (measures_or_makes words text p.design q (inl p.made))
+    one_success text words (inr (inr p)) (inr (inr q)) = one_making text words p q
+
+    -- beside such an answer no violations are listed
+    listed_once : (text words : List ℕ) → IsAnswer command lefs def Success text → ListsViolations command lefs def Violations words → ⊥
+    listed_once text words (inl p) q = (let same : ◌≡◌ {A = Status} Success Violations = (one_judgement Success Violations text words p q).0 in cc)
+    listed_once text words (inr (inl p)) q = lists_nothing Violations words text q p
+    listed_once text words (inr (inr p)) q = lists_or_makes Violations words text p.design q (inl p.made)
+
+    -- nor is such a reason printed
+    unsolved_once : (text words : List ℕ) → IsAnswer command lefs def Success text → TellsUnsolved command lefs def words → ⊥
+    unsolved_once text words (inl p) q = lists_or_makes Success text words q.design p (inr q.reason)
+    unsolved_once text words (inr (inl p)) q = measures_or_makes text words q.design p (inr q.reason)
+    unsolved_once text words (inr (inr p)) q = made_or_unsolved text words p q
+
+    -- nor are the texts refused
+    solved_not_refused : (text words : List ℕ) → IsAnswer command lefs def Success text → IsAnswer command lefs def Refused words → ⊥
+    solved_not_refused text words (inl p) q = judged_not_refused Success text words p q
+    solved_not_refused text words (inr (inl p)) q = measured_not_refused text words p q
+    solved_not_refused text words (inr (inr p)) q = made_not_refused p.library p.design text words p.say (inl p.made) q
 
     pub one_answer : (status other : Status) (text words : List ℕ) → IsAnswer command lefs def status text → IsAnswer command lefs def other words
         → status ≢ Refused → status ≢ Memory → other ≢ Memory → (status ≡ other) × (text ≡ words)
     one_answer Refused other text words p q judged told told_too = absurd (judged refl)
     one_answer Memory other text words p q judged told told_too = absurd (told refl)
-    one_answer Unsolved other text words p q judged told told_too = absurd (no_reason p.design text p.reason)
-    one_answer Success other text words (inr (inr p)) q judged told told_too = absurd (nothing_made p.design text p.made)
-    one_answer Success Unsolved text words p q judged told told_too = absurd (no_reason q.design words q.reason)
-    one_answer Violations Unsolved text words p q judged told told_too = absurd (no_reason q.design words q.reason)
-    one_answer Success Success text words p (inr (inr q)) judged told told_too = absurd (nothing_made q.design words q.made)
-    one_answer Violations Success text words p (inr (inr q)) judged told told_too = absurd (nothing_made q.design words q.made)
-    one_answer Success Success text words (inl p) (inl q) judged told told_too = one_judgement Success Success text words p q
-    one_answer Success Success text words (inl p) (inr (inl q)) judged told told_too = absurd (lists_nothing Success text words p q)
-    one_answer Success Success text words (inr (inl p)) (inl q) judged told told_too = absurd (lists_nothing Success words text q p)
-    one_answer Success Success text words (inr (inl p)) (inr (inl q)) judged told told_too = (refl, one_measure text words p q)
-    one_answer Success Violations text words (inl p) q judged told told_too = one_judgement Success Violations text words p q
-    one_answer Success Violations text words (inr (inl p)) q judged told told_too = absurd (lists_nothing Violations words text q p)
-    one_answer Violations Success text words p (inl q) judged told told_too = one_judgement Violations Success text words p q
-    one_answer Violations Success text words p (inr (inl q)) judged told told_too = absurd (lists_nothing Violations text words p q)
-    one_answer Violations Violations text words p q judged told told_too = one_judgement Violations Violations text words p q
-    one_answer Success Refused text words (inl p) q judged told told_too = absurd (judged_not_refused Success text words p q)
-    one_answer Success Refused text words (inr (inl p)) q judged told told_too = absurd (measured_not_refused text words p q)
-    one_answer Violations Refused text words p q judged told told_too = absurd (judged_not_refused Violations text words p q)
+    one_answer Success Success text words p q judged told told_too = (refl, one_success text words p q)
+    one_answer Success Violations text words p q judged told told_too = absurd (listed_once text words p q)
+    one_answer Success Refused text words p q judged told told_too = absurd (solved_not_refused text words p q)
+    one_answer Success Unsolved text words p q judged told told_too = absurd (unsolved_once text words p q)
     one_answer Success Memory text words p q judged told told_too = absurd (told_too refl)
+    one_answer Violations Success text words p q judged told told_too = absurd (listed_once words text q p)
+    one_answer Violations Violations text words p q judged told told_too = one_judgement Violations Violations text words p q
+    one_answer Violations Refused text words p q judged told told_too = absurd (judged_not_refused Violations text words p q)
+    one_answer Violations Unsolved text words p q judged told told_too = absurd (lists_or_makes Violations text words q.design p (inr q.reason))
     one_answer Violations Memory text words p q judged told told_too = absurd (told_too refl)
+    one_answer Unsolved Success text words p q judged told told_too = absurd (unsolved_once words text q p)
+    one_answer Unsolved Violations text words p q judged told told_too = absurd (lists_or_makes Violations words text p.design q (inr p.reason))
+    one_answer Unsolved Refused text words p q judged told told_too = absurd (made_not_refused p.library p.design text words p.say (inr p.reason) q)
+    one_answer Unsolved Unsolved text words p q judged told told_too = (refl, one_unsolved text words p q)
+    one_answer Unsolved Memory text words p q judged told told_too = absurd (told_too refl)

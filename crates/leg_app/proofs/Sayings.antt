@@ -55,7 +55,7 @@ design_of_library library parts =
     gives_skip (unless (nat_lt PART_LIMIT (terminal_count (all_nets parts).nets + terminal_count (all_nets parts).special))) (λ few.
     gives_some _ refl))))
 
-design_has_library : (library : Contents) (words : Words) → Gives (λ design. design.library ≡ library) (design_in library words)
+pub design_has_library : (library : Contents) (words : Words) → Gives (λ design. design.library ≡ library) (design_in library words)
 unfolding design_in
 design_has_library library words =
     gives_skip (until at_end (def_form_at library) no_parts words) (λ forms.

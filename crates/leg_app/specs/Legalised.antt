@@ -1,6 +1,8 @@
 -- A design legalised, and what `legalise` prints of a design: it legalised, or why it is not.
 use Rattle.std.specs.Prelude.{◌≡◌, ◌≢◌, ℕ, ℤ, List, []}
+use Rattle.leg_cells.specs.Sound.{IsSound}
 use Rattle.leg_block.specs.Records.{DesignContents}
+use Rattle.leg_block.specs.WellFormed.{IsWellFormed}
 use Rattle.leg_block.specs.declared.fault.Fault.{Fault}
 use Rattle.leg_block.specs.Violation.{IsListOf}
 use Rattle.leg_legal.specs.Run.{IsLegallyPlaced, IsLegalised}
@@ -10,11 +12,13 @@ use Rattle.leg_legal.specs.Refusals.{HoldsOfStaying, NoneStaying, IsLeastUnsuite
 use Rattle.leg_app.specs.LegaliseLines.{legalised_text, fixed_illegal_text, no_site_text, no_room_text}
 
 -- The second design is the first one, legalised: legally placed, and the same but for the places of movable components, of
--- which each has its best free position.
+-- which each has its best free position. It is well-formed, and its library sound.
 pub record Legalises (before after : DesignContents) : Type 0 where
   pub legal : IsLegallyPlaced after
   pub same : IsSameButForPlaces before after
   pub run : IsLegalised before after
+  pub proper : IsWellFormed after
+  pub sound : IsSound after.library
 
 -- What is printed is the design legalised, and how far each component has moved.
 pub record PrintsLegalised (design : DesignContents) (text : List ℕ) : Type 0 where
@@ -31,7 +35,7 @@ pub record PrintsLegalised (design : DesignContents) (text : List ℕ) : Type 0 
 pub data TellsNotLegalised (design : DesignContents) : List ℕ → Type 0 where
   fixed_illegal : {violations : List Fault} {text : List ℕ} → IsListOf (HoldsOfStaying design) violations → violations ≢ []
       → text ≡ fixed_illegal_text design violations → TellsNotLegalised design text
-  no_site : {c : ℕ} {text : List ℕ} → NoneStaying design → IsLeastUnsuited design c
+  no_site : {c : ℕ} {text : List ℕ} → (¬ IsLegallyPlaced design) → NoneStaying design → IsLeastUnsuited design c
       → text ≡ no_site_text design c → TellsNotLegalised design text
   no_room : {c : ℕ} {text : List ℕ} → NoneStaying design → AreSuited design → IsStuck design c
       → text ≡ no_room_text design c → TellsNotLegalised design text

@@ -19,7 +19,7 @@ Refuses nothing much (Scale fault) = fault.kind ≢ scale.Memory → nothing
 Refuses nothing much TooMany = much
 Refuses nothing much Memory = Unit {0}
 
--- Texts are refused for want of memory.
+-- Texts are refused because memory ran out.
 abbrev pub IsOutOfMemory : TextFault → Type 0
 IsOutOfMemory (Read fault) = fault.kind ≡ kinds.Memory
 IsOutOfMemory (Scale fault) = fault.kind ≡ scale.Memory

@@ -1,27 +1,32 @@
 -- A design routed, and what `route` prints of a design: it routed, or why it is not.
-use Rattle.std.specs.Prelude.{◌≡◌, ◌≤◌, ℕ, List, length}
-use Rattle.leg_block.specs.declared.limits.TheConstants.{PART_LIMIT}
+use Rattle.std.specs.Prelude.{◌≡◌, ℕ, List}
+use Rattle.leg_cells.specs.Sound.{IsSound}
 use Rattle.leg_block.specs.Records.{DesignContents}
+use Rattle.leg_block.specs.WellFormed.{IsWellFormed}
 use Rattle.leg_block.specs.declared.fault.Fault.{Fault}
-use Rattle.leg_flat.specs.Metal.{metal_of}
-use Rattle.leg_flat.specs.Flat.{FlatSaid}
+use Rattle.leg_flat.specs.Flat.{FlatSaid, IsJudgedBy}
 use Rattle.leg_grid.specs.GridSize.{IsGridTooLarge}
 use Rattle.leg_grid.specs.Refusals.{IsNotClean, IsUnroutable}
 use Rattle.leg_route.specs.Legal.{IsLegal}
 use Rattle.leg_route.specs.SameButForWires.{IsSameButForWires}
 use Rattle.leg_route.specs.Routed.{IsRouted}
-use Rattle.leg_route.specs.Refusal.{IsJudgedBy, IsCleanIn, ComesToRun, HasTooMany}
+use Rattle.leg_route.specs.Refusal.{IsCleanIn, ComesToRun, HasTooMany}
 use Rattle.leg_print.specs.Text.Whole.{design_text}
 use Rattle.leg_app.specs.Lines.{too_many_text}
 use Rattle.leg_app.specs.RouteLines.{not_clean_text, grid_too_large_text, unroutable_text}
 
--- The second design is the first one, routed: legal, within the limit of shapes, and the same but for wires that entries of
--- NETS got after their own, which are those of a routing run.
+-- The second design is the first one, whose grid is not too large, routed: legal, with a flat that keeps the limit of shapes, and
+-- the same but for wires that entries of NETS got after their own, which are those of a routing run. It is well-formed, and its
+-- library sound.
 pub record Routes (before after : DesignContents) : Type 0 where
+  pub fits : ¬ IsGridTooLarge before
   pub legal : IsLegal after
-  pub few : length (metal_of after) ≤ PART_LIMIT
+  pub flat : FlatSaid
+  pub judged : IsJudgedBy after flat
   pub same : IsSameButForWires before after
   pub run : IsRouted before after
+  pub proper : IsWellFormed after
+  pub sound : IsSound after.library
 
 -- What is printed is the design routed.
 pub record PrintsRouted (design : DesignContents) (text : List ℕ) : Type 0 where

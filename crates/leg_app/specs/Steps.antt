@@ -1,3 +1,3 @@
--- What the code knows on its way. No meaning of a public call speaks of it.
+-- Intermediate state of the code. Only private contracts cite it.
 pub mod SaidLibrary
 pub mod Making

@@ -1,12 +1,10 @@
 -- Everything that is not legal about a design (lefdef's own rules).
-use Rattle.std.specs.Prelude.{ℕ, ◌≤◌, List, ◌⊎◌, length}
+use Rattle.std.specs.Prelude.{ℕ, List, ◌⊎◌}
 use Rattle.leg_cells.specs.Records.{Contents}
-use Rattle.leg_block.specs.declared.limits.TheConstants.{PART_LIMIT}
 use Rattle.leg_block.specs.Records.{DesignContents}
 use Rattle.leg_block.specs.declared.fault.Fault.{Fault}
 use Rattle.leg_block.specs.Violation.{IsListOf}
-use Rattle.leg_flat.specs.Flat.{FlatSaid, IsFlatOf}
-use Rattle.leg_flat.specs.Metal.{metal_of}
+use Rattle.leg_flat.specs.Flat.{FlatSaid, IsFlatOf, IsJudgedBy}
 use Rattle.leg_place.specs.Faults as place
 use Rattle.leg_wire.specs.Spacing as spacing
 use Rattle.leg_wire.specs.Open as joins
@@ -22,11 +20,6 @@ pub record IsOfMetal (library : Contents) (design : DesignContents) (fault : Fau
 -- A violation holds: it is one of placement, or of metal.
 abbrev pub IsViolation : Contents → DesignContents → Fault → Type 0
 IsViolation library design fault = place.Holds library design fault ⊎ IsOfMetal library design fault
-
--- A design is judged by its flat, where its metal keeps the limit of shapes.
-pub record IsJudgedBy (design : DesignContents) (flat : FlatSaid) : Type 0 where
-  pub few : length (metal_of design) ≤ PART_LIMIT
-  pub is_flat : IsFlatOf design flat
 
 -- These are the violations of a design: all that hold, each once, in order. Its metal is judged too.
 pub record AreAllViolations (library : Contents) (design : DesignContents) (violations : List Fault) : Type 0 where

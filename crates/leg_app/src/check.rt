@@ -7,7 +7,8 @@ ghost use Rattle.leg_flat.specs.declared.fault.FlatFault.TheVariants.{TooMany};
 ghost use Rattle.leg_flat.specs.Metal.{metal_of};
 ghost use Rattle.leg_app.specs.Say.{SayDesign, SayNothing, SayTooMany};
 ghost use Rattle.leg_app.specs.Steps.SaidLibrary.{SaysJust};
-ghost use Rattle.leg_app.specs.Violations.{IsViolation, IsJudgedBy, AreAllViolations, AreViolationsOf};
+ghost use Rattle.leg_app.specs.Violations.{IsViolation, AreAllViolations, AreViolationsOf};
+ghost use Rattle.leg_flat.specs.Flat.{IsJudgedBy};
 ghost use Rattle.leg_app.specs.Refusal.{Refuses, IsOutOfMemory};
 ghost use Rattle.leg_app.specs.declared.text_fault.TextFault.TheVariants.{Memory};
 

@@ -13,7 +13,7 @@ pub enum Halt<'a> {
     NotRead(&'a str),
     /// Standard output takes nothing more.
     NotWritten,
-    /// The words ask for nothing.
+    /// Usage error.
     Usage,
 }
 

@@ -8,11 +8,13 @@ ghost use Rattle.leg_app.specs.Legalised.{Legalises};
 ghost use Rattle.leg_app.specs.Steps.Making.{IsMaking};
 
 use crate::answer::Answer;
+use crate::known_sound::known_sound;
 use crate::legalise_answer::not_legalised_text;
 use crate::legalise_lines::legalised_text;
 use crate::route_answer::not_routed_text;
 use crate::status::Status;
 use leg_block::Design;
+use leg_flat::laws::every_design_has_a_flat;
 use leg_legal::{Moves, legalise};
 use leg_route::route;
 use std::alloc::{AllocError, Allocator};
@@ -26,7 +28,10 @@ pub(crate) fn flow_answer<A: Allocator + Copy>(
 {
     let library = design.library();
     match legalise(alloc, library, design) {
-        Ok((legalised, moves)) => routing_answer(alloc, legalised, &moves),
+        Ok((legalised, moves)) => {
+            known_sound(&legalised);
+            routing_answer(alloc, legalised, &moves)
+        }
         Err((kept, fault)) => {
             let text = not_legalised_text(alloc, &kept, &fault)?;
             Ok(Answer {
@@ -50,6 +55,8 @@ fn routing_answer<A: Allocator + Copy>(
     let library = legalised.library();
     match route(alloc, library, legalised) {
         Ok(routed) => {
+            known_sound(&routed);
+            every_design_has_a_flat(&routed);
             let text = legalised_text(alloc, &routed, moves)?;
             Ok(Answer {
                 status: Status::Success,

@@ -6,7 +6,7 @@ ghost use Rattle.leg_cells.specs.Records.{Contents};
 ghost use Rattle.leg_block.specs.Records.{DesignContents};
 ghost use Rattle.leg_block.specs.declared.fault.Fault.{Fault};
 ghost use Rattle.leg_input.specs.declared.command.Command.{Command};
-ghost use Rattle.leg_input.specs.declared.command.Command.TheVariants.{Legalise, Route, Flow};
+ghost use Rattle.leg_input.specs.declared.command.Command.TheVariants.{Route, Flow};
 ghost use Rattle.leg_app.specs.declared.status.Status.{Status};
 ghost use Rattle.leg_app.specs.declared.status.Status.TheVariants.{Refused, Memory};
 ghost use Rattle.leg_app.specs.declared.limits.TheConstants.{FILE_LIMIT, STREAM_LIMIT};
@@ -44,12 +44,12 @@ pub fn texts_have_one_list()
     texts_say_one_design();
 }
 
-/// Where texts are judged or measured, each other answer of the command to them has the same status and the same text, unless
-/// memory ran out: no run refuses what another one judges.
+/// Of two answers of a command to the same texts, neither of them that memory ran out, either both refuse the texts, or they
+/// have the same status and the same text. This holds of each command that doesn't route.
 pub fn command_has_one_answer()
     ensures { (command : Command) (lefs : List (List ℕ)) (def : List ℕ) (status other : Status) (text words : List ℕ)
         → IsAnswer command lefs def status text → IsAnswer command lefs def other words
-        → command ≢ Legalise → command ≢ Route → command ≢ Flow → status ≢ Refused → status ≢ Memory → other ≢ Memory → (status ≡ other) × (text ≡ words) }
+        → command ≢ Route → command ≢ Flow → status ≢ Refused → status ≢ Memory → other ≢ Memory → (status ≡ other) × (text ≡ words) }
 {
     texts_say_one_design();
 }

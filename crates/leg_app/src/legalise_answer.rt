@@ -7,6 +7,7 @@ ghost use Rattle.leg_app.specs.Legalised.{TellsNotLegalised};
 ghost use Rattle.leg_app.specs.Steps.Making.{IsMaking};
 
 use crate::answer::Answer;
+use crate::known_sound::known_sound;
 use crate::legalise_lines::{component_text, fixed_illegal_text, legalised_text};
 use crate::status::Status;
 use leg_block::Design;
@@ -23,6 +24,7 @@ pub(crate) fn legalise_answer<A: Allocator + Copy>(
     let library = design.library();
     match legalise(alloc, library, design) {
         Ok((legalised, moves)) => {
+            known_sound(&legalised);
             let text = legalised_text(alloc, &legalised, &moves)?;
             Ok(Answer {
                 status: Status::Success,

@@ -7,9 +7,11 @@ ghost use Rattle.leg_app.specs.Routed.{TellsNotRouted};
 ghost use Rattle.leg_app.specs.Steps.Making.{IsMaking};
 
 use crate::answer::Answer;
+use crate::known_sound::known_sound;
 use crate::route_lines::{not_clean_text, unroutable_text};
 use crate::status::Status;
 use leg_block::Design;
+use leg_flat::laws::every_design_has_a_flat;
 use leg_print::print_def;
 use leg_route::{RouteFault, route};
 use std::alloc::{AllocError, Allocator};
@@ -24,6 +26,8 @@ pub(crate) fn route_answer<A: Allocator + Copy>(
     let library = design.library();
     match route(alloc, library, design) {
         Ok(routed) => {
+            known_sound(&routed);
+            every_design_has_a_flat(&routed);
             let text = print_def(alloc, routed.library(), &routed)?;
             Ok(Answer {
                 status: Status::Success,

@@ -24,6 +24,10 @@ mod MetalLines
 mod MetalSizes
 mod MetalKept
 mod MetalWhole
+-- Each piece of metal is a rectangle
+mod OutlineRects
+mod MetalRects
+mod SomeFlat
 -- Laws: numbers of nets and of pieces
 mod EntryNames
 mod Given

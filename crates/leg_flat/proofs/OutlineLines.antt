@@ -45,7 +45,7 @@ along_down from to ext_from ext_to low high down l h z = (
 abbrev spot : ℤ → ℤ → Spot
 spot x y = record { x = x; y = y }
 
-same_spot : (x y u v : ℤ) → x ≡ u → y ≡ v → spot x y ≡ spot u v
+pub same_spot : (x y u v : ℤ) → x ≡ u → y ≡ v → spot x y ≡ spot u v
 same_spot x y u v e f = cc
 
 pub horizontal_points : (from to : Spot) (width ext_from ext_to : ℤ) (r : Sides) → from ≢ to → from.y ≡ to.y → RunsAlong from.x to.x ext_from ext_to (ends r.x1 r.x2) → RunsAcross from.y width (ends r.y1 r.y2) → (p : Spot) → HasPoint r p ↔ (IsOfHorizontal from to width ext_from ext_to p ⊎ IsOfVertical from to width ext_from ext_to p)
@@ -91,7 +91,7 @@ sides x1 y1 x2 y2 = record { x1 = x1; y1 = y1; x2 = x2; y2 = y2 }
 abbrev pub sides_of : Interval → Interval → Sides
 sides_of x y = sides x.low y.low x.high y.high
 
-IsRect-sides_of : (x y : Interval) → IsSpan x → IsSpan y → IsRect (sides_of x y)
+pub IsRect-sides_of : (x y : Interval) → IsSpan x → IsSpan y → IsRect (sides_of x y)
 IsRect-sides_of x y wide high = record { x1 = wide.low; y1 = high.low; x2 = wide.high; y2 = high.high; wide = wide.long; high = high.long }
 
 -- the same from registers

@@ -50,3 +50,8 @@ pub record IsShapeOf (metal : Metal) (shape : Shape) : Type 0 where
 pub record IsFlatOf (design : DesignContents) (flat : FlatSaid) : Type 0 where
   pub shapes : OneForOne IsShapeOf (metal_of design) flat.shapes
   pub pieces : flat.pieces ≡ map (pieces_of design) (range_with_len 0 (length design.nets + length design.special))
+
+-- A design is judged by its flat, where its metal keeps the limit of shapes.
+pub record IsJudgedBy (design : DesignContents) (flat : FlatSaid) : Type 0 where
+  pub few : length (metal_of design) ≤ PART_LIMIT
+  pub is_flat : IsFlatOf design flat

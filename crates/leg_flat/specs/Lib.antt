@@ -4,5 +4,6 @@ pub mod Outline
 pub mod Metal
 pub mod Pieces
 pub mod Flat
+pub mod ProperLibrary
 pub mod MoreWires
 pub mod Steps

@@ -1,13 +1,21 @@
 //! Laws of the definitions that contracts cite. Each function does nothing: its contract is the law.
 
 ghost use Rattle.std.specs.Prelude.{◌≡◌, ◌↔◌, ℕ, Contains, Some, slice_get};
+ghost use Rattle.leg_cells.specs.Sound.{IsSound};
 ghost use Rattle.leg_block.specs.Records.{DesignContents, NetSaid};
 ghost use Rattle.leg_block.specs.WellFormed.{IsWellFormed};
 ghost use Rattle.leg_flat.specs.declared.piece.Piece.{Piece};
 ghost use Rattle.leg_flat.specs.Flat.{FlatSaid, IsFlatOf};
 ghost use Rattle.leg_flat.specs.Nets.{pieces_of};
 ghost use Rattle.leg_flat.specs.Metal.{OnLayer, Metal, metal_of};
+ghost use Rattle.leg_flat.specs.ProperLibrary.{IsProperLibrary};
 ghost use Rattle.leg_flat.specs.Pieces.{IsOfPiece, HasItsPiece, of_piece, IsEntryOf};
+
+use crate::flat::design_is_sound;
+use crate::proper::library_is_proper;
+use leg_block::Design;
+use leg_geom::laws::placed_rectangles_are_images;
+use std::alloc::Allocator;
 
 /// Metal of a net is a shape of the piece whose number it has, and of that piece's component; other metal has no piece.
 pub fn metal_has_its_piece()
@@ -32,3 +40,20 @@ pub fn one_number_for_one_name()
 pub fn design_has_one_flat()
     ensures { (design : DesignContents) (a b : FlatSaid) → IsFlatOf design a → IsFlatOf design b → a ≡ b }
 {}
+
+/// A well-formed design under a sound and proper library has a flat: each piece of its metal is a rectangle.
+pub fn design_has_a_flat()
+    ensures { (design : DesignContents) → IsSound design.library → IsProperLibrary design.library → IsWellFormed design
+        → (flat : FlatSaid) × IsFlatOf design flat }
+{
+    placed_rectangles_are_images();
+}
+
+/// The same of a design that the program has: it and its library are as that law asks for, by their types.
+pub fn every_design_has_a_flat<A: Allocator + Copy>(design: &Design<'_, A>)
+    ensures { (flat : FlatSaid) × IsFlatOf design.now flat }
+{
+    design_is_sound(design);
+    library_is_proper(design.library());
+    design_has_a_flat();
+}

@@ -15,6 +15,7 @@ mod outline;
 mod owner;
 mod piece;
 mod piece_numbers;
+mod proper;
 mod shape;
 
 pub use fault::FlatFault;

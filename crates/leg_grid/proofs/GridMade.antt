@@ -7,7 +7,7 @@ use Rattle.leg_grid.specs.Tracks.{IsGridX, IsGridY}
 use Rattle.leg_grid.specs.GridSize.{AreValues, track_count, slot_count, IsGridTooLarge}
 use Rattle.leg_grid.specs.Grid.{axis_of, values_of, AreTracks}
 use Rattle.leg_grid.specs.Steps.LayerList.{routing_from}
-use Rattle.leg_grid.specs.Steps.TrackMarks.{AreTrackMarks}
+use Rattle.leg_grid.specs.TrackMarks.{AreTrackMarks}
 use Rattle.leg_grid.proofs.NextValues.{one_list}
 use Rattle.leg_grid.proofs.Pushed.{read_pushed}
 use Rattle.leg_grid.proofs.RoutingLayers.{count_from}

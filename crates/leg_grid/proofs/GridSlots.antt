@@ -13,7 +13,7 @@ use Rattle.leg_grid.specs.declared.node.Node.{Node}
 use Rattle.leg_grid.specs.Tracks.{Runs, HasTrack, IsGridX, IsGridY}
 use Rattle.leg_grid.specs.Nodes.{IsNode}
 use Rattle.leg_grid.specs.Grid.{GridSaid, IsGrid, IsSlot, LiesAt, IsNumberOf, axis_of, values_of}
-use Rattle.leg_grid.specs.Steps.TrackMarks.{AreTrackMarks}
+use Rattle.leg_grid.specs.TrackMarks.{AreTrackMarks}
 use Rattle.leg_grid.proofs.Slots.{one_rest}
 
 same_node : (a b : Node) → a.layer ≡ b.layer → a.at.x ≡ b.at.x → a.at.y ≡ b.at.y → a ≡ b

@@ -8,7 +8,7 @@ use Rattle.leg_block.specs.declared.records.Axis.{Axis}
 use Rattle.leg_block.specs.Records.{TrackSaid, DesignContents}
 use Rattle.leg_grid.specs.Tracks.{AreFor, IsLineOf, HasTrack}
 use Rattle.leg_grid.specs.Steps.Lines.{HasLines}
-use Rattle.leg_grid.specs.Steps.TrackMarks.{AreTrackMarks}
+use Rattle.leg_grid.specs.TrackMarks.{AreTrackMarks}
 use Rattle.leg_grid.proofs.Pushed.{read_pushed, read_old, read_last}
 use Rattle.std.proofs.lemmas.Nat.{div-mul-add}
 

@@ -9,7 +9,7 @@ use Rattle.leg_grid.specs.declared.slot.Slot.{Slot}
 use Rattle.leg_grid.specs.Nodes.{IsNode}
 use Rattle.leg_grid.specs.Neighbours.{IsBeside}
 use Rattle.leg_grid.specs.Grid.{GridSaid, IsGrid, IsSlot, LiesAt}
-use Rattle.leg_grid.specs.Beside.{IsWithin, IsSlotBeside}
+use Rattle.leg_grid.specs.Beside.{IsSlotIn, IsSlotBeside}
 use Rattle.leg_grid.specs.Numbered.{IsBesideAt}
 use Rattle.leg_grid.specs.Steps.SlotSides.{IsBesideWithin}
 use Rattle.leg_grid.proofs.GridSlots.{lies_at}
@@ -38,7 +38,7 @@ some_at list i within = elim (slice_get_cases list i).1 [
   | inr none ↦ absurd (omega (arith, none.0, within))
 ]
 
-pub point_in : (grid : GridSaid) (s : Slot) → IsWithin grid s → HasPointIn grid s
+pub point_in : (grid : GridSaid) (s : Slot) → IsSlotIn grid s → HasPointIn grid s
 point_in grid s within =
     let layer = some_at grid.layers s.layer within.layer in
     let y = some_at grid.ys s.row within.row in
@@ -94,7 +94,7 @@ step_from grid side n s to is_grid at_n step =
     }
 
 module _ (grid : GridSaid) (side : Side) (n : ℕ) (s : Slot) (is_grid : IsGrid grid) (at_n : IsSlot grid n s.layer s.row s.column) where
-  its_within : IsWithin grid s
+  its_within : IsSlotIn grid s
   its_within = record { layer = at_n.layer; row = at_n.row; column = at_n.column }
 
   -- a slot without a node steps nowhere

@@ -8,7 +8,7 @@ use Rattle.leg_grid.specs.declared.slot.Slot.{Slot}
 use Rattle.leg_grid.specs.Grid.{GridSaid}
 
 -- the slot is one of the grid's
-pub record IsWithin (grid : GridSaid) (s : Slot) : Type 0 where
+pub record IsSlotIn (grid : GridSaid) (s : Slot) : Type 0 where
   pub layer : s.layer < length grid.layers
   pub row : s.row < length grid.ys
   pub column : s.column < length grid.xs

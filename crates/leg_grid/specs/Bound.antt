@@ -6,7 +6,7 @@ use Rattle.leg_grid.specs.declared.limits.TheConstants.{GRID_LIMIT}
 use Rattle.leg_grid.specs.Grid.{GridSaid, IsSlot}
 use Rattle.leg_walk.specs.declared.side.Side.{Side}
 use Rattle.leg_walk.specs.Side.{opposite, across_twice}
-use Rattle.leg_grid.specs.Beside.{IsWithin}
+use Rattle.leg_grid.specs.Beside.{IsSlotIn}
 use Rattle.leg_grid.specs.Numbered.{IsBesideAt}
 
 -- how far a place lies outside of a stretch
@@ -32,8 +32,8 @@ bound_at grid boxes n = nearest boxes (slot_of grid n)
 
 -- the corners of the box are slots of the grid
 pub record IsBoxOf (grid : GridSaid) (ends : SlotBox) : Type 0 where
-  pub low : IsWithin grid ends.low
-  pub high : IsWithin grid ends.high
+  pub low : IsSlotIn grid ends.low
+  pub high : IsSlotIn grid ends.high
 
 -- the slot lies in the box
 pub record IsInBox (ends : SlotBox) (s : Slot) : Type 0 where

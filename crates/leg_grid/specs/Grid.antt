@@ -14,7 +14,7 @@ use Rattle.leg_grid.specs.declared.node.Node.{Node}
 use Rattle.leg_grid.specs.Tracks.{Runs, IsGridX, IsGridY}
 use Rattle.leg_grid.specs.Between.{IsVia}
 use Rattle.leg_grid.specs.GridSize.{AreValues}
-use Rattle.leg_grid.specs.Steps.TrackMarks.{AreTrackMarks}
+use Rattle.leg_grid.specs.TrackMarks.{AreTrackMarks}
 
 -- the routing layers of a library, bottom up
 pub record AreRoutingLayers (library : Contents) (layers : List RoutingLayer) : Type 0 where

@@ -8,6 +8,7 @@ pub mod Meets
 pub mod Spelling
 pub mod MoreWires
 pub mod Run
+pub mod TrackMarks
 pub mod GridSize
 pub mod Refusals
 pub mod Grid

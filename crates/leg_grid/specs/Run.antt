@@ -4,17 +4,13 @@ use Rattle.std.specs.Prelude.{ℕ, ◌<◌, List, [], ◌∷◌, ◌++◌}
 use Rattle.leg_block.specs.declared.records.Wire.{Wire}
 use Rattle.leg_block.specs.Records.{DesignContents}
 use Rattle.leg_flat.specs.Flat.{FlatSaid}
-use Rattle.leg_wire.specs.Open.{IsOpen}
+use Rattle.leg_wire.specs.Open.{IsOpenNet}
 use Rattle.leg_walk.specs.Walk.{IsShortest, NoWalk}
 use Rattle.leg_grid.specs.declared.node.Node.{Node}
 use Rattle.leg_grid.specs.OpenMetal.{IsOpenNode, IsOpenStep}
 use Rattle.leg_grid.specs.Meets.{MeetsJoined, MeetsRest}
 use Rattle.leg_grid.specs.Spelling.{AreWiresOf}
 use Rattle.leg_grid.specs.MoreWires.{HasMoreWires}
-
--- some piece of the net isn't joined to its first one
-abbrev pub IsOpenNet : DesignContents → FlatSaid → ℕ → Type 0
-IsOpenNet design flat net = (k : ℕ) × IsOpen design flat net k
 
 -- it is the net's turn: it is the first that is open
 pub record IsTurn (design : DesignContents) (flat : FlatSaid) (net : ℕ) : Type 0 where

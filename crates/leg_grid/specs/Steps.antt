@@ -1,7 +1,6 @@
--- What the code knows on its way. No meaning of a public call speaks of it.
+-- Intermediate state of the code. Only private contracts cite it.
 pub mod Lines
 pub mod LayerList
-pub mod TrackMarks
 pub mod Joining
 pub mod Squares
 pub mod SlotSides

@@ -12,7 +12,7 @@ ghost use Rattle.leg_grid.specs.Nodes.{IsNode};
 ghost use Rattle.leg_grid.specs.Tracks.{Runs};
 ghost use Rattle.leg_grid.specs.GridSize.{IsGridTooLarge};
 ghost use Rattle.leg_grid.specs.Grid.{AreTracks, IsGrid, IsSlot, LiesAt, IsNumberOf, axis_of, values_of, slot_total};
-ghost use Rattle.leg_grid.specs.Steps.TrackMarks.{AreTrackMarks};
+ghost use Rattle.leg_grid.specs.TrackMarks.{AreTrackMarks};
 
 use crate::fault::GridFault;
 use crate::layers::{RoutingLayer, routing_layers};

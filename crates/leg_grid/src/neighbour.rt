@@ -2,7 +2,7 @@
 
 ghost use Rattle.std.specs.Prelude.{◌≡◌, ◌↔◌, ◌<◌, ℕ, Some, IsTrue, IfSome, length};
 ghost use Rattle.leg_walk.specs.declared.side.Side.TheVariants.{West, East, South, North, Below, Above};
-ghost use Rattle.leg_grid.specs.Beside.{IsWithin};
+ghost use Rattle.leg_grid.specs.Beside.{IsSlotIn};
 ghost use Rattle.leg_grid.specs.Grid.{IsGrid, slot_total};
 ghost use Rattle.leg_grid.specs.Numbered.{IsBesideAt};
 ghost use Rattle.leg_grid.specs.Steps.SlotSides.{RunsAt, IsBesideIfAny};
@@ -23,7 +23,7 @@ fn runs_at<A: Allocator + Copy>(grid: &Grid<'_, '_, A>, k: usize, direction: Dir
 
 /// The slot to the west.
 fn west_of<A: Allocator + Copy>(grid: &Grid<'_, '_, A>, slot: Slot) -> Option<Slot>
-    requires { IsWithin grid.now slot }
+    requires { IsSlotIn grid.now slot }
     ensures { IsBesideIfAny grid.now West slot result }
 {
     if slot.column == 0 || !runs_at(grid, slot.layer, Direction::Horizontal) {
@@ -38,7 +38,7 @@ fn west_of<A: Allocator + Copy>(grid: &Grid<'_, '_, A>, slot: Slot) -> Option<Sl
 
 /// The slot to the east.
 fn east_of<A: Allocator + Copy>(grid: &Grid<'_, '_, A>, slot: Slot) -> Option<Slot>
-    requires { IsWithin grid.now slot }
+    requires { IsSlotIn grid.now slot }
     ensures { IsBesideIfAny grid.now East slot result }
 {
     let columns = grid.columns();
@@ -54,7 +54,7 @@ fn east_of<A: Allocator + Copy>(grid: &Grid<'_, '_, A>, slot: Slot) -> Option<Sl
 
 /// The slot to the south.
 fn south_of<A: Allocator + Copy>(grid: &Grid<'_, '_, A>, slot: Slot) -> Option<Slot>
-    requires { IsWithin grid.now slot }
+    requires { IsSlotIn grid.now slot }
     ensures { IsBesideIfAny grid.now South slot result }
 {
     if slot.row == 0 || !runs_at(grid, slot.layer, Direction::Vertical) {
@@ -69,7 +69,7 @@ fn south_of<A: Allocator + Copy>(grid: &Grid<'_, '_, A>, slot: Slot) -> Option<S
 
 /// The slot to the north.
 fn north_of<A: Allocator + Copy>(grid: &Grid<'_, '_, A>, slot: Slot) -> Option<Slot>
-    requires { IsWithin grid.now slot }
+    requires { IsSlotIn grid.now slot }
     ensures { IsBesideIfAny grid.now North slot result }
 {
     let rows = grid.rows();
@@ -85,7 +85,7 @@ fn north_of<A: Allocator + Copy>(grid: &Grid<'_, '_, A>, slot: Slot) -> Option<S
 
 /// The slot below, if a via leads there.
 fn below_of<A: Allocator + Copy>(grid: &Grid<'_, '_, A>, slot: Slot) -> Option<Slot>
-    requires { IsWithin grid.now slot }
+    requires { IsSlotIn grid.now slot }
     ensures { IsBesideIfAny grid.now Below slot result }
 {
     if slot.layer == 0 {
@@ -103,7 +103,7 @@ fn below_of<A: Allocator + Copy>(grid: &Grid<'_, '_, A>, slot: Slot) -> Option<S
 
 /// The slot above, if a via leads there.
 fn above_of<A: Allocator + Copy>(grid: &Grid<'_, '_, A>, slot: Slot) -> Option<Slot>
-    requires { IsWithin grid.now slot }
+    requires { IsSlotIn grid.now slot }
     ensures { IsBesideIfAny grid.now Above slot result }
 {
     let layers = grid.layer_count();
@@ -126,7 +126,7 @@ pub(crate) fn slot_beside<A: Allocator + Copy>(
     slot: Slot,
     side: Side,
 ) -> Option<Slot>
-    requires { IsWithin grid.now slot }
+    requires { IsSlotIn grid.now slot }
     ensures { IsBesideIfAny grid.now side slot result }
 {
     match side {

@@ -4,7 +4,7 @@ ghost use Rattle.std.specs.Prelude.{◌≡◌, ◌↔◌, ◌<◌, ◌≤◌, �
 ghost use Rattle.leg_lex.specs.Number.{IsNumber};
 ghost use Rattle.leg_grid.specs.Tracks.{IsLineOf, HasTrack};
 ghost use Rattle.leg_grid.specs.Steps.Lines.{HasLines};
-ghost use Rattle.leg_grid.specs.Steps.TrackMarks.{AreTrackMarks};
+ghost use Rattle.leg_grid.specs.TrackMarks.{AreTrackMarks};
 
 use crate::lines::{are_for, count_of, is_along};
 use leg_block::{Axis, Design, Track};

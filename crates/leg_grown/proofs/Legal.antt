@@ -13,7 +13,8 @@ use Rattle.leg_wire.specs.Open.Holds.{open_net}
 use Rattle.leg_grown.specs.Growth.{AddedWire}
 use Rattle.leg_grown.specs.CleanWire.{HasNoSpacingFault}
 use Rattle.leg_grown.specs.Finished.{finished, IsFinishedFrom}
-use Rattle.leg_grown.specs.Violations.{HasShort, HasTooNear, IsOpenNet, IsLegal}
+use Rattle.leg_grown.specs.Violations.{HasShort, HasTooNear, IsLegalIn}
+use Rattle.leg_wire.specs.Open.{IsOpenNet}
 use Rattle.leg_grown.proofs.SameNets.{same_count}
 use Rattle.leg_grown.proofs.SameShapes.{alike_back, HaveLikes, short_there, near_there}
 use Rattle.leg_grown.proofs.NetMetal.{MetalHasItsPiece, PieceHasItsMetal}
@@ -45,7 +46,7 @@ module _ (metal_has : MetalHasItsPiece) (piece_has : PieceHasItsMetal) (library 
   same_near = (near_there library grown end likes_then, near_there library end grown likes_before)
 
   pub is_legal : JoinedBothWays → JoinedOnward → ((fault : Fault) → ¬ place.Holds library design fault) → HasNoSpacingFault library grown
-      → ((n : ℕ) → ¬ IsOpenNet design grown n) → IsLegal library (finished design lists) end
+      → ((n : ℕ) → ¬ IsOpenNet design grown n) → IsLegalIn library (finished design lists) end
   is_legal back onward places shapes nets = record {
     places = λ fault holds. places fault (placement_before library design lists fault holds);
     shapes = no_fault_there library grown end likes_before shapes;

@@ -12,7 +12,7 @@ use Rattle.leg_flat.specs.Flat.{FlatSaid, pieces_with}
 use Rattle.leg_wire.specs.Touch.{piece_count, LiesIn, Touch, AreJoined, AreMarks}
 use Rattle.leg_grown.specs.Growth.{AddedWire, wires_added}
 use Rattle.leg_grown.specs.Finished.{finished, IsFinishedFrom}
-use Rattle.leg_grown.specs.Violations.{IsOpenNet}
+use Rattle.leg_wire.specs.Open.{IsOpenNet}
 use Rattle.leg_grown.proofs.PiecesWith.{length_of_pieces}
 use Rattle.leg_grown.proofs.SameNets.{same_count, same_terminals}
 use Rattle.leg_grown.proofs.Moves.{one_target, one_source, some_target, some_source, source_within, target_within}

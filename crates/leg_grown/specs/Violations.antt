@@ -17,13 +17,9 @@ HasShort library flat = (i : ℕ) × (j : ℕ) × spacing.Holds library flat (Sh
 abbrev pub HasTooNear : Contents → FlatSaid → Type 0
 HasTooNear library flat = (i : ℕ) × (j : ℕ) × spacing.Holds library flat (TooNear i j)
 
--- a piece of net n, which is an entry of NETS, isn't joined to the net's first one
-abbrev pub IsOpenNet : DesignContents → FlatSaid → ℕ → Type 0
-IsOpenNet design flat n = (k : ℕ) × joins.IsOpen design flat n k
-
 -- No violation of any kind holds of the design and its flat: of placement, of two shapes, of the pieces of a
 -- net.
-pub record IsLegal (library : Contents) (design : DesignContents) (flat : FlatSaid) : Type 0 where
+pub record IsLegalIn (library : Contents) (design : DesignContents) (flat : FlatSaid) : Type 0 where
   pub places : (fault : Fault) → ¬ place.Holds library design fault
   pub shapes : (fault : Fault) → ¬ spacing.Holds library flat fault
   pub nets : (fault : Fault) → ¬ joins.Holds design flat fault

@@ -21,7 +21,8 @@ ghost use Rattle.leg_grown.specs.Growth.{AddedWire, Grows, of_net, HasGrown};
 ghost use Rattle.leg_grown.specs.CleanWire.{HasNoSpacingFault, IsRectOf, IsCleanWire, HasCleanRect, LiesInClean};
 ghost use Rattle.leg_grown.specs.Lines.{EachStep, last_spot, AreInLine, line, square};
 ghost use Rattle.leg_grown.specs.Finished.{finished, AreByNet, IsFinishedFrom};
-ghost use Rattle.leg_grown.specs.Violations.{HasShort, HasTooNear, IsOpenNet, IsLegal};
+ghost use Rattle.leg_grown.specs.Violations.{HasShort, HasTooNear, IsLegalIn};
+ghost use Rattle.leg_wire.specs.Open.{IsOpenNet};
 
 use leg_flat::laws::{metal_has_its_piece, piece_has_its_metal};
 use leg_wire::laws::{joined_both_ways, joined_onward};
@@ -193,7 +194,7 @@ pub fn finished_design_is_legal()
     ensures { (library : Contents) (design : DesignContents) (added : List AddedWire) (grown : FlatSaid) (lists : List (List Wire)) (end : FlatSaid)
         → IsFinishedFrom design added grown lists end
         → ((fault : Fault) → ¬ place.Holds library design fault) → HasNoSpacingFault library grown → ((n : ℕ) → ¬ IsOpenNet design grown n)
-        → IsLegal library (finished design lists) end }
+        → IsLegalIn library (finished design lists) end }
 {
     metal_has_its_piece();
     piece_has_its_metal();

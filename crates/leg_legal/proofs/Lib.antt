@@ -24,3 +24,8 @@ mod BestSeat
 -- The loop over the components
 mod UnderWay
 mod Chosen
+-- One outcome
+mod OneRun
+-- What the proofs of other crates cite
+pub mod OneList
+pub mod OneOutcome

@@ -9,7 +9,7 @@ use Rattle.leg_legal.specs.Run.{placed_at, moved_to}
 use Rattle.leg_legal.specs.Steps.PlacedAll.{CanTake, placed_if_any, placed_one, placed_all}
 
 -- something stands at each number below the length
-there_is : {X : Type 0} (xs : List X) (i : ℕ) → i < length xs → (x : X) × (slice_get xs i ≡ Some x)
+pub there_is : {X : Type 0} (xs : List X) (i : ℕ) → i < length xs → (x : X) × (slice_get xs i ≡ Some x)
 there_is [] i below = absurd (omega arith)
 there_is (x ∷ xs) zero below = (x, refl)
 there_is (x ∷ xs) (suc i) below = there_is xs i (omega arith)

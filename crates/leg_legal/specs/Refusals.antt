@@ -80,6 +80,6 @@ pub record IsStuck (before : DesignContents) (c : ℕ) : Type 0 where
 -- the first cause of refusal that holds, apart from being out of memory
 abbrev pub IsRefusal : {A : Type 0} → DesignContents → LegalFault A → Type 0
 IsRefusal design (FixedIllegal faults) = IsListOf (HoldsOfStaying design) faults × (faults ≢ [])
-IsRefusal design (NoSite c) = NoneStaying design × IsLeastUnsuited design c
+IsRefusal design (NoSite c) = (¬ IsLegallyPlaced design) × NoneStaying design × IsLeastUnsuited design c
 IsRefusal design (NoRoom c) = NoneStaying design × AreSuited design × IsStuck design c
 IsRefusal design Memory = Unit {0}

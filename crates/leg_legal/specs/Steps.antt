@@ -1,4 +1,4 @@
--- What the code knows on its way. No meaning of a public call speaks of it.
+-- Intermediate state of the code. Only private contracts cite it.
 pub mod TurnKeys
 pub mod Marks
 pub mod HasRow

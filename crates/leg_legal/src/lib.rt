@@ -5,6 +5,7 @@
 
 mod distances;
 mod fault;
+pub mod laws;
 mod legaliser;
 mod movable;
 mod moves;

@@ -7,8 +7,6 @@ use Rattle.leg_lib.specs.Say.{SayLibrary}
 use Rattle.leg_block.specs.Records.{DesignContents}
 use Rattle.leg_design.specs.Header.{units_in}
 use Rattle.leg_design.specs.Form.{design_in}
-use Rattle.leg_message.specs.declared.cause.Cause.{Cause}
-use Rattle.leg_message.specs.declared.cause.Cause.TheVariants.{Read, Scale, Nothing}
 
 -- the texts denote a library, in the units of the DEF, and under it the DEF denotes a design
 pub record DenoteDesign (lefs : List (List ℕ)) (def : List ℕ) : Type 0 where
@@ -20,9 +18,3 @@ pub record DenoteDesign (lefs : List (List ℕ)) (def : List ℕ) : Type 0 where
   pub unit : Says units_in def units
   pub scaled : IsLibraryAt units raw library
   pub said : Says (design_in library) def design
-
--- the fact is met where there is no cause
-abbrev pub IfNothing : Cause → Type 0 → Type 0
-IfNothing (Read number fault) Fact = Unit {0}
-IfNothing (Scale fault units) Fact = Unit {0}
-IfNothing Nothing Fact = Fact

@@ -1,21 +1,12 @@
 -- Lengths of a LEF that have a fault in database units.
-use Rattle.std.specs.Prelude.{◌≡◌, ◌≢◌, ◌≤◌, ℕ, ℤ, pos, List, int_rem, Ok}
-use Rattle.leg_lex.specs.declared.limits.TheConstants.{UNITS_LIMIT}
+use Rattle.std.specs.Prelude.{◌≡◌, ◌≢◌, ℕ, ℤ, pos, List, int_rem, Ok}
 use Rattle.leg_lex.specs.Number.{micron_of, IsNumber, IsUnits}
 use Rattle.leg_cells.specs.declared.scale_fault.ScaleKind.{ScaleKind}
 use Rattle.leg_cells.specs.declared.scale_fault.ScaleKind.TheVariants.{NotOnUnit, TooLarge, OddWidth, Memory}
-use Rattle.leg_message.specs.declared.cause.Cause.{Cause}
-use Rattle.leg_message.specs.declared.cause.Cause.TheVariants.{Read, Scale, Nothing}
 
--- the word is a length of so many units a micron that isn't a whole number of them, is too large, or is odd
+-- the word is a length of this many units a micron that isn't a whole number of them, is too large, or is odd
 abbrev pub HasFault : ScaleKind → ℕ → List ℕ → Type 0
 HasFault NotOnUnit units word = (m : ℤ) × (micron_of word ≡ Ok m) × ((u : ℤ) → ¬ IsUnits m units u)
 HasFault TooLarge units word = (m : ℤ) × (micron_of word ≡ Ok m) × ((u : ℤ) × IsUnits m units u × ¬ IsNumber u)
 HasFault OddWidth units word = (m : ℤ) × (micron_of word ≡ Ok m) × ((u : ℤ) × IsUnits m units u × (int_rem u (pos 2) ≢ pos 0))
 HasFault Memory units word = ⊥
-
--- the units of a cause are those of a DEF
-abbrev pub HasUnits : Cause → Type 0
-HasUnits (Read number fault) = Unit {0}
-HasUnits (Scale fault units) = (1 ≤ units) × (units ≤ UNITS_LIMIT)
-HasUnits Nothing = Unit {0}

@@ -6,3 +6,4 @@ pub mod Texts
 pub mod Length
 pub mod Cause
 pub mod Message
+pub mod Steps

@@ -1,6 +1,5 @@
 -- Notes on refused texts that seem to be no LEF or DEF, or the other one of the two.
-use Rattle.std.specs.Prelude.{ℕ, List, [], ◌∷◌, take, Option, None, Some, codes, if◌then◌else◌, ◌||◌}
-use Rattle.std.specs.Str.{bytes_eq}
+use Rattle.std.specs.Prelude.{ℕ, List, [], Option, None, Some, codes}
 use Rattle.leg_message.specs.declared.note.Note.{Note}
 use Rattle.leg_message.specs.declared.note.Note.TheVariants.{Empty, Gzip, Utf8Mark, Utf16Mark, Elf, Binary, LefForDef, DefForLef, NoUnits}
 
@@ -16,11 +15,3 @@ note_line (Some Binary) = codes "note: this is no text: it has a byte 0\n"
 note_line (Some LefForDef) = codes "note: this seems to be a LEF, where the DEF is needed (of files the DEF is named first; on standard input the LEF comes first)\n"
 note_line (Some DefForLef) = codes "note: this seems to be a DEF, where a LEF is needed (of files the DEF is named first; on standard input the LEF comes first)\n"
 note_line (Some NoUnits) = codes "note: a DEF needs UNITS DISTANCE MICRONS n ; and this one has no UNITS\n"
-
--- by the first bytes: those of gzip, of a byte order mark in UTF-8 and in both orders of UTF-16, and of an ELF file
-abbrev pub signature_note : List ℕ → Option Note
-signature_note text =
-    if bytes_eq (take 2 text) (0x1f ∷ 0x8b ∷ []) then Some Gzip
-    else (if bytes_eq (take 3 text) (0xef ∷ 0xbb ∷ 0xbf ∷ []) then Some Utf8Mark
-    else (if bytes_eq (take 2 text) (0xff ∷ 0xfe ∷ []) || bytes_eq (take 2 text) (0xfe ∷ 0xff ∷ []) then Some Utf16Mark
-    else (if bytes_eq (take 4 text) (0x7f ∷ codes "ELF") then Some Elf else None)))

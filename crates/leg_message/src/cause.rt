@@ -4,8 +4,8 @@ ghost use Rattle.std.specs.Prelude.{map};
 ghost use Rattle.leg_lex.specs.Say.{Says};
 ghost use Rattle.leg_block.specs.Records.{DesignContents};
 ghost use Rattle.leg_design.specs.Form.{design_in};
-ghost use Rattle.leg_message.specs.Cause.{DenoteDesign, IfNothing};
-ghost use Rattle.leg_message.specs.Length.{HasUnits};
+ghost use Rattle.leg_message.specs.Cause.{DenoteDesign};
+ghost use Rattle.leg_message.specs.Steps.Causes.{IfNothing, HasUnits};
 
 use leg_cells::{Library, ScaleFault};
 use leg_design::{def_units, read_def};

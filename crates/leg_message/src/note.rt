@@ -1,7 +1,8 @@
 //! What a text seems to be that is no LEF or DEF, or the other one of the two.
 
 ghost use Rattle.std.specs.Prelude.{◌≡◌};
-ghost use Rattle.leg_message.specs.Note.{note_line, signature_note};
+ghost use Rattle.leg_message.specs.Note.{note_line};
+ghost use Rattle.leg_message.specs.Steps.Signatures.{signature_note};
 
 use crate::text_line::is_white;
 use leg_lex::{FaultKind, is_keyword};

@@ -177,7 +177,7 @@ fn begins_lengths(word: &[u8], kind: ScaleKind) -> bool {
                 || is_keyword(b"SPACINGTABLE", word))
 }
 
-/// Whether the word is a length that has this fault at so many units a micron.
+/// Whether the word is a length that has this fault at this many units a micron.
 fn has_fault(word: &[u8], kind: ScaleKind, units: u32) -> bool
     requires above { 1 ≤ units }
     requires within { units ≤ UNITS_LIMIT }

@@ -16,18 +16,18 @@ use Rattle.leg_grid.specs.Refusals.{IsOtherThanOpen}
 use Rattle.leg_grown.specs.Finished.{finished, AreByNet, IsFinishedFrom}
 use Rattle.leg_grown.specs.Violations as grown_flat
 use Rattle.leg_route.specs.Legal.{IsLegal}
-use Rattle.leg_route.specs.SameButForWires.{HasMoreWires, IsSameButForWires}
+use Rattle.leg_route.specs.SameButForWires.{IsSameNetButForWires, IsSameButForWires}
 use Rattle.leg_route.specs.Routed.{wires_for, HasAdded, IsRouted}
 use Rattle.leg_route.specs.AddedLists.{AreListsOf}
 use Rattle.leg_route.proofs.GrownLaws.{RunOfCleanWires, CleanWiresStay, GrowthGoesOn, FinishedIsLegal, PlacementStays, ShapesStayAsMany}
 use Rattle.leg_route.proofs.RunFacts.{told, added_for, run_grows, run_nets, run_clean}
 
 -- each entry is as it was, with wires behind its own
-one_for_one : (nets : List NetSaid) (lists : List (List Wire)) → OneForOne HasMoreWires nets (with_more_wires nets lists)
+one_for_one : (nets : List NetSaid) (lists : List (List Wire)) → OneForOne IsSameNetButForWires nets (with_more_wires nets lists)
 unfolding each_with
 one_for_one [] lists = tt
 one_for_one (net ∷ nets) [] = (record { more = []; is = ap (λ wires. record net { wires = wires }) (sym (append-nil net.wires)) }, all_same nets) where
-  all_same : (nets : List NetSaid) → OneForOne HasMoreWires nets nets
+  all_same : (nets : List NetSaid) → OneForOne IsSameNetButForWires nets nets
   all_same [] = tt
   all_same (net ∷ nets) = (record { more = []; is = ap (λ wires. record net { wires = wires }) (sym (append-nil net.wires)) }, all_same nets)
 one_for_one (net ∷ nets) (wires ∷ lists) = (record { more = wires; is = refl }, one_for_one nets lists)
@@ -88,7 +88,7 @@ module _ (run_of : RunOfCleanWires) (stay : CleanWiresStay) (goes_on : GrowthGoe
       is_end = is_end;
     }
 
-    judged : (end : FlatSaid) → IsFlatOf (finished design lists) end → grown_flat.IsLegal design.library (finished design lists) end
+    judged : (end : FlatSaid) → IsFlatOf (finished design lists) end → grown_flat.IsLegalIn design.library (finished design lists) end
     judged end is_end =
         is_legal design.library design (told added) grown lists end (from end is_end) (λ fault holds. clean fault (inl holds))
         (run_clean run_of stay design flat grown added sound (λ fault holds. clean fault (inr holds)) run) done

@@ -17,11 +17,10 @@ use Rattle.leg_flat.specs.Flat.{FlatSaid, pieces_with, ArePieces, IsWithin}
 use Rattle.leg_flat.specs.MoreWires.{HasOneMoreWire}
 use Rattle.leg_wire.specs.Touch.{piece_count, LiesIn, Touch, AreJoined}
 use Rattle.leg_wire.specs.Touch.Joined.{itself, through}
-use Rattle.leg_wire.specs.Open.{IsOpen}
+use Rattle.leg_wire.specs.Open.{IsOpen, IsOpenNet}
 use Rattle.leg_grid.specs.declared.node.Node.{Node}
 use Rattle.leg_grid.specs.MoreWires.{HasMoreWires}
 use Rattle.leg_grid.specs.MoreWires.HasMoreWires.{none, one_more}
-use Rattle.leg_grid.specs.Run.{IsOpenNet}
 use Rattle.leg_grid.specs.Spelling.{Spells, AreWiresOf}
 use Rattle.leg_grid.specs.Spelling.Spells.{done, along}
 use Rattle.leg_grid.specs.Spelling.Spells.{through as by_via}

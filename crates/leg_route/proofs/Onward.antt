@@ -9,7 +9,8 @@ use Rattle.leg_block.specs.declared.records.Wire.{Wire}
 use Rattle.leg_block.specs.Records.{DesignContents}
 use Rattle.leg_flat.specs.Flat.{FlatSaid, IsWithin}
 use Rattle.leg_grid.specs.Spelling.{AreWiresOf}
-use Rattle.leg_grid.specs.Run.{Added, Run, IsTurn, IsOpenNet, IsDone}
+use Rattle.leg_grid.specs.Run.{Added, Run, IsTurn, IsDone}
+use Rattle.leg_wire.specs.Open.{IsOpenNet}
 use Rattle.leg_grid.specs.Run.Run.{begun as run_begins, walked as run_goes_on}
 use Rattle.leg_grid.specs.Refusals.{IsUnroutable}
 use Rattle.leg_route.specs.Refusal.{ComesToRun, IsRefusal}
@@ -220,7 +221,7 @@ pub finished_underway : (design : DesignContents) (flat : FlatSaid) (nets : ℕ)
 finished_underway design flat nets lists grown count comes u within =
     let all = subst (λ n. IsUnderway design flat n lists grown) count u in record {
       flat = flat;
-      clean = comes.clean;
+      comes = comes;
       added = all.added;
       grown = grown;
       run = all.run;

@@ -21,7 +21,7 @@ use Rattle.leg_wire.specs.Touch.{piece_count, AreJoined, AreMarks}
 use Rattle.leg_walk.specs.declared.mark.Mark.{Mark}
 use Rattle.leg_grid.specs.declared.slot_access.SlotAccess.{SlotAccess}
 use Rattle.leg_grid.specs.Grid.{GridSaid}
-use Rattle.leg_grid.specs.Run.{IsOpenNet}
+use Rattle.leg_wire.specs.Open.{IsOpenNet}
 use Rattle.leg_grown.specs.Growth.{Grows, of_net}
 use Rattle.leg_route.specs.Steps.Ready.{AreNumbersByNet, TellsShapes, AreReady}
 

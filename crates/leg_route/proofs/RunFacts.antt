@@ -9,7 +9,8 @@ use Rattle.leg_block.specs.Records.{DesignContents}
 use Rattle.leg_flat.specs.Flat.{FlatSaid}
 use Rattle.leg_grid.specs.MoreWires.{HasMoreWires}
 use Rattle.leg_grid.specs.MoreWires.HasMoreWires.{none, one_more}
-use Rattle.leg_grid.specs.Run.{Added, Run, IsOpenNet}
+use Rattle.leg_grid.specs.Run.{Added, Run}
+use Rattle.leg_wire.specs.Open.{IsOpenNet}
 use Rattle.leg_grid.specs.Run.Run.{begun, walked}
 use Rattle.leg_grown.specs.Growth.{AddedWire, Grows, of_net, wires_added}
 use Rattle.leg_grown.specs.CleanWire.{HasNoSpacingFault}

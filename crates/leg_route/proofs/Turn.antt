@@ -10,7 +10,7 @@ use Rattle.leg_block.specs.Records.{DesignContents}
 use Rattle.leg_flat.specs.Flat.{FlatSaid, IsWithin}
 use Rattle.leg_wire.specs.Touch.{piece_count}
 use Rattle.leg_grid.specs.MoreWires.{HasMoreWires}
-use Rattle.leg_grid.specs.Run.{IsOpenNet}
+use Rattle.leg_wire.specs.Open.{IsOpenNet}
 use Rattle.leg_route.specs.Steps.NextWires.{AreNextWires}
 use Rattle.leg_route.specs.Steps.NetRun.{NetRun}
 use Rattle.leg_route.specs.Steps.NetRun.NetRun.{walked}

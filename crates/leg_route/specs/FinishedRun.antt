@@ -5,14 +5,14 @@ use Rattle.leg_block.specs.declared.records.Wire.{Wire}
 use Rattle.leg_block.specs.Records.{DesignContents}
 use Rattle.leg_flat.specs.Flat.{FlatSaid}
 use Rattle.leg_grid.specs.Run.{Added, Run, IsDone}
-use Rattle.leg_route.specs.Refusal.{IsCleanIn}
+use Rattle.leg_route.specs.Refusal.{ComesToRun}
 use Rattle.leg_route.specs.AddedLists.{AreListsOf}
 
--- from a flat of the design, in which no violation but open nets holds, a run has come to its end within the limit of shapes,
--- and each entry of NETS has a list of the wires that it got
+-- from a flat of the design, in which no violation but open nets holds and whose grid isn't too large, a run has come to its end
+-- within the limit of shapes, and each entry of NETS has a list of the wires that it got
 pub record IsFinishedRun (design : DesignContents) (lists : List (List Wire)) : Type 0 where
   pub flat : FlatSaid
-  pub clean : IsCleanIn design flat
+  pub comes : ComesToRun design flat
   pub added : List Added
   pub grown : FlatSaid
   pub run : Run design flat added grown

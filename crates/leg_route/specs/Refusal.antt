@@ -1,19 +1,18 @@
 -- When the router refuses a design (lefdef's own rules): the first cause that holds.
-use Rattle.std.specs.Prelude.{◌<◌, ◌≤◌, length}
+use Rattle.std.specs.Prelude.{◌<◌, length}
 use Rattle.leg_block.specs.declared.limits.TheConstants.{PART_LIMIT}
 use Rattle.leg_block.specs.declared.fault.Fault.{Fault}
 use Rattle.leg_block.specs.Records.{DesignContents}
+use Rattle.leg_flat.specs.declared.fault.FlatFault.{FlatFault}
+use Rattle.leg_flat.specs.declared.fault.FlatFault.TheVariants as flat_fault
 use Rattle.leg_flat.specs.Metal.{metal_of}
-use Rattle.leg_flat.specs.Flat.{FlatSaid, IsFlatOf}
+use Rattle.leg_flat.specs.Flat.{FlatSaid, IsJudgedBy}
+use Rattle.leg_grid.specs.declared.fault.GridFault.{GridFault}
+use Rattle.leg_grid.specs.declared.fault.GridFault.TheVariants as grid_fault
 use Rattle.leg_grid.specs.GridSize.{IsGridTooLarge}
 use Rattle.leg_grid.specs.Refusals.{IsOtherThanOpen, IsNotClean, IsUnroutable, HasTooManyShapes}
 use Rattle.leg_route.specs.declared.fault.RouteFault.{RouteFault}
 use Rattle.leg_route.specs.declared.fault.RouteFault.TheVariants.{NotClean, GridTooLarge, Unroutable, TooMany, Memory}
-
--- the design's metal keeps the limit of shapes, and this is a flat of it
-pub record IsJudgedBy (design : DesignContents) (flat : FlatSaid) : Type 0 where
-  pub few : length (metal_of design) ≤ PART_LIMIT
-  pub is_flat : IsFlatOf design flat
 
 -- the design's metal keeps the limit of shapes, and no violation of any kind but Open holds in this flat of it
 pub record IsCleanIn (design : DesignContents) (flat : FlatSaid) : Type 0 where
@@ -37,3 +36,12 @@ IsRefusal design GridTooLarge = ((flat : FlatSaid) × IsCleanIn design flat) × 
 IsRefusal design (Unroutable net) = (flat : FlatSaid) × ComesToRun design flat × IsUnroutable design flat net
 IsRefusal design TooMany = HasTooMany design
 IsRefusal design Memory = Unit {0}
+
+-- what a refusal to flatten or to add a wire is here, and a refusal of the grid
+abbrev pub of_flat : {A : Type 0} → FlatFault → RouteFault A
+of_flat flat_fault.TooMany = TooMany
+of_flat flat_fault.Memory = Memory
+
+abbrev pub of_grid : {A : Type 0} → GridFault → RouteFault A
+of_grid grid_fault.TooLarge = GridTooLarge
+of_grid grid_fault.Memory = Memory

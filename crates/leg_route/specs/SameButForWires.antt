@@ -5,7 +5,7 @@ use Rattle.leg_block.specs.declared.records.Wire.{Wire}
 use Rattle.leg_block.specs.Records.{NetSaid, DesignContents}
 
 -- the entry with some wires more, or none, after its own
-pub record HasMoreWires (before after : NetSaid) : Type 0 where
+pub record IsSameNetButForWires (before after : NetSaid) : Type 0 where
   pub more : List Wire
   pub is : after ≡ record before { wires = before.wires ++ more }
 
@@ -13,4 +13,4 @@ pub record HasMoreWires (before after : NetSaid) : Type 0 where
 -- got.
 pub record IsSameButForWires (before after : DesignContents) : Type 0 where
   pub rest : after ≡ record before { nets = after.nets }
-  pub nets : OneForOne HasMoreWires before.nets after.nets
+  pub nets : OneForOne IsSameNetButForWires before.nets after.nets

@@ -2,7 +2,7 @@
 
 ghost use Rattle.std.specs.Prelude.{◌≡◌};
 ghost use Rattle.leg_route.specs.declared.fault.RouteFault.TheVariants.{Memory};
-ghost use Rattle.leg_route.specs.Steps.Stops.{of_flat, of_grid};
+ghost use Rattle.leg_route.specs.Refusal.{of_flat, of_grid};
 
 use leg_block::Fault;
 use leg_cells::Items;

@@ -1,11 +1,12 @@
 //! The design gets the wires of a run that has come to its end.
 
-ghost use Rattle.std.specs.Prelude.{◌≡◌, ◌≤◌, false, All, length, map, IfOk, IfErr};
+ghost use Rattle.std.specs.Prelude.{◌≡◌, ◌≤◌, false, All, length, map, IfOk, IfErr, OnOk};
 ghost use Rattle.leg_cells.specs.Sound.{IsSound};
 ghost use Rattle.leg_block.specs.declared.limits.TheConstants.{PART_LIMIT};
 ghost use Rattle.leg_block.specs.WellFormed.{IsWellFormed};
 ghost use Rattle.leg_block.specs.WellFormedNets.{IsWire};
 ghost use Rattle.leg_flat.specs.Metal.{metal_of};
+ghost use Rattle.leg_grid.specs.GridSize.{IsGridTooLarge};
 ghost use Rattle.leg_route.specs.Legal.{IsLegal};
 ghost use Rattle.leg_route.specs.SameButForWires.{IsSameButForWires};
 ghost use Rattle.leg_route.specs.Routed.{IsRouted};
@@ -37,6 +38,7 @@ pub(crate) fn finish<'a, A: Allocator + Copy>(
     ensures same { IfOk result (λ done. IsSameButForWires design.entry done) }
     ensures run { IfOk result (λ done. IsRouted design.entry done) }
     ensures few { IfOk result (λ done. length (metal_of done) ≤ PART_LIMIT) }
+    ensures fits { OnOk result (¬ IsGridTooLarge design.entry) }
     ensures unchanged { IfErr result (λ back. back.0 ≡ design.entry) }
     ensures refused { IfErr result (λ back. IsRefusal design.entry back.1) }
 {

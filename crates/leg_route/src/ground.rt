@@ -7,7 +7,7 @@ ghost use Rattle.leg_flat.specs.declared.fault.FlatFault.TheVariants.{TooMany};
 ghost use Rattle.leg_flat.specs.Metal.{wire_outlines};
 ghost use Rattle.leg_flat.specs.MoreWires.{HasOneMoreWire};
 ghost use Rattle.leg_flat.specs.Flat.{IsWithin};
-ghost use Rattle.leg_grid.specs.Run.{IsOpenNet};
+ghost use Rattle.leg_wire.specs.Open.{IsOpenNet};
 ghost use Rattle.leg_route.specs.Steps.NextWires.{IsNextAnswer};
 
 use leg_block::Wire;
@@ -16,7 +16,7 @@ use std::alloc::{AllocError, Allocator};
 
 /// A design, and the flat of it that grows as nets get wires. What else a search needs is kept with them: it is ready
 /// where all of this fits the flat.
-pub trait Ground<A: Allocator + Copy> {
+pub(crate) trait Ground<A: Allocator + Copy> {
     ghost use Rattle.leg_block.specs.Records.{DesignContents};
     ghost use Rattle.leg_flat.specs.Flat.{FlatSaid};
 
@@ -43,7 +43,7 @@ pub trait Ground<A: Allocator + Copy> {
         ensures same_design { design self.new ≡ design self.old }
         ensures same_flat { flat self.new ≡ flat self.old };
 
-    /// Adds a wire to the net. `TooMany` is returned exactly where the flat would have more than `PART_LIMIT` shapes.
+    /// Adds a wire to the net. `TooMany` is returned only where the flat would have more than `PART_LIMIT` shapes.
     fn add(&mut self, net: u32, wire: Wire) -> Result<(), FlatFault>
         requires ready { IsReady self.old }
         requires in_range { net < length (design self.old).nets }

@@ -13,6 +13,4 @@ mod next_wires;
 mod routing;
 
 pub use fault::RouteFault;
-pub use ground::Ground;
-pub use nets::route_nets;
 pub use routing::route;

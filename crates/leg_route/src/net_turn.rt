@@ -5,7 +5,7 @@ ghost use Rattle.leg_block.specs.WellFormedNets.{IsWire};
 ghost use Rattle.leg_flat.specs.declared.fault.FlatFault.TheVariants.{TooMany};
 ghost use Rattle.leg_flat.specs.Flat.{IsWithin};
 ghost use Rattle.leg_grid.specs.MoreWires.{HasMoreWires};
-ghost use Rattle.leg_grid.specs.Run.{IsOpenNet};
+ghost use Rattle.leg_wire.specs.Open.{IsOpenNet};
 ghost use Rattle.leg_route.specs.Steps.NetRun.{NetRun};
 ghost use Rattle.leg_route.specs.Steps.Stops.{PassesLimit, IsNetStop};
 

@@ -43,7 +43,7 @@ fn turns<A: Allocator + Copy, G: Ground<A>>(
 ///
 /// The flat is that of the design, in which no violation of another kind than `OpenNet` holds, and whose grid isn't too
 /// large. `Unroutable` and `TooMany` report where such a run stops before its end.
-pub fn route_nets<A: Allocator + Copy, G: Ground<A>>(
+pub(crate) fn route_nets<A: Allocator + Copy, G: Ground<A>>(
     alloc: A,
     ground: &mut G,
     nets: u32,

@@ -1,9 +1,10 @@
 //! Routing a design.
 
-ghost use Rattle.std.specs.Prelude.{◌≡◌, ◌≤◌, false, All, length, map, IfOk, IfErr};
+ghost use Rattle.std.specs.Prelude.{◌≡◌, ◌≤◌, false, All, length, map, IfOk, IfErr, OnOk};
 ghost use Rattle.leg_block.specs.declared.limits.TheConstants.{PART_LIMIT};
 ghost use Rattle.leg_block.specs.WellFormedNets.{IsWire};
 ghost use Rattle.leg_flat.specs.Metal.{metal_of};
+ghost use Rattle.leg_grid.specs.GridSize.{IsGridTooLarge};
 ghost use Rattle.leg_route.specs.Legal.{IsLegal};
 ghost use Rattle.leg_route.specs.SameButForWires.{IsSameButForWires};
 ghost use Rattle.leg_route.specs.Routed.{IsRouted};
@@ -24,9 +25,9 @@ use std::alloc::Allocator;
 ///
 /// As long as a net is open, the first such net gets the wires of a shortest walk on the grid of tracks, from the metal that is
 /// joined to its first piece to that of its other pieces. A walk's length is the number of its steps, whatever they measure in
-/// database units. All its metal keeps the spacing from shapes of other owners. Of several shortest walks one is taken whose end
-/// is least by layer, then y, then x; each node before the end is, of those from which a shortest walk can enter the next one, the
-/// first of west, east, south, north, below and above. A run along a layer becomes one wire of the layer's width, which reaches
+/// database units. All its metal keeps the spacing from shapes of other owners. Of several shortest walks (tested, not proved) one is
+/// taken whose end is least by layer, then y, then x; each node before the end is, of those from which a shortest walk can enter the
+/// next one, the first of west, east, south, north, below and above. A run along a layer becomes one wire of the layer's width, which reaches
 /// past both ends by half of it; a step between layers becomes the first default via that joins them, or where none is default
 /// the first via that does; a walk of a single node becomes a square patch.
 ///
@@ -44,6 +45,7 @@ pub fn route<'a, A: Allocator + Copy>(
     ensures same { IfOk result (λ done. IsSameButForWires design.entry done) }
     ensures run { IfOk result (λ done. IsRouted design.entry done) }
     ensures few { IfOk result (λ done. length (metal_of done) ≤ PART_LIMIT) }
+    ensures fits { OnOk result (¬ IsGridTooLarge design.entry) }
     ensures unchanged { IfErr result (λ back. back.0 ≡ design.entry) }
     ensures refused { IfErr result (λ back. IsRefusal design.entry back.1) }
 {

@@ -1,4 +1,4 @@
--- What the search knows on its way. No meaning of a public call speaks of it, but that all marks are unseen.
+-- Intermediate state of the search. Only private contracts cite it.
 pub mod Marks
 pub mod Spread
 pub mod Search

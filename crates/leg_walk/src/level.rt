@@ -76,7 +76,7 @@ fn seed_one<G: Graph, A: Allocator>(
     Ok(())
 }
 
-/// Tries each step from a node of the front, and puts the nodes that it reaches into `next`. All steps to one side come
+/// Tries each step from a node of the current level, and puts the nodes that it reaches into `next`. All steps to one side come
 /// before those to the next one, so that a node is entered from the west where it can be, and else from the east, the south,
 /// the north, below and above, in this order.
 pub(crate) fn one_level<G: Graph, A: Allocator>(
@@ -105,7 +105,7 @@ pub(crate) fn one_level<G: Graph, A: Allocator>(
     Ok(())
 }
 
-/// Tries the step to this side from each node of the front.
+/// Tries the step to this side from each node of the current level.
 fn follow<G: Graph, A: Allocator>(
     graph: &G,
     front: &[u32],

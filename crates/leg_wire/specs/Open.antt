@@ -12,6 +12,10 @@ pub record IsOpen (design : DesignContents) (flat : FlatSaid) (n k : ℕ) : Type
   pub piece : k < piece_count flat n
   pub open_piece : ¬ AreJoined flat n 0 k
 
+-- some piece of net n isn't joined to its first one
+abbrev pub IsOpenNet : DesignContents → FlatSaid → ℕ → Type 0
+IsOpenNet design flat n = (k : ℕ) × IsOpen design flat n k
+
 -- A violation holds that speaks of the pieces of a net.
 pub data Holds (design : DesignContents) (flat : FlatSaid) : Fault → Type 0 where
   open_net : {n k : ℕ} → IsOpen design flat n k → Holds design flat (OpenNet n k)

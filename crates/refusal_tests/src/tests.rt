@@ -1,4 +1,4 @@
-//! Calls of which each growth is refused in turn: they answer that memory ran out, and what they were lent is as it was, or they
+//! Calls of which each allocation is refused in turn: they answer that memory ran out, and what they were lent is as it was, or they
 //! answer what they answer with ample memory.
 
 mod designs;
@@ -26,7 +26,7 @@ enum Trial {
     Without,
 }
 
-/// Whether the trial goes right with each growth refused in turn.
+/// Whether the trial goes right with each allocation refused in turn.
 fn goes_right<A: Allocator + Copy>(
     alloc: A,
     refusing: &RefusingAlloc<Global>,

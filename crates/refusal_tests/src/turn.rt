@@ -1,12 +1,19 @@
-//! What came of a call of which one growth was to be refused, and what it answered.
+//! What came of a call of which one allocation was to be refused, and what it answered.
+
+ghost use Rattle.std.specs.Prelude.{◌≡◌, ◌<◌, ◌↔◌, IsTrue, false, IfSome, IsSome};
 
 use leg_block::Design;
 use leg_print::print_def;
 use refusing_alloc::{RefusingAlloc, Turn, Turns};
 use std::alloc::{AllocError, Allocator, Global};
 
-/// Whether this turn is the last one; nothing where it went wrong.
-pub fn is_last(turns: &mut Turns, number: u64, turn: Option<Turn>) -> Option<bool> {
+/// Whether this turn is the last one, as `Turns::is_last` answers; nothing where it went wrong.
+pub fn is_last(turns: &mut Turns, number: u64, turn: Option<Turn>) -> Option<bool>
+    ensures last { IfSome result (λ last. IfSome turn (λ turn. IsTrue last ↔ turn.growths < number)) }
+    ensures answered { IfSome result (λ last. IsTrue last → IsTrue turns.old.refusals) }
+    ensures refused { IfSome result (λ last. IfSome turn (λ turn. IsTrue last → turn.refused ≡ false)) }
+    ensures right { IsSome result → IsSome turn }
+{
     turns.is_last(number, turn?).ok()
 }
 

@@ -103,7 +103,7 @@ fn changed_by<A: Allocator + Copy>(
     }
 }
 
-/// The change with its growth of this number refused: what comes back is the design as the DEF has it, or what comes of it with
+/// The change with its allocation of this number refused: what comes back is the design as the DEF has it, or what comes of it with
 /// ample memory.
 fn turn_of<A: Allocator + Copy>(
     alloc: A,
@@ -130,7 +130,7 @@ fn turn_of<A: Allocator + Copy>(
     is_right.then_some(found.turn)
 }
 
-/// Whether the change of the design of a DEF, in the bytes that are printed of it, answers rightly whichever growth is refused.
+/// Whether the change of the design of a DEF, in the bytes that are printed of it, answers rightly whichever allocation is refused.
 pub(super) fn goes_right<A: Allocator + Copy>(
     alloc: A,
     refusing: &RefusingAlloc<Global>,

@@ -53,7 +53,7 @@ fn turn_of<A: Allocator + Copy>(
     is_right.then_some(found.turn)
 }
 
-/// Whether the command answers rightly whichever growth is refused.
+/// Whether the command answers rightly whichever allocation is refused.
 pub(super) fn goes_right<A: Allocator + Copy>(
     alloc: A,
     held: Global,

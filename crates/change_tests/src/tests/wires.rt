@@ -112,7 +112,7 @@ fn turn_of<A: Allocator + Copy>(
     }
 }
 
-/// Whether the open net of a DEF, in the bytes that are printed of it, gets the wire or comes back without it, whichever growth
+/// Whether the open net of a DEF, in the bytes that are printed of it, gets the wire or comes back without it, whichever allocation
 /// is refused.
 pub(super) fn goes_right<A: Allocator + Copy>(
     alloc: A,

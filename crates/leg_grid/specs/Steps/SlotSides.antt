@@ -5,7 +5,7 @@ use Rattle.leg_walk.specs.declared.side.Side.{Side}
 use Rattle.leg_grid.specs.declared.layers.RoutingLayer.{RoutingLayer}
 use Rattle.leg_grid.specs.declared.slot.Slot.{Slot}
 use Rattle.leg_grid.specs.Grid.{GridSaid}
-use Rattle.leg_grid.specs.Beside.{IsWithin, IsSlotBeside}
+use Rattle.leg_grid.specs.Beside.{IsSlotIn, IsSlotBeside}
 
 -- wires of routing layer k run in this direction
 pub record RunsAt (grid : GridSaid) (k : ℕ) (direction : Direction) : Type 0 where
@@ -15,7 +15,7 @@ pub record RunsAt (grid : GridSaid) (k : ℕ) (direction : Direction) : Type 0 w
 
 -- t is a slot of the grid on this side of s
 pub record IsBesideWithin (grid : GridSaid) (side : Side) (s t : Slot) : Type 0 where
-  pub within : IsWithin grid t
+  pub within : IsSlotIn grid t
   pub beside : IsSlotBeside grid side s t
 
 -- there is no slot on this side of s, or this one

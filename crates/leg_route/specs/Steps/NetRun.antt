@@ -6,7 +6,8 @@ use Rattle.leg_flat.specs.Flat.{FlatSaid}
 use Rattle.leg_grid.specs.declared.node.Node.{Node}
 use Rattle.leg_grid.specs.Spelling.{AreWiresOf}
 use Rattle.leg_grid.specs.MoreWires.{HasMoreWires}
-use Rattle.leg_grid.specs.Run.{IsOpenNet, IsNextWalk}
+use Rattle.leg_grid.specs.Run.{IsNextWalk}
+use Rattle.leg_wire.specs.Open.{IsOpenNet}
 
 -- from the first flat to the second the net, as long as it was open, got the wires of one walk after another: these
 pub data NetRun (design : DesignContents) (net : ℕ) : FlatSaid → List Wire → FlatSaid → Type 0 where

@@ -3,29 +3,17 @@ use Rattle.std.specs.Prelude.{◌≡◌, ℕ, ◌+◌, ◌<◌, List, ◌∷◌,
 use Rattle.leg_block.specs.declared.limits.TheConstants.{PART_LIMIT}
 use Rattle.leg_block.specs.declared.records.Wire.{Wire}
 use Rattle.leg_block.specs.Records.{DesignContents}
-use Rattle.leg_flat.specs.declared.fault.FlatFault.{FlatFault}
-use Rattle.leg_flat.specs.declared.fault.FlatFault.TheVariants as flat_fault
 use Rattle.leg_flat.specs.Metal.{wire_outlines}
 use Rattle.leg_flat.specs.Flat.{FlatSaid}
-use Rattle.leg_grid.specs.declared.fault.GridFault.{GridFault}
-use Rattle.leg_grid.specs.declared.fault.GridFault.TheVariants as grid_fault
 use Rattle.leg_grid.specs.declared.node.Node.{Node}
 use Rattle.leg_grid.specs.Spelling.{AreWiresOf}
 use Rattle.leg_grid.specs.MoreWires.{HasMoreWires}
-use Rattle.leg_grid.specs.Run.{IsOpenNet, IsNextWalk, HasNoWalk}
+use Rattle.leg_grid.specs.Run.{IsNextWalk, HasNoWalk}
+use Rattle.leg_wire.specs.Open.{IsOpenNet}
 use Rattle.leg_grid.specs.Refusals.{IsUnroutable, HasTooManyShapes}
 use Rattle.leg_route.specs.declared.fault.RouteFault.{RouteFault}
 use Rattle.leg_route.specs.declared.fault.RouteFault.TheVariants.{NotClean, GridTooLarge, Unroutable, TooMany, Memory}
 use Rattle.leg_route.specs.Steps.NetRun.{NetRun}
-
--- what a refusal to flatten or to add a wire is here, and a refusal of the grid
-abbrev pub of_flat : {A : Type 0} → FlatFault → RouteFault A
-of_flat flat_fault.TooMany = TooMany
-of_flat flat_fault.Memory = Memory
-
-abbrev pub of_grid : {A : Type 0} → GridFault → RouteFault A
-of_grid grid_fault.TooLarge = GridTooLarge
-of_grid grid_fault.Memory = Memory
 
 -- of these wires one has more shapes than the flat may still get, once those before it are added
 pub record PassesLimit (design : DesignContents) (net : ℕ) (flat : FlatSaid) (wires : List Wire) : Type 0 where

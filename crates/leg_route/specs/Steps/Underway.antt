@@ -3,7 +3,8 @@ use Rattle.std.specs.Prelude.{ℕ, ◌<◌, List, All}
 use Rattle.leg_block.specs.declared.records.Wire.{Wire}
 use Rattle.leg_block.specs.Records.{DesignContents}
 use Rattle.leg_flat.specs.Flat.{FlatSaid}
-use Rattle.leg_grid.specs.Run.{Added, Run, IsOpenNet}
+use Rattle.leg_grid.specs.Run.{Added, Run}
+use Rattle.leg_wire.specs.Open.{IsOpenNet}
 use Rattle.leg_route.specs.AddedLists.{AreListsOf}
 
 -- The run has come to the turn of this net: those before it are joined, and each has a list of the wires that it got.

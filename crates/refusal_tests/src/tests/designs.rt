@@ -239,7 +239,7 @@ fn goes_right_on<A: Allocator + Copy>(
     false
 }
 
-/// Whether the call on the design that a DEF denotes answers rightly whichever growth is refused.
+/// Whether the call on the design that a DEF denotes answers rightly whichever allocation is refused.
 pub(super) fn goes_right<A: Allocator + Copy>(
     alloc: A,
     refusing: &RefusingAlloc<Global>,

@@ -91,7 +91,7 @@ fn read_lefs_in_turn<A: Allocator + Copy>(
     is_right.then_some(turn)
 }
 
-/// Lends a library, of which there is a second one, to `at` with its growth of this number refused.
+/// Lends a library, of which there is a second one, to `at` with its allocation of this number refused.
 fn at_with_refusal<A: Allocator + Copy>(
     alloc: A,
     refusing: &RefusingAlloc<Global>,
@@ -169,7 +169,7 @@ fn turn_of<A: Allocator + Copy>(
     }
 }
 
-/// Whether the call answers rightly whichever growth is refused.
+/// Whether the call answers rightly whichever allocation is refused.
 pub(super) fn goes_right<A: Allocator + Copy>(
     alloc: A,
     refusing: &RefusingAlloc<Global>,
@@ -205,7 +205,7 @@ fn read_def_in_turn<A: Allocator + Copy>(
     is_right.then_some(turn)
 }
 
-/// Whether a DEF, in the bytes that are printed of it, is read rightly under the library whichever growth is refused.
+/// Whether a DEF, in the bytes that are printed of it, is read rightly under the library whichever allocation is refused.
 pub(super) fn is_read_right<A: Allocator + Copy>(
     alloc: A,
     refusing: &RefusingAlloc<Global>,

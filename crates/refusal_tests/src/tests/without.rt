@@ -1,4 +1,4 @@
-//! Calls that take no memory, with each growth refused.
+//! Calls that take no memory, with each allocation refused.
 
 ghost use Rattle.std.specs.Prelude.{◌≡◌, map, IfOk};
 
@@ -13,7 +13,7 @@ use leg_wire::{clean, clean_indexed};
 use refusing_alloc::{Refused, RefusingAlloc};
 use std::alloc::{AllocError, Allocator, Global};
 
-/// Whether no growth was asked for since each was to be refused. From now on none is refused.
+/// Whether no allocation was asked for since each was to be refused. From now on none is refused.
 fn took_no_memory(refusing: &RefusingAlloc<Global>) -> bool {
     let growths = refusing.growths();
     refusing.refuse(Refused::Nothing);
@@ -197,7 +197,7 @@ fn goes_right_in<A: Allocator + Copy>(
     }
 }
 
-/// Whether these calls answer rightly about the block with two inverters and a wire, whichever growth is refused.
+/// Whether these calls answer rightly about the block with two inverters and a wire, whichever allocation is refused.
 pub(super) fn goes_right<A: Allocator + Copy>(
     alloc: A,
     refusing: &RefusingAlloc<Global>,

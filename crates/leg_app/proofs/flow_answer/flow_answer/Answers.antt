@@ -5,7 +5,13 @@ use Rattle.leg_app.proofs.flow_answer.flow_answer.Goals as goal
 
 pub returns-in-Ok : goal.returns-in-Ok
 returns-in-Ok g c =
-    let legalises : Legalises c.args.design c.in-Ok.legalised = record { legal = c.in-Ok.ensures.legal; same = c.in-Ok.ensures.same; run = c.in-Ok.ensures.run } in
+    let legalises : Legalises c.args.design c.in-Ok.legalised = record {
+      legal = c.in-Ok.ensures.legal;
+      same = c.in-Ok.ensures.same;
+      run = c.in-Ok.ensures.run;
+      proper = c.known_sound.ensures.proper;
+      sound = c.known_sound.ensures.sound;
+    } in
     ok_weaker _ _ c.routing_answer.result (λ answer made. made c.args.design legalises c.in-Ok.ensures.moves) c.routing_answer.ensures
 
 pub returns-in_ok-text-in-Err : goal.returns-in_ok-text-in-Err

@@ -6,7 +6,16 @@ returns-in_ok-text-in-Ok g c design legalises moves = record {
   legalised = c.args.legalised;
   legalises = legalises;
   routed = c.in-Ok.routed;
-  routes = record { legal = c.in-Ok.ensures.legal; few = c.in-Ok.ensures.few; same = c.in-Ok.ensures.same; run = c.in-Ok.ensures.run };
+  routes = record {
+    fits = c.in-Ok.ensures.fits;
+    legal = c.in-Ok.ensures.legal;
+    flat = c.every_design_has_a_flat.ensures.0;
+    judged = record { few = c.in-Ok.ensures.few; is_flat = c.every_design_has_a_flat.ensures.1 };
+    same = c.in-Ok.ensures.same;
+    run = c.in-Ok.ensures.run;
+    proper = c.known_sound.ensures.proper;
+    sound = c.known_sound.ensures.sound;
+  };
   distances = c.args.moves.now.per_component;
   total = c.args.moves.now.total;
   greatest = c.args.moves.now.greatest;

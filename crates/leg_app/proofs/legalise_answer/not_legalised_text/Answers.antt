@@ -11,7 +11,7 @@ returns-in-FixedIllegal g c =
 pub returns-in-NoSite : goal.returns-in-NoSite
 returns-in-NoSite g c =
     ok_weaker _ _ c.component_text.result
-    (λ text is refused. let why = rw c.in-NoSite.is at refused in no_site why.0 why.1 is)
+    (λ text is refused. let why = rw c.in-NoSite.is at refused in no_site why.0 why.1 why.2 is)
     c.component_text.ensures
 
 pub returns-in-NoRoom : goal.returns-in-NoRoom

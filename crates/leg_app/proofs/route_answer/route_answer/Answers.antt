@@ -3,7 +3,16 @@ use Rattle.leg_app.proofs.route_answer.route_answer.Goals as goal
 pub returns-in_ok-text-in-Ok : goal.returns-in_ok-text-in-Ok
 returns-in_ok-text-in-Ok g c = record {
   routed = c.in-Ok.routed;
-  routes = record { legal = c.in-Ok.ensures.legal; few = c.in-Ok.ensures.few; same = c.in-Ok.ensures.same; run = c.in-Ok.ensures.run };
+  routes = record {
+    fits = c.in-Ok.ensures.fits;
+    legal = c.in-Ok.ensures.legal;
+    flat = c.every_design_has_a_flat.ensures.0;
+    judged = record { few = c.in-Ok.ensures.few; is_flat = c.every_design_has_a_flat.ensures.1 };
+    same = c.in-Ok.ensures.same;
+    run = c.in-Ok.ensures.run;
+    proper = c.known_sound.ensures.proper;
+    sound = c.known_sound.ensures.sound;
+  };
   is = c.in_ok-text-in-Ok.ensures;
 }
 

@@ -1,5 +1,5 @@
 use Rattle.std.proofs.Common.{take}
-use Rattle.leg_grid.specs.Steps.TrackMarks.{AreTrackMarks}
+use Rattle.leg_grid.specs.TrackMarks.{AreTrackMarks}
 use Rattle.leg_grid.proofs.track_marks.track_marks.Given as goal
 
 abbrev pub invariant-loop-z : goal.invariant-loop-z

@@ -10,18 +10,28 @@ with_all_wires-requires-clause-few g c =
     let lists = map (λ wires. wires.items) c.args.lists.items in
     let spelled = All-map (All (IsWire design.library design.vias false)) (λ wires. wires.items) c.args.lists.items c.requires.spelled in
     let wires = c.finished_run.ensures.wires design lists c.design_is_sound.ensures.library c.design_is_sound.ensures.proper spelled in
-    let shapes = c.finished_run.ensures.shapes design it.flat it.grown it.added lists it.clean.judged.is_flat it.run it.lists_are in
+    let shapes = c.finished_run.ensures.shapes design it.flat it.grown it.added lists it.comes.clean.judged.is_flat it.run it.lists_are in
     let within = it.within in
     omega (arith, wires, shapes, within)
 
 pub returns-in-Ok-clause-few : goal.returns-in-Ok-clause-few
 returns-in-Ok-clause-few g c =
     let it = c.requires.run in
-    let shapes = c.finished_run.ensures.shapes c.args.design it.flat it.grown it.added (map (λ wires. wires.items) c.args.lists.items) it.clean.judged.is_flat it.run it.lists_are in
+    let shapes = c.finished_run.ensures.shapes c.args.design it.flat it.grown it.added (map (λ wires. wires.items) c.args.lists.items) it.comes.clean.judged.is_flat it.run it.lists_are in
     rw (c.in-Ok.ensures.added, shapes) it.within
 
 pub returns-in-Ok-clause-run : goal.returns-in-Ok-clause-run
 returns-in-Ok-clause-run g c =
     let it = c.requires.run in
-    rw c.in-Ok.ensures.added (c.finished_run.ensures.routed c.args.design it.flat it.grown it.added (map (λ wires. wires.items) c.args.lists.items) it.clean.judged.is_flat it.run it.done
+    rw c.in-Ok.ensures.added (c.finished_run.ensures.routed c.args.design it.flat it.grown it.added (map (λ wires. wires.items) c.args.lists.items) it.comes.clean.judged.is_flat it.run it.done
     it.lists_are)
+
+pub returns-in-Ok-clause-same : goal.returns-in-Ok-clause-same
+returns-in-Ok-clause-same g c = rw c.in-Ok.ensures.added (c.finished_run.ensures.same c.args.design (map (λ wires. wires.items) c.args.lists.items))
+
+pub returns-in-Ok-clause-legal : goal.returns-in-Ok-clause-legal
+returns-in-Ok-clause-legal g c =
+    let it = c.requires.run in
+    let proper = rw c.in-Ok.ensures.added at c.design_is_sound-in-Ok.ensures.proper in
+    rw c.in-Ok.ensures.added (c.finished_run.ensures.legal c.args.design it.flat it.grown it.added (map (λ wires. wires.items) c.args.lists.items) c.design_is_sound.ensures.library
+    c.design_is_sound.ensures.proper proper it.comes.clean.judged.is_flat it.comes.clean.none it.run it.done it.lists_are)

@@ -1,0 +1,116 @@
+-- What is legal by definition is answered `legal`.
+use Rattle.std.proofs.Common.{◌≡◌, ◌≢◌, ℕ, ◌≤◌, List, [], length, Some, None, inl, inr, refl, sym, ap, ◌∙◌, arith}
+use Rattle.std.proofs.lemmas.List.Elements.{All-nil}
+use Rattle.leg_lex.specs.declared.limits.TheConstants.{TEXT_LIMIT}
+use Rattle.leg_cells.specs.Records.{Contents}
+use Rattle.leg_block.specs.Records.{DesignContents}
+use Rattle.leg_block.specs.declared.fault.Fault.{Fault}
+use Rattle.leg_block.specs.Violation.{IsListOf}
+use Rattle.leg_flat.specs.Flat.{FlatSaid, IsJudgedBy}
+use Rattle.leg_legal.specs.Run.{IsLegallyPlaced}
+use Rattle.leg_route.specs.Legal.{IsLegal}
+use Rattle.leg_again.specs.PrintedNames.{StayOne, printed_names}
+use Rattle.leg_input.specs.declared.command.Command.{Command}
+use Rattle.leg_input.specs.declared.command.Command.TheVariants.{PlaceCheck, Check, Route, Flow}
+use Rattle.leg_app.specs.declared.status.Status.{Status}
+use Rattle.leg_app.specs.declared.status.Status.TheVariants.{Success, Refused, Memory}
+use Rattle.leg_app.specs.Say.{SayDesign}
+use Rattle.leg_app.specs.Violations.{IsViolation}
+use Rattle.leg_app.specs.Lines.{legal_text}
+use Rattle.leg_app.specs.Legalised.{Legalises, PrintsLegalised}
+use Rattle.leg_app.specs.Routed.{Routes, PrintsRouted}
+use Rattle.leg_app.specs.Flow.{PrintsFlow}
+use Rattle.leg_app.specs.Answer.{IsAnswer}
+use Rattle.leg_agree.specs.Legal.{AnswersLegal}
+use Rattle.leg_agree.proofs.SaidAgain.{SaysItsDesign, SaysItsUnits, said_again, said_with_moves}
+
+-- where nothing holds, the list has nothing
+none_listed : (Holds : Fault → Type 0) → ((fault : Fault) → ¬ Holds fault) → IsListOf Holds []
+none_listed Holds none = record {
+  increasing = λ i j fault before within. absurd (omega (arith, before, within));
+  each = All-nil Holds;
+  all = λ fault holds. absurd (none fault holds);
+}
+
+-- no violation of a legal design holds
+none_holds : (design : DesignContents) → IsLegal design → (fault : Fault) → ¬ IsViolation design.library design fault
+none_holds design legal fault (inl placed) = legal.places fault placed
+none_holds design legal fault (inr metal) =
+    elim metal.holds [ inl near ↦ legal.shapes metal.flat fault metal.is_flat near | inr open_piece ↦ legal.nets metal.flat fault metal.is_flat open_piece ]
+
+-- a command that doesn't route has one answer to texts that it judges
+abbrev pub HasOneAnswer : Type 0
+HasOneAnswer = (command : Command) (lefs : List (List ℕ)) (def : List ℕ) (status other : Status) (text words : List ℕ)
+    → IsAnswer command lefs def status text → IsAnswer command lefs def other words
+    → command ≢ Route → command ≢ Flow → status ≢ Refused → status ≢ Memory → other ≢ Memory → (status ≡ other) × (text ≡ words)
+
+module _ (one_answer : HasOneAnswer) (lefs : List (List ℕ)) (text : List ℕ) where
+  no_other : (command : Command) → command ≢ Route → command ≢ Flow → IsAnswer command lefs text Success legal_text → AnswersLegal command lefs text
+  no_other command first second legal = record {
+    legal = legal;
+    only = λ status answer is not_memory.
+        let same = one_answer command lefs text Success status legal_text answer legal is first second (λ e. cc) (λ e. cc) not_memory in
+        (sym same.0, sym same.1);
+  }
+
+  -- texts that denote a legally placed design
+  placed_answered : (design : DesignContents) → SayDesign lefs text design.library design → IsLegallyPlaced design → AnswersLegal PlaceCheck lefs text
+  placed_answered design say placed =
+      no_other PlaceCheck (λ e. cc) (λ e. cc)
+      (inl (record { library = design.library; design = design; flat = None; violations = []; say = say; shown = tt; list = none_listed _ placed; is = (refl, refl) }))
+
+  -- texts that denote a legal design within the limit of shapes
+  legal_answered : (design : DesignContents) (flat : FlatSaid) → SayDesign lefs text design.library design → IsLegal design → IsJudgedBy design flat → AnswersLegal Check lefs text
+  legal_answered design flat say legal judged =
+      no_other Check (λ e. cc) (λ e. cc)
+      (inl (record {
+        library = design.library;
+        design = design;
+        flat = Some flat;
+        violations = [];
+        say = say;
+        shown = judged;
+        list = none_listed (IsViolation design.library design) (none_holds design legal);
+        is = (refl, refl);
+      }))
+
+-- routing and legalising keep the library
+routed_library : (before after : DesignContents) → Routes before after → after.library ≡ before.library
+routed_library before after routes = ap (λ d. d.library) routes.same.rest
+
+legalised_library : (before after : DesignContents) → Legalises before after → after.library ≡ before.library
+legalised_library before after legalises = ap (λ d. d.library) legalises.same.rest
+
+-- What `route`, `legalise` and `flow` print.
+module _ (says_design : SaysItsDesign) (says_units : SaysItsUnits) (lefs : List (List ℕ)) (def text : List ℕ) (library : Contents) (design : DesignContents) (say : SayDesign lefs def library design) where
+  pub routed_said : (printed : PrintsRouted design text) → StayOne (printed_names printed.routed) → length text ≤ TEXT_LIMIT → SayDesign lefs text printed.routed.library printed.routed
+  routed_said printed one fits =
+      let routes = printed.routes in
+      said_again says_design says_units lefs def text library design printed.routed say (routed_library design printed.routed routes) routes.sound routes.proper one printed.is fits
+
+  pub legalised_said : (printed : PrintsLegalised design text) → StayOne (printed_names printed.legalised) → length text ≤ TEXT_LIMIT → SayDesign lefs text printed.legalised.library printed.legalised
+  legalised_said printed one fits =
+      let legalises = printed.legalises in
+      said_with_moves says_design says_units lefs def text library design printed.legalised say (legalised_library design printed.legalised legalises) legalises.sound legalises.proper one
+      printed.distances printed.total printed.greatest printed.is fits
+
+  pub flow_said : (printed : PrintsFlow design text) → StayOne (printed_names printed.routed) → length text ≤ TEXT_LIMIT → SayDesign lefs text printed.routed.library printed.routed
+  flow_said printed one fits =
+      let routes = printed.routes in
+      let same = routed_library printed.legalised printed.routed routes ∙ legalised_library design printed.legalised printed.legalises in
+      said_with_moves says_design says_units lefs def text library design printed.routed say same routes.sound routes.proper one
+      printed.distances printed.total printed.greatest printed.is fits
+
+  module _ (one_answer : HasOneAnswer) where
+    pub routed_legal : (printed : PrintsRouted design text) → StayOne (printed_names printed.routed) → length text ≤ TEXT_LIMIT → AnswersLegal Check lefs text
+    routed_legal printed one fits =
+        let routes = printed.routes in
+        legal_answered one_answer lefs text printed.routed routes.flat (routed_said printed one fits) routes.legal routes.judged
+
+    pub legalised_placed : (printed : PrintsLegalised design text) → StayOne (printed_names printed.legalised) → length text ≤ TEXT_LIMIT → AnswersLegal PlaceCheck lefs text
+    legalised_placed printed one fits = placed_answered one_answer lefs text printed.legalised (legalised_said printed one fits) printed.legalises.legal
+
+    pub flow_legal : (printed : PrintsFlow design text) → StayOne (printed_names printed.routed) → length text ≤ TEXT_LIMIT → AnswersLegal Check lefs text
+    flow_legal printed one fits =
+        let routes = printed.routes in
+        legal_answered one_answer lefs text printed.routed routes.flat (flow_said printed one fits) routes.legal routes.judged

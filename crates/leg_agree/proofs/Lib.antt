@@ -1,0 +1,7 @@
+-- Comment lines after a text
+mod NoFeeds
+mod Comments
+mod Moves
+-- What printed texts say
+mod SaidAgain
+mod Legal

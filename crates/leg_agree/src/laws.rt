@@ -1,0 +1,69 @@
+//! What a command prints, another one judges as the first one's definition says.
+//!
+//! No function does anything: its contract is the law, and its body names the laws that it follows from. The text is read as
+//! a DEF under the LEFs of the run that printed it. No name in it ends with `;`, for it would be read as two words, and the
+//! text is no longer than a text may be.
+
+ghost use Rattle.std.specs.Prelude.{ℕ, ◌≤◌, List, length};
+ghost use Rattle.leg_lex.specs.declared.limits.TheConstants.{TEXT_LIMIT};
+ghost use Rattle.leg_cells.specs.Records.{Contents};
+ghost use Rattle.leg_block.specs.Records.{DesignContents};
+ghost use Rattle.leg_input.specs.declared.command.Command.TheVariants.{PlaceCheck, Check};
+ghost use Rattle.leg_again.specs.PrintedNames.{StayOne, printed_names};
+ghost use Rattle.leg_app.specs.Say.{SayDesign};
+ghost use Rattle.leg_app.specs.Legalised.{PrintsLegalised};
+ghost use Rattle.leg_app.specs.Routed.{PrintsRouted};
+ghost use Rattle.leg_app.specs.Flow.{PrintsFlow};
+ghost use Rattle.leg_agree.specs.Legal.{AnswersLegal};
+
+use leg_again::laws::printed_text_says_its_design;
+use leg_app::laws::command_has_one_answer;
+
+/// What `route`, `legalise` and `flow` print denotes the design that they made, under its library: the lines on how far
+/// components have moved are comments.
+pub fn printed_texts_say_their_designs()
+    ensures routed { (lefs : List (List ℕ)) (def text : List ℕ) (library : Contents) (design : DesignContents)
+        → SayDesign lefs def library design → (printed : PrintsRouted design text)
+        → StayOne (printed_names printed.routed) → length text ≤ TEXT_LIMIT
+        → SayDesign lefs text printed.routed.library printed.routed }
+    ensures legalised { (lefs : List (List ℕ)) (def text : List ℕ) (library : Contents) (design : DesignContents)
+        → SayDesign lefs def library design → (printed : PrintsLegalised design text)
+        → StayOne (printed_names printed.legalised) → length text ≤ TEXT_LIMIT
+        → SayDesign lefs text printed.legalised.library printed.legalised }
+    ensures flow { (lefs : List (List ℕ)) (def text : List ℕ) (library : Contents) (design : DesignContents)
+        → SayDesign lefs def library design → (printed : PrintsFlow design text)
+        → StayOne (printed_names printed.routed) → length text ≤ TEXT_LIMIT
+        → SayDesign lefs text printed.routed.library printed.routed }
+{
+    printed_text_says_its_design();
+}
+
+/// What `route` prints, `check` answers `legal`.
+pub fn routed_text_is_legal()
+    ensures { (lefs : List (List ℕ)) (def text : List ℕ) (library : Contents) (design : DesignContents)
+        → SayDesign lefs def library design → (printed : PrintsRouted design text)
+        → StayOne (printed_names printed.routed) → length text ≤ TEXT_LIMIT → AnswersLegal Check lefs text }
+{
+    printed_text_says_its_design();
+    command_has_one_answer();
+}
+
+/// What `legalise` prints, `place-check` answers `legal`.
+pub fn legalised_text_is_legally_placed()
+    ensures { (lefs : List (List ℕ)) (def text : List ℕ) (library : Contents) (design : DesignContents)
+        → SayDesign lefs def library design → (printed : PrintsLegalised design text)
+        → StayOne (printed_names printed.legalised) → length text ≤ TEXT_LIMIT → AnswersLegal PlaceCheck lefs text }
+{
+    printed_text_says_its_design();
+    command_has_one_answer();
+}
+
+/// What `flow` prints, `check` answers `legal`.
+pub fn flow_text_is_legal()
+    ensures { (lefs : List (List ℕ)) (def text : List ℕ) (library : Contents) (design : DesignContents)
+        → SayDesign lefs def library design → (printed : PrintsFlow design text)
+        → StayOne (printed_names printed.routed) → length text ≤ TEXT_LIMIT → AnswersLegal Check lefs text }
+{
+    printed_text_says_its_design();
+    command_has_one_answer();
+}
