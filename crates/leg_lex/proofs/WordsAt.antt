@@ -9,7 +9,8 @@ use Rattle.leg_lex.specs.declared.word_place.WordPlace.{WordPlace}
 use Rattle.leg_lex.specs.Word.{Word, texts}
 use Rattle.leg_lex.specs.Cut.{is_white, is_line_feed, IsPiece, IsUnclosed}
 use Rattle.leg_lex.specs.Tokens.{plain_words, words_in}
-use Rattle.leg_lex.specs.Steps.WordPlaces.{bytes_at, word_at, AddsWords}
+use Rattle.leg_lex.specs.WordPlaces.{bytes_at, word_at}
+use Rattle.leg_lex.specs.Steps.MoreWords.{AddsWords}
 use Rattle.leg_lex.proofs.Cuts.{HasRead, read_more, read_stuck}
 
 -- the words without their lines are the bytes there

@@ -1,4 +1,5 @@
 pub mod Word
+pub mod WordPlaces
 pub mod Cut
 pub mod Tokens
 pub mod Number

@@ -1,2 +1,2 @@
--- How the words of a text are kept. No meaning of a public call speaks of it.
-pub mod WordPlaces
+-- How the words of a text are found. No meaning of a public call speaks of it.
+pub mod MoreWords

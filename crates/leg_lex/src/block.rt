@@ -1,6 +1,6 @@
 //! What is asked of the statements of a block, and the clauses of a statement.
 
-ghost use Rattle.std.specs.Prelude.{◌≡◌, IfOk};
+ghost use Rattle.std.specs.Prelude.{◌≡◌, ◌≢◌, IfOk, IfErr};
 ghost use Rattle.leg_lex.specs.Words.{Means};
 ghost use Rattle.leg_lex.specs.Statements.{only, the, clauses_of};
 
@@ -14,7 +14,8 @@ pub fn only<'t, 'a>(
     statements: &[Cursor<'t, 'a>],
     keyword: &[u8],
 ) -> Result<Option<Cursor<'t, 'a>>, ReadFault>
-    ensures { Means (λ found. found) result (only keyword.now statements.now) }
+    ensures means { Means (λ found. found) result (only keyword.now statements.now) }
+    ensures no_memory { IfErr result (λ fault. fault.kind ≢ FaultKind.Memory) }
 {
     let mut found = None;
     for statement in statements {
@@ -36,7 +37,8 @@ pub fn the<'t, 'a>(
     keyword: &[u8],
     end: &Cursor<'t, 'a>,
 ) -> Result<Cursor<'t, 'a>, ReadFault>
-    ensures { Means (λ found. found) result (the keyword.now statements.now) }
+    ensures means { Means (λ found. found) result (the keyword.now statements.now) }
+    ensures no_memory { IfErr result (λ fault. fault.kind ≢ FaultKind.Memory) }
 {
     match only(statements, keyword)? {
         Some(statement) => Ok(statement),

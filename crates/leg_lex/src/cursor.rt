@@ -1,11 +1,11 @@
 //! A place in a text's words, from which forms are read.
 
-ghost use Rattle.std.specs.Prelude.{◌≡◌, ◌≢◌, ◌↔◌, IsTrue, [], ◌∷◌, ◌+◌, ◌<◌, length, map, take, drop, All, MatchOption, None, Some, is_some};
+ghost use Rattle.std.specs.Prelude.{◌≡◌, ◌≢◌, ◌↔◌, IsTrue, [], ◌∷◌, ◌+◌, ◌<◌, length, map, take, drop, All, MatchOption, None, Some, is_some, IfErr};
 ghost use Rattle.std.specs.Str.{bytes_eq};
 ghost use Rattle.leg_lex.specs.Word.{texts};
 ghost use Rattle.leg_lex.specs.Words.{Reads, Means, is_at, next_at, keyword_at, mark_at, name_at, word_at, whole_at, length_at, end_at, end_of, nothing_at};
 ghost use Rattle.leg_lex.specs.Statements.{up_to, statement_at, statements_at};
-ghost use Rattle.leg_lex.specs.Steps.WordPlaces.{bytes_at, IsPlaceIn};
+ghost use Rattle.leg_lex.specs.WordPlaces.{bytes_at, IsPlaceIn};
 
 use crate::length::Micron;
 use crate::read_fault::{FaultKind, ReadFault};
@@ -30,7 +30,7 @@ pub struct Cursor<'t, 'a> {
 
 impl<'t, 'a> Model for Cursor<'t, 'a> {
     ghost use Rattle.std.specs.Prelude.{List, ℕ, map, All};
-    ghost use Rattle.leg_lex.specs.Steps.WordPlaces.{bytes_at, IsPlaceIn};
+    ghost use Rattle.leg_lex.specs.WordPlaces.{bytes_at, IsPlaceIn};
 
     ghost Value = { List (List ℕ) };
 
@@ -83,7 +83,10 @@ impl<'t, 'a> Cursor<'t, 'a> {
     }
 
     // The fault of words that end too early. Where a mark ends them, it is in the place of what is wanted.
-    fn cut_short(&self, in_place: FaultKind) -> ReadFault {
+    fn cut_short(&self, in_place: FaultKind) -> ReadFault
+        requires { in_place ≢ FaultKind.Memory }
+        ensures { result.kind ≢ FaultKind.Memory }
+    {
         let kind = match self.closed_at {
             Some(_) => in_place,
             None => FaultKind::UnexpectedEnd,
@@ -160,7 +163,8 @@ impl<'t, 'a> Cursor<'t, 'a> {
 
     // The next word; the cursor stays before it.
     fn next(&self) -> Result<&'a [u8], ReadFault>
-        ensures { Means (λ word. (word.now, drop 1 self.now)) result (next_at self.now) }
+        ensures means { Means (λ word. (word.now, drop 1 self.now)) result (next_at self.now) }
+        ensures no_memory { IfErr result (λ fault. fault.kind ≢ FaultKind.Memory) }
     {
         self.next_or(FaultKind::Unexpected)
     }
@@ -168,7 +172,9 @@ impl<'t, 'a> Cursor<'t, 'a> {
     // The same, where a mark in place of the word is such a fault.
     #[tactic(auto, unfolding(crate::specs::Words::next_at))]
     fn next_or(&self, in_place: FaultKind) -> Result<&'a [u8], ReadFault>
-        ensures { Means (λ word. (word.now, drop 1 self.now)) result (next_at self.now) }
+        requires { in_place ≢ FaultKind.Memory }
+        ensures means { Means (λ word. (word.now, drop 1 self.now)) result (next_at self.now) }
+        ensures no_memory { IfErr result (λ fault. fault.kind ≢ FaultKind.Memory) }
     {
         match self.rest {
             [next, ..] => Ok(bytes_at(self.text, next)),
@@ -188,7 +194,8 @@ impl<'t, 'a> Cursor<'t, 'a> {
 
     /// Reads the next word, whatever it is.
     pub fn any(&mut self) -> Result<&'a [u8], ReadFault>
-        ensures { Reads (λ word. word.now) result self.new (next_at self.old) }
+        ensures reads { Reads (λ word. word.now) result self.new (next_at self.old) }
+        ensures no_memory { IfErr result (λ fault. fault.kind ≢ FaultKind.Memory) }
     {
         let word = self.next()?;
         self.skip();
@@ -198,7 +205,8 @@ impl<'t, 'a> Cursor<'t, 'a> {
     /// Reads this keyword, in capitals or small letters. Another word is `Unexpected`.
     #[tactic(auto, unfolding(crate::specs::Words::keyword_at))]
     pub fn keyword(&mut self, keyword: &[u8]) -> Result<(), ReadFault>
-        ensures { Reads (λ x. x) result self.new (keyword_at keyword.now self.old) }
+        ensures reads { Reads (λ x. x) result self.new (keyword_at keyword.now self.old) }
+        ensures no_memory { IfErr result (λ fault. fault.kind ≢ FaultKind.Memory) }
     {
         let word = self.next()?;
         if !word::is_keyword(keyword, word) {
@@ -211,7 +219,8 @@ impl<'t, 'a> Cursor<'t, 'a> {
     /// Reads this mark, of one byte. Another word is `Unexpected`.
     #[tactic(auto, unfolding(crate::specs::Words::mark_at))]
     pub fn mark(&mut self, mark: u8) -> Result<(), ReadFault>
-        ensures { Reads (λ x. x) result self.new (mark_at mark self.old) }
+        ensures reads { Reads (λ x. x) result self.new (mark_at mark self.old) }
+        ensures no_memory { IfErr result (λ fault. fault.kind ≢ FaultKind.Memory) }
     {
         let word = self.next()?;
         if word != [mark].as_slice() {
@@ -224,7 +233,8 @@ impl<'t, 'a> Cursor<'t, 'a> {
     /// Reads a name: a plain word that is no mark. Another word is `Unexpected`.
     #[tactic(auto, unfolding(crate::specs::Words::name_at))]
     pub fn name(&mut self) -> Result<&'a [u8], ReadFault>
-        ensures { Reads (λ name. name.now) result self.new (name_at self.old) }
+        ensures reads { Reads (λ name. name.now) result self.new (name_at self.old) }
+        ensures no_memory { IfErr result (λ fault. fault.kind ≢ FaultKind.Memory) }
     {
         let word = self.next()?;
         if !word::is_name(word) {
@@ -237,7 +247,8 @@ impl<'t, 'a> Cursor<'t, 'a> {
     /// Reads a name or a quoted word, which keeps its quotes. Another word is `Unexpected`.
     #[tactic(auto, unfolding(crate::specs::Words::word_at))]
     pub fn word(&mut self) -> Result<&'a [u8], ReadFault>
-        ensures { Reads (λ word. word.now) result self.new (word_at self.old) }
+        ensures reads { Reads (λ word. word.now) result self.new (word_at self.old) }
+        ensures no_memory { IfErr result (λ fault. fault.kind ≢ FaultKind.Memory) }
     {
         let word = self.next()?;
         if !word::is_word(word) {
@@ -250,7 +261,8 @@ impl<'t, 'a> Cursor<'t, 'a> {
     /// Reads a whole number. Another word is `BadNumber`, or `TooLarge` beyond the limit.
     #[tactic(auto, unfolding(crate::specs::Words::whole_at))]
     pub fn whole(&mut self) -> Result<i64, ReadFault>
-        ensures { Reads (λ z. z) result self.new (whole_at self.old) }
+        ensures reads { Reads (λ z. z) result self.new (whole_at self.old) }
+        ensures no_memory { IfErr result (λ fault. fault.kind ≢ FaultKind.Memory) }
     {
         let word = self.next_or(FaultKind::BadNumber)?;
         match number::whole(word) {
@@ -265,7 +277,8 @@ impl<'t, 'a> Cursor<'t, 'a> {
     /// Reads a length in microns. Another word is `BadNumber`, or `TooLarge` beyond the limit.
     #[tactic(auto, unfolding(crate::specs::Words::length_at))]
     pub fn length(&mut self) -> Result<Micron, ReadFault>
-        ensures { Reads (λ m. m) result self.new (length_at self.old) }
+        ensures reads { Reads (λ m. m) result self.new (length_at self.old) }
+        ensures no_memory { IfErr result (λ fault. fault.kind ≢ FaultKind.Memory) }
     {
         let word = self.next_or(FaultKind::BadNumber)?;
         match number::micron(word) {
@@ -280,7 +293,8 @@ impl<'t, 'a> Cursor<'t, 'a> {
     /// Reads `END` and this keyword. Another word is `Unexpected`.
     #[tactic(auto, unfolding(crate::specs::Words::end_at))]
     pub fn end(&mut self, keyword: &[u8]) -> Result<(), ReadFault>
-        ensures { Reads (λ x. x) result self.new (end_at keyword.now self.old) }
+        ensures reads { Reads (λ x. x) result self.new (end_at keyword.now self.old) }
+        ensures no_memory { IfErr result (λ fault. fault.kind ≢ FaultKind.Memory) }
     {
         self.keyword(b"END")?;
         self.keyword(keyword)
@@ -289,7 +303,8 @@ impl<'t, 'a> Cursor<'t, 'a> {
     /// Reads `END` and this name. Another word is `Unexpected`.
     #[tactic(auto, unfolding(crate::specs::Words::end_of, crate::specs::Words::name_at))]
     pub fn end_of(&mut self, name: &[u8]) -> Result<(), ReadFault>
-        ensures { Reads (λ x. x) result self.new (end_of name.now self.old) }
+        ensures reads { Reads (λ x. x) result self.new (end_of name.now self.old) }
+        ensures no_memory { IfErr result (λ fault. fault.kind ≢ FaultKind.Memory) }
     {
         self.keyword(b"END")?;
         let word = self.next()?;
@@ -303,7 +318,8 @@ impl<'t, 'a> Cursor<'t, 'a> {
     /// Sees that no word is left. A word is `Unexpected`.
     #[tactic(auto, unfolding(crate::specs::Words::nothing_at))]
     pub fn nothing_more(&self) -> Result<(), ReadFault>
-        ensures { Means (λ x. x) result (nothing_at self.now) }
+        ensures means { Means (λ x. x) result (nothing_at self.now) }
+        ensures no_memory { IfErr result (λ fault. fault.kind ≢ FaultKind.Memory) }
     {
         if self.is_at_end() {
             Ok(())
@@ -315,7 +331,8 @@ impl<'t, 'a> Cursor<'t, 'a> {
     /// Reads a statement: the words up to the next semicolon, and the semicolon, which isn't answered.
     #[tactic(auto, unfolding(crate::specs::Statements::statement_at))]
     pub fn statement(&mut self) -> Result<Cursor<'t, 'a>, ReadFault>
-        ensures { Reads (λ statement. statement) result self.new (statement_at self.old) }
+        ensures reads { Reads (λ statement. statement) result self.new (statement_at self.old) }
+        ensures no_memory { IfErr result (λ fault. fault.kind ≢ FaultKind.Memory) }
     {
         match self.up_to(b';') {
             Some(statement) => Ok(statement),

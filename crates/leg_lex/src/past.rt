@@ -1,7 +1,8 @@
 //! What is read past.
 
-ghost use Rattle.std.specs.Prelude.{◌≡◌};
+ghost use Rattle.std.specs.Prelude.{◌≡◌, ◌≢◌, IfErr};
 ghost use Rattle.std.specs.List.{after_first};
+ghost use Rattle.leg_lex.specs.declared.read_fault.FaultKind.TheVariants.{Memory};
 ghost use Rattle.leg_lex.specs.Words.{Reads, is_keyword, keyword_at, end_at, end_of};
 ghost use Rattle.leg_lex.specs.Past.{past};
 
@@ -12,7 +13,8 @@ impl<'t, 'a> Cursor<'t, 'a> {
     /// Reads past everything up to this keyword, and the keyword.
     #[tactic(auto, using(crate::proofs::Passed::keyword_later, crate::proofs::Passed::keyword_nowhere, crate::proofs::Passed::next_shorter))]
     pub fn past_keyword(&mut self, keyword: &[u8]) -> Result<(), ReadFault>
-        ensures { Reads (λ x. x) result self.new (past (keyword_at keyword.now) self.old) }
+        ensures reads { Reads (λ x. x) result self.new (past (keyword_at keyword.now) self.old) }
+        ensures no_memory { IfErr result (λ fault. fault.kind ≢ Memory) }
     {
         'words: while !self.is_at(keyword) {
             self.any()?;
@@ -34,7 +36,8 @@ impl<'t, 'a> Cursor<'t, 'a> {
     /// Reads past everything up to `END` and this keyword, and these two.
     #[tactic(auto, using(crate::proofs::Passed::past_later, crate::proofs::Passed::past_nowhere, crate::proofs::Passed::next_shorter))]
     pub fn past_end(&mut self, keyword: &[u8]) -> Result<(), ReadFault>
-        ensures { Reads (λ x. x) result self.new (past (end_at keyword.now) self.old) }
+        ensures reads { Reads (λ x. x) result self.new (past (end_at keyword.now) self.old) }
+        ensures no_memory { IfErr result (λ fault. fault.kind ≢ Memory) }
     {
         'words: while !self.is_at_end_keyword(keyword) {
             self.any()?;
@@ -45,7 +48,8 @@ impl<'t, 'a> Cursor<'t, 'a> {
     /// Reads past everything up to `END` and this name, and these two.
     #[tactic(auto, using(crate::proofs::Passed::past_later, crate::proofs::Passed::past_nowhere, crate::proofs::Passed::next_shorter))]
     pub fn past_end_of(&mut self, name: &[u8]) -> Result<(), ReadFault>
-        ensures { Reads (λ x. x) result self.new (past (end_of name.now) self.old) }
+        ensures reads { Reads (λ x. x) result self.new (past (end_of name.now) self.old) }
+        ensures no_memory { IfErr result (λ fault. fault.kind ≢ Memory) }
     {
         'words: while !self.is_at_end_of(name) {
             self.any()?;

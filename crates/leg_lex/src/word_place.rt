@@ -1,7 +1,7 @@
 //! Where a word of a text is.
 
 ghost use Rattle.std.specs.Prelude.{◌≡◌};
-ghost use Rattle.leg_lex.specs.Steps.WordPlaces.{bytes_at, IsPlaceIn};
+ghost use Rattle.leg_lex.specs.WordPlaces.{bytes_at, IsPlaceIn};
 
 /// Where a word of a text is: its bytes begin at `start` and end before `end`. A text has 2^28 bytes at most, so three
 /// short numbers do for a word.

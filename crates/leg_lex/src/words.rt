@@ -5,7 +5,8 @@ ghost use Rattle.leg_lex.specs.declared.limits.TheConstants.{TEXT_LIMIT};
 ghost use Rattle.leg_lex.specs.Word.{Word};
 ghost use Rattle.leg_lex.specs.Cut.{is_line_feed, IsUnclosed};
 ghost use Rattle.leg_lex.specs.Tokens.{AreTokens, plain_words, words_in};
-ghost use Rattle.leg_lex.specs.Steps.WordPlaces.{word_at, IsPlaceIn, AddsWords};
+ghost use Rattle.leg_lex.specs.WordPlaces.{word_at, IsPlaceIn};
+ghost use Rattle.leg_lex.specs.Steps.MoreWords.{AddsWords};
 
 use crate::fault::LexFault;
 use crate::limits::TEXT_LIMIT;
@@ -25,7 +26,7 @@ pub struct Words<'a, A: Allocator> {
 impl<'a, A: Allocator> Model for Words<'a, A> {
     ghost use Rattle.std.specs.Prelude.{List, map, All};
     ghost use Rattle.leg_lex.specs.Word.{Word};
-    ghost use Rattle.leg_lex.specs.Steps.WordPlaces.{word_at, IsPlaceIn};
+    ghost use Rattle.leg_lex.specs.WordPlaces.{word_at, IsPlaceIn};
 
     ghost Value = { List Word };
 

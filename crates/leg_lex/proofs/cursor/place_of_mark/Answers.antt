@@ -1,5 +1,5 @@
 use Rattle.std.proofs.Common.{rules, ◌<◌, length, sym}
-use Rattle.leg_lex.specs.Steps.WordPlaces.{bytes_at}
+use Rattle.leg_lex.specs.WordPlaces.{bytes_at}
 use Rattle.leg_lex.proofs.Marks.{cut_there, not_cut}
 use Rattle.leg_lex.proofs.cursor.place_of_mark.Goals as goal
 

@@ -1,4 +1,4 @@
-use Rattle.leg_lex.specs.Steps.WordPlaces.{bytes_at}
+use Rattle.leg_lex.specs.WordPlaces.{bytes_at}
 use Rattle.leg_lex.proofs.Marks.{NoneBefore}
 use Rattle.leg_lex.proofs.cursor.place_of_mark.Given as goal
 

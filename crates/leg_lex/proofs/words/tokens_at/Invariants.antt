@@ -1,5 +1,5 @@
 use Rattle.std.proofs.Common.{◌≡◌, map, take}
-use Rattle.leg_lex.specs.Steps.WordPlaces.{word_at}
+use Rattle.leg_lex.specs.WordPlaces.{word_at}
 use Rattle.leg_lex.proofs.words.tokens_at.Given as goal
 
 abbrev pub invariant-loop-place : goal.invariant-loop-place

@@ -1,5 +1,5 @@
 use Rattle.std.proofs.Common.{length, map, drop, All, ◌+◌, ◌-◌, ◌≤◌}
-use Rattle.leg_lex.specs.Steps.WordPlaces.{word_at, IsPlaceIn}
+use Rattle.leg_lex.specs.WordPlaces.{word_at, IsPlaceIn}
 use Rattle.leg_lex.proofs.Cuts.{HasRead}
 use Rattle.leg_lex.proofs.words.word_places.Given as goal
 

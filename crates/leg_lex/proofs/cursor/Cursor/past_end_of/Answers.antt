@@ -3,7 +3,7 @@ use Rattle.leg_lex.specs.Words.{end_of}
 use Rattle.leg_lex.proofs.Passed.{past_here}
 use Rattle.leg_lex.proofs.cursor.Cursor.past_end_of.Goals as goal
 
-pub returns : goal.returns
-returns c =
+pub returns-clause-reads : goal.returns-clause-reads
+returns-clause-reads c =
     let here = past_here (end_of c.args.name.now) c.words.self (sym c.is_at_end_of.ensures ∙ c.words-test.false) in
-    rw (sym c.words.invariant ∙ here) c.end_of.ensures
+    rw (sym c.words.invariant ∙ here) c.end_of.ensures.reads

@@ -1,5 +1,5 @@
--- The words of a text by their places.
-use Rattle.std.specs.Prelude.{◌≡◌, ℕ, ◌≤◌, List, ◌++◌, length, map, slice_range, All}
+-- The words of a text by their places: what is seen of `Words` and of a `Cursor`.
+use Rattle.std.specs.Prelude.{ℕ, ◌≤◌, List, length, slice_range}
 use Rattle.leg_lex.specs.declared.word_place.WordPlace.{WordPlace}
 use Rattle.leg_lex.specs.Word.{Word}
 
@@ -15,8 +15,3 @@ bytes_at text place = slice_range text place.start place.end
 -- the word there
 abbrev pub word_at : List ℕ → WordPlace → Word
 word_at text place = record { text = bytes_at text place; line = place.line }
-
--- after the places in the text come those of more words
-pub record AddsWords (text : List ℕ) (words : List Word) (before after : List WordPlace) : Type 0 where
-  pub more : map (word_at text) after ≡ map (word_at text) before ++ words
-  pub within : All (IsPlaceIn text) before → All (IsPlaceIn text) after
