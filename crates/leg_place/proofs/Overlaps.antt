@@ -177,7 +177,7 @@ module _ (library : Contents) (design : DesignContents) (boxes : List PlacedBox)
       }
 
   -- a sink that takes no pair has taken all just where there are none
-  pub overlap_from_took : {Sink : Type 0} (before after : Sink) → TookPairs (λ s p t. ⊥) Share boxes before after → DoSomeOverlap library design → ⊥
+  pub overlap_from_took : {Sink : Type 0} {tests : ℕ} (before after : Sink) → TookPairs (λ s p t. ⊥) Share boxes tests before after → DoSomeOverlap library design → ⊥
   overlap_from_took before after took some =
       let h = some.overlap in
       let a_below = slice_get_within design.components some.a h.stands_a.component h.stands_a.there in

@@ -6,10 +6,10 @@ use Rattle.std.proofs.lemmas.List.{length-append, take_more}
 use Rattle.std.proofs.lemmas.List.Elements.{All-nil, All-append, All-weaker, Contains-append_left, Contains-append_right}
 use Rattle.std.proofs.lemmas.List.FromFn.{length-range_with_len, get_or-range_with_len}
 use Rattle.std.proofs.lemmas.Option.{slice_get_cases, slice_get_within}
-use Rattle.leg_sweep.specs.Pairs.{IsPair, TakesAll}
+use Rattle.leg_sweep.specs.Pairs.{IsPair, TakesAll, TookPairs}
 use Rattle.leg_sweep.specs.Pairs.TakesAll.{none}
 use Rattle.leg_sweep.specs.Counts.{count_pairs}
-use Rattle.leg_sweep.specs.Steps.Sweep.{ordered, AreNewPairs, TookTested}
+use Rattle.leg_sweep.specs.Steps.Sweep.{ordered, AreNewPairs}
 use Rattle.leg_sweep.proofs.Counts.{count_pairs_push}
 use Rattle.leg_sweep.proofs.Lists.{AllPairs-nil, AllPairs-append_by}
 use Rattle.leg_sweep.proofs.Taken.{takes_append}
@@ -126,7 +126,7 @@ module _ {Sink : Type 0} (Takes : Sink → ℕ × ℕ → Sink → Type 0) (IsOn
 
 -- after the last one
 pub found_below_all : {Sink Item : Type 0} (Takes : Sink → ℕ × ℕ → Sink → Type 0) (Holds : Item → Item → Type 0) (items : List Item) (tests : ℕ) (before after : Sink)
-    → FoundBelow Takes (IsPair Holds items) (length items) tests before after → TookTested Takes Holds items tests before after
+    → FoundBelow Takes (IsPair Holds items) (length items) tests before after → TookPairs Takes Holds items tests before after
 found_below_all Takes Holds items tests before after to = record {
   found = to.found;
   are = record {

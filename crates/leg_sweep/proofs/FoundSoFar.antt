@@ -9,11 +9,11 @@ use Rattle.std.proofs.lemmas.Option.{slice_get-map, slice_get_within, get_or_fro
 use Rattle.leg_geom.specs.Plane.{Sides}
 use Rattle.leg_geom.specs.Gap.{x_gap}
 use Rattle.leg_sweep.specs.declared.band.Stretch.{Stretch}
-use Rattle.leg_sweep.specs.Pairs.{IsPair, TakesAll}
+use Rattle.leg_sweep.specs.Pairs.{IsPair, TakesAll, TookPairs}
 use Rattle.leg_sweep.specs.Pairs.TakesAll.{none}
 use Rattle.leg_sweep.specs.Counts.{near_along_x, near_along_both}
 use Rattle.leg_sweep.specs.Steps.Bands.{Waiting, waiting_at, stretch_at, reach_at, share_band, near_in_band, near_both_in_band, met, AreStretches, AreEmpty, AreVisited, CanVisit}
-use Rattle.leg_sweep.specs.Steps.Sweep.{unit_square, rect_numbered, test_at, ordered, AreInReach, CanMeet, IsLeftToRight, AreNewPairs, TookTested}
+use Rattle.leg_sweep.specs.Steps.Sweep.{unit_square, rect_numbered, test_at, ordered, AreInReach, CanMeet, IsLeftToRight, AreNewPairs}
 use Rattle.leg_sweep.proofs.Counts.{and_split, length_of_all}
 use Rattle.leg_sweep.proofs.Lists.{Contains-nil, All-from_contains, AllPairs-nil}
 use Rattle.leg_sweep.proofs.MetItems.{begun_in, passing_in, visited_by, are_met, met_apart, count_by-le_within}
@@ -292,7 +292,7 @@ module _ {Sink : Type 0} (Takes : Sink → ℕ × ℕ → Sink → Type 0) {Item
 
   -- after the last one
   pub found_all : (bands : List Waiting) (tests : ℕ) (before after : Sink)
-      → FoundTo Takes (near_in_band (map rect_of items) stretches start) (IsPair Holds items) stretches order (length order) bands tests before after → TookTested Takes Holds items tests before after
+      → FoundTo Takes (near_in_band (map rect_of items) stretches start) (IsPair Holds items) stretches order (length order) bands tests before after → TookPairs Takes Holds items tests before after
   found_all bands tests before after to =
       let swept = to.swept in
       let numbers = rw (length-map items rect_of) at sorted.numbers in

@@ -11,7 +11,8 @@ use Rattle.leg_sweep.specs.declared.node.Content.{Content}
 use Rattle.leg_sweep.specs.declared.node.Content.TheVariants.{Group, Rect}
 use Rattle.leg_sweep.specs.declared.node.Node.{Node}
 use Rattle.leg_sweep.specs.Steps.Bounds.{sides_of, IsWithin}
-use Rattle.leg_sweep.specs.Steps.Nodes.{number_in, numbers_of, IsRightAt, IsRight, AreNodesFrom}
+use Rattle.leg_sweep.specs.NearNumbers.{number_in}
+use Rattle.leg_sweep.specs.Steps.Nodes.{numbers_of, IsRightAt, IsRight, AreNodesFrom}
 use Rattle.leg_sweep.specs.Steps.Index.{IsCut, IsIndex}
 use Rattle.leg_sweep.proofs.Lists.{AllPairs-append}
 use Rattle.leg_sweep.proofs.NearNodes.{forest_append}

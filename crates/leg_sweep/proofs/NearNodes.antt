@@ -14,8 +14,9 @@ use Rattle.leg_sweep.specs.declared.node.Content.{Content}
 use Rattle.leg_sweep.specs.declared.node.Content.TheVariants.{Group, Rect}
 use Rattle.leg_sweep.specs.declared.node.Node.{Node}
 use Rattle.leg_sweep.specs.Near.{IsNear, AreNear}
-use Rattle.leg_sweep.specs.Steps.Bounds.{sides_of, window_around, meets, IsWithin}
-use Rattle.leg_sweep.specs.Steps.Nodes.{members_of, number_in, numbers_of, near_numbers, IsForest, IsRightAt, IsRight, AreNodesFrom}
+use Rattle.leg_sweep.specs.NearNumbers.{meets, number_in, near_numbers}
+use Rattle.leg_sweep.specs.Steps.Bounds.{sides_of, window_around, IsWithin}
+use Rattle.leg_sweep.specs.Steps.Nodes.{members_of, numbers_of, IsForest, IsRightAt, IsRight, AreNodesFrom}
 use Rattle.leg_sweep.proofs.Lists.{Contains-nil, Contains-cons_cases}
 
 -- what lies within sides that don't reach into a window doesn't either

@@ -13,7 +13,8 @@ use Rattle.leg_sweep.specs.declared.bounds.Bounds.{Bounds}
 use Rattle.leg_sweep.specs.declared.node.Content.TheVariants.{Rect}
 use Rattle.leg_sweep.specs.declared.node.Node.{Node}
 use Rattle.leg_sweep.specs.Steps.Bounds.{sides_of, IsWithin}
-use Rattle.leg_sweep.specs.Steps.Nodes.{members_of, number_in, IsRight, AreNodesFrom, IsGrouped, AreGrouped}
+use Rattle.leg_sweep.specs.NearNumbers.{number_in}
+use Rattle.leg_sweep.specs.Steps.Nodes.{members_of, IsRight, AreNodesFrom, IsGrouped, AreGrouped}
 use Rattle.leg_sweep.proofs.NearNodes.{forest_append}
 
 -- sides lie within themselves

@@ -1,5 +1,5 @@
 -- The list of the pairs of items for which a rule holds.
-use Rattle.std.specs.Prelude.{◌≡◌, ◌≢◌, ℕ, ◌≤◌, ◌<◌, List, [], ◌∷◌, ◌++◌, Some, All, AllPairs, Contains, slice_get}
+use Rattle.std.specs.Prelude.{◌≡◌, ◌≢◌, ℕ, ◌≤◌, ◌<◌, List, [], ◌∷◌, ◌++◌, length, Some, All, AllPairs, Contains, slice_get}
 
 -- Pairs of numbers in increasing order: by the first, then by the second.
 pub record Before (p q : ℕ × ℕ) : Type 0 where
@@ -32,8 +32,10 @@ pub data TakesAll {Sink : Type 0} (Takes : Sink → ℕ × ℕ → Sink → Type
   none : TakesAll Takes before [] before
   more : {found : List (ℕ × ℕ)} {between after : Sink} {p : ℕ × ℕ} → TakesAll Takes before found between → Takes between p after → TakesAll Takes before (found ++ p ∷ []) after
 
--- A sink took exactly the pairs of items for which a rule holds, each once, in any order.
-pub record TookPairs {Sink Item : Type 0} (Takes : Sink → ℕ × ℕ → Sink → Type 0) (Holds : Item → Item → Type 0) (items : List Item) (before after : Sink) : Type 0 where
+-- A sink took exactly the pairs of items for which a rule holds, each once, in any order. They are no more than the tests that
+-- were made.
+pub record TookPairs {Sink Item : Type 0} (Takes : Sink → ℕ × ℕ → Sink → Type 0) (Holds : Item → Item → Type 0) (items : List Item) (tests : ℕ) (before after : Sink) : Type 0 where
   pub found : List (ℕ × ℕ)
   pub are : HasPairs Holds items found
   pub taken : TakesAll Takes before found after
+  pub enough : length found ≤ tests

@@ -3,7 +3,6 @@
 ghost use Rattle.std.specs.Prelude.{◌≡◌, ◌≤◌, ◌<◌, ◌+◌, ◌*◌, ◌^◌, length, IfOk, OnOk};
 ghost use Rattle.leg_sweep.specs.Pairs.{ArePairs, TookPairs};
 ghost use Rattle.leg_sweep.specs.Counts.{near_on_layer_along_x, near_on_layer, count_pairs};
-ghost use Rattle.leg_sweep.specs.Steps.Sweep.{TookTested};
 
 use crate::few::few_pairs;
 use crate::grid::stretches_and_bands;
@@ -53,7 +52,7 @@ pub fn each_pair<R: LayeredRule, S: PairSink, A: Allocator + Copy>(
     requires room { length items.now ≤ S.room_of sink.old }
     requires untested { R.tests_of rule.old ≡ 0 }
     requires unseen { R.looks_of rule.old ≡ 0 }
-    ensures pairs { OnOk result (TookPairs S.Takes (R.Holds (R.fixed rule.old)) items.now sink.old sink.new) }
+    ensures pairs { OnOk result (TookPairs S.Takes (R.Holds (R.fixed rule.old)) items.now (R.tests_of rule.new) sink.old sink.new) }
     ensures looks { OnOk result (R.tests_of rule.new ≤ R.looks_of rule.new) }
     ensures few_tests { let fixed = R.fixed rule.old in OnOk result (R.tests_of rule.new
         ≤ count_pairs (near_on_layer (R.rect_of fixed) (R.layer_of fixed) (R.layer_reach_of fixed)) items.now) }
@@ -75,7 +74,7 @@ fn search<R: LayeredRule, S: PairSink, A: Allocator + Copy>(
     requires room { length items.now ≤ S.room_of sink.old }
     requires untested { R.tests_of rule.old ≡ 0 }
     requires unseen { R.looks_of rule.old ≡ 0 }
-    ensures pairs { OnOk result (TookTested S.Takes (R.Holds (R.fixed rule.old)) items.now (R.tests_of rule.new) sink.old sink.new) }
+    ensures pairs { OnOk result (TookPairs S.Takes (R.Holds (R.fixed rule.old)) items.now (R.tests_of rule.new) sink.old sink.new) }
     ensures looks { OnOk result (R.tests_of rule.new ≤ R.looks_of rule.new) }
     ensures few_tests { let fixed = R.fixed rule.old in OnOk result (R.tests_of rule.new
         ≤ count_pairs (near_on_layer (R.rect_of fixed) (R.layer_of fixed) (R.layer_reach_of fixed)) items.now) }

@@ -2,7 +2,8 @@
 
 ghost use Rattle.std.specs.Prelude.{◌≡◌};
 ghost use Rattle.leg_geom.specs.Plane.{IsRect};
-ghost use Rattle.leg_sweep.specs.Steps.Bounds.{sides_of, window_around, meets, IsWithin};
+ghost use Rattle.leg_sweep.specs.NearNumbers.{meets};
+ghost use Rattle.leg_sweep.specs.Steps.Bounds.{sides_of, window_around, IsWithin};
 
 use leg_geom::Rect;
 

@@ -2,9 +2,9 @@
 
 ghost use Rattle.std.specs.Prelude.{◌≡◌, ◌≤◌, ◌<◌, ◌+◌, ◌-◌, ◌*◌, ◌^◌, ◌==◌, ◌↔◌, IsTrue, length, take, OnOk, if◌then◌else◌};
 ghost use Rattle.std.specs.List.{range_with_len};
-ghost use Rattle.leg_sweep.specs.Pairs.{IsPair};
+ghost use Rattle.leg_sweep.specs.Pairs.{IsPair, TookPairs};
 ghost use Rattle.leg_sweep.specs.Counts.{near_on_layer_along_x, near_on_layer, count_pairs};
-ghost use Rattle.leg_sweep.specs.Steps.Sweep.{AreNewPairs, TookTested};
+ghost use Rattle.leg_sweep.specs.Steps.Sweep.{AreNewPairs};
 
 use crate::rule::LayeredRule;
 use crate::sink::PairSink;
@@ -21,7 +21,7 @@ pub(crate) fn few_pairs<R: LayeredRule, S: PairSink>(
     requires room { length items.now ≤ S.room_of sink.old }
     requires untested { R.tests_of rule.old ≡ 0 }
     requires unseen { R.looks_of rule.old ≡ 0 }
-    ensures pairs { OnOk result (TookTested S.Takes (R.Holds (R.fixed rule.old)) items.now (R.tests_of rule.new) sink.old sink.new) }
+    ensures pairs { OnOk result (TookPairs S.Takes (R.Holds (R.fixed rule.old)) items.now (R.tests_of rule.new) sink.old sink.new) }
     ensures looks { OnOk result (R.tests_of rule.new ≤ R.looks_of rule.new) }
     ensures few_tests { let fixed = R.fixed rule.old in OnOk result (R.tests_of rule.new
         ≤ count_pairs (near_on_layer (R.rect_of fixed) (R.layer_of fixed) (R.layer_reach_of fixed)) items.now) }

@@ -1,7 +1,8 @@
 //! What lies near a rectangle.
 
 ghost use Rattle.std.specs.Prelude.{◌≡◌, ◌∷◌, [], MatchOption};
-ghost use Rattle.leg_sweep.specs.Steps.Nodes.{near_numbers, IsForest};
+ghost use Rattle.leg_sweep.specs.NearNumbers.{near_numbers};
+ghost use Rattle.leg_sweep.specs.Steps.Nodes.{IsForest};
 
 use crate::bounds::Window;
 use crate::node::{Content, Node};
@@ -16,7 +17,8 @@ pub struct Near<'a> {
 
 impl<'a> Model for Near<'a> {
     ghost use Rattle.std.specs.Prelude.{ℕ, List};
-    ghost use Rattle.leg_sweep.specs.Steps.Nodes.{near_numbers, IsForest};
+    ghost use Rattle.leg_sweep.specs.NearNumbers.{near_numbers};
+    ghost use Rattle.leg_sweep.specs.Steps.Nodes.{IsForest};
 
     ghost Value = { List ℕ };
 

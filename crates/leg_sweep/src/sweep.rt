@@ -2,8 +2,9 @@
 
 ghost use Rattle.std.specs.Prelude.{◌≡◌, ◌≤◌, ◌<◌, ◌+◌, ◌^◌, length, map, sum_by, All, IfOk, OnOk};
 ghost use Rattle.leg_sweep.specs.Counts.{count_pairs};
+ghost use Rattle.leg_sweep.specs.Pairs.{TookPairs};
 ghost use Rattle.leg_sweep.specs.Steps.Bands.{stretch_at, entries_at, near_in_band, near_both_in_band, AreStretches, AreEmpty};
-ghost use Rattle.leg_sweep.specs.Steps.Sweep.{IsLeftToRight, TookTested};
+ghost use Rattle.leg_sweep.specs.Steps.Sweep.{IsLeftToRight};
 
 use crate::band::{Band, Stretch};
 use crate::rule::PairRule;
@@ -30,7 +31,7 @@ pub(crate) fn sweep<R: PairRule, S: PairSink, A: Allocator + Copy>(
     requires entries { sum_by (entries_at stretches.now) order.now < 2 ^ 62 }
     requires untested { R.tests_of rule.old ≡ 0 }
     requires unseen { R.looks_of rule.old ≡ 0 }
-    ensures pairs { OnOk result (TookTested S.Takes (R.Holds (R.fixed rule.old)) items.now (R.tests_of rule.new) sink.old sink.new) }
+    ensures pairs { OnOk result (TookPairs S.Takes (R.Holds (R.fixed rule.old)) items.now (R.tests_of rule.new) sink.old sink.new) }
     ensures looks { OnOk result (R.tests_of rule.new ≤ R.looks_of rule.new) }
     ensures few_tests { OnOk result (R.tests_of rule.new
         ≤ count_pairs (near_both_in_band (map (R.rect_of (R.fixed rule.old)) items.now) stretches.now bands.old) order.now) }

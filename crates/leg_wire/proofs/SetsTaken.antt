@@ -60,7 +60,7 @@ pub sets_taken : {Sink : Type 0} (Takes : Sink → ℕ × ℕ → Sink → Type 
     → (flat : FlatSaid) (net : ℕ) (shapes : List PieceShape) → ArePieceShapes flat net shapes
     → (before after : Sink) → (state before).shapes ≡ shapes → (state before).sets ≡ range_with_len 0 (piece_count flat net)
     → ((pieces : Beside) → first_seen (state before).seen pieces ≡ None)
-    → TookPairs Takes DoMeet shapes before after → AreJoinedSets flat net (state after).sets
+    → {tests : ℕ} → TookPairs Takes DoMeet shapes tests before after → AreJoinedSets flat net (state after).sets
 sets_taken Takes state says flat net shapes are before after same_shapes alone unseen took =
     let count = piece_count flat net in
     let begun : IsUnderway shapes count [] (state before) = record {

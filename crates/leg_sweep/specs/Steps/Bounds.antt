@@ -1,5 +1,5 @@
 -- Sides that enclose rectangles, and windows that they reach into.
-use Rattle.std.specs.Prelude.{ℕ, Bool, ◌&&◌, pos, ◌+ℤ◌, ◌-ℤ◌, ◌≤ℤ◌, int_le}
+use Rattle.std.specs.Prelude.{ℕ, pos, ◌+ℤ◌, ◌-ℤ◌, ◌≤ℤ◌}
 use Rattle.leg_geom.specs.Plane.{Sides}
 use Rattle.leg_sweep.specs.declared.bounds.Bounds.{Bounds}
 use Rattle.leg_sweep.specs.declared.bounds.Window.{Window}
@@ -18,7 +18,3 @@ pub record IsWithin (inner outer : Bounds) : Type 0 where
 -- the rectangle with what lies around it
 abbrev pub window_around : Sides → ℕ → Window
 window_around r reach = record { x1 = r.x1 -ℤ pos reach; y1 = r.y1 -ℤ pos reach; x2 = r.x2 +ℤ pos reach; y2 = r.y2 +ℤ pos reach }
-
--- the sides reach into the window
-abbrev pub meets : Window → Bounds → Bool
-meets w b = int_le b.x1 w.x2 && int_le w.x1 b.x2 && int_le b.y1 w.y2 && int_le w.y1 b.y2

@@ -1,31 +1,22 @@
 -- Nodes of an index in a list: a group comes before its members.
-use Rattle.std.specs.Prelude.{◌≡◌, ℕ, ◌+◌, ◌-◌, ◌≤◌, ◌<◌, List, [], ◌∷◌, ◌++◌, length, take, slice_set, slice_get, Some, All, Contains, if◌then◌else◌}
+use Rattle.std.specs.Prelude.{◌≡◌, ℕ, ◌+◌, ◌-◌, ◌≤◌, ◌<◌, List, [], ◌∷◌, ◌++◌, length, take, slice_set, slice_get, Some, All, Contains}
 use Rattle.std.specs.List.{flat_map}
 use Rattle.leg_geom.specs.Plane.{Sides, IsRect}
 use Rattle.leg_sweep.specs.declared.bounds.Bounds.{Bounds}
-use Rattle.leg_sweep.specs.declared.bounds.Window.{Window}
 use Rattle.leg_sweep.specs.declared.node.Content.{Content}
 use Rattle.leg_sweep.specs.declared.node.Content.TheVariants.{Group, Rect}
 use Rattle.leg_sweep.specs.declared.node.Node.{Node}
-use Rattle.leg_sweep.specs.Steps.Bounds.{sides_of, meets, IsWithin}
+use Rattle.leg_sweep.specs.NearNumbers.{number_in}
+use Rattle.leg_sweep.specs.Steps.Bounds.{sides_of, IsWithin}
 
 -- how many of the nodes after it are a node's members
 abbrev pub members_of : Content → ℕ
 members_of (Group members) = members
 members_of (Rect number) = 0
 
--- the number of a node's rectangle, if it has one
-abbrev pub number_in : Content → List ℕ
-number_in (Group members) = []
-number_in (Rect number) = number ∷ []
-
 -- the numbers of the nodes' rectangles
 abbrev pub numbers_of : List Node → List ℕ
 numbers_of nodes = flat_map (λ node. number_in node.content) nodes
-
--- the numbers of those that reach into the window
-abbrev pub near_numbers : Window → List Node → List ℕ
-near_numbers w nodes = flat_map (λ node. if meets w node.bounds then number_in node.content else []) nodes
 
 -- Each node's members are among the nodes after it, and lie within its bounds.
 abbrev pub IsForest : List Node → Type 0

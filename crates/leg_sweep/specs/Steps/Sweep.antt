@@ -5,7 +5,7 @@ use Rattle.std.specs.declared.cmp.Ordering.{Ordering}
 use Rattle.std.specs.List.{range_with_len}
 use Rattle.leg_geom.specs.Plane.{Sides, IsRect}
 use Rattle.leg_geom.specs.Gap.{x_gap, y_gap}
-use Rattle.leg_sweep.specs.Pairs.{HasPairs, TakesAll}
+use Rattle.leg_sweep.specs.Pairs.{TakesAll}
 
 -- a rectangle for a number that no item has
 abbrev pub unit_square : Sides
@@ -59,10 +59,3 @@ pub record AreNewPairs {Sink : Type 0} (Takes : Sink → ℕ × ℕ → Sink →
   pub distinct : AllPairs (λ p q. p ≢ q) more
   pub all : (x : ℕ) → Contains waiting x → IsOne (ordered x new) → Contains more (ordered x new)
   pub enough : length more ≤ tests
-
--- The sink took exactly the pairs of items for which a rule holds, each once. They are no more than the tests that were made.
-pub record TookTested {Sink Item : Type 0} (Takes : Sink → ℕ × ℕ → Sink → Type 0) (Holds : Item → Item → Type 0) (items : List Item) (tests : ℕ) (before after : Sink) : Type 0 where
-  pub found : List (ℕ × ℕ)
-  pub are : HasPairs Holds items found
-  pub taken : TakesAll Takes before found after
-  pub enough : length found ≤ tests

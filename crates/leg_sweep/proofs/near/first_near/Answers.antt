@@ -1,8 +1,8 @@
 -- A group that doesn't reach into the window gives nothing.
 use Rattle.std.proofs.Common.{◌≡◌, ◌∷◌, ◌∙◌, false, sym, refl}
 use Rattle.std.proofs.lemmas.List.{take_rest}
-use Rattle.leg_sweep.specs.Steps.Bounds.{meets}
-use Rattle.leg_sweep.specs.Steps.Nodes.{near_numbers, members_of, IsForest}
+use Rattle.leg_sweep.specs.NearNumbers.{meets, near_numbers}
+use Rattle.leg_sweep.specs.Steps.Nodes.{members_of, IsForest}
 use Rattle.leg_sweep.proofs.NearNodes.{far_members, forest_drop}
 use Rattle.leg_sweep.proofs.near.first_near.Goals as goal
 

@@ -1,6 +1,7 @@
 -- What is left gives what all nodes give.
 use Rattle.std.proofs.Common.{◌≡◌, length}
-use Rattle.leg_sweep.specs.Steps.Nodes.{near_numbers, IsForest}
+use Rattle.leg_sweep.specs.NearNumbers.{near_numbers}
+use Rattle.leg_sweep.specs.Steps.Nodes.{IsForest}
 use Rattle.leg_sweep.proofs.near.first_near.Given as goal
 
 abbrev pub invariant-loop-node : goal.invariant-loop-node
