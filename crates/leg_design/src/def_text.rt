@@ -56,6 +56,8 @@ impl<'a, A: Allocator + Copy> DefText<'a, A> {
         // The text denotes no other number.
         ensures only { IfOk result (λ n. (said : ℕ) → Says units_in self.now said → said ≡ n) }
         ensures none { IfErr result (λ fault. fault.kind ≢ Memory → (said : ℕ) → ¬ Says units_in self.now said) }
+        // It needs no memory.
+        ensures no_memory { IfErr result (λ fault. fault.kind ≢ Memory) }
     {
         units_anywhere(&mut Cursor::new(0, &self.words))
     }

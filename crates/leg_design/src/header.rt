@@ -1,7 +1,8 @@
 //! The forms before the sections of a DEF that give one thing each (LEF/DEF 5.8, "DEF Syntax").
 
-ghost use Rattle.std.specs.Prelude.{Some, ◌≤◌, is_some, IfOk};
+ghost use Rattle.std.specs.Prelude.{◌≢◌, Some, ◌≤◌, is_some, IfOk, IfErr};
 ghost use Rattle.leg_lex.specs.declared.limits.TheConstants.{UNITS_LIMIT};
+ghost use Rattle.leg_lex.specs.declared.read_fault.FaultKind.TheVariants.{Memory};
 ghost use Rattle.leg_lex.specs.Words.{Reads, Means};
 ghost use Rattle.leg_lex.specs.Past.{past};
 ghost use Rattle.leg_design.specs.Header.{word_after, design_name_at, microns_at, units_after, units_at, units_in};
@@ -36,7 +37,8 @@ pub(crate) fn design_name<'a>(words: &mut Cursor<'_, 'a>) -> Result<&'a [u8], Re
 /// `UNITS DISTANCE MICRONS`.
 #[tactic(auto, unfolding(crate::specs::Header::microns_at))]
 fn microns(words: &mut Cursor<'_, '_>) -> Result<(), ReadFault>
-    ensures { Reads (λ x. x) result words.new (microns_at words.old) }
+    ensures reads { Reads (λ x. x) result words.new (microns_at words.old) }
+    ensures no_memory { IfErr result (λ fault. fault.kind ≢ Memory) }
 {
     words.keyword(b"UNITS")?;
     words.keyword(b"DISTANCE")?;
@@ -48,6 +50,7 @@ fn microns(words: &mut Cursor<'_, '_>) -> Result<(), ReadFault>
 fn units_after(words: &mut Cursor<'_, '_>) -> Result<u32, ReadFault>
     ensures said { Reads (λ n. n) result words.new (units_after words.old) }
     ensures limits { IfOk result (λ n. (1 ≤ n) × (n ≤ UNITS_LIMIT)) }
+    ensures no_memory { IfErr result (λ fault. fault.kind ≢ Memory) }
 {
     let number = words.again();
     let n = words.whole()?;
@@ -70,7 +73,8 @@ pub(crate) fn units(words: &mut Cursor<'_, '_>) -> Result<u32, ReadFault>
 /// Whether `UNITS DISTANCE MICRONS` come first.
 #[tactic(auto, using(crate::proofs::Microns::no_units, crate::proofs::Microns::no_distance, crate::proofs::Microns::all_but_microns, leg_lex::proofs::Keywords::surely_read))]
 fn is_at_microns(words: &Cursor<'_, '_>) -> Result<bool, ReadFault>
-    ensures { Means (λ is. is) result (Some (is_some (microns_at words.now))) }
+    ensures means { Means (λ is. is) result (Some (is_some (microns_at words.now))) }
+    ensures no_memory { IfErr result (λ fault. fault.kind ≢ Memory) }
 {
     let mut next = words.again();
     if !next.is_at(b"UNITS") {
@@ -87,7 +91,8 @@ fn is_at_microns(words: &Cursor<'_, '_>) -> Result<bool, ReadFault>
 /// Reads past everything up to the first `UNITS DISTANCE MICRONS`, and these words.
 #[tactic(auto, using(leg_lex::proofs::Passed::past_here, leg_lex::proofs::Passed::past_later, leg_lex::proofs::Passed::past_nowhere, leg_lex::proofs::Passed::next_shorter))]
 fn past_microns(words: &mut Cursor<'_, '_>) -> Result<(), ReadFault>
-    ensures { Reads (λ x. x) result words.new (past microns_at words.old) }
+    ensures reads { Reads (λ x. x) result words.new (past microns_at words.old) }
+    ensures no_memory { IfErr result (λ fault. fault.kind ≢ Memory) }
 {
     'words: while !is_at_microns(words)? {
         words.any()?;
@@ -100,6 +105,7 @@ fn past_microns(words: &mut Cursor<'_, '_>) -> Result<(), ReadFault>
 pub(crate) fn units_anywhere(words: &mut Cursor<'_, '_>) -> Result<u32, ReadFault>
     ensures said { Means (λ n. n) result (units_in words.old) }
     ensures limits { IfOk result (λ n. (1 ≤ n) × (n ≤ UNITS_LIMIT)) }
+    ensures no_memory { IfErr result (λ fault. fault.kind ≢ Memory) }
 {
     past_microns(words)?;
     units_after(words)

@@ -1,6 +1,8 @@
 //! Clauses (LEF/DEF 5.8, "DEF Syntax").
 
+ghost use Rattle.std.specs.Prelude.{◌≢◌, IfErr};
 ghost use Rattle.std.specs.List.{list_all};
+ghost use Rattle.leg_lex.specs.declared.read_fault.FaultKind.TheVariants.{Memory};
 ghost use Rattle.leg_lex.specs.Words.{Reads, Means};
 ghost use Rattle.leg_section.specs.Guard.{when};
 ghost use Rattle.leg_section.specs.Clause.{is_clause};
@@ -13,7 +15,8 @@ use leg_lex::{Cursor, FaultKind, ReadFault};
 /// That a clause begins with a name or a quoted word.
 #[tactic(auto, using(crate::proofs::Clauses::is_one, crate::proofs::Clauses::is_none))]
 pub fn clause(clause: &Cursor<'_, '_>) -> Result<(), ReadFault>
-    ensures { Means (λ x. x) result (when (is_clause clause.now)) }
+    ensures means { Means (λ x. x) result (when (is_clause clause.now)) }
+    ensures no_memory { IfErr result (λ fault. fault.kind ≢ Memory) }
 {
     clause.again().word()?;
     Ok(())
@@ -21,7 +24,8 @@ pub fn clause(clause: &Cursor<'_, '_>) -> Result<(), ReadFault>
 
 /// A rectangle by two corners. Where a mask is named in its place, it is `Unsupported`.
 pub fn rect_or_mask(is_masked: bool, clause: &mut Cursor<'_, '_>) -> Result<Rect, ReadFault>
-    ensures { Reads (λ r. r) result clause.new (rect_at clause.old) }
+    ensures reads { Reads (λ r. r) result clause.new (rect_at clause.old) }
+    ensures no_memory { IfErr result (λ fault. fault.kind ≢ Memory) }
 {
     match rect(clause) {
         Err(
@@ -42,7 +46,8 @@ pub fn rect_or_mask(is_masked: bool, clause: &mut Cursor<'_, '_>) -> Result<Rect
 /// That each clause begins with a name or a quoted word.
 #[tactic(auto, using(crate::proofs::Clauses::one_more, crate::proofs::Clauses::one_not, crate::proofs::Clauses::all_are))]
 pub fn all_clauses(clauses: &[Cursor<'_, '_>]) -> Result<(), ReadFault>
-    ensures { Means (λ x. x) result (when (list_all is_clause clauses.now)) }
+    ensures means { Means (λ x. x) result (when (list_all is_clause clauses.now)) }
+    ensures no_memory { IfErr result (λ fault. fault.kind ≢ Memory) }
 {
     for part in clauses {
         clause(part)?;

@@ -1,7 +1,8 @@
 //! What the layers of a library are for (LEF/DEF 5.8, "Layer"; that only routing and cut layers carry metal is lefdef's
 //! own rule).
 
-ghost use Rattle.std.specs.Prelude.{◌≡◌, OnOk};
+ghost use Rattle.std.specs.Prelude.{◌≡◌, OnOk, ◌≢◌, IfErr};
+ghost use Rattle.leg_lex.specs.declared.read_fault.FaultKind.TheVariants.{Memory};
 ghost use Rattle.leg_lex.specs.Words.{Reads};
 ghost use Rattle.leg_section.specs.Layers.{layer_named_at, with_rect};
 ghost use Rattle.leg_block.specs.Layers.{wire_width, width_of_layer, is_routing, has_metal};
@@ -17,7 +18,8 @@ pub fn layer<A: Allocator + Copy>(
     library: &Library<'_, A>,
     words: &mut Cursor<'_, '_>,
 ) -> Result<usize, ReadFault>
-    ensures { Reads (λ number. number) result words.new (layer_named_at library.now words.old) }
+    ensures reads { Reads (λ number. number) result words.new (layer_named_at library.now words.old) }
+    ensures no_memory { IfErr result (λ fault. fault.kind ≢ Memory) }
 {
     let first = words.again();
     let name = words.name()?;

@@ -1,6 +1,7 @@
 //! Points, rectangles, orientations and places as DEF writes them (LEF/DEF 5.8, "Components", "Pins").
 
-ghost use Rattle.std.specs.Prelude.{◌≡◌};
+ghost use Rattle.std.specs.Prelude.{◌≡◌, ◌≢◌, IfErr};
+ghost use Rattle.leg_lex.specs.declared.read_fault.FaultKind.TheVariants.{Memory};
 ghost use Rattle.leg_lex.specs.Words.{Reads, Means};
 ghost use Rattle.leg_cells.specs.Measure.{rect_between};
 ghost use Rattle.leg_section.specs.Placement.{spot_at, rect_at, orient_of, orient_at, place_at, place_as, says_place, placed_in};
@@ -12,7 +13,8 @@ use leg_lex::{Cursor, FaultKind, ReadFault, is_keyword};
 /// A point: `( x y )`.
 #[tactic(auto, using(crate::proofs::Numbers::whole_is_coordinate), unfolding(crate::specs::Placement::spot_at))]
 pub fn point(words: &mut Cursor<'_, '_>) -> Result<Point, ReadFault>
-    ensures { Reads (λ p. p) result words.new (spot_at words.old) }
+    ensures reads { Reads (λ p. p) result words.new (spot_at words.old) }
+    ensures no_memory { IfErr result (λ fault. fault.kind ≢ Memory) }
 {
     words.mark(b'(')?;
     let x = words.whole()?;
@@ -38,7 +40,8 @@ pub fn rect_between(p: &Point, q: &Point) -> Option<Rect>
 /// A rectangle by two corners, which are in any order. One without area is `EmptyRect`.
 #[tactic(auto, unfolding(crate::specs::Placement::rect_at))]
 pub fn rect(words: &mut Cursor<'_, '_>) -> Result<Rect, ReadFault>
-    ensures { Reads (λ r. r) result words.new (rect_at words.old) }
+    ensures reads { Reads (λ r. r) result words.new (rect_at words.old) }
+    ensures no_memory { IfErr result (λ fault. fault.kind ≢ Memory) }
 {
     let corner = words.again();
     let p = point(words)?;
@@ -77,7 +80,8 @@ fn orient_of(word: &[u8]) -> Option<Orient>
 /// One of the eight orientations. Another word is `Unexpected`.
 #[tactic(auto, unfolding(crate::specs::Placement::orient_at))]
 pub fn orient(words: &mut Cursor<'_, '_>) -> Result<Orient, ReadFault>
-    ensures { Reads (λ o. o) result words.new (orient_at words.old) }
+    ensures reads { Reads (λ o. o) result words.new (orient_at words.old) }
+    ensures no_memory { IfErr result (λ fault. fault.kind ≢ Memory) }
 {
     let first = words.again();
     let word = words.any()?;
@@ -90,7 +94,8 @@ pub fn orient(words: &mut Cursor<'_, '_>) -> Result<Orient, ReadFault>
 /// A place: `( x y )` and an orientation.
 #[tactic(auto, unfolding(crate::specs::Placement::place_at))]
 pub fn place(words: &mut Cursor<'_, '_>) -> Result<Place, ReadFault>
-    ensures { Reads (λ p. p) result words.new (place_at words.old) }
+    ensures reads { Reads (λ p. p) result words.new (place_at words.old) }
+    ensures no_memory { IfErr result (λ fault. fault.kind ≢ Memory) }
 {
     let at = point(words)?;
     let orient = orient(words)?;
@@ -107,7 +112,8 @@ pub fn says_place(clause: &Cursor<'_, '_>) -> bool
 /// The place after the keyword that denotes this status.
 #[tactic(auto, unfolding(crate::specs::Placement::place_as))]
 fn place_as(status: Status, clause: &mut Cursor<'_, '_>) -> Result<(Status, Place), ReadFault>
-    ensures { Means (λ p. p) result (place_as status clause.old) }
+    ensures means { Means (λ p. p) result (place_as status clause.old) }
+    ensures no_memory { IfErr result (λ fault. fault.kind ≢ Memory) }
 {
     clause.any()?;
     let place = place(clause)?;
@@ -118,7 +124,8 @@ fn place_as(status: Status, clause: &mut Cursor<'_, '_>) -> Result<(Status, Plac
 /// The status and the place that a clause gives. Another first word is `Unexpected`.
 #[tactic(auto, unfolding(crate::specs::Placement::placed_in))]
 pub fn placed(clause: &mut Cursor<'_, '_>) -> Result<(Status, Place), ReadFault>
-    ensures { Means (λ p. p) result (placed_in clause.old) }
+    ensures means { Means (λ p. p) result (placed_in clause.old) }
+    ensures no_memory { IfErr result (λ fault. fault.kind ≢ Memory) }
 {
     if clause.is_at(b"PLACED") {
         place_as(Status::Placed, clause)
