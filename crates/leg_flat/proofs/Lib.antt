@@ -35,8 +35,11 @@ mod PiecePlaces
 mod MetalPieces
 mod TerminalsOnce
 mod PieceMetal
+mod MetalSources
+mod LoneTerminals
 -- Limits
 mod Counted
+mod ShapeCounts
 mod FlatWithin
 mod GotElements
 -- What the proofs of other crates cite

@@ -15,6 +15,7 @@ use Rattle.leg_flat.specs.Nets.{terminals_of, pieces_of, regular_entry, special_
 use Rattle.leg_flat.specs.Owner.{net_of, owner_of, piece_of}
 use Rattle.leg_flat.specs.Metal.{OnLayer, Belonging, Metal, belonging, drawn, of_terminal, pins_metal, components_metal, ports_outlines, design_pins_metal, wire_outlines, wires_metal, nets_metal, specials_metal, metal_of}
 use Rattle.leg_flat.specs.Pieces.{IsOfTerminal, IsOfPiece, terminal_component, of_piece}
+use Rattle.leg_flat.specs.Sources.{IsOfComponentObstruction, of_obstruction}
 use Rattle.leg_flat.proofs.NetOf.{contains_at}
 use Rattle.leg_flat.proofs.NetTerminals.{special_is}
 use Rattle.leg_flat.proofs.NetPlaces.{in_net}
@@ -55,7 +56,7 @@ module _ (design : DesignContents) (m : Metal) where
 
 module _ (design : DesignContents) where
   -- a terminal's shapes are metal
-  terminal_metal : (t : Terminal) (metal : OnLayer) → IsOfTerminal design t metal → Contains (metal_of design) (record { metal = metal; belongs = of_terminal design (terminal_component t) t })
+  pub terminal_metal : (t : Terminal) (metal : OnLayer) → IsOfTerminal design t metal → Contains (metal_of design) (record { metal = metal; belongs = of_terminal design (terminal_component t) t })
   terminal_metal (Comp c k) metal is =
       let belongs = of_terminal design (Some c) (Comp c k) in
       let m = with_belonging belongs metal in
@@ -73,6 +74,19 @@ module _ (design : DesignContents) where
       let pin : Contains (belonging belongs (ports_outlines is.0.ports)) m = goes (with_belonging belongs) (ports_outlines is.0.ports) metal is.2 in
       from_pins design m
       (gives_at (design_pin_metal design) design.pins _ p is.0 m (design_pins_walk design 0 design.pins) is.1 pin)
+
+  -- a component's obstructions are metal
+  pub obstruction_metal : (c : ℕ) (metal : OnLayer) → IsOfComponentObstruction design c metal → Contains (metal_of design) (of_obstruction c metal)
+  obstruction_metal c metal is =
+      let belongs : Belonging = record { owner = Obs c; component = Some c; piece = None } in
+      let m = with_belonging belongs metal in
+      let shapes = drawn is.place is.master.size is.master.obstructions in
+      let obstruction : Contains (belonging belongs shapes) m = goes (with_belonging belongs) shapes metal is.draws in
+      let whole : Contains (pins_metal design c is.place is.master.size 0 is.master.pins ++ belonging belongs shapes) m =
+      Contains-append_right (pins_metal design c is.place is.master.size 0 is.master.pins) _ m obstruction in
+      let component : Contains (one_component design c is.component) m = rw (is.has_place, is.has_master) whole in
+      from_components design m
+      (gives_at (one_component design) design.components _ c is.component m (components_walk design 0 design.components) is.has_component component)
 
   abbrev of_wire : ℕ → ℕ → Belonging
   of_wire n k = record { owner = Net n; component = None; piece = Some k }

@@ -3,6 +3,7 @@ pub mod Owner
 pub mod Outline
 pub mod Metal
 pub mod Pieces
+pub mod Sources
 pub mod Flat
 pub mod ProperLibrary
 pub mod MoreWires

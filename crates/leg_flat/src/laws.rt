@@ -1,15 +1,19 @@
-//! Laws of the definitions that contracts cite. Each function does nothing: its contract is the law.
+//! Laws of the definitions that contracts cite. The contract of a function is the law, and its body does nothing; that of
+//! `every_design_has_a_flat` reads each shape of the library, of which it is then known that it has area.
 
-ghost use Rattle.std.specs.Prelude.{◌≡◌, ◌↔◌, ℕ, Contains, Some, slice_get};
+ghost use Rattle.std.specs.Prelude.{◌≡◌, ◌↔◌, ℕ, length, Contains, None, Some, slice_get};
 ghost use Rattle.leg_cells.specs.Sound.{IsSound};
 ghost use Rattle.leg_block.specs.Records.{DesignContents, NetSaid};
+ghost use Rattle.leg_block.specs.declared.records.Terminal.{Terminal};
 ghost use Rattle.leg_block.specs.WellFormed.{IsWellFormed};
 ghost use Rattle.leg_flat.specs.declared.piece.Piece.{Piece};
 ghost use Rattle.leg_flat.specs.Flat.{FlatSaid, IsFlatOf};
 ghost use Rattle.leg_flat.specs.Nets.{pieces_of};
 ghost use Rattle.leg_flat.specs.Metal.{OnLayer, Metal, metal_of};
 ghost use Rattle.leg_flat.specs.ProperLibrary.{IsProperLibrary};
-ghost use Rattle.leg_flat.specs.Pieces.{IsOfPiece, HasItsPiece, of_piece, IsEntryOf};
+ghost use Rattle.leg_flat.specs.Owner.{lone_owner, owner_of, piece_of};
+ghost use Rattle.leg_flat.specs.Pieces.{IsOfTerminal, IsOfPiece, HasItsPiece, of_piece, IsEntryOf};
+ghost use Rattle.leg_flat.specs.Sources.{IsOfComponentObstruction, of_obstruction, IsLone, of_terminal_shape, HasSource, shape_count};
 
 use crate::flat::design_is_sound;
 use crate::proper::library_is_proper;
@@ -28,6 +32,37 @@ pub fn piece_has_its_metal()
     ensures { (design : DesignContents) → IsWellFormed design
         → (n k : ℕ) (piece : Piece) (metal : OnLayer) → slice_get (pieces_of design n) k ≡ Some piece
         → IsOfPiece design n piece metal → Contains (metal_of design) (of_piece n k piece metal) }
+{}
+
+/// Each obstruction of a component that has a place is metal of the component's obstructions.
+pub fn obstruction_has_its_metal()
+    ensures { (design : DesignContents) (c : ℕ) (metal : OnLayer) → IsOfComponentObstruction design c metal
+        → Contains (metal_of design) (of_obstruction c metal) }
+{}
+
+/// Each shape of a terminal is metal of the terminal's owner.
+pub fn terminal_has_its_metal()
+    ensures { (design : DesignContents) (terminal : Terminal) (metal : OnLayer) → IsOfTerminal design terminal metal
+        → Contains (metal_of design) (of_terminal_shape design terminal metal) }
+{}
+
+/// A terminal that no net lists is of no piece, and its owner is the terminal itself or, by the `USE` of a component's pin, the
+/// power or the ground.
+pub fn lone_terminal_is_its_own()
+    ensures owner { (design : DesignContents) (terminal : Terminal) → IsLone design terminal
+        → owner_of design terminal ≡ lone_owner design terminal }
+    ensures piece { (design : DesignContents) (terminal : Terminal) → IsLone design terminal → piece_of design terminal ≡ None }
+{}
+
+/// There is no metal but the obstructions of components, the shapes of terminals and those of wires, and it is owned so.
+pub fn metal_has_a_source()
+    ensures { (design : DesignContents) → IsWellFormed design
+        → (metal : Metal) → Contains (metal_of design) metal → HasSource design metal }
+{}
+
+/// There is as much metal as is drawn, so each shape is in it once.
+pub fn shapes_are_metal_once()
+    ensures { (design : DesignContents) → length (metal_of design) ≡ shape_count design }
 {}
 
 /// Entries of both sections are of one net if and only if they have one name.

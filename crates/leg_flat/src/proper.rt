@@ -1,5 +1,5 @@
-//! That every library is proper, as the types of its parts state. No function does anything: of a rectangle that is read
-//! it is known that it has area.
+//! That every library is proper, as the types of its parts state. Each function only reads: of a rectangle that is read it is
+//! known that it has area.
 
 ghost use Rattle.std.specs.Prelude.{All};
 ghost use Rattle.leg_flat.specs.ProperLibrary.{AreProperShapes, IsProperMaster, IsProperLibrary};
