@@ -39,7 +39,7 @@ use Rattle.leg_legal.proofs.OnRow.{takes_fits}
 use Rattle.leg_legal.proofs.Misfits.{fits_from_rest, rest_from_fits, told, numbered, no_row_beyond, no_row_unfit}
 
 -- numbers of sites that reach equally far are equal
-same_many : (j k n : ℕ) → 0 < n → j * n ≡ k * n → j ≡ k
+pub same_many : (j k n : ℕ) → 0 < n → j * n ≡ k * n → j ≡ k
 same_many j k n some same =
     elim (cases_lt j k) [
       | inl below ↦ absurd (omega (arith, same, some, step j k n below))

@@ -26,6 +26,19 @@ mod UnderWay
 mod Chosen
 -- One outcome
 mod OneRun
+-- Positions by unit squares
+mod FreePlaces
+-- What can be told to hold or not
+mod Decisions
+mod Listings
+mod Squares
+mod Orientations
+mod RowTests
+mod FaultTests
+mod FaultLists
+mod BestFree
+-- An outcome
+mod Outcomes
 -- What the proofs of other crates cite
 pub mod OneList
 pub mod OneOutcome

@@ -23,7 +23,7 @@ same_position a b ab ba =
     λ i. record { distance = near i; turned = turned i; row = row i; first = first i }
 
 -- one orientation is taken
-one_orient : (row : Orient) (symmetric : Bool) (old : Option Orient) (a b : Orient) → Takes row symmetric old a → Takes row symmetric old b → a ≡ b
+pub one_orient : (row : Orient) (symmetric : Bool) (old : Option Orient) (a b : Orient) → Takes row symmetric old a → Takes row symmetric old b → a ≡ b
 one_orient row symmetric None a b s t = s ∙ sym t
 one_orient row symmetric (Some old) a b (inl s) (inl t) = s.1 ∙ sym t.1
 one_orient row symmetric (Some old) a b (inl s) (inr t) = absurd (t.0 s.0)

@@ -1,13 +1,22 @@
 //! Laws of the definitions that `legalise` cites. No function does anything: its contract is the law.
 
-ghost use Rattle.std.specs.Prelude.{◌≡◌, ◌≢◌, ℤ, List, length};
+ghost use Rattle.std.specs.Prelude.{◌≡◌, ◌≢◌, ◌↔◌, ℕ, ℤ, List, length};
+ghost use Rattle.leg_geom.specs.declared.place.Place.{Place};
+ghost use Rattle.leg_cells.specs.Sound.{IsSound};
 ghost use Rattle.leg_block.specs.Records.{DesignContents};
+ghost use Rattle.leg_block.specs.WellFormed.{IsWellFormed};
+ghost use Rattle.leg_legal.specs.Movable.{IsMovable};
+ghost use Rattle.leg_legal.specs.FreePlaces.{HasMacroSizes, IsFreePlace, HasFreePosition};
 ghost use Rattle.leg_legal.specs.Run.{IsLegallyPlaced, IsLegalised};
 ghost use Rattle.leg_legal.specs.Moves.{AreMoves};
-ghost use Rattle.leg_legal.specs.Refusals.{IsRefusal};
+ghost use Rattle.leg_legal.specs.Refusals.{IsStuck, IsRefusal};
+ghost use Rattle.leg_legal.specs.Outcome.{HasOutcome};
 ghost use Rattle.leg_legal.specs.declared.fault.LegalFault.TheVariants.{Memory};
 
 use crate::fault::LegalFault;
+use crate::legaliser::known_sound;
+use crate::sizes::macros_have_sizes;
+use leg_block::Design;
 use std::alloc::Allocator;
 
 /// A design is legalised in one way: the order of taking is one, and so is the best free position of each component.
@@ -37,3 +46,44 @@ pub fn refused_design_is_not_legalised<A: Allocator>(fault: &LegalFault<A>)
     ensures { (design after : DesignContents) → IsRefusal design fault.now → fault.now ≢ Memory
         → IsLegalised design after → ¬ IsLegallyPlaced after }
 {}
+
+/// A movable component's free positions, which are told by numbers of sites, are its free places, which are told by unit
+/// squares: where its box has exactly the squares of consecutive sites of a row, lies in the die and shares none with what
+/// is taken, a position of that row has this place; and the place of each free position is such a one.
+pub fn places_on_sites_are_positions()
+    ensures { (design : DesignContents) → IsWellFormed design → IsSound design.library → HasMacroSizes design.library
+        → (done : List ℕ) (c number : ℕ) (place : Place) → IsMovable design c
+        → IsFreePlace design done c number place ↔ HasFreePosition design done c number place }
+{}
+
+/// For a component that is refused as `NoRoom` there is no place on the sites of any row when its turn has come, whatever
+/// the place: none at which its box lies in the die and shares no unit square with what is taken.
+pub fn stuck_component_has_no_place()
+    ensures { (design : DesignContents) → IsWellFormed design → IsSound design.library → HasMacroSizes design.library
+        → (c : ℕ) (stuck : IsStuck design c) (number : ℕ) (place : Place) → ¬ IsFreePlace stuck.now stuck.done c number place }
+{}
+
+/// A design has an outcome: it is legalised to a legally placed design, or refused for another cause than `Memory`.
+pub fn design_has_an_outcome<A: Allocator>()
+    ensures { (design : DesignContents) → IsWellFormed design → IsSound design.library → HasMacroSizes design.library
+        → HasOutcome A design }
+{}
+
+/// Each design that the program has is as these laws ask for, by the types of its parts.
+pub fn every_design_is_well_formed<A: Allocator + Copy>(design: &Design<'_, A>)
+    ensures proper { IsWellFormed design.now }
+    ensures sound { IsSound design.now.library }
+    ensures sizes { HasMacroSizes design.now.library }
+{
+    known_sound(design);
+    macros_have_sizes(design.library().masters());
+}
+
+/// So each design that the program has is legalised to a legally placed design, or refused for another cause than
+/// `Memory`.
+pub fn every_design_has_an_outcome<A: Allocator + Copy>(design: &Design<'_, A>)
+    ensures { HasOutcome A design.now }
+{
+    every_design_is_well_formed(design);
+    design_has_an_outcome::<A>();
+}

@@ -56,7 +56,7 @@ pub fn legalise<'a, A: Allocator + Copy>(
 }
 
 /// What holds of every design and of its library.
-fn known_sound<A: Allocator + Copy>(design: &Design<'_, A>)
+pub(crate) fn known_sound<A: Allocator + Copy>(design: &Design<'_, A>)
     ensures proper { IsWellFormed design.now }
     ensures sound { IsSound design.now.library }
 {

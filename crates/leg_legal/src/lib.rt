@@ -10,6 +10,7 @@ mod legaliser;
 mod movable;
 mod moves;
 mod seats;
+mod sizes;
 mod staying;
 mod taken;
 mod taking;

@@ -11,16 +11,16 @@ mod CutPoints
 mod ListSplit
 mod TakenSites
 -- Rows
-mod Mirrors
 mod KeysSorted
 mod RowsAround
 mod RowCandidates
-mod BestSoFar
 -- Sites by their edges
 mod SiteEdges
 mod SharedSquares
 mod SiteSquares
--- What the proofs of other crates cite: which sites are met, free sites and clear boxes
+-- What the proofs of other crates cite: which sites are met, free sites and clear boxes, the best position, mirroring
+pub mod Mirrors
+pub mod BestSoFar
 pub mod MetSites
 pub mod KnownSites
 mod RowsTaken

@@ -15,7 +15,7 @@ use Rattle.leg_sites.specs.declared.stretch.Stretch.{Stretch}
 use Rattle.leg_sites.specs.Stretches.{AreSitesBetween}
 use Rattle.leg_sites.specs.RowSites.{AreSitesInside}
 use Rattle.leg_sites.specs.Known.{IsKnown, NoneTaken}
-use Rattle.leg_sites.specs.FreeRows.{IsRowAt, IsTallest}
+use Rattle.leg_sites.specs.FreeRows.{IsRowAt, IsAtLeastEachSite}
 use Rattle.leg_sites.specs.Steps.FreeRows.{AreInside}
 use Rattle.leg_sites.proofs.KnownSites.{known_at_first, known_same}
 use Rattle.leg_sites.proofs.RowsTaken.{same_row}
@@ -60,16 +60,16 @@ module _ (design : DesignContents) where
     ];
   }
 
-  -- no row before the end has a taller site than this
-  pub record IsTallestBefore (end : ℕ) (tallest : ℤ) : Type 0 where
-    pub least : pos 0 ≤ℤ tallest
-    pub within : IsNumber tallest
+  -- no site of a row before the end is higher than this
+  pub record IsAtLeastSitesBefore (end : ℕ) (tallest : ℤ) : Type 0 where
+    pub positive : pos 0 ≤ℤ tallest
+    pub number : IsNumber tallest
     pub each : (number : ℕ) (row : Row) (site : Site) → number < end → IsRowAt design number row site → site.size.height ≤ℤ tallest
 
-  pub tallest_of_more : (i : ℕ) (row : Row) (site : Site) (tallest more : ℤ) → IsRowAt design i row site → site.size.height ≤ℤ more → tallest ≤ℤ more → IsNumber more → IsTallestBefore i tallest → IsTallestBefore (i + 1) more
-  tallest_of_more i row site tallest more at tall rise within so_far = let least = so_far.least in record {
-    least = omega (arith, ints, rise, least);
-    within = within;
+  pub tallest_of_more : (i : ℕ) (row : Row) (site : Site) (tallest more : ℤ) → IsRowAt design i row site → site.size.height ≤ℤ more → tallest ≤ℤ more → IsNumber more → IsAtLeastSitesBefore i tallest → IsAtLeastSitesBefore (i + 1) more
+  tallest_of_more i row site tallest more at tall rise within so_far = let positive = so_far.positive in record {
+    positive = omega (arith, ints, rise, positive);
+    number = within;
     each = λ number other its below there. elim (cases_lt number i) [
       | inl early ↦ let upto = so_far.each number other its early there in omega (arith, ints, upto, rise)
       | inr late ↦
@@ -79,9 +79,9 @@ module _ (design : DesignContents) where
     ];
   }
 
-  pub tallest_of_all : (end : ℕ) (tallest : ℤ) → end ≡ length design.rows → IsTallestBefore end tallest → IsTallest design tallest
+  pub tallest_of_all : (end : ℕ) (tallest : ℤ) → end ≡ length design.rows → IsAtLeastSitesBefore end tallest → IsAtLeastEachSite design tallest
   tallest_of_all end tallest all so_far = record {
-    least = so_far.least;
-    within = so_far.within;
+    positive = so_far.positive;
+    number = so_far.number;
     each = λ number row site there. let below = slice_get_within design.rows number row there.there in so_far.each number row site (omega (arith, below, all)) there;
   }

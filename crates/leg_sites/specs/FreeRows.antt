@@ -21,17 +21,17 @@ pub record IsRowAt (design : DesignContents) (number : ℕ) (row : Row) (site : 
   pub there : slice_get design.rows number ≡ Some row
   pub sited : slice_get design.library.sites row.site ≡ Some site
 
--- no row has a taller site than this
-pub record IsTallest (design : DesignContents) (tallest : ℤ) : Type 0 where
-  pub least : pos 0 ≤ℤ tallest
-  pub within : IsNumber tallest
-  pub each : (number : ℕ) (row : Row) (site : Site) → IsRowAt design number row site → site.size.height ≤ℤ tallest
+-- no site of a row is higher than this, which may be more than the height of the tallest one
+pub record IsAtLeastEachSite (design : DesignContents) (height : ℤ) : Type 0 where
+  pub positive : pos 0 ≤ℤ height
+  pub number : IsNumber height
+  pub each : (number : ℕ) (row : Row) (site : Site) → IsRowAt design number row site → site.size.height ≤ℤ height
 
 -- there is one list for each row of the design, the keys are those of its rows in order, and no site is taller
 pub record AreRowsOf (design : DesignContents) (free : RowLists) : Type 0 where
   pub lists : length free.lists ≡ length design.rows
   pub order : IsRowOrder design.rows free.order
-  pub tallest : IsTallest design free.tallest
+  pub tallest : IsAtLeastEachSite design free.tallest
 
 -- each row's list has exactly its sites that are clear of the boxes
 pub record AreKnown (design : DesignContents) (boxes : List Sides) (free : RowLists) : Type 0 where

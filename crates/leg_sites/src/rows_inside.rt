@@ -1,7 +1,7 @@
 //! What is known of the rows of a design before anything is placed in them.
 
 ghost use Rattle.std.specs.Prelude.{length, IfOk};
-ghost use Rattle.leg_sites.specs.FreeRows.{IsTallest};
+ghost use Rattle.leg_sites.specs.FreeRows.{IsAtLeastEachSite};
 ghost use Rattle.leg_sites.specs.Steps.FreeRows.{AreInside};
 
 use crate::free_sites::FreeSites;
@@ -26,9 +26,10 @@ pub(crate) fn rows_inside<A: Allocator + Copy>(
     Ok(lists)
 }
 
-/// The height of the tallest site of a row, or 0 where there is no row.
+/// The height of the tallest site of a row, or 0 where there is no row. What is proved of it is what the search for rows
+/// near a box needs: that no site of a row is higher.
 pub(crate) fn tallest_site<A: Allocator + Copy>(design: &Design<'_, A>) -> i64
-    ensures { IsTallest design.now result }
+    ensures { IsAtLeastEachSite design.now result }
 {
     let mut tallest = 0;
     for row in design.rows() {

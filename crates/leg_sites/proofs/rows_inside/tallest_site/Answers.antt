@@ -25,7 +25,7 @@ loop-row-preserved g c =
     let high : c.height.result ≡ site.size.height = rw (← c.index-sites-row.is) at c.height.ensures.is in
     let number : IsNumber c.height.result = rw high extent.height in
     let passed = coordinate_passed c.height.result (omega (arith, number)) in
-    let before = c.loop-row.invariant.within in
+    let before = c.loop-row.invariant.number in
     let most : IsNumber c.max-tallest.result = max_is_number c.height.result _ c.max-tallest.result (rw passed at c.max-tallest.ensures.value) number before in
     let tall : site.size.height ≤ℤ c.max-tallest.result = rw (passed, high) at c.max-tallest.ensures.self_bound in
     rw (coordinate_passed c.max-tallest.result (omega (arith, most))) (tallest_of_more design i row site _ c.max-tallest.result (record { there = at; sited = there }) tall c.max-tallest.ensures.other_bound most c.loop-row.invariant)

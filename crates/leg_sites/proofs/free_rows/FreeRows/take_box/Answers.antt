@@ -10,12 +10,12 @@ pub near-first-requires : goal.near-first-requires
 near-first-requires g c =
     let free : RowLists = record { lists = c.self.inside.lists.items; order = c.self.inside.order.items; tallest = c.self.inside.tallest } in
     let rows : AreRowsOf c.args.design.now free = rw c.self.view_is c.requires in
-    let within = rows.tallest.within in
+    let within = rows.tallest.number in
     let passed = coordinate_passed c.self.inside.tallest (omega (arith, within)) in
     record {
       rising = rw c.as_slice-order.ensures.value rows.order.rising;
-      least = rw passed rows.tallest.least;
-      within = rw passed rows.tallest.within;
+      least = rw passed rows.tallest.positive;
+      within = rw passed rows.tallest.number;
     }
 
 pub take_from_rows-requires : goal.take_from_rows-requires
@@ -31,7 +31,7 @@ pub returns : goal.returns
 returns g c =
     let free : RowLists = record { lists = c.self.inside.lists.items; order = c.self.inside.order.items; tallest = c.self.inside.tallest } in
     let rows : AreRowsOf c.args.design.now free = rw c.self.view_is c.requires in
-    let within = rows.tallest.within in
+    let within = rows.tallest.number in
     let passed = coordinate_passed c.self.inside.tallest (omega (arith, within)) in
     let long = c.as_mut_slice.ensures.len in
     let kept = c.take_from_rows.auto.lists in

@@ -1,0 +1,23 @@
+-- What may become of a design (lefdef's own rules).
+use Rattle.std.specs.Prelude.{◌≢◌, ◌⊎◌}
+use Rattle.leg_block.specs.Records.{DesignContents}
+use Rattle.leg_legal.specs.declared.fault.LegalFault.{LegalFault}
+use Rattle.leg_legal.specs.declared.fault.LegalFault.TheVariants.{Memory}
+use Rattle.leg_legal.specs.Run.{IsLegallyPlaced, IsLegalised}
+use Rattle.leg_legal.specs.Refusals.{IsRefusal}
+
+-- it is legalised, and legally placed then
+pub record HasLegalised (design : DesignContents) : Type 0 where
+  pub after : DesignContents
+  pub legal : IsLegallyPlaced after
+  pub legalised : IsLegalised design after
+
+-- or it is refused, for another cause than being out of memory
+pub record HasRefusal (A : Type 0) (design : DesignContents) : Type 0 where
+  pub fault : LegalFault A
+  pub no_memory : fault ≢ Memory
+  pub refusal : IsRefusal design fault
+
+-- one of both
+abbrev pub HasOutcome : Type 0 → DesignContents → Type 0
+HasOutcome A design = HasLegalised design ⊎ HasRefusal A design
