@@ -6,7 +6,7 @@ use Rattle.leg_cells.specs.Records.{Contents}
 use Rattle.leg_block.specs.Records.{DesignContents}
 use Rattle.leg_block.specs.declared.fault.Fault.{Fault}
 use Rattle.leg_block.specs.Violation.{IsListOf}
-use Rattle.leg_flat.specs.Flat.{FlatSaid, IsJudgedBy}
+use Rattle.leg_flat.proofs.OneFlat.{one_flat}
 use Rattle.leg_legal.specs.Run.{IsLegallyPlaced}
 use Rattle.leg_route.specs.Legal.{IsLegal}
 use Rattle.leg_again.specs.PrintedNames.{StayOne, printed_names}
@@ -36,7 +36,11 @@ none_listed Holds none = record {
 none_holds : (design : DesignContents) → IsLegal design → (fault : Fault) → ¬ IsViolation design.library design fault
 none_holds design legal fault (inl placed) = legal.places fault placed
 none_holds design legal fault (inr metal) =
-    elim metal.holds [ inl near ↦ legal.shapes metal.flat fault metal.is_flat near | inr open_piece ↦ legal.nets metal.flat fault metal.is_flat open_piece ]
+    let same : metal.flat ≡ legal.flat = one_flat design metal.flat legal.flat metal.is_flat legal.judged.is_flat in
+    elim metal.holds [
+      | inl near ↦ legal.shapes fault (rw same at near)
+      | inr open_piece ↦ legal.nets fault (rw same at open_piece)
+    ]
 
 -- a command that doesn't route has one answer to texts that it judges
 abbrev pub HasOneAnswer : Type 0
@@ -60,16 +64,16 @@ module _ (one_answer : HasOneAnswer) (lefs : List (List ℕ)) (text : List ℕ) 
       (inl (record { library = design.library; design = design; flat = None; violations = []; say = say; shown = tt; list = none_listed _ placed; is = (refl, refl) }))
 
   -- texts that denote a legal design within the limit of shapes
-  legal_answered : (design : DesignContents) (flat : FlatSaid) → SayDesign lefs text design.library design → IsLegal design → IsJudgedBy design flat → AnswersLegal Check lefs text
-  legal_answered design flat say legal judged =
+  legal_answered : (design : DesignContents) → SayDesign lefs text design.library design → IsLegal design → AnswersLegal Check lefs text
+  legal_answered design say legal =
       no_other Check (λ e. cc) (λ e. cc)
       (inl (record {
         library = design.library;
         design = design;
-        flat = Some flat;
+        flat = Some legal.flat;
         violations = [];
         say = say;
-        shown = judged;
+        shown = legal.judged;
         list = none_listed (IsViolation design.library design) (none_holds design legal);
         is = (refl, refl);
       }))
@@ -105,7 +109,7 @@ module _ (says_design : SaysItsDesign) (says_units : SaysItsUnits) (lefs : List 
     pub routed_legal : (printed : PrintsRouted design text) → StayOne (printed_names printed.routed) → length text ≤ TEXT_LIMIT → AnswersLegal Check lefs text
     routed_legal printed one fits =
         let routes = printed.routes in
-        legal_answered one_answer lefs text printed.routed routes.flat (routed_said printed one fits) routes.legal routes.judged
+        legal_answered one_answer lefs text printed.routed (routed_said printed one fits) routes.legal
 
     pub legalised_placed : (printed : PrintsLegalised design text) → StayOne (printed_names printed.legalised) → length text ≤ TEXT_LIMIT → AnswersLegal PlaceCheck lefs text
     legalised_placed printed one fits = placed_answered one_answer lefs text printed.legalised (legalised_said printed one fits) printed.legalises.legal
@@ -113,4 +117,4 @@ module _ (says_design : SaysItsDesign) (says_units : SaysItsUnits) (lefs : List 
     pub flow_legal : (printed : PrintsFlow design text) → StayOne (printed_names printed.routed) → length text ≤ TEXT_LIMIT → AnswersLegal Check lefs text
     flow_legal printed one fits =
         let routes = printed.routes in
-        legal_answered one_answer lefs text printed.routed routes.flat (flow_said printed one fits) routes.legal routes.judged
+        legal_answered one_answer lefs text printed.routed (flow_said printed one fits) routes.legal

@@ -7,7 +7,7 @@ use Rattle.leg_app.specs.declared.status.Status.{Status}
 use Rattle.leg_app.specs.declared.status.Status.TheVariants.{Success, Violations, Refused, Unsolved, Memory}
 use Rattle.leg_app.specs.declared.text_fault.TextFault.{TextFault}
 use Rattle.leg_app.specs.declared.text_fault.TextFault.TheVariants as faults
-use Rattle.leg_app.specs.Refusal.{Refuses}
+use Rattle.leg_app.specs.Refusal.{Refuses, IsOutOfMemory}
 use Rattle.leg_cells.specs.Records.{Contents}
 use Rattle.leg_block.specs.Records.{DesignContents}
 use Rattle.leg_block.specs.declared.fault.Fault.{Fault}
@@ -30,6 +30,13 @@ refuses_weaker (faults.Read fault) weaker greater h = λ not_memory. weaker (h n
 refuses_weaker (faults.Scale fault) weaker greater h = λ not_memory. weaker (h not_memory)
 refuses_weaker faults.TooMany weaker greater h = greater h
 refuses_weaker faults.Memory weaker greater h = tt
+
+-- where there is too much, and memory has not run out, that is why texts are refused
+pub much_is_why : {nothing much : Type 0} (fault : TextFault) → (much → nothing → ⊥) → (IsOutOfMemory fault → ⊥) → Refuses nothing much fault → much → fault ≡ faults.TooMany
+much_is_why (faults.Read fault) apart known h much = absurd (apart much (h known))
+much_is_why (faults.Scale fault) apart known h much = absurd (apart much (h known))
+much_is_why faults.TooMany apart known h much = refl
+much_is_why faults.Memory apart known h much = absurd (known tt)
 
 pub err_weaker : {T E : Type 0} (P Q : E → Type 0) (r : Result T E) → ((e : E) → P e → Q e) → IfErr r P → IfErr r Q
 err_weaker P Q (Ok t) weaker holds = tt

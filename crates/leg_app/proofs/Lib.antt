@@ -8,3 +8,4 @@ mod OneMaking
 mod OneAnswer
 mod CutTexts
 mod CutStreams
+mod OneStream

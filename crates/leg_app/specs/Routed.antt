@@ -15,14 +15,11 @@ use Rattle.leg_print.specs.Text.Whole.{design_text}
 use Rattle.leg_app.specs.Lines.{too_many_text}
 use Rattle.leg_app.specs.RouteLines.{not_clean_text, grid_too_large_text, unroutable_text}
 
--- The second design is the first one, whose grid is not too large, routed: legal, with a flat that keeps the limit of shapes, and
--- the same but for wires that entries of NETS got after their own, which are those of a routing run. It is well-formed, and its
--- library sound.
+-- The second design is the first one, whose grid is not too large, routed: legal, and the same but for wires that entries of NETS
+-- got after their own, which are those of a routing run. It is well-formed, and its library sound.
 pub record Routes (before after : DesignContents) : Type 0 where
   pub fits : ¬ IsGridTooLarge before
   pub legal : IsLegal after
-  pub flat : FlatSaid
-  pub judged : IsJudgedBy after flat
   pub same : IsSameButForWires before after
   pub run : IsRouted before after
   pub proper : IsWellFormed after

@@ -1,6 +1,6 @@
 //! All violations of a design.
 
-ghost use Rattle.std.specs.Prelude.{◌≡◌, ◌↔◌, ◌<◌, ℕ, List, length, map, IfOk, IfErr};
+ghost use Rattle.std.specs.Prelude.{◌≡◌, ◌≢◌, ◌↔◌, ◌<◌, ℕ, List, length, map, IfOk, IfErr};
 ghost use Rattle.leg_block.specs.declared.limits.TheConstants.{PART_LIMIT};
 ghost use Rattle.leg_block.specs.Violation.{IsListOf};
 ghost use Rattle.leg_flat.specs.declared.fault.FlatFault.TheVariants.{TooMany};
@@ -44,6 +44,8 @@ pub fn check_texts<'a, A: Allocator + Copy>(
     ensures found { IfOk result (λ found. AreViolationsOf (map (λ t. t.now) lefs.now) def.now found.items) }
     ensures refused { IfErr result (λ fault. Refuses (SayNothing (map (λ t. t.now) lefs.now) def.now)
         (SayTooMany (map (λ t. t.now) lefs.now) def.now) fault) }
+    // Texts of a block with too many shapes are refused for no other reason, unless memory runs out.
+    ensures many { IfErr result (λ fault. SayTooMany (map (λ t. t.now) lefs.now) def.now → fault ≢ Memory → fault ≡ TextFault.TooMany) }
     ensures memory { IfErr result (λ fault. IsOutOfMemory fault → fault ≡ Memory) }
 {
     match violations_in(alloc, lefs, def) {
@@ -92,6 +94,8 @@ fn violations_of<'e, A: Allocator + Copy>(
     ensures found { IfOk result (λ found. AreAllViolations design.now.library design.now found.items) }
     ensures refused { IfErr result (λ fault. (lefs : List (List ℕ)) (def : List ℕ) → SayDesign lefs def design.now.library design.now
         → Refuses (SayNothing lefs def) (SayTooMany lefs def) fault) }
+    // Where there are too many shapes, it is never reported that memory ran out.
+    ensures many { IfErr result (λ fault. PART_LIMIT < length (metal_of design.now) → fault ≡ TextFault.TooMany) }
 {
     let checked = check_design(alloc, design)?;
     Ok(checked.violations)

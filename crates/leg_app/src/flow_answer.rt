@@ -14,7 +14,6 @@ use crate::legalise_lines::legalised_text;
 use crate::route_answer::not_routed_text;
 use crate::status::Status;
 use leg_block::Design;
-use leg_flat::laws::every_design_has_a_flat;
 use leg_legal::{Moves, legalise};
 use leg_route::route;
 use std::alloc::{AllocError, Allocator};
@@ -56,7 +55,6 @@ fn routing_answer<A: Allocator + Copy>(
     match route(alloc, library, legalised) {
         Ok(routed) => {
             known_sound(&routed);
-            every_design_has_a_flat(&routed);
             let text = legalised_text(alloc, &routed, moves)?;
             Ok(Answer {
                 status: Status::Success,

@@ -54,6 +54,16 @@ pub fn command_has_one_answer()
     texts_say_one_design();
 }
 
+/// A stream is cut into a LEF and a DEF in one way. So of two answers to it, neither of them that memory ran out, either both
+/// refuse it, or they have the same status and the same text.
+pub fn stream_has_one_answer()
+    ensures { (stream : List ℕ) (status other : Status) (text words : List ℕ)
+        → IsStreamAnswer stream status text → IsStreamAnswer stream other words
+        → status ≢ Refused → status ≢ Memory → other ≢ Memory → (status ≡ other) × (text ≡ words) }
+{
+    command_has_one_answer();
+}
+
 /// A file that is cut at `FILE_LIMIT` is answered as the whole of it: what is cut off is beyond what a text may have.
 pub fn cut_files_are_answered_alike()
     ensures { (command : Command) (lefs : List (List ℕ)) (def : List ℕ) (status : Status) (text : List ℕ)

@@ -11,7 +11,6 @@ use crate::known_sound::known_sound;
 use crate::route_lines::{not_clean_text, unroutable_text};
 use crate::status::Status;
 use leg_block::Design;
-use leg_flat::laws::every_design_has_a_flat;
 use leg_print::print_def;
 use leg_route::{RouteFault, route};
 use std::alloc::{AllocError, Allocator};
@@ -27,7 +26,6 @@ pub(crate) fn route_answer<A: Allocator + Copy>(
     match route(alloc, library, design) {
         Ok(routed) => {
             known_sound(&routed);
-            every_design_has_a_flat(&routed);
             let text = print_def(alloc, routed.library(), &routed)?;
             Ok(Answer {
                 status: Status::Success,

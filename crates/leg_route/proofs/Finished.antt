@@ -10,7 +10,7 @@ use Rattle.leg_block.specs.MoreWires.{each_with, with_more_wires}
 use Rattle.leg_block.specs.Records.{DesignContents, NetSaid}
 use Rattle.leg_block.specs.WellFormed.{IsWellFormed}
 use Rattle.leg_flat.specs.Metal.{metal_of}
-use Rattle.leg_flat.specs.Flat.{FlatSaid, IsFlatOf}
+use Rattle.leg_flat.specs.Flat.{FlatSaid, IsFlatOf, IsJudgedBy}
 use Rattle.leg_grid.specs.Run.{Added, Run, IsDone}
 use Rattle.leg_grid.specs.Refusals.{IsOtherThanOpen}
 use Rattle.leg_grown.specs.Finished.{finished, AreByNet, IsFinishedFrom}
@@ -71,11 +71,13 @@ module _ (run_of : RunOfCleanWires) (stay : CleanWiresStay) (goes_on : GrowthGoe
   pub legal_then : (design : DesignContents) (flat grown : FlatSaid) (added : List Added) (lists : List (List Wire))
       → IsSound design.library → IsWellFormed design → IsWellFormed (finished design lists) → IsFlatOf design flat
       → ((fault : Fault) → ¬ IsOtherThanOpen design flat fault) → Run design flat added grown → IsDone design grown
-      → AreListsOf (length design.nets) added lists → IsLegal (finished design lists)
-  legal_then design flat grown added lists sound proper proper_then is_flat clean run done are = record {
+      → AreListsOf (length design.nets) added lists → (end : FlatSaid) → IsJudgedBy (finished design lists) end → IsLegal (finished design lists)
+  legal_then design flat grown added lists sound proper proper_then is_flat clean run done are end judged_by = record {
     places = λ fault holds. clean fault (inl ((placement design.library design lists fault).1 holds));
-    shapes = λ end fault is_end. (judged end is_end).shapes fault;
-    nets = λ end fault is_end. (judged end is_end).nets fault;
+    flat = end;
+    judged = judged_by;
+    shapes = λ fault. (judged end judged_by.is_flat).shapes fault;
+    nets = λ fault. (judged end judged_by.is_flat).nets fault;
   } where
     from : (end : FlatSaid) → IsFlatOf (finished design lists) end → IsFinishedFrom design (told added) grown lists end
     from end is_end = record {

@@ -97,3 +97,23 @@ was_open_first design flat grown added net (walked {mid = mid} {added = before} 
     by false other =
         let differ : net ≢ one = λ same. let e : ⊥ = grind (arith, nat_tests, other, same) in e in
         was_open design one net differ wires mid grown more is_open
+
+-- wires for a net among those of two runs, one after the other
+wires_for_both : (net : ℕ) (first second : List Added) → wires_for net (first ++ second) ≡ wires_for net first ++ wires_for net second
+wires_for_both net [] second = refl
+wires_for_both net (one ∷ first) second = by (wires_for_both net first second) (one.net == net) refl where
+  by : wires_for net (first ++ second) ≡ wires_for net first ++ wires_for net second → (b : Bool) → (one.net == net) ≡ b → wires_for net (one ∷ first ++ second) ≡ wires_for net (one ∷ first) ++ wires_for net second
+  by rest true same = rw same (ap (λ ws. one.wires ++ ws) rest ∙ sym (append_assoc one.wires (wires_for net first) (wires_for net second)))
+  by rest false differ = rw differ rest
+
+-- a net that is not open before a run has no turn in it
+pub no_wires_for : (design : DesignContents) (flat grown : FlatSaid) (added : List Added) (net : ℕ) → Run design flat added grown → ¬ IsOpenNet design flat net → wires_for net added ≡ []
+no_wires_for design flat grown added net begun joined = refl
+no_wires_for design flat grown added net (walked {mid = mid} {added = before} {wires = wires} one run turn walk spelled more) joined =
+    wires_for_both net before (record { net = one; wires = wires } ∷ []) ∙ ap (λ ws. ws ++ wires_for net (record { net = one; wires = wires } ∷ [])) (no_wires_for design flat mid before net run joined) ∙ by (one == net) refl
+  where
+    by : (b : Bool) → (one == net) ≡ b → wires_for net (record { net = one; wires = wires } ∷ []) ≡ []
+    by true same =
+        let same_net : one ≡ net = grind (arith, nat_tests, same) in
+        absurd (joined (was_open_first design flat mid before net run (subst (IsOpenNet design mid) same_net turn.is_open)))
+    by false differ = rw differ refl

@@ -16,6 +16,7 @@ ghost use Rattle.leg_route.specs.FinishedRun.{IsFinishedRun};
 use crate::fault::RouteFault;
 use crate::laws::finished_run;
 use leg_block::{Design, Wire};
+use leg_flat::laws::every_design_has_a_flat;
 use std::alloc::Allocator;
 
 /// What holds of every design and of its library, as their types state: it does nothing.
@@ -47,6 +48,7 @@ pub(crate) fn finish<'a, A: Allocator + Copy>(
     match design.with_all_wires(lists) {
         Ok(done) => {
             design_is_sound(&done);
+            every_design_has_a_flat(&done);
             Ok(done)
         }
         Err((design, _refusal)) => Err((design, RouteFault::Memory)),

@@ -1,6 +1,6 @@
 //! Laws of routed designs. Each function does nothing: its contract is the law.
 
-ghost use Rattle.std.specs.Prelude.{◌≡◌, ◌≤◌, ◌+◌, ℕ, List, All, false, length};
+ghost use Rattle.std.specs.Prelude.{◌≡◌, ◌≤◌, ◌+◌, ℕ, List, [], All, false, length};
 ghost use Rattle.leg_cells.specs.Sound.{IsSound};
 ghost use Rattle.leg_block.specs.declared.fault.Fault.{Fault};
 ghost use Rattle.leg_block.specs.declared.records.Wire.{Wire};
@@ -9,7 +9,7 @@ ghost use Rattle.leg_block.specs.Records.{DesignContents, wire_count};
 ghost use Rattle.leg_block.specs.WellFormed.{IsWellFormed};
 ghost use Rattle.leg_block.specs.WellFormedNets.{IsWire};
 ghost use Rattle.leg_flat.specs.Metal.{metal_of};
-ghost use Rattle.leg_flat.specs.Flat.{FlatSaid, IsFlatOf};
+ghost use Rattle.leg_flat.specs.Flat.{FlatSaid, IsFlatOf, IsJudgedBy};
 ghost use Rattle.leg_grid.specs.Run.{Added, Run, IsDone};
 ghost use Rattle.leg_wire.specs.Open.{IsOpenNet};
 ghost use Rattle.leg_grid.specs.Refusals.{IsOtherThanOpen};
@@ -17,7 +17,7 @@ ghost use Rattle.leg_grown.specs.CleanWire.{HasNoSpacingFault};
 ghost use Rattle.leg_grown.specs.Finished.{finished};
 ghost use Rattle.leg_route.specs.Legal.{IsLegal};
 ghost use Rattle.leg_route.specs.SameButForWires.{IsSameButForWires};
-ghost use Rattle.leg_route.specs.Routed.{IsRouted};
+ghost use Rattle.leg_route.specs.Routed.{IsRouted, wires_for};
 ghost use Rattle.leg_route.specs.AddedLists.{AreListsOf};
 
 use leg_cells::laws::good_vias_join_layers;
@@ -41,9 +41,16 @@ pub fn open_nets_were_open()
         → IsOpenNet design grown net → IsOpenNet design flat net }
 {}
 
+/// A net that is not open before a run gets no wires.
+pub fn joined_nets_get_no_wires()
+    ensures { (design : DesignContents) (flat grown : FlatSaid) (added : List Added) (net : ℕ) → Run design flat added grown
+        → ¬ IsOpenNet design flat net → wires_for net added ≡ [] }
+{}
+
 /// A design gets the wires of a run that has come to its end, each entry of `NETS` its own list of them.
 ///
-/// It is then the same but for wires, and is routed. It is legal if before the run no violation held but that nets were open.
+/// It is then the same but for wires, and is routed. It is legal, by each flat by which it is judged, if before the run no violation
+/// held but that nets were open.
 /// It has as many shapes as the flat has grown to, and no more wires than shapes.
 pub fn finished_run()
     ensures same { (design : DesignContents) (lists : List (List Wire)) → IsSameButForWires design (finished design lists) }
@@ -52,7 +59,7 @@ pub fn finished_run()
     ensures legal { (design : DesignContents) (flat grown : FlatSaid) (added : List Added) (lists : List (List Wire))
         → IsSound design.library → IsWellFormed design → IsWellFormed (finished design lists) → IsFlatOf design flat
         → ((fault : Fault) → ¬ IsOtherThanOpen design flat fault) → Run design flat added grown → IsDone design grown
-        → AreListsOf (length design.nets) added lists → IsLegal (finished design lists) }
+        → AreListsOf (length design.nets) added lists → (end : FlatSaid) → IsJudgedBy (finished design lists) end → IsLegal (finished design lists) }
     ensures shapes { (design : DesignContents) (flat grown : FlatSaid) (added : List Added) (lists : List (List Wire)) → IsFlatOf design flat
         → Run design flat added grown → AreListsOf (length design.nets) added lists → length (metal_of (finished design lists)) ≡ length grown.shapes }
     ensures wires { (design : DesignContents) (lists : List (List Wire)) → IsSound design.library → IsWellFormed design

@@ -1,4 +1,4 @@
-use Rattle.std.proofs.Common.{◌≡◌, ◌∙◌, ap, refl, rules, w64, SFits}
+use Rattle.std.proofs.Common.{◌∙◌, ap, refl, rules, w64, SFits}
 use Rattle.std.specs.Iterator.Adapters.{zip_first, zip_second}
 use Rattle.std.specs.Slice.Iter.{iter_rest}
 use Rattle.std.proofs.lemmas.Int.{to_z-of_z}

@@ -6,8 +6,6 @@ returns-in_ok-text-in-Ok g c = record {
   routes = record {
     fits = c.in-Ok.ensures.fits;
     legal = c.in-Ok.ensures.legal;
-    flat = c.every_design_has_a_flat.ensures.0;
-    judged = record { few = c.in-Ok.ensures.few; is_flat = c.every_design_has_a_flat.ensures.1 };
     same = c.in-Ok.ensures.same;
     run = c.in-Ok.ensures.run;
     proper = c.known_sound.ensures.proper;

@@ -1,6 +1,10 @@
-use Rattle.std.proofs.Common.{false, All, map, arith}
+use Rattle.std.proofs.Common.{◌≡◌, ◌≤◌, false, All, length, map, arith}
 use Rattle.std.proofs.lemmas.List.Elements.{All-map}
 use Rattle.leg_block.specs.WellFormedNets.{IsWire}
+use Rattle.leg_block.specs.declared.limits.TheConstants.{PART_LIMIT}
+use Rattle.leg_flat.specs.Metal.{metal_of}
+use Rattle.leg_flat.specs.Flat.{IsJudgedBy}
+use Rattle.leg_grown.specs.Finished.{finished}
 use Rattle.leg_route.proofs.finish.finish.Goals as goal
 
 pub with_all_wires-requires-clause-few : goal.with_all_wires-requires-clause-few
@@ -32,6 +36,12 @@ returns-in-Ok-clause-same g c = rw c.in-Ok.ensures.added (c.finished_run.ensures
 pub returns-in-Ok-clause-legal : goal.returns-in-Ok-clause-legal
 returns-in-Ok-clause-legal g c =
     let it = c.requires.run in
+    let lists = map (λ wires. wires.items) c.args.lists.items in
+    let is : c.in-Ok.done ≡ finished c.args.design lists = c.in-Ok.ensures.added in
+    let flat = c.every_design_has_a_flat.ensures in
+    let shapes = c.finished_run.ensures.shapes c.args.design it.flat it.grown it.added lists it.comes.clean.judged.is_flat it.run it.lists_are in
+    let few : length (metal_of (finished c.args.design lists)) ≤ PART_LIMIT = rw shapes it.within in
+    let judged : IsJudgedBy (finished c.args.design lists) flat.0 = record { few = few; is_flat = rw is at flat.1 } in
     let proper = rw c.in-Ok.ensures.added at c.design_is_sound-in-Ok.ensures.proper in
     rw c.in-Ok.ensures.added (c.finished_run.ensures.legal c.args.design it.flat it.grown it.added (map (λ wires. wires.items) c.args.lists.items) c.design_is_sound.ensures.library
-    c.design_is_sound.ensures.proper proper it.comes.clean.judged.is_flat it.comes.clean.none it.run it.done it.lists_are)
+    c.design_is_sound.ensures.proper proper it.comes.clean.judged.is_flat it.comes.clean.none it.run it.done it.lists_are flat.0 judged)
