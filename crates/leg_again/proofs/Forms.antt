@@ -6,7 +6,7 @@ use Rattle.std.proofs.lemmas.List.Elements.{All-head, All-tail}
 use Rattle.leg_lex.specs.declared.limits.TheConstants.{UNITS_LIMIT}
 use Rattle.leg_lex.specs.Words.{Words, is_name}
 use Rattle.leg_lex.specs.Statements.{statement_at, up_to}
-use Rattle.leg_text.specs.Spaced.{stays_one}
+use Rattle.leg_text.specs.Spaced.{stays_one, line}
 use Rattle.leg_geom.specs.Plane.{Sides}
 use Rattle.leg_cells.specs.Records.{Contents}
 use Rattle.leg_cells.specs.Sound.{IsSound}
@@ -20,8 +20,10 @@ use Rattle.leg_design.specs.Form.{header_form, def_form_at}
 use Rattle.leg_print.specs.Text.Header.{version_words, word_words, units_words, die_words}
 use Rattle.leg_print.specs.Text.Rows.{row_words}
 use Rattle.leg_print.specs.Text.Tracks.{track_words}
+use Rattle.leg_again.specs.SaysForm.{SaysForm}
 use Rattle.leg_again.specs.PrintedNames.{StayOne, row_names, track_names}
 use Rattle.leg_again.proofs.Named.{first_run_passes, next_run_passes}
+use Rattle.leg_again.proofs.Saying.{line_says}
 use Rattle.leg_again.proofs.HeaderLines.{word_again, name_again, units_again, die_again}
 use Rattle.leg_again.proofs.Rows.{row_again}
 use Rattle.leg_again.proofs.Tracks.{track_again}
@@ -126,3 +128,10 @@ module _ (design : DesignContents) (sound : IsSound design.library) where
       (tracks_lead (front ++ track ∷ []) tracks (All-tail (IsTrack design.library) track tracks each) (next_run_passes stays_one (track_names design track) (flat_map (track_names design) tracks) one))) where
         read : (rest : Words) → def_form_at design.library (framed design.rows front) (track_words design track ++ rest) ≡ Some (framed design.rows (front ++ track ∷ []), rest)
         read rest = rw (track_again design sound track (All-head (IsTrack design.library) track tracks each) (first_run_passes stays_one (track_names design track) (flat_map (track_names design) tracks) one) rest) refl
+
+-- VERSION is read past, whatever was said before
+pub version_line : (library : Contents) (parts : DesignParts) → SaysForm (def_form_at library parts) (line version_words) parts
+unfolding def_form_at header_form past_def_form statement_at up_to
+version_line library parts = line_says (def_form_at library parts) version_words parts refl read where
+  read : (rest : Words) → def_form_at library parts (version_words ++ rest) ≡ Some (parts, rest)
+  read rest = refl

@@ -1,19 +1,23 @@
 -- A section is read as its entries, where each is read behind those before it.
-use Rattle.std.proofs.Common.{◌≡◌, ℕ, ◌≤◌, true, false, pos, List, [], ◌∷◌, ◌++◌, All, length, Option, Some, refl, ap, ◌∙◌}
+use Rattle.std.proofs.Common.{◌≡◌, ℕ, ◌≤◌, true, false, pos, List, [], ◌∷◌, ◌++◌, All, length, map, Option, Some, codes, refl, ap, ◌∙◌}
+use Rattle.std.specs.Char.{to_ascii_lowercase}
 use Rattle.std.specs.List.{flat_map}
 use Rattle.std.proofs.lemmas.List.{append_assoc}
 use Rattle.leg_lex.specs.declared.limits.TheConstants.{NUMBER_LIMIT}
-use Rattle.leg_lex.specs.Words.{Words, is_keyword, next_at, keyword_at, mark_at, end_at}
+use Rattle.leg_lex.specs.Words.{Words, is_name, is_keyword, next_at, keyword_at, mark_at, end_at}
 use Rattle.leg_lex.specs.Until.{until}
 use Rattle.leg_lex.specs.Statements.{at_end}
 use Rattle.leg_lex.proofs.Until.{Shortens}
+use Rattle.leg_lex.proofs.NameLookup.{name_itself}
+use Rattle.leg_text.specs.Spaced.{stays_one, line}
 use Rattle.leg_text.proofs.Lines.{Lines, lines_nil, lines_append, lines_each, lines_of_words}
 use Rattle.leg_section.specs.Section.{section_start, section_at}
 use Rattle.leg_print.specs.Text.Sections.{section_start_words, end_words, section_text}
-use Rattle.leg_again.proofs.FreeWords.{IsFree, free_number, free_nil, free_cons}
+use Rattle.leg_again.proofs.FreeWords.{IsFree, free_name, free_number, free_nil, free_cons}
 use Rattle.leg_again.proofs.Again.{all_again}
 use Rattle.leg_again.proofs.Points.{number_again}
-use Rattle.leg_again.proofs.Saying.{said_printable}
+use Rattle.leg_again.specs.SaysForm.{SaysForm}
+use Rattle.leg_again.proofs.Saying.{said_printable, line_says}
 
 -- the words of a section
 abbrev pub section_words : {X : Type 0} → List ℕ → (X → Words) → List X → Words
@@ -65,3 +69,23 @@ section_lines keyword entry_text words (x ∷ xs) free few each =
     (lines_of_words (section_start_words keyword (length (x ∷ xs))) (said_printable (free_cons free (free_cons (free_number (pos (length (x ∷ xs))) few) free_nil)).inside))
     (lines_each entry_text words (x ∷ xs) each))
     (lines_of_words (end_words keyword) (rw (free.inside.printable) refl))
+
+-- a name is the same keyword as itself
+keyword_itself : (keyword : List ℕ) → is_keyword keyword keyword ≡ true
+keyword_itself keyword = name_itself (map to_ascii_lowercase keyword)
+
+-- the first line of a section, and its last one
+pub start_line : (keyword : List ℕ) (count : ℕ) → is_name keyword ≡ true → stays_one keyword ≡ true → count ≤ NUMBER_LIMIT
+    → SaysForm (section_start keyword) (line (section_start_words keyword count)) tt
+start_line keyword count name one few =
+    line_says (section_start keyword) (section_start_words keyword count) tt
+    (said_printable (free_cons (free_name keyword name one) (free_cons (free_number (pos count) few) free_nil)).inside)
+    (λ rest. start_again keyword count rest (keyword_itself keyword) few)
+
+pub end_line : (keyword : List ℕ) → is_name keyword ≡ true → stays_one keyword ≡ true → SaysForm (end_at keyword) (line (end_words keyword)) tt
+end_line keyword name one =
+    let free = free_name keyword name one in
+    line_says (end_at keyword) (end_words keyword) tt (rw (free.inside.printable) refl) (λ rest. end_again keyword rest (keyword_itself keyword))
+
+pub design_end_line : SaysForm (end_at (codes "DESIGN")) (line (end_words (codes "DESIGN"))) tt
+design_end_line = line_says (end_at (codes "DESIGN")) (end_words (codes "DESIGN")) tt refl (λ rest. end_again (codes "DESIGN") rest refl)

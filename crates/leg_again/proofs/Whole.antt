@@ -27,6 +27,7 @@ use Rattle.leg_print.specs.Text.Pins.{pin_words}
 use Rattle.leg_print.specs.Text.Nets.{net_words}
 use Rattle.leg_print.specs.Text.Sections.{end_words, section_text}
 use Rattle.leg_print.specs.Text.Whole.{rows_text, tracks_text, vias_text, components_text, pins_text, nets_text, net_section, design_text}
+use Rattle.leg_again.specs.SaysForm.{WordsSay}
 use Rattle.leg_again.specs.PrintedNames.{StayOne, kept_words, row_names, track_names, via_entry_names, component_entry_names, pin_entry_names, net_entry_names, printed_names}
 use Rattle.leg_again.proofs.FreeWords.{IsFree, free_literal, free_word, free_nil, free_cons}
 use Rattle.leg_again.proofs.Named.{each_passes, first_run_passes, next_run_passes}
@@ -202,6 +203,17 @@ text_says design sound well one fits =
       fits = fits;
       words = found.0;
       tokens = found.1;
+      reads = ap (design_in design.library) found.2 ∙ whole_again design sound well each few;
+    }
+
+-- So do its words, however long it is, if the count of its vias is a number.
+pub words_say : (design : DesignContents) → IsSound design.library → IsWellFormed design → StayOne (printed_names design) → length design.vias ≤ NUMBER_LIMIT
+    → WordsSay (design_in design.library) (design_text design) design
+words_say design sound well one few =
+    let each = all_stay_one design one in
+    let found = lines_are_text (design_text design) (whole_words design) (whole_lines design sound well each few) in record {
+      tokens = found.0;
+      are = found.1;
       reads = ap (design_in design.library) found.2 ∙ whole_again design sound well each few;
     }
 

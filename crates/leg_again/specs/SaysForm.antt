@@ -9,3 +9,9 @@ pub record SaysForm {Said : Type 0} (form : Words → Option (Said × Words)) (b
   pub tokens : List Word
   pub are : AreTokens bytes tokens
   pub reads : (rest : Words) → form (texts tokens ++ rest) ≡ Some (said, rest)
+
+-- the words of the bytes, as the tokens have them, denote this; how many bytes there are is not asked
+pub record WordsSay {Said : Type 0} (denoted : Words → Option Said) (bytes : List ℕ) (said : Said) : Type 0 where
+  pub tokens : List Word
+  pub are : AreTokens bytes tokens
+  pub reads : denoted (texts tokens) ≡ Some said

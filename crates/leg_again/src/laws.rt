@@ -6,11 +6,11 @@
 
 ghost use Rattle.std.specs.Prelude.{◌≡◌, ℕ, ◌≤◌, true, false, List, [], ◌∷◌, ◌++◌, length, IsTrue, codes};
 ghost use Rattle.leg_lex.specs.Say.{Says};
-ghost use Rattle.leg_lex.specs.Words.{is_word, is_name};
-ghost use Rattle.leg_lex.specs.declared.limits.TheConstants.{UNITS_LIMIT, TEXT_LIMIT};
+ghost use Rattle.leg_lex.specs.Words.{is_word, is_name, end_at};
+ghost use Rattle.leg_lex.specs.declared.limits.TheConstants.{NUMBER_LIMIT, UNITS_LIMIT, TEXT_LIMIT};
 ghost use Rattle.leg_text.specs.Spaced.{stays_one, line};
 ghost use Rattle.leg_geom.specs.Plane.{Sides};
-ghost use Rattle.leg_cells.specs.Records.{ViaSaid};
+ghost use Rattle.leg_cells.specs.Records.{Contents, ViaSaid};
 ghost use Rattle.leg_cells.specs.Sound.{IsSound};
 ghost use Rattle.leg_block.specs.declared.records.Row.{Row};
 ghost use Rattle.leg_block.specs.declared.records.Component.{Component};
@@ -25,16 +25,19 @@ ghost use Rattle.leg_floorplan.specs.Component.{component_entry};
 ghost use Rattle.leg_floorplan.specs.Pin.{pin_entry};
 ghost use Rattle.leg_nets.specs.Net.{net_entry};
 ghost use Rattle.leg_design.specs.Header.{word_after, design_name_at, units_at, units_in};
-ghost use Rattle.leg_design.specs.Form.{design_in};
-ghost use Rattle.leg_print.specs.Text.Header.{word_words, units_words, die_words};
+ghost use Rattle.leg_section.specs.Section.{section_start};
+ghost use Rattle.leg_design.specs.Parts.{DesignParts};
+ghost use Rattle.leg_design.specs.Form.{def_form_at, design_in};
+ghost use Rattle.leg_print.specs.Text.Header.{version_words, word_words, units_words, die_words};
 ghost use Rattle.leg_print.specs.Text.Rows.{row_words};
 ghost use Rattle.leg_print.specs.Text.Tracks.{track_words};
 ghost use Rattle.leg_print.specs.Text.Vias.{via_words};
 ghost use Rattle.leg_print.specs.Text.Components.{component_words};
 ghost use Rattle.leg_print.specs.Text.Pins.{pin_words};
 ghost use Rattle.leg_print.specs.Text.Nets.{net_text};
+ghost use Rattle.leg_print.specs.Text.Sections.{section_start_words, end_words};
 ghost use Rattle.leg_print.specs.Text.Whole.{design_text};
-ghost use Rattle.leg_again.specs.SaysForm.{SaysForm};
+ghost use Rattle.leg_again.specs.SaysForm.{SaysForm, WordsSay};
 ghost use Rattle.leg_again.specs.Known.{known_of};
 ghost use Rattle.leg_again.specs.PrintedNames.{StayOne, row_names, track_names, via_entry_names, component_entry_names, pin_entry_names, net_entry_names, printed_names};
 
@@ -60,6 +63,13 @@ pub fn printed_text_says_no_other()
     leg_lex::laws::one_cut();
 }
 
+/// The words of the printed text of a design denote exactly this design, whatever the text's length, if it has no more vias of its
+/// own than a number can be: their count is printed, and is read as a number.
+pub fn printed_words_say_their_design()
+    ensures { (design : DesignContents) → IsSound design.library → IsWellFormed design → StayOne (printed_names design)
+        → length design.vias ≤ NUMBER_LIMIT → WordsSay (design_in design.library) (design_text design) design }
+{}
+
 /// The same of a design that the program has: it and its library are as the laws ask for, by their types.
 pub fn printed_design_is_read_again<A: Allocator + Copy>(design: &Design<'_, A>)
     ensures { StayOne (printed_names design.now) → length (design_text design.now) ≤ TEXT_LIMIT
@@ -76,6 +86,25 @@ pub fn naming_lines_are_read()
         → SaysForm (word_after (codes "DIVIDERCHAR")) (line (word_words (codes "DIVIDERCHAR") word)) word }
     ensures bus { (word : List ℕ) → IsTrue (is_word word) → IsTrue (stays_one word)
         → SaysForm (word_after (codes "BUSBITCHARS")) (line (word_words (codes "BUSBITCHARS") word)) word }
+{}
+
+/// The line of the version is read past.
+pub fn version_line_is_read()
+    ensures { (library : Contents) (parts : DesignParts) → SaysForm (def_form_at library parts) (line version_words) parts }
+{}
+
+/// The first line of a section contains its keyword and the count of its entries, and its last line ends it: VIAS, COMPONENTS,
+/// PINS, SPECIALNETS and NETS are printed so.
+pub fn section_lines_are_read()
+    ensures first { (keyword : List ℕ) (count : ℕ) → IsTrue (is_name keyword) → IsTrue (stays_one keyword) → count ≤ NUMBER_LIMIT
+        → SaysForm (section_start keyword) (line (section_start_words keyword count)) tt }
+    ensures last { (keyword : List ℕ) → IsTrue (is_name keyword) → IsTrue (stays_one keyword)
+        → SaysForm (end_at keyword) (line (end_words keyword)) tt }
+{}
+
+/// The last line ends the design.
+pub fn end_line_is_read()
+    ensures { SaysForm (end_at (codes "DESIGN")) (line (end_words (codes "DESIGN"))) tt }
 {}
 
 /// The line of the design contains its name.

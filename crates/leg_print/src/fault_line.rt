@@ -21,7 +21,7 @@ use std::alloc::{AllocError, Allocator};
 /// A line for each violation, in their order.
 ///
 /// The design was read with this library. The flat is given where a violation speaks of shapes or of a net's pieces, and is
-/// then the one that they are of. It fails only when out of memory.
+/// then the one that they are of: without it, such a violation has no line. It fails only when out of memory.
 pub fn print_faults<A: Allocator + Copy>(
     alloc: A,
     library: &Library<'_, A>,
