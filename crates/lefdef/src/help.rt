@@ -10,7 +10,7 @@ With no arguments it reads one LEF that ends in END LIBRARY and then one DEF fro
 const STATUSES: &str = "Exit status:
   0   the block is legal, or a design, a wirelength or this help was printed
   1   violations were listed
-  2   a text was refused, a length is not a whole number of database units, or a check met too many shapes
+  2   a text was refused, a LEF length cannot be converted to database units, or a check met too many shapes
   3   the block could not be legalised or routed
   4   out of memory
   5   a file could not be read, or the output not written

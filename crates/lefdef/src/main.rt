@@ -53,7 +53,7 @@ fn ended<R: Runtime + AllocGlobal>(rt: &R) -> u8 {
 fn words<R: Runtime + AllocGlobal>(rt: &R) -> Result<Vec<String>, Stop<'static>> {
     match env::args(rt) {
         Ok(args) => Ok(args.skip(1).collect(rt.alloc())?),
-        Err(e) if e.kind() == io::ErrorKind::OutOfMemory => Err(Stop::Memory),
+        Err(cause) if cause.kind() == io::ErrorKind::OutOfMemory => Err(Stop::Memory),
         Err(_) => Err(Stop::Halt(Halt::Usage, None)),
     }
 }
@@ -137,7 +137,7 @@ fn on_texts<R: Runtime + AllocGlobal, A: Allocator>(
 fn file<'a, R: Runtime + AllocGlobal>(rt: &R, path: &'a str) -> Result<Vec<u8>, Stop<'a>> {
     let mut file = match File::open(rt, path) {
         Ok(file) => file,
-        Err(cause) => return Err(Stop::Halt(Halt::NotRead(path), Some(cause))),
+        Err(cause) => return Err(not_read(cause, path)),
     };
     match read_all(rt.alloc(), &mut file, FILE_LIMIT) {
         Ok(bytes) => Ok(bytes),
@@ -170,8 +170,17 @@ fn on_stream_text<R: Runtime + AllocGlobal>(
 // Why an input ends the program.
 fn no_input(fault: InputFault, path: &str) -> Stop<'_> {
     match fault {
-        InputFault::Unreadable(cause) => Stop::Halt(Halt::NotRead(path), Some(cause)),
+        InputFault::Unreadable(cause) => not_read(cause, path),
         InputFault::Memory => Stop::Memory,
+    }
+}
+
+// Why an input that the system does not open or read ends the program: it may be that the system has no memory for it.
+fn not_read(cause: io::Error, path: &str) -> Stop<'_> {
+    if cause.kind() == io::ErrorKind::OutOfMemory {
+        Stop::Memory
+    } else {
+        Stop::Halt(Halt::NotRead(path), Some(cause))
     }
 }
 
