@@ -1,0 +1,235 @@
+"""Reads a DEF text as a design over a library."""
+from . import geometry
+from .lef_text import joined_layers
+from .model import Component, Design, DesignPin, Net, Port, Row, Tracks, Via, numbers_of
+from .wiring_text import read_wiring
+from .words import Cursor, NotRead, words_of
+
+READ_PAST = ('VERSION', 'NAMESCASESENSITIVE', 'TECHNOLOGY', 'HISTORY', 'GCELLGRID')
+READ_PAST_BY_WORD = ('PROPERTYDEFINITIONS', 'NONDEFAULTRULES', 'REGIONS', 'FILLS', 'SLOTS', 'STYLES', 'SCANCHAINS', 'GROUPS', 'PINPROPERTIES')
+PLACES = ('PLACED', 'FIXED', 'COVER')
+
+
+def units_of(words):
+    """Returns the number of units behind the first UNITS DISTANCE MICRONS."""
+    cursor = Cursor(words)
+    cursor.skip_past('UNITS', 'DISTANCE', 'MICRONS')
+    return cursor.whole_number()
+
+
+def read_design(words, library):
+    """Returns the design that these words of a DEF denote."""
+    return DefReader(words, library).read()
+
+
+class DefReader:
+    """Reads one text; the numbers of what was named stand beside the lists."""
+
+    def __init__(self, words, library):
+        self.text = Cursor(words)
+        self.library = library
+        self.layers = numbers_of(library.layers)
+        self.sites = numbers_of(library.sites)
+        self.macros = numbers_of(library.macros)
+        self.macro_pins = [numbers_of(macro.pins) for macro in library.macros]
+        self.vias = {via.name: via for via in library.vias}
+        self.found = {'name': None, 'divider': None, 'bus_bits': None, 'units': units_of(words), 'die': None}
+        self.rows, self.tracks, self.own_vias = [], [], []
+        self.components, self.component_numbers = [], {}
+        self.pins, self.pin_numbers = [], {}
+        self.nets = {'NETS': [], 'SPECIALNETS': []}
+
+    def read(self):
+        """Reads the whole text."""
+        forms = {'ROW': self.read_row, 'TRACKS': self.read_tracks, 'DIEAREA': self.read_die, 'VIAS': self.read_section,
+                 'COMPONENTS': self.read_section, 'PINS': self.read_section, 'SPECIALNETS': self.read_section, 'NETS': self.read_section}
+        words = {'DESIGN': 'name', 'DIVIDERCHAR': 'divider', 'BUSBITCHARS': 'bus_bits'}
+        while not self.text.takes('END'):
+            word = self.text.keyword()
+            if word in forms:
+                forms[word](word)
+            elif word in words:
+                self.found[words[word]] = self.text.statement()[0]
+            elif word in READ_PAST or word == 'UNITS':
+                self.text.statement()
+            elif word in READ_PAST_BY_WORD:
+                self.text.skip_past('END', word)
+            elif word == 'BEGINEXT':
+                self.text.skip_past('ENDEXT')
+            else:
+                raise NotRead(f'there is no form {word}')
+        self.text.expect('DESIGN')
+        self.append_pins()
+        return Design(self.library, rows=self.rows, tracks=self.tracks, vias=self.own_vias, components=self.components, pins=self.pins,
+                      special_nets=self.nets['SPECIALNETS'], nets=self.nets['NETS'], **self.found)
+
+    def point(self):
+        """Reads `( int int )`."""
+        self.text.expect('(')
+        point = self.text.whole_number(), self.text.whole_number()
+        self.text.expect(')')
+        return point
+
+    def rectangle(self):
+        """Reads two corners."""
+        return geometry.between(self.point(), self.point())
+
+    def orientation(self):
+        """Reads an orientation."""
+        word = self.text.keyword()
+        if word not in geometry.ORIENTATIONS:
+            raise NotRead(f'{word} is no orientation')
+        return word
+
+    def skip_clause(self):
+        """Goes to the next `+` or semicolon."""
+        while self.text.peek() not in ('+', ';'):
+            self.text.next()
+
+    def read_die(self, _):
+        """Reads the area of the die behind its first word: two or four corners."""
+        corners = [self.point()]
+        while not self.text.takes(';'):
+            corners.append(self.point())
+        self.found['die'] = geometry.box_around([corner + corner for corner in corners])
+
+    def read_row(self, _):
+        """Reads a row behind its first word."""
+        name, site = self.text.next(), self.sites[self.text.next()]
+        x, y = self.text.whole_number(), self.text.whole_number()
+        orientation = self.orientation()
+        count = self.text.whole_number() if self.text.takes('DO') else 1
+        self.text.statement()
+        self.rows.append(Row(name, site, x, y, orientation, count))
+
+    def read_tracks(self, _):
+        """Reads tracks behind their first word."""
+        axis, start = self.text.keyword(), self.text.whole_number()
+        self.text.expect('DO')
+        count = self.text.whole_number()
+        self.text.expect('STEP')
+        step = self.text.whole_number()
+        layers = [self.layers[name] for name in self.text.statement()[1:]]
+        self.tracks.append(Tracks(axis, start, count, step, tuple(layers)))
+
+    def read_section(self, section):
+        """Reads a section behind its first word."""
+        entries = {'VIAS': self.read_via, 'COMPONENTS': self.read_component, 'PINS': self.read_pin,
+                   'SPECIALNETS': self.read_net, 'NETS': self.read_net}
+        self.text.whole_number()
+        self.text.expect(';')
+        while self.text.takes('-'):
+            entries[section](section)
+        self.text.expect('END', section)
+
+    def read_via(self, _):
+        """Reads an entry of VIAS behind its mark."""
+        name, shapes = self.text.next(), []
+        while not self.text.takes(';'):
+            self.text.expect('+')
+            if self.text.takes('RECT'):
+                shapes += self.rectangle_on_layer()
+            else:
+                self.skip_clause()
+        via = Via(name, tuple(shapes), False, joined_layers(self.library.layers, name, shapes))
+        self.own_vias.append(via)
+        self.vias[name] = via
+
+    def rectangle_on_layer(self):
+        """Reads a layer and a rectangle, and returns it in a list, which is empty if the layer has no metal."""
+        layer = self.layers[self.text.next()]
+        while self.text.peek() in ('SPACING', 'DESIGNRULEWIDTH'):
+            self.text.next()
+            self.text.whole_number()
+        rect = self.rectangle()
+        return [(layer, rect)] if self.library.layers[layer].has_metal() else []
+
+    def read_component(self, _):
+        """Reads an entry of COMPONENTS behind its mark."""
+        name, macro = self.text.next(), self.macros[self.text.next()]
+        status, place, orientation = 'UNPLACED', None, None
+        while not self.text.takes(';'):
+            self.text.expect('+')
+            if self.text.peek() in PLACES:
+                status, place, orientation = self.text.keyword(), self.point(), self.orientation()
+            else:
+                self.skip_clause()
+        self.component_numbers[name] = len(self.components)
+        self.components.append(Component(name, macro, status, place, orientation))
+
+    def read_pin(self, _):
+        """Reads an entry of PINS behind its mark."""
+        name = self.text.next()
+        words = {'NET': None, 'DIRECTION': None, 'USE': None}
+        ports = []
+        while not self.text.takes(';'):
+            self.text.expect('+')
+            word = self.text.keyword()
+            if word in words:
+                words[word] = self.text.next()
+            elif word == 'PORT':
+                ports.append(Port((), None, None, None))
+            elif word == 'LAYER' or word in PLACES:
+                last = ports.pop() if ports else Port((), None, None, None)
+                ports.append(self.continued_port(last, word))
+            else:
+                self.skip_clause()
+        self.pin_numbers[name] = len(self.pins)
+        self.pins.append(DesignPin(name, words['NET'], words['DIRECTION'], words['USE'], tuple(ports)))
+
+    def continued_port(self, port, word):
+        """Returns the port with what the clause with this word adds."""
+        if word == 'LAYER':
+            return port._replace(shapes=port.shapes + tuple(self.rectangle_on_layer()))
+        return port._replace(status=word, place=self.point(), orientation=self.orientation())
+
+    def read_net(self, section):
+        """Reads an entry of NETS or SPECIALNETS behind its mark."""
+        name, terminals, use, wires = self.text.next(), {}, None, []
+        while self.text.takes('('):
+            terminals.update(dict.fromkeys(self.read_terminals()))
+        while not self.text.takes(';'):
+            self.text.expect('+')
+            word = self.text.keyword()
+            if word == 'USE':
+                use = self.text.next()
+            elif word in ('ROUTED', 'FIXED', 'COVER', 'NOSHIELD', 'SHIELD'):
+                if word == 'SHIELD':
+                    self.text.next()
+                wires += read_wiring(self.text, self.library.layers, self.layers, self.vias, section == 'SPECIALNETS')
+            else:
+                self.skip_clause()
+        self.nets[section].append(Net(name, tuple(terminals), use, tuple(wires)))
+
+    def read_terminals(self):
+        """Reads a terminal behind its parenthesis, or in SPECIALNETS a pin of all components."""
+        component, pin = self.text.next(), self.text.next()
+        if self.text.takes('+'):
+            self.text.expect('SYNTHESIZED')
+        self.text.expect(')')
+        if component.upper() == 'PIN':
+            return [(None, self.pin_numbers[pin])]
+        if component != '*':
+            number = self.component_numbers[component]
+            return [(number, self.macro_pins[self.components[number].macro][pin])]
+        having = [(number, self.macro_pins[component.macro]) for number, component in enumerate(self.components)]
+        return [(number, pins[pin]) for number, pins in having if pin in pins]
+
+    def append_pins(self):
+        """Appends each pin of the design that no entry lists to the entry that its NET names."""
+        listed = {terminal for nets in self.nets.values() for net in nets for terminal in net.terminals}
+        numbers = {section: numbers_of(nets) for section, nets in self.nets.items()}
+        for number, pin in enumerate(self.pins):
+            section = next((section for section in ('NETS', 'SPECIALNETS') if pin.net in numbers[section]), None)
+            if section is None or (None, number) in listed:
+                continue
+            place = numbers[section][pin.net]
+            net = self.nets[section][place]
+            self.nets[section][place] = net._replace(terminals=net.terminals + ((None, number),))
+
+
+def read_texts(lefs, text):
+    """Returns the design of these LEF texts and this DEF text."""
+    from .lef_text import read_library
+    words = words_of(text)
+    return read_design(words, read_library(lefs, units_of(words)))

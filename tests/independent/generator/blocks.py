@@ -1,0 +1,67 @@
+"""The block of a number: LEF texts and a DEF text."""
+from typing import List, NamedTuple, Tuple
+
+from answer.model import Design
+from . import floorplan as plans
+from .cells import cells
+from .def_writer import DefWriter
+from .lef_writer import LefWriter
+from .netlist import Netlist, design_pins
+from .placing import Placing, chosen_macros, widths_of_sites
+from .plan import plan_of
+from .technology import technology
+from .wires import WireMaker, own_vias, thinned
+
+
+class Block(NamedTuple):
+    """A block, with the number that decides it, what it is for, and the commands that are asked of it."""
+    number: int
+    family: str
+    commands: Tuple[str, ...]
+    lefs: List[str]
+    text: str
+
+
+def block_of(number):
+    """Returns the block with this number."""
+    plan, dice = plan_of(number)
+    found = technology(dice, plan)
+    found.library.macros.extend(cells(dice, plan, found.library))
+    design = design_of(dice, plan, found.library)
+    if plan.thin:
+        design = thinned(dice, design)
+    lefs, text = LefWriter(dice, plan, found).texts(), DefWriter(dice, plan, design).text()
+    return Block(number, f'{plan.family} {plan.count}', plan.commands, lefs, text)
+
+
+def design_of(dice, plan, library):
+    """Returns the design of a plan."""
+    macros = chosen_macros(dice, plan, library)
+    area = plans.Floorplan(dice, plan, library, widths_of_sites(library, macros))
+    components = Placing(dice, plan, library, area).components(macros)
+    pins = design_pins(dice, plan, library, area)
+    netlist = Netlist(dice, plan, library, components, pins)
+    vias = own_vias(dice, plan, library)
+    maker = WireMaker(dice, plan, library, vias, points(dice, plan, area, components))
+    nets = [net._replace(wires=maker.wires(False, share(dice, plan, number))) for number, net in enumerate(netlist.nets)]
+    special = [net._replace(wires=maker.wires(True, share(dice, plan, number))) for number, net in enumerate(netlist.special_nets)]
+    words = [dice.one_of((None, '"/"', '"|"')), dice.one_of((None, '"[]"', '"<>"'))]
+    return Design(library, dice.one_of(('top', 'block', 'a-b_c[1]', 'a;')), *words, plan.units, area.die, area.rows, area.tracks, vias,
+                  components, netlist.pins, special, nets)
+
+
+def share(dice, plan, number):
+    """Returns how many wires a net gets: the first ones what the plan says."""
+    return plan.wires if number < 2 else dice.below(plan.wires + 1)
+
+
+def points(dice, plan, area, components):
+    """Returns points for wires to begin at: on the lattice of the pitch near components."""
+    if plan.corners:
+        return [(area.x, area.y)]
+    half = max(1, plan.pitch // 2)
+    places = [it.place for it in dice.some_of(components, 20) if it.place] + [(area.x, area.y)]
+    if not plan.tidy:
+        return [(x + dice.between(-2, 4) * half, y + dice.between(-2, 4) * half) for x, y in places]
+    near = [(x - area.x) // plan.pitch + dice.between(0, 3) for x, _ in places], [(y - area.y) // plan.pitch + dice.between(0, 5) for _, y in places]
+    return [(area.x + half + x * plan.pitch, area.y + half + y * plan.pitch) for x, y in zip(*near)]
