@@ -1,0 +1,206 @@
+"""Tests of tests/docs/run: copies of the repository in which a document, a source or a list is wrong have to fail."""
+import contextlib
+import io
+import os
+import re
+import stat
+import sys
+import tempfile
+import unittest
+
+sys.path.insert(0, os.path.dirname(os.path.abspath(__file__)))
+
+from doctored import Doctored, script
+
+docs = script('tests/docs/run')
+PROOFS = 'docs/PROOFS.md'
+
+
+def printed(check, repository):
+    """Returns the lines that a check prints."""
+    with contextlib.redirect_stdout(io.StringIO()) as told:
+        check(docs.Count(), repository)
+    return set(told.getvalue().splitlines())
+
+
+def said(check, copy):
+    """Returns the lines that a check prints of the copy as it is now."""
+    return printed(check, docs.Repository(copy.top))
+
+
+class DoctoredTests(unittest.TestCase):
+    crates = ('leg_lex', 'leg_geom', 'leg_sweep', 'leg_design')
+    parts = ('README.md', 'docs')
+
+    def setUp(self):
+        self.copy = Doctored(self.crates, self.parts)
+        self.addCleanup(self.copy.close)
+
+    def new_of(self, check, *edits):
+        """Returns what the check says of the copy only after these edits."""
+        before = said(check, self.copy)
+        for edit in edits:
+            self.copy.edit(*edit)
+        return said(check, self.copy) - before
+
+    def assert_said(self, lines, *parts):
+        for part in parts:
+            self.assertTrue(any(part in line for line in lines), f'{part!r} is not in {lines}')
+
+
+class ProofsTests(DoctoredTests):
+    """docs/PROOFS.md against the sources."""
+
+    def found(self, *edits):
+        return self.new_of(docs.check_proofs, *edits)
+
+    def without(self, call, label):
+        """Returns what is said where this clause of a function in leg_sweep's banded.rt has another label."""
+        path = 'crates/leg_sweep/src/banded.rt'
+        head, name, tail = self.copy.read(path).partition(f'pub fn {call}<')
+        before = said(docs.check_proofs, self.copy)
+        self.copy.write(path, head + name + tail.replace(f'ensures {label} {{', 'ensures another {', 1))
+        return said(docs.check_proofs, self.copy) - before
+
+    def test_a_clause_that_other_calls_still_have(self):
+        self.assert_said(self.without('pairs_in_bands', 'few_tests'), 'pairs_in_bands has no clause few_tests as of pairs')
+
+    def test_a_clause_that_a_row_names_and_other_calls_still_have(self):
+        self.assert_said(self.without('each_pair', 'few_tests'), 'no clause few_tests of each_pair')
+
+    def test_clauses_of_methods_that_functions_of_the_crate_still_have(self):
+        path = 'crates/leg_design/src/def_text.rt'
+        new, units = '    ensures too_long {', '    ensures found { IfOk result (λ n.'
+        design = '    ensures none { IfErr result (λ fault. fault.kind ≢ Memory\n'
+        lines = self.found(*((path, old, old.replace('ensures ', 'ensures un')) for old in (new, units, design)))
+        self.assert_said(lines, 'no clause too_long of DefText::new', 'DefText::units has no clause found as of def_units',
+                         'DefText::design has no clause none as of read_def')
+
+    def test_a_heading_that_is_no_crate(self):
+        lines = self.found((PROOFS, '## leg_sweep\n', '## leg_sweeps\n'))
+        self.assert_said(lines, "'leg_sweeps' is no crate", 'there is no section on leg_sweep, which has clauses of')
+
+    def test_a_limit_that_is_not_that_of_the_clause(self):
+        lines = self.found((PROOFS, '`few`: fewer than 2^32, by the type', '`few`: fewer than 2^16, by the type'))
+        self.assert_said(lines, 'no clause of BinIndex::len has 2 ^ 16')
+
+    def test_a_crate_that_nothing_is_said_of(self):
+        self.copy.write('crates.txt', self.copy.read('crates.txt') + 'leg_new:\n')
+        self.copy.write('crates/leg_new/src/lib.rt', '//! Nothing.\n')
+        self.assert_said(said(docs.check_proofs, self.copy), 'nothing on leg_new')
+
+    def test_a_call_that_is_not_there(self):
+        lines = self.found((PROOFS, '| `Rect::overlaps` |', '| `Rect::overlaps`, `Point::overlaps` |'))
+        self.assert_said(lines, 'leg_geom has no public Point::overlaps')
+
+    def test_a_call_that_is_private(self):
+        self.assert_said(self.found((PROOFS, '| `tokens` |', '| `tokens`, `tokens_at` |')), 'leg_lex has no public tokens_at')
+
+    def test_a_clause_that_is_not_there(self):
+        self.assert_said(self.found((PROOFS, '`too_long`: `TooLong` exactly above', '`long`: `TooLong` exactly above')), 'no clause long of tokens')
+
+    def test_a_call_that_is_not_named(self):
+        self.assert_said(self.found((PROOFS, 'Rect::{x1, y1, x2, y2}', 'Rect::{x1, y1, x2}')), 'leg_geom::Rect::y2 is not named')
+
+    def test_a_law_that_is_not_named(self):
+        self.assert_said(self.found((PROOFS, '`counts_are_lengths`, ', '')), 'leg_sweep::laws::counts_are_lengths is not named')
+
+    def test_clauses_of_what_is_not_there(self):
+        lines = self.found((PROOFS, '| `pairs_counted` | the clauses of `pairs`.', '| `pairs_counted` | the clauses of `each`.'))
+        self.assert_said(lines, "it has clauses 'as of' what is no public call")
+
+    def test_a_file_that_is_not_there(self):
+        self.assert_said(self.found((PROOFS, '`proofs/NearNodes.antt`', '`proofs/NearNode.antt`')), 'no file proofs/NearNode.antt')
+
+
+class ReferenceTests(DoctoredTests):
+    """docs/reference against the sources."""
+    crates = ('leg_geom',)
+
+    def test_a_public_clause_that_goes(self):
+        self.copy.edit('crates/leg_geom/src/rect.rt', 'ensures { IsTrue result ↔ ShareSquare self.now other.now }', '')
+        self.assert_said(said(docs.check_reference, self.copy), 'docs/reference/leg_geom.md differs from the sources',
+                         '-    ensures { IsTrue result ↔ ShareSquare self.now other.now }')
+
+
+class NumberTests(DoctoredTests):
+    """The numbers and the kit that documents name."""
+    crates = ('leg_geom',)
+    parts = ('README.md', 'docs', 'tests/edits', 'tests/library', 'tests/design')
+
+    def found(self):
+        return said(docs.check_numbers, self.copy)
+
+    def test_each_number_that_differs_is_named(self):
+        before, text = self.found(), self.copy.read(PROOFS)
+        for section, pattern, right in docs.numbers(docs.Repository(self.copy.top)):
+            with self.subTest(section=section, pattern=pattern):
+                start = text.index(f'\n## {section}\n') if section else 0
+                place = re.compile(pattern).search(text, start).span(1)
+                self.copy.write(PROOFS, text[:place[0]] + '7,777' + text[place[1]:])
+                self.assert_said(self.found() - before, f'has 7,777, and {right:,} are there')
+
+    def test_a_text_that_goes(self):
+        lines = self.copy.read('tests/design/refused').splitlines(keepends=True)
+        self.copy.write('tests/design/refused', ''.join(lines[1:]))
+        self.assert_said(self.found(), f'and {len(lines) - 1} are there')
+
+    def with_kit(self, line):
+        """Puts a command `rt` first on the path, which prints this line."""
+        folder = tempfile.TemporaryDirectory()
+        self.addCleanup(folder.cleanup)
+        path = os.path.join(folder.name, 'rt')
+        with open(path, 'w', encoding='utf-8') as file:
+            file.write(f'#!/bin/sh\necho "{line}"\n')
+        os.chmod(path, stat.S_IRWXU)
+        before = os.environ['PATH']
+        self.addCleanup(os.environ.__setitem__, 'PATH', before)
+        os.environ['PATH'] = folder.name + os.pathsep + before
+
+    def test_the_kit(self):
+        kit = re.findall(docs.KIT, self.copy.read('README.md'))[0]
+        self.with_kit(kit)
+        self.assertEqual(said(docs.check_kit, self.copy), set())
+        self.with_kit('rattle-kit-0z logic 0123456789abcdef')
+        self.assert_said(said(docs.check_kit, self.copy), 'README.md: it names', 'docs/PROOFS.md: it names')
+        self.with_kit(kit)
+        self.copy.edit(PROOFS, kit, f'{kit}`, `rattle-kit-0z logic 0123456789abcdef')
+        self.assert_said(said(docs.check_kit, self.copy), 'docs/PROOFS.md and README.md name different kits')
+
+
+class StepsTests(DoctoredTests):
+    """What public clauses and views cite."""
+
+    def test_a_view_that_cites_a_step(self):
+        self.assertEqual(said(docs.check_steps, self.copy), set())
+        path = 'crates/leg_sweep/src/bin_index.rt'
+        lines = self.new_of(docs.check_steps, (path, 'ghost view = { λ index. index.rects.items };', 'ghost view = { λ index. IsIndex index.rects.items };'))
+        self.assertEqual(lines, {'the view of leg_sweep::BinIndex cites IsIndex of specs/Steps'})
+
+    def test_a_clause_that_cites_a_step(self):
+        path = 'crates/leg_sweep/src/bin_index.rt'
+        lines = self.new_of(docs.check_steps, (path, 'ensures is { result ≡ length self.now }', 'ensures is { IsIndex [] [] [] }'))
+        self.assertEqual(lines, {'a clause of leg_sweep::BinIndex::len cites IsIndex of specs/Steps'})
+
+
+class GateTests(DoctoredTests):
+    """tests/edits/gate."""
+    crates = ()
+    parts = ('tests/edits',)
+
+    def test_lists_that_are_wrong(self):
+        repository, path = docs.Repository(self.copy.top), 'tests/edits/gate'
+        lines, before = self.copy.read(path).splitlines(keepends=True), printed(docs.check_gate, repository)
+        self.copy.write(path, '# nothing\n')
+        found = printed(docs.check_gate, repository) - before
+        self.assert_said(found, 'tests/edits/gate lists no edit', 'no edit of leg_place, which the program runs')
+        self.copy.write(path, ''.join(line for line in lines if not line.startswith('leg_walk/')))
+        self.assertEqual(printed(docs.check_gate, repository) - before, {'tests/edits/gate: no edit of leg_walk, which the program runs'})
+        self.copy.write(path, ''.join(lines) + 'leg_geom/none rect::Rect::gap\n')
+        self.assertEqual(printed(docs.check_gate, repository) - before,
+                         {'tests/edits/gate: there is no edit leg_geom/none',
+                          'tests/edits/gate: leg_geom/none names rect::Rect::gap, which is no function of leg_geom'})
+
+
+if __name__ == '__main__':
+    unittest.main()
