@@ -190,14 +190,14 @@ PINS 1 ;
 END PINS
 SPECIALNETS 1 ;
 - P ( u1 VDD ) ( u2 VDD ) + USE POWER
-  + ROUTED m1 100 ( 1700 400 ) ( 1900 400 )
+  + ROUTED m1 100 ( 1700 400 25 ) ( 1900 400 )
   NEW m1 0 ( 1700 400 ) v ;
 END SPECIALNETS
 NETS 2 ;
 - n1 ( u1 Y ) ( u2 A ) ( PIN p )
   + ROUTED m1 ( 300 900 ) ( 500 900 ) ;
 - n2 ( u2 Y ) ( u3 A ) + USE SIGNAL
-  + ROUTED m1 ( 1500 1500 ) ( 1700 1500 )
+  + ROUTED m1 ( 1500 1500 0 ) ( 1700 1500 60 )
   NEW m1 ( 1500 1500 ) V12
   NEW m1 ( 1700 1500 ) V12
   NEW m1 ( 1700 1500 ) RECT ( -50 -50 50 50 ) ;

@@ -1,1 +1,2 @@
+pub mod MoreWires
 pub mod Wires

@@ -1,5 +1,5 @@
 -- Wires of one design that another may get.
-use Rattle.std.proofs.Common.{◌≡◌, ℕ, ◌<◌, List, [], ◌∷◌, length, false, All, slice_index_or, arith}
+use Rattle.std.proofs.Common.{◌≡◌, ◌<◌, List, [], ◌∷◌, length, false, All, slice_index_or, arith}
 use Rattle.std.proofs.lemmas.List.{length-append}
 use Rattle.leg_block.specs.MoreWires.{each_with, with_more_wires}
 use Rattle.leg_cells.specs.Records.{Contents, ViaSaid}

@@ -3,6 +3,7 @@
 
 mod changes;
 mod commands;
+mod two_nets;
 mod wires;
 
 use block_texts::{around_an_obstruction, net_at_one_place, two_at_one_place};
@@ -22,6 +23,8 @@ enum Trial {
     Give(Change),
     /// It is given, and a wire for its net.
     Wire(WireCall),
+    /// It has two nets. It is given, and wires for them.
+    TwoNets(WireCall),
 }
 
 /// Whether the trial goes right with each allocation refused in turn.
@@ -47,26 +50,29 @@ fn goes_right_under<A: Allocator + Copy>(
     match trial {
         Trial::Give(change) => changes::goes_right(alloc, refusing, library, change, def),
         Trial::Wire(call) => wires::goes_right(alloc, refusing, library, call, def),
+        Trial::TwoNets(call) => two_nets::goes_right(alloc, refusing, library, call),
     }
 }
 
 #[test]
 fn a_legaliser_without_memory(rt: HostRuntime) {
     let refusing = &RefusingAlloc::new(rt.alloc());
+    for def in [two_at_one_place(), net_at_one_place()] {
+        assert!(rt;
+            goes_right(
+                refusing,
+                refusing,
+                Trial::Give(Change::Legalise(&[0, 400])),
+                def
+            )
+        );
+    }
     assert!(rt;
         goes_right(
             refusing,
             refusing,
-            Trial::Give(Change::Legalise),
-            two_at_one_place()
-        )
-    );
-    assert!(rt;
-        goes_right(
-            refusing,
-            refusing,
-            Trial::Give(Change::Legalise),
-            net_at_one_place()
+            Trial::Give(Change::Legalise(&[0, 0, 0])),
+            around_an_obstruction()
         )
     );
 }
@@ -78,18 +84,24 @@ fn a_router_without_memory(rt: HostRuntime) {
         goes_right(
             refusing,
             refusing,
-            Trial::Give(Change::Route),
+            Trial::Give(Change::Route(0)),
             around_an_obstruction()
         )
     );
+    // The inverters overlap, and so does the metal of their two signal pins.
+    for def in [two_at_one_place(), net_at_one_place()] {
+        assert!(rt; goes_right(refusing, refusing, Trial::Give(Change::Route(3)), def));
+    }
 }
 
 #[test]
 fn nets_get_wires_without_memory(rt: HostRuntime) {
     let refusing = &RefusingAlloc::new(rt.alloc());
-    for def in [around_an_obstruction(), net_at_one_place()] {
-        assert!(rt; goes_right(refusing, refusing, Trial::Wire(WireCall::WithWires), def));
-        assert!(rt; goes_right(refusing, refusing, Trial::Wire(WireCall::WithAllWires), def));
+    for call in [WireCall::WithWires, WireCall::WithAllWires] {
+        for def in [around_an_obstruction(), net_at_one_place()] {
+            assert!(rt; goes_right(refusing, refusing, Trial::Wire(call), def));
+        }
+        assert!(rt; goes_right(refusing, refusing, Trial::TwoNets(call), two_nets::TEXT));
     }
 }
 

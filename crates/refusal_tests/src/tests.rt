@@ -22,6 +22,8 @@ enum Trial {
     Read,
     /// Its design is lent.
     Lend(DesignCall),
+    /// Its design is lent to a call that asks for no memory on it.
+    LendWithout(DesignCall),
     /// Its design is lent to calls that take no memory.
     Without,
 }
@@ -49,6 +51,7 @@ fn goes_right_under<A: Allocator + Copy>(
     match trial {
         Trial::Read => texts::is_read_right(alloc, refusing, library, def),
         Trial::Lend(call) => designs::goes_right(alloc, refusing, library, call, def),
+        Trial::LendWithout(call) => designs::asks_for_none(alloc, refusing, library, call, def),
         Trial::Without => without::goes_right(alloc, refusing, library, def),
     }
 }
@@ -79,10 +82,13 @@ fn libraries_without_memory(rt: HostRuntime) {
 #[test]
 fn metal_without_memory(rt: HostRuntime) {
     let refusing = &RefusingAlloc::new(rt.alloc());
-    for def in [around_an_obstruction(), net_at_one_place(), every_form()] {
+    for def in [
+        two_at_one_place(),
+        around_an_obstruction(),
+        net_at_one_place(),
+        every_form(),
+    ] {
         assert!(rt; goes_right(refusing, refusing, Trial::Lend(DesignCall::Flatten), def));
-        assert!(rt; goes_right(refusing, refusing, Trial::Lend(DesignCall::Joined), def));
-        assert!(rt; goes_right(refusing, refusing, Trial::Lend(DesignCall::OpenFaults), def));
     }
     for def in [two_at_one_place(), net_at_one_place(), every_form()] {
         assert!(rt;
@@ -94,7 +100,19 @@ fn metal_without_memory(rt: HostRuntime) {
             )
         );
     }
-    for def in [wired(), every_form()] {
+}
+
+#[test]
+fn nets_without_memory(rt: HostRuntime) {
+    let refusing = &RefusingAlloc::new(rt.alloc());
+    for def in [
+        around_an_obstruction(),
+        net_at_one_place(),
+        wired(),
+        every_form(),
+    ] {
+        assert!(rt; goes_right(refusing, refusing, Trial::Lend(DesignCall::Joined), def));
+        assert!(rt; goes_right(refusing, refusing, Trial::Lend(DesignCall::OpenFaults), def));
         assert!(rt; goes_right(refusing, refusing, Trial::Lend(DesignCall::AddWire), def));
     }
 }
@@ -140,4 +158,21 @@ fn checks_without_memory(rt: HostRuntime) {
 fn what_takes_no_memory_answers_without(rt: HostRuntime) {
     let refusing = &RefusingAlloc::new(rt.alloc());
     assert!(rt; goes_right(refusing, refusing, Trial::Without, wired()));
+    // No metal is too near there, and there are no nets.
+    assert!(rt;
+        goes_right(
+            refusing,
+            refusing,
+            Trial::LendWithout(DesignCall::SpacingFaults),
+            around_an_obstruction()
+        )
+    );
+    assert!(rt;
+        goes_right(
+            refusing,
+            refusing,
+            Trial::LendWithout(DesignCall::OpenFaults),
+            two_at_one_place()
+        )
+    );
 }

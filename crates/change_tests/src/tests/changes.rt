@@ -13,9 +13,10 @@ use std::alloc::{Allocator, Global};
 /// A call on a design that it is given.
 #[derive(Clone, Copy)]
 pub(super) enum Change {
-    /// Of two components, the second moves by 400.
-    Legalise,
-    Route,
+    /// The components move by these, of which none but the last may be more than 0.
+    Legalise(&'static [i64]),
+    /// The design has this many violations other than open nets; with none it is routed.
+    Route(usize),
 }
 
 /// What came of a change, and the text of the design that was handed back.
@@ -37,23 +38,13 @@ fn come_back<A: Allocator + Copy>(
     Some(Changed { turn, text })
 }
 
-fn has_moved_the_second<A: Allocator>(moves: &Moves<A>) -> bool {
-    moves.per_component.as_slice() == [0, 400].as_slice()
-        && moves.total == 400
-        && moves.greatest == 400
-}
-
-/// What came of a legaliser that handed this design back with these moves.
-fn moved<A: Allocator + Copy>(
-    alloc: A,
-    refusing: &RefusingAlloc<Global>,
-    design: &Design<'_, A>,
-    moves: &Moves<A>,
-) -> Option<Changed<A>> {
-    if has_moved_the_second(moves) {
-        come_back(alloc, refusing, design, false)
-    } else {
-        None
+/// Whether these are the moves of components of which none but the last has moved.
+fn are_moves<A: Allocator>(moves: &Moves<A>, by: &[i64]) -> bool {
+    match by {
+        [.., last] => {
+            moves.per_component.as_slice() == by && moves.total == *last && moves.greatest == *last
+        }
+        [] => false,
     }
 }
 
@@ -61,14 +52,29 @@ fn legalised<A: Allocator + Copy>(
     alloc: A,
     refusing: &RefusingAlloc<Global>,
     design: Design<'_, A>,
+    by: &[i64],
     refused: Refused,
 ) -> Option<Changed<A>> {
     let library = design.library();
     refusing.refuse(refused);
     match legalise(alloc, library, design) {
-        Ok((done, moves)) => moved(alloc, refusing, &done, &moves),
+        Ok((done, moves)) => {
+            if !are_moves(&moves, by) {
+                return None;
+            }
+            come_back(alloc, refusing, &done, false)
+        }
         Err((back, LegalFault::Memory)) => come_back(alloc, refusing, &back, true),
         Err(_) => None,
+    }
+}
+
+/// Whether memory ran out for a router. If not, the design has this many violations other than open nets.
+fn is_out_of_memory<A: Allocator>(fault: &RouteFault<A>, violations: usize) -> Option<bool> {
+    match fault {
+        RouteFault::Memory => Some(true),
+        RouteFault::NotClean(found) => (found.as_slice().len() == violations).then_some(false),
+        _ => None,
     }
 }
 
@@ -76,14 +82,22 @@ fn routed<A: Allocator + Copy>(
     alloc: A,
     refusing: &RefusingAlloc<Global>,
     design: Design<'_, A>,
+    violations: usize,
     refused: Refused,
 ) -> Option<Changed<A>> {
     let library = design.library();
     refusing.refuse(refused);
     match route(alloc, library, design) {
-        Ok(done) => come_back(alloc, refusing, &done, false),
-        Err((back, RouteFault::Memory)) => come_back(alloc, refusing, &back, true),
-        Err(_) => None,
+        Ok(done) => {
+            if violations != 0 {
+                return None;
+            }
+            come_back(alloc, refusing, &done, false)
+        }
+        Err((back, fault)) => {
+            let refused = is_out_of_memory(&fault, violations)?;
+            come_back(alloc, refusing, &back, refused)
+        }
     }
 }
 
@@ -98,8 +112,8 @@ fn changed_by<A: Allocator + Copy>(
 ) -> Option<Changed<A>> {
     let design = read_def(alloc, library, def).ok()?;
     match change {
-        Change::Legalise => legalised(alloc, refusing, design, refused),
-        Change::Route => routed(alloc, refusing, design, refused),
+        Change::Legalise(by) => legalised(alloc, refusing, design, by, refused),
+        Change::Route(violations) => routed(alloc, refusing, design, violations, refused),
     }
 }
 

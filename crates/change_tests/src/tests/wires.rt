@@ -29,7 +29,7 @@ fn text_with_wire(def: &[u8]) -> &'static [u8] {
 }
 
 /// The turn of a call that handed this design back, refused or not, in the bytes that are printed of it.
-fn turn_of_design<A: Allocator + Copy>(
+pub(super) fn turn_of_design<A: Allocator + Copy>(
     alloc: A,
     refusing: &RefusingAlloc<Global>,
     design: &Design<'_, A>,

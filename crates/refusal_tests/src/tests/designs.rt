@@ -1,8 +1,12 @@
 //! Calls that are lent a design.
 
+ghost use Rattle.std.specs.Prelude.{false, IfSome};
+ghost use Rattle.leg_block.specs.WellFormedNets.{IsWire};
+
 use crate::turn::{is_last, turn_of_list};
+use block_texts::wired;
 use leg_app::check_design;
-use leg_block::Design;
+use leg_block::{Design, Wire};
 use leg_cells::Library;
 use leg_design::read_def;
 use leg_flat::{Flat, FlatFault, flatten};
@@ -16,7 +20,7 @@ use std::alloc::{Allocator, Global};
 #[derive(Clone, Copy)]
 pub(super) enum DesignCall {
     Flatten,
-    /// Its first net gets its first wire a second time.
+    /// Its first net gets a wire.
     AddWire,
     CheckDesign,
     PlaceFaults,
@@ -59,27 +63,45 @@ fn flatten_in_turn<A: Allocator + Copy>(
     is_right.then_some(turn)
 }
 
-/// The flat of the design, whose first net has its first wire a second time.
-fn with_a_wire_more<A: Allocator + Copy>(alloc: A, design: &Design<'_, A>) -> Option<Flat<A>> {
-    let mut flat = flatten(alloc, design.library(), design).ok()?;
-    add_first_wire(&mut flat, design)?.ok()?;
-    Some(flat)
+/// The first wire of the first net, if there is one.
+fn first_wire<A: Allocator + Copy>(design: &Design<'_, A>) -> Option<Wire>
+    ensures { IfSome result (IsWire design.now.library design.now.vias false) }
+{
+    match design.nets() {
+        [net, ..] => net.wires.as_slice().first().copied(),
+        [] => None,
+    }
 }
 
-/// Adds the first wire of the first net to this net. There may be no such wire.
-fn add_first_wire<A: Allocator + Copy>(
-    flat: &mut Flat<A>,
+/// A wire that the first net of the design may have: its own first one, or else that of two inverters in a net.
+fn some_wire<A: Allocator + Copy>(alloc: A, design: &Design<'_, A>) -> Option<Wire>
+    ensures { IfSome result (IsWire design.now.library design.now.vias false) }
+{
+    let own = first_wire(design);
+    if own.is_some() {
+        return own;
+    }
+    let other = read_def(alloc, design.library(), wired()).ok()?;
+    if !design.fits(other.library()) || design.vias().len() != 0 || other.vias().len() != 0 {
+        return None;
+    }
+    first_wire(&other)
+}
+
+/// The flat of the design, whose first net has this wire more. There may be no net.
+fn with_a_wire_more<A: Allocator + Copy>(
+    alloc: A,
     design: &Design<'_, A>,
-) -> Option<Result<(), FlatFault>> {
-    if flat.net_count() == 0 || design.nets().len() == 0 {
+    wire: &Wire,
+) -> Option<Flat<A>>
+    requires { IsWire design.now.library design.now.vias false wire.now }
+{
+    let mut flat = flatten(alloc, design.library(), design).ok()?;
+    if flat.net_count() == 0 {
         return None;
     }
-    let net = &design.nets()[0];
-    let wires = net.wires.as_slice();
-    if wires.len() == 0 {
-        return None;
-    }
-    Some(flat.add_wire(design.library(), design, 0, &wires[0]))
+    flat.add_wire(design.library(), design, 0, wire).ok()?;
+    Some(flat)
 }
 
 fn add_wire_in_turn<A: Allocator + Copy>(
@@ -88,11 +110,15 @@ fn add_wire_in_turn<A: Allocator + Copy>(
     design: &Design<'_, A>,
     number: u64,
 ) -> Option<Turn> {
+    let wire = some_wire(alloc, design)?;
     let before = flatten(alloc, design.library(), design).ok()?;
-    let ample = with_a_wire_more(alloc, design)?;
+    let ample = with_a_wire_more(alloc, design, &wire)?;
     let mut flat = flatten(alloc, design.library(), design).ok()?;
+    if flat.net_count() == 0 {
+        return None;
+    }
     refusing.refuse(Refused::Growth(number));
-    let added = add_first_wire(&mut flat, design)?;
+    let added = flat.add_wire(design.library(), design, 0, &wire);
     let turn = refusing.turn_ended(added.is_err());
     let is_right = match added {
         Ok(()) => are_same_flats(&flat, &ample),
@@ -249,6 +275,23 @@ pub(super) fn goes_right<A: Allocator + Copy>(
 ) -> bool {
     match read_def(alloc, library, def) {
         Ok(design) => goes_right_on(alloc, refusing, call, &design),
+        Err(_) => false,
+    }
+}
+
+/// Whether the call on the design that a DEF denotes asks for no memory, and answers as it does with ample memory.
+pub(super) fn asks_for_none<A: Allocator + Copy>(
+    alloc: A,
+    refusing: &RefusingAlloc<Global>,
+    library: &Library<'_, A>,
+    call: DesignCall,
+    def: &[u8],
+) -> bool {
+    match read_def(alloc, library, def) {
+        Ok(design) => match turn_of(alloc, refusing, call, &design, 1) {
+            Some(turn) => turn.growths == 0 && !turn.refused,
+            None => false,
+        },
         Err(_) => false,
     }
 }
