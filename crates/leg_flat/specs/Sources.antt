@@ -1,4 +1,4 @@
--- Where metal comes from (lefdef's own rules): the obstructions of components, the shapes of terminals and those of wires, each once.
+-- Where metal comes from (lefdef's own rules): the obstructions of components, the shapes of terminals and those of wires.
 -- Metal is given with its owner: here is which owner each has.
 use Rattle.std.specs.Prelude.{◌≡◌, ℕ, ◌+◌, ◌++◌, length, sum_by, Contains, Option, None, Some, slice_get}
 use Rattle.leg_geom.specs.declared.place.Place.{Place}

@@ -60,7 +60,7 @@ pub fn metal_has_a_source()
         → (metal : Metal) → Contains (metal_of design) metal → HasSource design metal }
 {}
 
-/// There is as much metal as is drawn, so each shape is in it once.
+/// There are as many pieces of metal as shapes are drawn.
 pub fn shapes_are_metal_once()
     ensures { (design : DesignContents) → length (metal_of design) ≡ shape_count design }
 {}
