@@ -10,7 +10,7 @@ use Rattle.leg_block.specs.declared.records.Component.{Component}
 use Rattle.leg_block.specs.Records.{DesignContents, PinSaid, NetSaid, terminal_count}
 use Rattle.leg_block.specs.WellFormedParts.{AreComponents, AreVias, ArePins}
 use Rattle.leg_block.specs.WellFormedNets.{IsInSomeNet, HasNets}
-use Rattle.leg_design.specs.Parts.{Stood, DesignParts, vias_form, components_form, pins_form, nets_form, special_form}
+use Rattle.leg_design.specs.Parts.{Appearances, DesignParts, vias_form, components_form, pins_form, nets_form, special_form}
 use Rattle.leg_design.specs.Form.{def_form_at, design_of}
 use Rattle.leg_print.specs.Text.Vias.{via_words}
 use Rattle.leg_print.specs.Text.Components.{component_words}
@@ -27,75 +27,66 @@ use Rattle.leg_again.proofs.NoLonePins.{no_lone_pins}
 use Rattle.leg_again.proofs.Sections.{section_words}
 use Rattle.leg_again.proofs.Leads.{Leads, leads_nil, leads_form}
 
--- a section stands where it has entries
+-- a section appears where it has entries
 abbrev pub has_some : {X : Type 0} → List X → Bool
 has_some [] = false
 has_some (x ∷ xs) = true
 
--- which sections stood, and what they said
-abbrev pub stood_with : Bool → Bool → Bool → Bool → Bool → Stood
-stood_with vias components pins special nets = record { units = true; vias = vias; components = components; pins = pins; nets = nets; special = special }
+-- which sections have appeared, after the forms before them
+abbrev pub appearances : Bool → Bool → Bool → Bool → Bool → Appearances
+appearances vias components pins special nets = record { name = true; units = true; die = true; vias = vias; components = components; pins = pins; nets = nets; special = special }
 
-abbrev pub said_parts : DesignContents → Stood → List ViaSaid → List Component → List PinSaid → List NetSaid → List NetSaid → DesignParts
-said_parts design stood vias components pins special nets = record {
-  stood = stood;
-  name = Some design.name;
-  divider = design.divider;
-  bus = design.bus;
-  die = Some design.die;
-  rows = design.rows;
-  tracks = design.tracks;
-  vias = vias;
-  components = components;
-  pins = pins;
-  nets = nets;
-  special = special;
+-- what the sections gave so far
+abbrev pub said_parts : DesignContents → Appearances → List ViaSaid → List Component → List PinSaid → List NetSaid → List NetSaid → DesignParts
+said_parts design forms vias components pins special nets = record {
+  has = forms;
+  design = record design { vias = vias; components = components; pins = pins; nets = nets; special = special };
 }
 
 module _ (design : DesignContents) (has : HasParts design) where
   pub vias_lead : (vias : List ViaSaid) → AreVias design.library vias → length vias ≤ NUMBER_LIMIT → StayOne (flat_map (via_entry_names design) vias)
-      → Leads design.library (said_parts design (stood_with false false false false false) [] [] [] [] []) (section_words (codes "VIAS") (via_words design) vias)
-      (said_parts design (stood_with (has_some vias) false false false false) vias [] [] [] [])
+      → Leads (said_parts design (appearances false false false false false) [] [] [] [] []) (section_words (codes "VIAS") (via_words design) vias)
+      (said_parts design (appearances (has_some vias) false false false false) vias [] [] [] [])
   unfolding def_form_at vias_form
-  vias_lead [] are few one = leads_nil design.library (said_parts design (stood_with false false false false false) [] [] [] [] [])
+  vias_lead [] are few one = leads_nil (said_parts design (appearances false false false false false) [] [] [] [] [])
   vias_lead (via ∷ vias) are few one =
-      leads_form design.library _ (section_words (codes "VIAS") (via_words design) (via ∷ vias)) _ (omega arith) (λ rest. refl)
+      leads_form _ (section_words (codes "VIAS") (via_words design) (via ∷ vias)) _ (omega arith) (λ rest. refl)
       (λ rest. rw (vias_again design via vias has.sound are few one rest) refl)
 
   pub components_lead : (v : Bool) (vias : List ViaSaid) (components : List Component) → AreComponents design.library components → StayOne (flat_map (component_entry_names design) components)
-      → Leads design.library (said_parts design (stood_with v false false false false) vias [] [] [] []) (section_words (codes "COMPONENTS") (component_words design) components)
-      (said_parts design (stood_with v (has_some components) false false false) vias components [] [] [])
+      → Leads (said_parts design (appearances v false false false false) vias [] [] [] []) (section_words (codes "COMPONENTS") (component_words design) components)
+      (said_parts design (appearances v (has_some components) false false false) vias components [] [] [])
   unfolding def_form_at components_form
-  components_lead v vias [] are one = leads_nil design.library (said_parts design (stood_with v false false false false) vias [] [] [] [])
+  components_lead v vias [] are one = leads_nil (said_parts design (appearances v false false false false) vias [] [] [] [])
   components_lead v vias (component ∷ components) are one =
-      leads_form design.library _ (section_words (codes "COMPONENTS") (component_words design) (component ∷ components)) _ (omega arith) (λ rest. refl)
+      leads_form _ (section_words (codes "COMPONENTS") (component_words design) (component ∷ components)) _ (omega arith) (λ rest. refl)
       (λ rest. rw (components_again design component components has.sound are one rest) refl)
 
   pub pins_lead : (v c : Bool) (vias : List ViaSaid) (components : List Component) (pins : List PinSaid) → ArePins design.library pins → StayOne (flat_map (pin_entry_names design) pins)
-      → Leads design.library (said_parts design (stood_with v c false false false) vias components [] [] []) (section_words (codes "PINS") (pin_words design) pins)
-      (said_parts design (stood_with v c (has_some pins) false false) vias components pins [] [])
+      → Leads (said_parts design (appearances v c false false false) vias components [] [] []) (section_words (codes "PINS") (pin_words design) pins)
+      (said_parts design (appearances v c (has_some pins) false false) vias components pins [] [])
   unfolding def_form_at pins_form
-  pins_lead v c vias components [] are one = leads_nil design.library (said_parts design (stood_with v c false false false) vias components [] [] [])
+  pins_lead v c vias components [] are one = leads_nil (said_parts design (appearances v c false false false) vias components [] [] [])
   pins_lead v c vias components (pin ∷ pins) are one =
-      leads_form design.library _ (section_words (codes "PINS") (pin_words design) (pin ∷ pins)) _ (omega arith) (λ rest. refl)
+      leads_form _ (section_words (codes "PINS") (pin_words design) (pin ∷ pins)) _ (omega arith) (λ rest. refl)
       (λ rest. rw (pins_again design pin pins has.sound are one rest) refl)
 
   pub special_lead : (v c p : Bool) (special : List NetSaid) → AreEntries design true special [] → StayOne (flat_map (net_entry_names design) special)
-      → Leads design.library (said_parts design (stood_with v c p false false) design.vias design.components design.pins [] []) (section_words (net_section true) (net_words design true) special)
-      (said_parts design (stood_with v c p (has_some special) false) design.vias design.components design.pins special [])
+      → Leads (said_parts design (appearances v c p false false) design.vias design.components design.pins [] []) (section_words (net_section true) (net_words design true) special)
+      (said_parts design (appearances v c p (has_some special) false) design.vias design.components design.pins special [])
   unfolding def_form_at special_form
-  special_lead v c p [] are one = leads_nil design.library (said_parts design (stood_with v c p false false) design.vias design.components design.pins [] [])
+  special_lead v c p [] are one = leads_nil (said_parts design (appearances v c p false false) design.vias design.components design.pins [] [])
   special_lead v c p (net ∷ nets) are one =
-      leads_form design.library _ (section_words (net_section true) (net_words design true) (net ∷ nets)) _ (omega arith) (λ rest. refl)
+      leads_form _ (section_words (net_section true) (net_words design true) (net ∷ nets)) _ (omega arith) (λ rest. refl)
       (λ rest. rw (nets_again design has true net nets [] are one rest) refl)
 
   pub nets_lead : (v c p s : Bool) (special nets : List NetSaid) → AreEntries design false nets special → StayOne (flat_map (net_entry_names design) nets)
-      → Leads design.library (said_parts design (stood_with v c p s false) design.vias design.components design.pins special []) (section_words (net_section false) (net_words design false) nets)
-      (said_parts design (stood_with v c p s (has_some nets)) design.vias design.components design.pins special nets)
+      → Leads (said_parts design (appearances v c p s false) design.vias design.components design.pins special []) (section_words (net_section false) (net_words design false) nets)
+      (said_parts design (appearances v c p s (has_some nets)) design.vias design.components design.pins special nets)
   unfolding def_form_at nets_form
-  nets_lead v c p s special [] are one = leads_nil design.library (said_parts design (stood_with v c p s false) design.vias design.components design.pins special [])
+  nets_lead v c p s special [] are one = leads_nil (said_parts design (appearances v c p s false) design.vias design.components design.pins special [])
   nets_lead v c p s special (net ∷ nets) are one =
-      leads_form design.library _ (section_words (net_section false) (net_words design false) (net ∷ nets)) _ (omega arith) (λ rest. refl)
+      leads_form _ (section_words (net_section false) (net_words design false) (net ∷ nets)) _ (omega arith) (λ rest. refl)
       (λ rest. rw (nets_again design has false net nets special are one rest) refl)
 
   -- the entries of both sections
@@ -118,7 +109,7 @@ from_zero : (k : ℕ) → k ≡ 0 + k
 from_zero k = omega arith
 
 pub design_said : (design : DesignContents) (v c p s n : Bool) → HasNets design
-    → design_of design.library (said_parts design (stood_with v c p s n) design.vias design.components design.pins design.special design.nets) ≡ Some design
+    → design_of (said_parts design (appearances v c p s n) design.vias design.components design.pins design.special design.nets) ≡ Some design
 unfolding design_of
 design_said design v c p s n nets =
     rw (

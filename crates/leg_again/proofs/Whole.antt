@@ -42,7 +42,7 @@ use Rattle.leg_again.proofs.Nets.{HasParts, nets_lines}
 use Rattle.leg_again.proofs.Sections.{section_words}
 use Rattle.leg_again.proofs.Leads.{Leads, leads_append, leads_all}
 use Rattle.leg_again.proofs.Forms.{kept_line_words, header_leads, rows_lead, tracks_lead}
-use Rattle.leg_again.proofs.SectionForms.{has_some, stood_with, said_parts, vias_lead, components_lead, pins_lead, special_lead, nets_lead, nets_are, special_are, design_said}
+use Rattle.leg_again.proofs.SectionForms.{has_some, appearances, said_parts, vias_lead, components_lead, pins_lead, special_lead, nets_lead, nets_are, special_are, design_said}
 
 -- the words of the whole text
 abbrev naming_words : DesignContents → Words
@@ -171,8 +171,8 @@ module _ (design : DesignContents) (sound : IsSound design.library) (well : IsWe
       (nets_lines design has false design.nets design.special (nets_are design has well.nets) one.nets))
       (lines_of_words (end_words (codes "DESIGN")) refl)
 
-  forms_lead : Leads design.library no_parts (forms_words design)
-      (said_parts design (stood_with (has_some design.vias) (has_some design.components) (has_some design.pins) (has_some design.special) (has_some design.nets))
+  forms_lead : Leads (no_parts design.library) (forms_words design)
+      (said_parts design (appearances (has_some design.vias) (has_some design.components) (has_some design.pins) (has_some design.special) (has_some design.nets))
       design.vias design.components design.pins design.special design.nets)
   forms_lead =
       leads_append (leads_append (leads_append (leads_append (leads_append (leads_append (leads_append
@@ -189,7 +189,7 @@ module _ (design : DesignContents) (sound : IsSound design.library) (well : IsWe
   unfolding design_in end_at keyword_at nothing_at next_at
   whole_again =
       rw (
-        leads_all design.library no_parts _ (forms_words design) (end_words (codes "DESIGN")) forms_lead refl,
+        leads_all (no_parts design.library) _ (forms_words design) (end_words (codes "DESIGN")) forms_lead refl,
         design_said design (has_some design.vias) (has_some design.components) (has_some design.pins) (has_some design.special) (has_some design.nets) well.nets,
       ) refl
 

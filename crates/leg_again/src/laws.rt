@@ -10,7 +10,7 @@ ghost use Rattle.leg_lex.specs.Words.{is_word, is_name, end_at};
 ghost use Rattle.leg_lex.specs.declared.limits.TheConstants.{NUMBER_LIMIT, UNITS_LIMIT, TEXT_LIMIT};
 ghost use Rattle.leg_text.specs.Spaced.{stays_one, line};
 ghost use Rattle.leg_geom.specs.Plane.{Sides};
-ghost use Rattle.leg_cells.specs.Records.{Contents, ViaSaid};
+ghost use Rattle.leg_cells.specs.Records.{ViaSaid};
 ghost use Rattle.leg_cells.specs.Sound.{IsSound};
 ghost use Rattle.leg_block.specs.declared.records.Row.{Row};
 ghost use Rattle.leg_block.specs.declared.records.Component.{Component};
@@ -90,7 +90,7 @@ pub fn naming_lines_are_read()
 
 /// The line of the version is read past.
 pub fn version_line_is_read()
-    ensures { (library : Contents) (parts : DesignParts) → SaysForm (def_form_at library parts) (line version_words) parts }
+    ensures { (parts : DesignParts) → SaysForm (def_form_at parts) (line version_words) parts }
 {}
 
 /// The first line of a section contains its keyword and the count of its entries, and its last line ends it: VIAS, COMPONENTS,

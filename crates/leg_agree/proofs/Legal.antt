@@ -1,21 +1,20 @@
 -- What is legal by definition is answered `legal`.
-use Rattle.std.proofs.Common.{◌≡◌, ◌≢◌, ℕ, ◌≤◌, List, [], length, Some, None, inl, inr, refl, sym, ap, ◌∙◌, arith}
+use Rattle.std.proofs.Common.{◌≡◌, ◌≢◌, ℕ, ◌≤◌, List, [], length, Some, None, inl, refl, sym, ap, ◌∙◌, arith}
 use Rattle.std.proofs.lemmas.List.Elements.{All-nil}
 use Rattle.leg_lex.specs.declared.limits.TheConstants.{TEXT_LIMIT}
 use Rattle.leg_cells.specs.Records.{Contents}
 use Rattle.leg_block.specs.Records.{DesignContents}
 use Rattle.leg_block.specs.declared.fault.Fault.{Fault}
 use Rattle.leg_block.specs.Violation.{IsListOf}
-use Rattle.leg_flat.proofs.OneFlat.{one_flat}
-use Rattle.leg_legal.specs.Run.{IsLegallyPlaced}
-use Rattle.leg_route.specs.Legal.{IsLegal}
+use Rattle.leg_place.specs.Faults.{IsLegallyPlaced}
+use Rattle.leg_rules.specs.Violations.{IsViolation}
+use Rattle.leg_rules.specs.Legal.{IsLegal}
 use Rattle.leg_again.specs.PrintedNames.{StayOne, printed_names}
 use Rattle.leg_input.specs.declared.command.Command.{Command}
 use Rattle.leg_input.specs.declared.command.Command.TheVariants.{PlaceCheck, Check, Route, Flow}
 use Rattle.leg_app.specs.declared.status.Status.{Status}
 use Rattle.leg_app.specs.declared.status.Status.TheVariants.{Success, Refused, Memory}
 use Rattle.leg_app.specs.Say.{SayDesign}
-use Rattle.leg_app.specs.Violations.{IsViolation}
 use Rattle.leg_app.specs.Lines.{legal_text}
 use Rattle.leg_app.specs.Legalised.{Legalises, PrintsLegalised}
 use Rattle.leg_app.specs.Routed.{Routes, PrintsRouted}
@@ -31,16 +30,6 @@ none_listed Holds none = record {
   each = All-nil Holds;
   all = λ fault holds. absurd (none fault holds);
 }
-
--- no violation of a legal design holds
-none_holds : (design : DesignContents) → IsLegal design → (fault : Fault) → ¬ IsViolation design.library design fault
-none_holds design legal fault (inl placed) = legal.places fault placed
-none_holds design legal fault (inr metal) =
-    let same : metal.flat ≡ legal.flat = one_flat design metal.flat legal.flat metal.is_flat legal.judged.is_flat in
-    elim metal.holds [
-      | inl near ↦ legal.shapes fault (rw same at near)
-      | inr open_piece ↦ legal.nets fault (rw same at open_piece)
-    ]
 
 -- a command that doesn't route has one answer to texts that it judges
 abbrev pub HasOneAnswer : Type 0
@@ -74,7 +63,7 @@ module _ (one_answer : HasOneAnswer) (lefs : List (List ℕ)) (text : List ℕ) 
         violations = [];
         say = say;
         shown = legal.judged;
-        list = none_listed (IsViolation design.library design) (none_holds design legal);
+        list = none_listed (IsViolation design.library design) legal.none;
         is = (refl, refl);
       }))
 

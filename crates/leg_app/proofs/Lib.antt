@@ -1,7 +1,6 @@
 -- What texts say, which the proofs of other crates cite too
 pub mod Sayings
 -- What is answered
-mod KindsJoined
 mod AnswerLemmas
 mod MovesTold
 mod OneMaking

@@ -21,7 +21,8 @@ use Rattle.leg_input.specs.declared.command.Command.TheVariants.{PlaceCheck, Che
 use Rattle.leg_app.specs.declared.status.Status.{Status}
 use Rattle.leg_app.specs.declared.status.Status.TheVariants.{Success, Violations, Refused, Unsolved, Memory}
 use Rattle.leg_app.specs.Say.{SayLibraryFor, SayDesign}
-use Rattle.leg_app.specs.Violations.{IsViolation, AreAllViolations, AreViolationsOf}
+use Rattle.leg_rules.specs.Violations.{IsViolation, AreAllViolations}
+use Rattle.leg_app.specs.Violations.{AreViolationsOf}
 use Rattle.leg_app.specs.Lines.{wirelength_text}
 use Rattle.leg_legal.proofs.OneList.{one_list}
 use Rattle.leg_app.specs.Made.{IsTextMade, IsReason, PrintsMade, TellsUnsolved}

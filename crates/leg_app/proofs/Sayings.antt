@@ -1,20 +1,14 @@
 -- What texts say together, and when they say nothing.
-use Rattle.std.proofs.Common.{◌≡◌, ℕ, ◌+◌, nat_lt, List, codes, refl, sym, subst}
+use Rattle.std.proofs.Common.{◌≡◌, ℕ, List, sym, subst}
 use Rattle.leg_lex.specs.Word.{texts}
-use Rattle.leg_lex.specs.Words.{Words, end_at, nothing_at}
-use Rattle.leg_lex.specs.Until.{until}
-use Rattle.leg_lex.specs.Statements.{at_end}
 use Rattle.leg_lex.specs.Say.{Says}
 use Rattle.leg_cells.specs.Records.{RawContents, Contents}
 use Rattle.leg_lib.specs.Say.{SayLibrary}
 use Rattle.leg_cells.specs.Scale.{IsLibraryAt}
-use Rattle.leg_block.specs.declared.limits.TheConstants.{PART_LIMIT}
-use Rattle.leg_design.specs.Guard.{when, unless}
-use Rattle.leg_block.specs.Records.{DesignContents, terminal_count}
+use Rattle.leg_block.specs.Records.{DesignContents}
 use Rattle.leg_design.specs.Header.{units_in}
-use Rattle.leg_design.specs.Parts.{DesignParts, no_parts}
-use Rattle.leg_design.specs.Form.{def_form_at, all_nets, design_of, design_in}
-use Rattle.leg_lex.proofs.Gives.{Gives, gives_some, gives_skip}
+use Rattle.leg_design.specs.Form.{design_in}
+pub use Rattle.leg_design.proofs.ReadDesigns.{design_has_library}
 use Rattle.leg_app.specs.Say.{SayLibraryFor, SayDesign, SayNothing}
 use Rattle.leg_app.specs.Steps.SaidLibrary.{SaysJust, SayNoLibrary}
 
@@ -44,24 +38,6 @@ module _ (lefs : List (List ℕ)) (def : List ℕ) where
   -- under the one library that is said there is no design
   pub no_design : (library : Contents) → SaysJust lefs def library → ((design : DesignContents) → Says (design_in library) def design → ⊥) → SayNothing lefs def
   no_design library just none other design say = none design (subst (λ l. Says (design_in l) def design) (just.only other say.under) say.said)
-
--- a design is said under the library that it has
-design_of_library : (library : Contents) (parts : DesignParts) → Gives (λ design. design.library ≡ library) (design_of library parts)
-unfolding design_of
-design_of_library library parts =
-    gives_skip parts.name (λ name.
-    gives_skip (when parts.stood.units) (λ units.
-    gives_skip parts.die (λ die.
-    gives_skip (unless (nat_lt PART_LIMIT (terminal_count (all_nets parts).nets + terminal_count (all_nets parts).special))) (λ few.
-    gives_some _ refl))))
-
-pub design_has_library : (library : Contents) (words : Words) → Gives (λ design. design.library ≡ library) (design_in library words)
-unfolding design_in
-design_has_library library words =
-    gives_skip (until at_end (def_form_at library) no_parts words) (λ forms.
-    gives_skip (end_at (codes "DESIGN") forms.1) (λ end.
-    gives_skip (nothing_at end.1) (λ nothing.
-    design_of_library library forms.0)))
 
 -- the texts say the design that the DEF says under the library that they say
 pub say_under : (lefs : List (List ℕ)) (def : List ℕ) (library : Contents) (design : DesignContents) → SaysJust lefs def library → Says (design_in library) def design → SayDesign lefs def design.library design

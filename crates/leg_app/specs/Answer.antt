@@ -17,7 +17,7 @@ use Rattle.leg_flat.specs.Flat.{FlatSaid, IsJudgedBy}
 use Rattle.leg_place.specs.Faults.{Holds}
 use Rattle.leg_print.specs.Wirelength.{IsWirelength}
 use Rattle.leg_app.specs.Say.{SayDesign, SayNothing, SayTooMany}
-use Rattle.leg_app.specs.Violations.{IsViolation}
+use Rattle.leg_rules.specs.Violations.{IsViolation}
 use Rattle.leg_input.specs.Stream.{HasEndLibrary, IsSplit}
 use Rattle.leg_app.specs.Lines.{listing_text, legal_text, wirelength_text, memory_text, no_library_text, refused_text, scale_text, too_many_text}
 use Rattle.leg_app.specs.Made.{PrintsMade, TellsUnsolved}

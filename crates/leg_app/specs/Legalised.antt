@@ -5,7 +5,8 @@ use Rattle.leg_block.specs.Records.{DesignContents}
 use Rattle.leg_block.specs.WellFormed.{IsWellFormed}
 use Rattle.leg_block.specs.declared.fault.Fault.{Fault}
 use Rattle.leg_block.specs.Violation.{IsListOf}
-use Rattle.leg_legal.specs.Run.{IsLegallyPlaced, IsLegalised}
+use Rattle.leg_place.specs.Faults.{IsLegallyPlaced}
+use Rattle.leg_legal.specs.Run.{IsLegalised}
 use Rattle.leg_legal.specs.SameButForPlaces.{IsSameButForPlaces}
 use Rattle.leg_legal.specs.Moves.{AreMoves}
 use Rattle.leg_legal.specs.Refusals.{HoldsOfStaying, NoneStaying, IsLeastUnsuited, AreSuited, IsStuck}

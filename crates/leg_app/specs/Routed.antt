@@ -7,7 +7,7 @@ use Rattle.leg_block.specs.declared.fault.Fault.{Fault}
 use Rattle.leg_flat.specs.Flat.{FlatSaid, IsJudgedBy}
 use Rattle.leg_grid.specs.GridSize.{IsGridTooLarge}
 use Rattle.leg_grid.specs.Refusals.{IsNotClean, IsUnroutable}
-use Rattle.leg_route.specs.Legal.{IsLegal}
+use Rattle.leg_rules.specs.Legal.{IsLegal}
 use Rattle.leg_route.specs.SameButForWires.{IsSameButForWires}
 use Rattle.leg_route.specs.Routed.{IsRouted}
 use Rattle.leg_route.specs.Refusal.{IsCleanIn, ComesToRun, HasTooMany}

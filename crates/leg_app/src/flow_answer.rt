@@ -8,12 +8,12 @@ ghost use Rattle.leg_app.specs.Legalised.{Legalises};
 ghost use Rattle.leg_app.specs.Steps.Making.{IsMaking};
 
 use crate::answer::Answer;
-use crate::known_sound::known_sound;
 use crate::legalise_answer::not_legalised_text;
 use crate::legalise_lines::legalised_text;
 use crate::route_answer::not_routed_text;
 use crate::status::Status;
 use leg_block::Design;
+use leg_block::laws::design_is_sound;
 use leg_legal::{Moves, legalise};
 use leg_route::route;
 use std::alloc::{AllocError, Allocator};
@@ -28,7 +28,7 @@ pub(crate) fn flow_answer<A: Allocator + Copy>(
     let library = design.library();
     match legalise(alloc, library, design) {
         Ok((legalised, moves)) => {
-            known_sound(&legalised);
+            design_is_sound(&legalised);
             routing_answer(alloc, legalised, &moves)
         }
         Err((kept, fault)) => {
@@ -54,7 +54,7 @@ fn routing_answer<A: Allocator + Copy>(
     let library = legalised.library();
     match route(alloc, library, legalised) {
         Ok(routed) => {
-            known_sound(&routed);
+            design_is_sound(&routed);
             let text = legalised_text(alloc, &routed, moves)?;
             Ok(Answer {
                 status: Status::Success,

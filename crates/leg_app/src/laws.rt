@@ -11,7 +11,8 @@ ghost use Rattle.leg_app.specs.declared.status.Status.{Status};
 ghost use Rattle.leg_app.specs.declared.status.Status.TheVariants.{Refused, Memory};
 ghost use Rattle.leg_app.specs.declared.limits.TheConstants.{FILE_LIMIT, STREAM_LIMIT};
 ghost use Rattle.leg_app.specs.Say.{SayLibraryFor, SayDesign};
-ghost use Rattle.leg_app.specs.Violations.{AreAllViolations, AreViolationsOf};
+ghost use Rattle.leg_rules.specs.Violations.{AreAllViolations};
+ghost use Rattle.leg_app.specs.Violations.{AreViolationsOf};
 ghost use Rattle.leg_app.specs.Answer.{IsAnswer, IsStreamAnswer};
 
 /// LEF texts denote one library at most, at the units of a DEF.

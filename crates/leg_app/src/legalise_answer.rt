@@ -7,10 +7,10 @@ ghost use Rattle.leg_app.specs.Legalised.{TellsNotLegalised};
 ghost use Rattle.leg_app.specs.Steps.Making.{IsMaking};
 
 use crate::answer::Answer;
-use crate::known_sound::known_sound;
 use crate::legalise_lines::{component_text, fixed_illegal_text, legalised_text};
 use crate::status::Status;
 use leg_block::Design;
+use leg_block::laws::design_is_sound;
 use leg_legal::{LegalFault, legalise};
 use std::alloc::{AllocError, Allocator};
 
@@ -24,7 +24,7 @@ pub(crate) fn legalise_answer<A: Allocator + Copy>(
     let library = design.library();
     match legalise(alloc, library, design) {
         Ok((legalised, moves)) => {
-            known_sound(&legalised);
+            design_is_sound(&legalised);
             let text = legalised_text(alloc, &legalised, &moves)?;
             Ok(Answer {
                 status: Status::Success,

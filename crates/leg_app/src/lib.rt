@@ -5,7 +5,6 @@ mod answer;
 mod check;
 mod end;
 mod flow_answer;
-mod known_sound;
 pub mod laws;
 mod legalise_answer;
 mod legalise_lines;

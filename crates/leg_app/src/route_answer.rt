@@ -7,10 +7,10 @@ ghost use Rattle.leg_app.specs.Routed.{TellsNotRouted};
 ghost use Rattle.leg_app.specs.Steps.Making.{IsMaking};
 
 use crate::answer::Answer;
-use crate::known_sound::known_sound;
 use crate::route_lines::{not_clean_text, unroutable_text};
 use crate::status::Status;
 use leg_block::Design;
+use leg_block::laws::design_is_sound;
 use leg_print::print_def;
 use leg_route::{RouteFault, route};
 use std::alloc::{AllocError, Allocator};
@@ -25,7 +25,7 @@ pub(crate) fn route_answer<A: Allocator + Copy>(
     let library = design.library();
     match route(alloc, library, design) {
         Ok(routed) => {
-            known_sound(&routed);
+            design_is_sound(&routed);
             let text = print_def(alloc, routed.library(), &routed)?;
             Ok(Answer {
                 status: Status::Success,

@@ -8,6 +8,8 @@ mod Wired
 mod EachWith
 mod AllWired
 -- What the proofs of other crates cite
+pub mod ComponentMacro
+pub mod MovableOrNot
 pub mod SameTerminal
 pub mod Blank
 pub mod FaultNumbers

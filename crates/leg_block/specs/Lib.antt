@@ -7,5 +7,6 @@ pub mod MoreWires
 pub mod WellFormedParts
 pub mod WellFormedNets
 pub mod WellFormed
+pub mod Movable
 pub mod Violation
 pub mod Steps

@@ -25,7 +25,7 @@ impl<'a, A: Allocator + Copy> Design<'a, A> {
         ensures { (before : Component) → slice_get self.entry.components component ≡ Some before
             → result ≡ record self.entry { components = slice_set self.entry.components component (record before { status = Placed; place = Some place }) } }
     {
-        let chosen = &mut self.components[component as usize];
+        let chosen = &mut self.fields.components[component as usize];
         chosen.status = Status::Placed;
         chosen.place = Some(place);
         self
@@ -46,7 +46,7 @@ impl<'a, A: Allocator + Copy> Design<'a, A> {
             → design ≡ record self.entry { nets = slice_set self.entry.nets net (record before { wires = before.wires ++ wires.items }) }) }
         ensures unchanged { IfErr result (λ back. back.0 ≡ self.entry) }
     {
-        let entry = &mut self.nets[net as usize];
+        let entry = &mut self.fields.nets[net as usize];
         match entry.wires.append(wires) {
             Ok(()) => Ok(self),
             Err(refusal) => Err((self, refusal)),
@@ -66,8 +66,8 @@ impl<'a, A: Allocator + Copy> Design<'a, A> {
         ensures added { IfOk result (λ design. design ≡ record self.entry { nets = with_more_wires self.entry.nets (map (λ wires. wires.items) lists.items) }) }
         ensures unchanged { IfErr result (λ back. back.0 ≡ self.entry) }
     {
-        let alloc = *self.nets.allocator();
-        match append_to_all(alloc, self.nets.as_mut_slice(), lists) {
+        let alloc = *self.fields.nets.allocator();
+        match append_to_all(alloc, self.fields.nets.as_mut_slice(), lists) {
             Ok(()) => Ok(self),
             Err(refusal) => Err((self, refusal)),
         }

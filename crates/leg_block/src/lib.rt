@@ -7,7 +7,9 @@
 mod design;
 mod design_change;
 mod fault;
+pub mod laws;
 mod limits;
+mod movable;
 mod records;
 
 pub use design::{Design, DesignFields};

@@ -10,29 +10,29 @@ use Rattle.leg_design.specs.Form.{def_form_at, design_in}
 use Rattle.leg_design.proofs.FormsShorter.{form_shortens}
 
 -- one more form
-pub forms_on : (library : Contents) (parts next : DesignParts) (words rest : Words) → def_form_at library parts words ≡ Some (next, rest) → is_at (codes "END") words ≡ false → until at_end (def_form_at library) parts words ≡ until at_end (def_form_at library) next rest
-forms_on library parts next words rest said more =
-    loops.goes_on at_end (def_form_at library) (form_shortens library) parts next words rest more said
+pub forms_on : (parts next : DesignParts) (words rest : Words) → def_form_at parts words ≡ Some (next, rest) → is_at (codes "END") words ≡ false → until at_end def_form_at parts words ≡ until at_end def_form_at next rest
+forms_on parts next words rest said more =
+    loops.goes_on at_end def_form_at form_shortens parts next words rest more said
 
 -- no more forms
-pub forms_end : (library : Contents) (parts : DesignParts) (words : Words) → is_at (codes "END") words ≡ true → until at_end (def_form_at library) parts words ≡ Some (parts, words)
-forms_end library parts words stops = loops.ends at_end (def_form_at library) parts words stops
+pub forms_end : (parts : DesignParts) (words : Words) → is_at (codes "END") words ≡ true → until at_end def_form_at parts words ≡ Some (parts, words)
+forms_end parts words stops = loops.ends at_end def_form_at parts words stops
 
 -- what stands there is no form
-pub forms_fail : (library : Contents) (parts : DesignParts) (words : Words) → def_form_at library parts words ≡ None → is_at (codes "END") words ≡ false → until at_end (def_form_at library) parts words ≡ None
-forms_fail library parts words said more = loops.fails at_end (def_form_at library) parts words more said
+pub forms_fail : (parts : DesignParts) (words : Words) → def_form_at parts words ≡ None → is_at (codes "END") words ≡ false → until at_end def_form_at parts words ≡ None
+forms_fail parts words said more = loops.fails at_end def_form_at parts words more said
 
 -- the forms before it said these parts, and what stands there is no form
-pub forms_failed : (library : Contents) (first parts : DesignParts) (all words : Words) (ended : Bool) → until at_end (def_form_at library) parts words ≡ until at_end (def_form_at library) first all → def_form_at library parts words ≡ None → ended ≡ is_at (codes "END") words → ended ≡ false → until at_end (def_form_at library) first all ≡ None
-forms_failed library first parts all words ended so_far said test more =
-    sym so_far ∙ forms_fail library parts words said (sym test ∙ more)
+pub forms_failed : (first parts : DesignParts) (all words : Words) (ended : Bool) → until at_end def_form_at parts words ≡ until at_end def_form_at first all → def_form_at parts words ≡ None → ended ≡ is_at (codes "END") words → ended ≡ false → until at_end def_form_at first all ≡ None
+forms_failed first parts all words ended so_far said test more =
+    sym so_far ∙ forms_fail parts words said (sym test ∙ more)
 
 -- something stands after END DESIGN
-pub more_after : (library : Contents) (parts : DesignParts) (words rest after : Words) → until at_end (def_form_at library) no_parts words ≡ Some (parts, rest) → end_at (codes "DESIGN") rest ≡ Some (tt, after) → nothing_at after ≡ None → design_in library words ≡ None
+pub more_after : (library : Contents) (parts : DesignParts) (words rest after : Words) → until at_end def_form_at (no_parts library) words ≡ Some (parts, rest) → end_at (codes "DESIGN") rest ≡ Some (tt, after) → nothing_at after ≡ None → design_in library words ≡ None
 unfolding design_in
 more_after library parts words rest after forms end more = rw (forms, end, more) refl
 
 -- END DESIGN doesn't stand
-pub no_end : (library : Contents) (parts : DesignParts) (words rest : Words) → until at_end (def_form_at library) no_parts words ≡ Some (parts, rest) → end_at (codes "DESIGN") rest ≡ None → design_in library words ≡ None
+pub no_end : (library : Contents) (parts : DesignParts) (words rest : Words) → until at_end def_form_at (no_parts library) words ≡ Some (parts, rest) → end_at (codes "DESIGN") rest ≡ None → design_in library words ≡ None
 unfolding design_in
 no_end library parts words rest forms end = rw (forms, end) refl

@@ -1,11 +1,10 @@
 -- Each form of a DEF takes a word.
-use Rattle.std.proofs.Common.{◌≡◌, ◌<◌, Bool, true, false, ◌==◌, List, [], ◌∷◌, ◌++◌, length, Some, is_some, codes, arith}
+use Rattle.std.proofs.Common.{◌≡◌, ◌<◌, Bool, true, false, ◌==◌, List, [], ◌∷◌, length, Some, is_some, codes, arith}
 use Rattle.leg_lex.specs.Words.{Words, is_at, keyword_at, end_at}
 use Rattle.leg_lex.proofs.Until.{Below, Shortens, below_none, below_some, below_bind, below_ask, below_if, below_more}
 use Rattle.leg_lex.proofs.Shorter.{keyword_below, end_below}
 use Rattle.leg_lex.proofs.Statements.{statement_below}
 use Rattle.leg_lex.proofs.Passed.{past_below}
-use Rattle.leg_cells.specs.Records.{Contents}
 use Rattle.leg_section.specs.Guard.{when, unless}
 use Rattle.leg_section.specs.Namespace.{KnownSaid}
 use Rattle.leg_block.specs.Records.{NetSaid}
@@ -55,94 +54,94 @@ past_form_below words =
 divider_form_below : (parts : DesignParts) (words : Words) → Below (length words) (divider_form parts words)
 unfolding divider_form
 divider_form_below parts words =
-    below_ask (unless (is_some parts.divider)) (λ once.
-    below_bind (omega arith) (word_after_below (codes "DIVIDERCHAR") words) (λ word l. below_some (record parts { divider = Some word.0 }) word.1 l))
+    below_ask (unless (is_some parts.design.divider)) (λ once.
+    below_bind (omega arith) (word_after_below (codes "DIVIDERCHAR") words) (λ word l. below_some _ word.1 l))
 
 bus_form_below : (parts : DesignParts) (words : Words) → Below (length words) (bus_form parts words)
 unfolding bus_form
 bus_form_below parts words =
-    below_ask (unless (is_some parts.bus)) (λ once.
-    below_bind (omega arith) (word_after_below (codes "BUSBITCHARS") words) (λ word l. below_some (record parts { bus = Some word.0 }) word.1 l))
+    below_ask (unless (is_some parts.design.bus)) (λ once.
+    below_bind (omega arith) (word_after_below (codes "BUSBITCHARS") words) (λ word l. below_some _ word.1 l))
 
 name_form_below : (parts : DesignParts) (words : Words) → Below (length words) (name_form parts words)
 unfolding name_form
 name_form_below parts words =
-    below_ask (unless (is_some parts.name)) (λ once.
-    below_bind (omega arith) (design_name_below words) (λ name l. below_some (record parts { name = Some name.0 }) name.1 l))
+    below_ask (unless parts.has.name) (λ once.
+    below_bind (omega arith) (design_name_below words) (λ name l. below_some _ name.1 l))
 
-units_form_below : (library : Contents) (parts : DesignParts) (words : Words) → Below (length words) (units_form library parts words)
+units_form_below : (parts : DesignParts) (words : Words) → Below (length words) (units_form parts words)
 unfolding units_form
-units_form_below library parts words =
-    below_ask (unless parts.stood.units) (λ once.
+units_form_below parts words =
+    below_ask (unless parts.has.units) (λ once.
     below_bind (omega arith) (units_below words) (λ n l.
-    below_ask (when (n.0 == library.units)) (λ same. below_some (record parts { stood = record (parts.stood) { units = true } }) n.1 l)))
+    below_ask (when (n.0 == parts.design.library.units)) (λ same. below_some _ n.1 l)))
 
 die_form_below : (parts : DesignParts) (words : Words) → Below (length words) (die_form parts words)
 unfolding die_form
 die_form_below parts words =
-    below_ask (unless (is_some parts.die)) (λ once.
-    below_bind (omega arith) (die_below words) (λ die l. below_some (record parts { die = Some die.0 }) die.1 l))
+    below_ask (unless parts.has.die) (λ once.
+    below_bind (omega arith) (die_below words) (λ die l. below_some _ die.1 l))
 
-row_form_below : (library : Contents) (parts : DesignParts) (words : Words) → Below (length words) (row_form library parts words)
+row_form_below : (parts : DesignParts) (words : Words) → Below (length words) (row_form parts words)
 unfolding row_form
-row_form_below library parts words =
-    below_bind (omega arith) (row_below library words) (λ row l. below_some (record parts { rows = parts.rows ++ row.0 ∷ [] }) row.1 l)
+row_form_below parts words =
+    below_bind (omega arith) (row_below parts.design.library words) (λ row l. below_some _ row.1 l)
 
-track_form_below : (library : Contents) (parts : DesignParts) (words : Words) → Below (length words) (track_form library parts words)
+track_form_below : (parts : DesignParts) (words : Words) → Below (length words) (track_form parts words)
 unfolding track_form
-track_form_below library parts words =
-    below_bind (omega arith) (track_below library words) (λ track l. below_some (record parts { tracks = parts.tracks ++ track.0 ∷ [] }) track.1 l)
+track_form_below parts words =
+    below_bind (omega arith) (track_below parts.design.library words) (λ track l. below_some _ track.1 l)
 
-vias_form_below : (library : Contents) (parts : DesignParts) (words : Words) → Below (length words) (vias_form library parts words)
+vias_form_below : (parts : DesignParts) (words : Words) → Below (length words) (vias_form parts words)
 unfolding vias_form
-vias_form_below library parts words =
-    below_ask (unless parts.stood.vias) (λ once.
-    below_bind (omega arith) (vias_below library words) (λ vias l. below_some (record parts { stood = record (parts.stood) { vias = true }; vias = vias.0 }) vias.1 l))
+vias_form_below parts words =
+    below_ask (unless parts.has.vias) (λ once.
+    below_bind (omega arith) (vias_below parts.design.library words) (λ vias l. below_some _ vias.1 l))
 
-components_form_below : (library : Contents) (parts : DesignParts) (words : Words) → Below (length words) (components_form library parts words)
+components_form_below : (parts : DesignParts) (words : Words) → Below (length words) (components_form parts words)
 unfolding components_form
-components_form_below library parts words =
-    below_ask (unless parts.stood.components) (λ once.
-    below_bind (omega arith) (components_below library words) (λ components l. below_some (record parts { stood = record (parts.stood) { components = true }; components = components.0 }) components.1 l))
+components_form_below parts words =
+    below_ask (unless parts.has.components) (λ once.
+    below_bind (omega arith) (components_below parts.design.library words) (λ components l. below_some _ components.1 l))
 
-pins_form_below : (library : Contents) (parts : DesignParts) (words : Words) → Below (length words) (pins_form library parts words)
+pins_form_below : (parts : DesignParts) (words : Words) → Below (length words) (pins_form parts words)
 unfolding pins_form
-pins_form_below library parts words =
-    below_ask (unless parts.stood.pins) (λ once.
-    below_bind (omega arith) (pins_below library words) (λ pins l. below_some (record parts { stood = record (parts.stood) { pins = true }; pins = pins.0 }) pins.1 l))
+pins_form_below parts words =
+    below_ask (unless parts.has.pins) (λ once.
+    below_bind (omega arith) (pins_below parts.design.library words) (λ pins l. below_some _ pins.1 l))
 
-nets_form_below : (library : Contents) (parts : DesignParts) (words : Words) → Below (length words) (nets_form library parts words)
+nets_form_below : (parts : DesignParts) (words : Words) → Below (length words) (nets_form parts words)
 unfolding nets_form
-nets_form_below library parts words =
-    below_ask (unless parts.stood.nets) (λ once.
-    below_bind (omega arith) (nets_below (known library parts) false parts.special words) (λ nets l. below_some (record parts { stood = record (parts.stood) { nets = true }; nets = nets.0 }) nets.1 l))
+nets_form_below parts words =
+    below_ask (unless parts.has.nets) (λ once.
+    below_bind (omega arith) (nets_below (known parts.design) false parts.design.special words) (λ nets l. below_some _ nets.1 l))
 
-special_form_below : (library : Contents) (parts : DesignParts) (words : Words) → Below (length words) (special_form library parts words)
+special_form_below : (parts : DesignParts) (words : Words) → Below (length words) (special_form parts words)
 unfolding special_form
-special_form_below library parts words =
-    below_ask (unless parts.stood.special) (λ once.
-    below_bind (omega arith) (nets_below (known library parts) true parts.nets words) (λ special l. below_some (record parts { stood = record (parts.stood) { special = true }; special = special.0 }) special.1 l))
+special_form_below parts words =
+    below_ask (unless parts.has.special) (λ once.
+    below_bind (omega arith) (nets_below (known parts.design) true parts.design.nets words) (λ special l. below_some _ special.1 l))
 
-header_form_below : (library : Contents) (parts : DesignParts) (words : Words) → Below (length words) (header_form library parts words)
+header_form_below : (parts : DesignParts) (words : Words) → Below (length words) (header_form parts words)
 unfolding header_form
-header_form_below library parts words =
+header_form_below parts words =
     below_if (is_at (codes "DIVIDERCHAR") words) (divider_form_below parts words)
     (below_if (is_at (codes "BUSBITCHARS") words) (bus_form_below parts words)
     (below_if (is_at (codes "DESIGN") words) (name_form_below parts words)
-    (below_if (is_at (codes "UNITS") words) (units_form_below library parts words)
+    (below_if (is_at (codes "UNITS") words) (units_form_below parts words)
     (below_if (is_at (codes "DIEAREA") words) (die_form_below parts words)
-    (below_if (is_at (codes "ROW") words) (row_form_below library parts words)
-    (below_if (is_at (codes "TRACKS") words) (track_form_below library parts words)
+    (below_if (is_at (codes "ROW") words) (row_form_below parts words)
+    (below_if (is_at (codes "TRACKS") words) (track_form_below parts words)
     (below_bind (omega arith) (past_form_below words) (λ form l. below_some parts form.1 l))))))))
 
-pub form_shortens : (library : Contents) → Shortens (def_form_at library)
+pub form_shortens : Shortens def_form_at
 unfolding def_form_at
-form_shortens library parts words =
-    below_if (is_at (codes "VIAS") words) (vias_form_below library parts words)
-    (below_if (is_at (codes "COMPONENTS") words) (components_form_below library parts words)
-    (below_if (is_at (codes "PINS") words) (pins_form_below library parts words)
-    (below_if (is_at (codes "SPECIALNETS") words) (special_form_below library parts words)
-    (below_if (is_at (codes "NETS") words) (nets_form_below library parts words) (header_form_below library parts words)))))
+form_shortens parts words =
+    below_if (is_at (codes "VIAS") words) (vias_form_below parts words)
+    (below_if (is_at (codes "COMPONENTS") words) (components_form_below parts words)
+    (below_if (is_at (codes "PINS") words) (pins_form_below parts words)
+    (below_if (is_at (codes "SPECIALNETS") words) (special_form_below parts words)
+    (below_if (is_at (codes "NETS") words) (nets_form_below parts words) (header_form_below parts words)))))
 
-pub form_shorter : (library : Contents) (parts more : DesignParts) (words rest : Words) → def_form_at library parts words ≡ Some (more, rest) → length rest < length words
-form_shorter library parts more words rest said = (form_shortens library parts words).left more rest said
+pub form_shorter : (parts more : DesignParts) (words rest : Words) → def_form_at parts words ≡ Some (more, rest) → length rest < length words
+form_shorter parts more words rest said = (form_shortens parts words).left more rest said

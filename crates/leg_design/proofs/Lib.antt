@@ -8,7 +8,7 @@ mod Forms
 -- That the design that the forms say is well-formed.
 mod ReadForms
 mod ReadNetForms
-mod ReadDesigns
+pub mod ReadDesigns
 mod Designs
 -- What a text says.
 mod Readings

@@ -1,109 +1,123 @@
--- A design that a DEF says is well-formed.
-use Rattle.std.proofs.Common.{◌≡◌, ℕ, ◌+◌, ◌≤◌, Bool, true, false, nat_lt, List, Some, codes, arith}
+-- A design that a DEF says is well-formed, and under the library that it was read with.
+use Rattle.std.proofs.Common.{◌≡◌, ℕ, ◌≤◌, ◌&&◌, Bool, true, false, nat_lt, Some, codes, refl, arith}
 use Rattle.std.proofs.lemmas.Bool.Decides.{nat_tests}
 use Rattle.std.proofs.lemmas.List.Elements.{All-weaker}
 use Rattle.std.proofs.lemmas.Option.{slice_get_within}
 use Rattle.leg_lex.specs.Words.{Words, end_at, nothing_at}
 use Rattle.leg_lex.specs.Until.{until}
 use Rattle.leg_lex.specs.Statements.{at_end}
-use Rattle.leg_geom.specs.Plane.{Sides}
 use Rattle.leg_cells.specs.Records.{Contents}
 use Rattle.leg_block.specs.declared.limits.TheConstants.{PART_LIMIT}
 use Rattle.leg_block.specs.declared.records.Terminal.{Terminal}
 use Rattle.leg_block.specs.declared.records.Terminal.TheVariants.{Comp, Pin}
-use Rattle.leg_section.specs.Guard.{when}
-use Rattle.leg_block.specs.Records.{NetSaid, DesignContents, terminal_count}
+use Rattle.leg_block.specs.Records.{NetSaid, DesignContents}
 use Rattle.leg_design.specs.Parts.{DesignParts, no_parts, known}
-use Rattle.leg_design.specs.Form.{def_form_at, all_nets, design_with, design_of, design_in}
+use Rattle.leg_design.specs.Form.{def_form_at, all_nets, with_all_nets, design_of, design_in}
 use Rattle.leg_block.specs.WellFormedNets.{IsTerminal, IsNet, HasNets}
 use Rattle.leg_block.specs.WellFormed.{IsWellFormed}
-use Rattle.leg_section.proofs.Gives.{Gives, gives_some, gives_bind, gives_skip, unless_gives, until_gives}
+use Rattle.leg_section.proofs.Gives.{Gives, gives_some, gives_bind, gives_skip, when_gives, unless_gives, until_gives}
 use Rattle.leg_nets.proofs.ReadTerminals.{IsKnownTerminal}
 use Rattle.leg_nets.proofs.ReadNets.{IsKnownNet}
 use Rattle.leg_nets.proofs.LonePinsListed.{lone_pins_listed}
-use Rattle.leg_design.proofs.ReadForms.{HasSoundParts, form_keeps, no_parts_sound, die_of_parts, name_of_parts}
+use Rattle.leg_design.proofs.Designs.{all_terminals}
+use Rattle.leg_design.proofs.ReadForms.{HasSoundParts, form_keeps, no_parts_sound}
 use Rattle.leg_design.proofs.ReadNetForms.{HasNetParts, lists_of, net_form_keeps, no_net_parts}
 
 not_more : (n : ℕ) → nat_lt PART_LIMIT n ≡ false → n ≤ PART_LIMIT
 not_more n few = grind (arith, nat_tests)
 
-module _ (library : Contents) (parts : DesignParts) (name : List ℕ) (die : Sides) where
-  said : DesignContents
-  said = design_with library parts name die (all_nets parts)
+-- of three that hold, the first and the last
+first_and_last : (a b c : Bool) → (a && b && c) ≡ true → (a ≡ true) × (c ≡ true)
+first_and_last true true true all = (refl, refl)
+first_and_last true true false all = absurd (let e : ⊥ = cc in e)
+first_and_last true false c all = absurd (let e : ⊥ = cc in e)
+first_and_last false b c all = absurd (let e : ⊥ = cc in e)
 
-  terminal_is : (t : Terminal) → IsKnownTerminal (known library parts) t → IsTerminal said t
+module _ (parts : DesignParts) where
+  said : DesignContents
+  said = with_all_nets parts.design
+
+  terminal_is : (t : Terminal) → IsKnownTerminal (known parts.design) t → IsTerminal said t
   unfolding said
   terminal_is (Comp c k) is = is
   terminal_is (Pin p) is = is
 
-  net_is : (special : Bool) (net : NetSaid) → IsKnownNet (known library parts) special net → IsNet said special net
+  net_is : (special : Bool) (net : NetSaid) → IsKnownNet (known parts.design) special net → IsNet said special net
   unfolding said
   net_is special net is = record {
     name = is.name;
     no_must_join = is.no_must_join;
     usage = is.usage;
-    terminals = All-weaker (IsKnownTerminal (known library parts)) (IsTerminal said) terminal_is net.terminals is.terminals;
+    terminals = All-weaker (IsKnownTerminal (known parts.design)) (IsTerminal said) terminal_is net.terminals is.terminals;
     once = is.once;
     wires = is.wires;
   }
 
-  nets_are : HasNetParts library parts → nat_lt PART_LIMIT (terminal_count (all_nets parts).nets + terminal_count (all_nets parts).special) ≡ false → HasNets said
+  nets_are : HasNetParts parts → nat_lt PART_LIMIT (all_terminals parts.design) ≡ false → HasNets said
   unfolding said
   nets_are sound few =
-      let all = lone_pins_listed (known library parts) (lists_of parts.nets parts.special) sound.entries in
+      let all = lone_pins_listed (known parts.design) (lists_of parts.design.nets parts.design.special) sound.entries in
       let entries = all.entries in
       record {
-        nets = record { each = All-weaker (IsKnownNet (known library parts) false) (IsNet said false) (net_is false) (all_nets parts).nets entries.nets; apart = entries.nets_apart };
-        special = record { each = All-weaker (IsKnownNet (known library parts) true) (IsNet said true) (net_is true) (all_nets parts).special entries.special; apart = entries.special_apart };
+        nets = record { each = All-weaker (IsKnownNet (known parts.design) false) (IsNet said false) (net_is false) (all_nets parts.design).nets entries.nets; apart = entries.nets_apart };
+        special = record { each = All-weaker (IsKnownNet (known parts.design) true) (IsNet said true) (net_is true) (all_nets parts.design).special entries.special; apart = entries.special_apart };
         one_net = entries.one_net;
-        lone = λ p pin at. all.in_nets p pin (slice_get_within parts.pins p pin at) at;
+        lone = λ p pin at. all.in_nets p pin (slice_get_within parts.design.pins p pin at) at;
         few = entries.few;
-        few_terminals = not_more (terminal_count (all_nets parts).nets + terminal_count (all_nets parts).special) few;
+        few_terminals = not_more (all_terminals parts.design) few;
         few_wires = entries.few_wires;
       }
 
-  nets_are_so : HasNetParts library parts → nat_lt PART_LIMIT (terminal_count (all_nets parts).nets + terminal_count (all_nets parts).special) ≡ false → HasNets (design_with library parts name die (all_nets parts))
+  pub all_nets_are : HasNetParts parts → nat_lt PART_LIMIT (all_terminals parts.design) ≡ false → HasNets (with_all_nets parts.design)
   unfolding said
-  nets_are_so sound few = nets_are sound few
+  all_nets_are sound few = nets_are sound few
 
 -- both hold of what the forms say
 record AreRead (library : Contents) (parts : DesignParts) : Type 0 where
   sound : HasSoundParts library parts
-  nets : HasNetParts library parts
+  nets : HasNetParts parts
 
-form_is_read : (library : Contents) (parts : DesignParts) (words : Words) → AreRead library parts → Gives (λ said. AreRead library said.0) (def_form_at library parts words)
+form_is_read : (library : Contents) (parts : DesignParts) (words : Words) → AreRead library parts → Gives (λ said. AreRead library said.0) (def_form_at parts words)
 form_is_read library parts words before = record {
   given = λ next is. record {
     sound = (form_keeps library parts words before.sound).given next is;
-    nets = (net_form_keeps library parts words before.nets).given next is;
+    nets = (net_form_keeps parts words before.nets).given next is;
   };
 }
 
-design_gives : (library : Contents) (parts : DesignParts) → AreRead library parts → Gives IsWellFormed (design_of library parts)
+-- a well-formed design under this library
+abbrev IsRead : Contents → DesignContents → Type 0
+IsRead library design = IsWellFormed design × (design.library ≡ library)
+
+design_gives : (library : Contents) (parts : DesignParts) → AreRead library parts → Gives (IsRead library) (design_of parts)
 unfolding design_of
 design_gives library parts are =
-    gives_bind (name_of_parts parts.name are.sound.of_words.name_) (λ name named.
-    gives_skip (when parts.stood.units) (λ units.
-    gives_bind (die_of_parts parts.die are.sound.of_die) (λ die area.
-    gives_bind (unless_gives (nat_lt PART_LIMIT (terminal_count (all_nets parts).nets + terminal_count (all_nets parts).special))) (λ few is.
-    gives_some _ (record {
-      name = named;
-      divider = are.sound.of_words.divider_;
-      bus = are.sound.of_words.bus_;
-      die = area;
-      components = are.sound.of_components;
-      rows = are.sound.of_rows;
-      tracks = are.sound.of_tracks;
-      vias = are.sound.of_vias;
-      pins = are.sound.of_pins;
-      nets = nets_are_so library parts name die are.nets is;
-    })))))
+    let header = are.sound.header in
+    let sections = are.sound.sections in
+    gives_bind (when_gives (parts.has.name && parts.has.units && parts.has.die)) (λ there all.
+    gives_bind (unless_gives (nat_lt PART_LIMIT (all_terminals parts.design))) (λ few is.
+    let has = first_and_last parts.has.name parts.has.units parts.has.die all in
+    gives_some _ (
+      record {
+        name = header.name_ has.0;
+        divider = header.divider_;
+        bus = header.bus_;
+        die = header.die_ has.1;
+        components = sections.components_;
+        rows = header.rows_;
+        tracks = header.tracks_;
+        vias = sections.vias_;
+        pins = sections.pins_;
+        nets = all_nets_are parts are.nets is;
+      },
+      are.sound.same,
+    )))
 
-forms_give : (library : Contents) (words : Words) → Gives (λ forms. AreRead library forms.0) (until at_end (def_form_at library) no_parts words)
+forms_give : (library : Contents) (words : Words) → Gives (λ forms. AreRead library forms.0) (until at_end def_form_at (no_parts library) words)
 forms_give library words =
-    until_gives (AreRead library) at_end (def_form_at library) (form_is_read library) no_parts words (record { sound = no_parts_sound library; nets = no_net_parts library })
+    until_gives (AreRead library) at_end def_form_at (form_is_read library) (no_parts library) words (record { sound = no_parts_sound library; nets = no_net_parts library })
 
-text_gives : (library : Contents) (words : Words) → Gives IsWellFormed (design_in library words)
+text_gives : (library : Contents) (words : Words) → Gives (IsRead library) (design_in library words)
 unfolding design_in
 text_gives library words =
     gives_bind (forms_give library words) (λ forms are.
@@ -113,4 +127,8 @@ text_gives library words =
 
 -- A design that a DEF says under a library is well-formed.
 pub reads_well_formed : (library : Contents) (words : Words) (design : DesignContents) → design_in library words ≡ Some design → IsWellFormed design
-reads_well_formed library words design is = (text_gives library words).given design is
+reads_well_formed library words design is = ((text_gives library words).given design is).0
+
+-- A design that a DEF says under a library has this library.
+pub design_has_library : (library : Contents) (words : Words) → Gives (λ design. design.library ≡ library) (design_in library words)
+design_has_library library words = record { given = λ design is. ((text_gives library words).given design is).1 }

@@ -1,5 +1,5 @@
 -- What the forms of a DEF say is well-formed; of nets other lemmas tell.
-use Rattle.std.proofs.Common.{◌≡◌, ℕ, true, false, ◌==◌, List, All, Option, None, Some, is_some, codes}
+use Rattle.std.proofs.Common.{◌≡◌, ℕ, Bool, true, false, ◌==◌, List, All, Option, is_some, refl, codes}
 use Rattle.std.proofs.lemmas.List.Elements.{All-push, All-nil}
 use Rattle.leg_lex.specs.Words.{Words, is_at, is_name, is_word, keyword_at, mark_at}
 use Rattle.leg_geom.specs.Plane.{Sides}
@@ -13,8 +13,8 @@ use Rattle.leg_block.specs.Records.{TrackSaid, PinSaid}
 use Rattle.leg_design.specs.Parts.{DesignParts, no_parts, known, divider_form, bus_form, name_form, units_form, die_form, row_form, track_form, vias_form, components_form, pins_form, nets_form, special_form}
 use Rattle.leg_design.specs.Skipped.{past_def_form}
 use Rattle.leg_design.specs.Form.{header_form, def_form_at}
-use Rattle.leg_block.specs.WellFormedParts.{IsKept, IsNameIfAny, IsArea, AreComponents, IsRow, IsTrack, AreVias, ArePins}
-use Rattle.leg_section.proofs.Gives.{Gives, gives_none, gives_some, gives_bind, gives_skip, gives_if, name_gives, word_gives}
+use Rattle.leg_block.specs.WellFormedParts.{IsKept, IsArea, AreComponents, IsRow, IsTrack, AreVias, ArePins}
+use Rattle.leg_section.proofs.Gives.{Gives, gives_some, gives_bind, gives_skip, gives_if, name_gives, word_gives}
 use Rattle.leg_floorplan.proofs.ReadDie.{die_gives}
 use Rattle.leg_floorplan.proofs.ReadComponents.{components_give, no_components}
 use Rattle.leg_floorplan.proofs.ReadRows.{row_gives}
@@ -22,28 +22,27 @@ use Rattle.leg_floorplan.proofs.ReadTracks.{track_gives}
 use Rattle.leg_floorplan.proofs.ReadVias.{vias_give, no_vias}
 use Rattle.leg_floorplan.proofs.ReadPins.{pins_give, no_pins}
 
-abbrev pub IsAreaIfAny : Option Sides → Type 0
-IsAreaIfAny None = Unit {0}
-IsAreaIfAny (Some die) = IsArea die
-
--- the design's name and the words that are kept
-pub record AreKept (name divider bus : Option (List ℕ)) : Type 0 where
-  pub name_ : IsNameIfAny name
+-- what the forms before the sections gave is well-formed
+pub record AreHeaderForms (library : Contents) (has_name has_die : Bool) (name : List ℕ) (divider bus : Option (List ℕ)) (die : Sides)
+    (rows : List Row) (tracks : List TrackSaid) : Type 0 where
+  pub name_ : has_name ≡ true → is_name name ≡ true
   pub divider_ : IsKept divider
   pub bus_ : IsKept bus
+  pub die_ : has_die ≡ true → IsArea die
+  pub rows_ : All (IsRow library) rows
+  pub tracks_ : All (IsTrack library) tracks
 
--- what was read so far is well-formed
-pub record AreSound (library : Contents) (name divider bus : Option (List ℕ)) (die : Option Sides) (components : List Component) (rows : List Row) (tracks : List TrackSaid) (vias : List ViaSaid) (pins : List PinSaid) : Type 0 where
-  pub of_words : AreKept name divider bus
-  pub of_die : IsAreaIfAny die
-  pub of_components : AreComponents library components
-  pub of_rows : All (IsRow library) rows
-  pub of_tracks : All (IsTrack library) tracks
-  pub of_vias : AreVias library vias
-  pub of_pins : ArePins library pins
+-- what the sections before those of nets gave is well-formed
+pub record AreSections (library : Contents) (vias : List ViaSaid) (components : List Component) (pins : List PinSaid) : Type 0 where
+  pub vias_ : AreVias library vias
+  pub components_ : AreComponents library components
+  pub pins_ : ArePins library pins
 
-abbrev pub HasSoundParts : Contents → DesignParts → Type 0
-HasSoundParts library parts = AreSound library parts.name parts.divider parts.bus parts.die parts.components parts.rows parts.tracks parts.vias parts.pins
+-- what was read so far is well-formed, and under this library
+pub record HasSoundParts (library : Contents) (parts : DesignParts) : Type 0 where
+  pub same : parts.design.library ≡ library
+  pub header : AreHeaderForms parts.design.library parts.has.name parts.has.die parts.design.name parts.design.divider parts.design.bus parts.design.die parts.design.rows parts.design.tracks
+  pub sections : AreSections parts.design.library parts.design.vias parts.design.components parts.design.pins
 
 word_after_gives : (keyword : List ℕ) (words : Words) → Gives (λ said. is_word said.0 ≡ true) (word_after keyword words)
 unfolding word_after
@@ -68,62 +67,166 @@ module _ (library : Contents) (parts : DesignParts) (words : Words) (sound : Has
 
   divider_keeps : Keeps (divider_form parts words)
   unfolding divider_form
-  divider_keeps = gives_skip (unless (is_some parts.divider)) (λ once. gives_bind (word_after_gives (codes "DIVIDERCHAR") words) (λ word plain. gives_some _ (record { of_words = record { name_ = sound.of_words.name_; divider_ = plain; bus_ = sound.of_words.bus_ }; of_die = sound.of_die; of_components = sound.of_components; of_rows = sound.of_rows; of_tracks = sound.of_tracks; of_vias = sound.of_vias; of_pins = sound.of_pins })))
+  divider_keeps =
+      gives_skip (unless (is_some parts.design.divider)) (λ once.
+      gives_bind (word_after_gives (codes "DIVIDERCHAR") words) (λ word plain.
+      gives_some _ (record {
+        same = sound.same;
+        header = record {
+          name_ = sound.header.name_;
+          divider_ = plain;
+          bus_ = sound.header.bus_;
+          die_ = sound.header.die_;
+          rows_ = sound.header.rows_;
+          tracks_ = sound.header.tracks_;
+        };
+        sections = sound.sections;
+      })))
 
   bus_keeps : Keeps (bus_form parts words)
   unfolding bus_form
-  bus_keeps = gives_skip (unless (is_some parts.bus)) (λ once. gives_bind (word_after_gives (codes "BUSBITCHARS") words) (λ word plain. gives_some _ (record { of_words = record { name_ = sound.of_words.name_; divider_ = sound.of_words.divider_; bus_ = plain }; of_die = sound.of_die; of_components = sound.of_components; of_rows = sound.of_rows; of_tracks = sound.of_tracks; of_vias = sound.of_vias; of_pins = sound.of_pins })))
+  bus_keeps =
+      gives_skip (unless (is_some parts.design.bus)) (λ once.
+      gives_bind (word_after_gives (codes "BUSBITCHARS") words) (λ word plain.
+      gives_some _ (record {
+        same = sound.same;
+        header = record {
+          name_ = sound.header.name_;
+          divider_ = sound.header.divider_;
+          bus_ = plain;
+          die_ = sound.header.die_;
+          rows_ = sound.header.rows_;
+          tracks_ = sound.header.tracks_;
+        };
+        sections = sound.sections;
+      })))
 
   name_keeps : Keeps (name_form parts words)
   unfolding name_form
-  name_keeps = gives_skip (unless (is_some parts.name)) (λ once. gives_bind (design_name_gives words) (λ name named. gives_some _ (record { of_words = record { name_ = named; divider_ = sound.of_words.divider_; bus_ = sound.of_words.bus_ }; of_die = sound.of_die; of_components = sound.of_components; of_rows = sound.of_rows; of_tracks = sound.of_tracks; of_vias = sound.of_vias; of_pins = sound.of_pins })))
+  name_keeps =
+      gives_skip (unless parts.has.name) (λ once.
+      gives_bind (design_name_gives words) (λ name named.
+      gives_some _ (record {
+        same = sound.same;
+        header = record {
+          name_ = λ there. named;
+          divider_ = sound.header.divider_;
+          bus_ = sound.header.bus_;
+          die_ = sound.header.die_;
+          rows_ = sound.header.rows_;
+          tracks_ = sound.header.tracks_;
+        };
+        sections = sound.sections;
+      })))
 
-  units_keeps : Keeps (units_form library parts words)
+  units_keeps : Keeps (units_form parts words)
   unfolding units_form
   units_keeps =
-      gives_skip (unless parts.stood.units) (λ once.
+      gives_skip (unless parts.has.units) (λ once.
       gives_skip (units_at words) (λ n.
-      gives_skip (when (n.0 == library.units)) (λ same. gives_some _ sound)))
+      gives_skip (when (n.0 == parts.design.library.units)) (λ equal.
+      gives_some _ (record { same = sound.same; header = sound.header; sections = sound.sections }))))
 
   die_keeps : Keeps (die_form parts words)
   unfolding die_form
-  die_keeps = gives_skip (unless (is_some parts.die)) (λ once. gives_bind (die_gives words) (λ die area. gives_some _ (record { of_words = sound.of_words; of_die = area; of_components = sound.of_components; of_rows = sound.of_rows; of_tracks = sound.of_tracks; of_vias = sound.of_vias; of_pins = sound.of_pins })))
+  die_keeps =
+      gives_skip (unless parts.has.die) (λ once.
+      gives_bind (die_gives words) (λ die area.
+      gives_some _ (record {
+        same = sound.same;
+        header = record {
+          name_ = sound.header.name_;
+          divider_ = sound.header.divider_;
+          bus_ = sound.header.bus_;
+          die_ = λ there. area;
+          rows_ = sound.header.rows_;
+          tracks_ = sound.header.tracks_;
+        };
+        sections = sound.sections;
+      })))
 
-  row_keeps : Keeps (row_form library parts words)
+  row_keeps : Keeps (row_form parts words)
   unfolding row_form
-  row_keeps = gives_bind (row_gives library words) (λ row holds. gives_some _ (record { of_words = sound.of_words; of_die = sound.of_die; of_components = sound.of_components; of_rows = All-push (IsRow library) parts.rows row.0 sound.of_rows holds; of_tracks = sound.of_tracks; of_vias = sound.of_vias; of_pins = sound.of_pins }))
+  row_keeps =
+      gives_bind (row_gives parts.design.library words) (λ row holds.
+      gives_some _ (record {
+        same = sound.same;
+        header = record {
+          name_ = sound.header.name_;
+          divider_ = sound.header.divider_;
+          bus_ = sound.header.bus_;
+          die_ = sound.header.die_;
+          rows_ = All-push (IsRow parts.design.library) parts.design.rows row.0 sound.header.rows_ holds;
+          tracks_ = sound.header.tracks_;
+        };
+        sections = sound.sections;
+      }))
 
-  track_keeps : Keeps (track_form library parts words)
+  track_keeps : Keeps (track_form parts words)
   unfolding track_form
-  track_keeps = gives_bind (track_gives library words) (λ track holds. gives_some _ (record { of_words = sound.of_words; of_die = sound.of_die; of_components = sound.of_components; of_rows = sound.of_rows; of_tracks = All-push (IsTrack library) parts.tracks track.0 sound.of_tracks holds; of_vias = sound.of_vias; of_pins = sound.of_pins }))
+  track_keeps =
+      gives_bind (track_gives parts.design.library words) (λ track holds.
+      gives_some _ (record {
+        same = sound.same;
+        header = record {
+          name_ = sound.header.name_;
+          divider_ = sound.header.divider_;
+          bus_ = sound.header.bus_;
+          die_ = sound.header.die_;
+          rows_ = sound.header.rows_;
+          tracks_ = All-push (IsTrack parts.design.library) parts.design.tracks track.0 sound.header.tracks_ holds;
+        };
+        sections = sound.sections;
+      }))
 
-  vias_keep : Keeps (vias_form library parts words)
+  vias_keep : Keeps (vias_form parts words)
   unfolding vias_form
-  vias_keep = gives_skip (unless parts.stood.vias) (λ once. gives_bind (vias_give library words) (λ vias each. gives_some _ (record { of_words = sound.of_words; of_die = sound.of_die; of_components = sound.of_components; of_rows = sound.of_rows; of_tracks = sound.of_tracks; of_vias = each; of_pins = sound.of_pins })))
+  vias_keep =
+      gives_skip (unless parts.has.vias) (λ once.
+      gives_bind (vias_give parts.design.library words) (λ vias each.
+      gives_some _ (record {
+        same = sound.same;
+        header = sound.header;
+        sections = record { vias_ = each; components_ = sound.sections.components_; pins_ = sound.sections.pins_ };
+      })))
 
-  components_keep : Keeps (components_form library parts words)
+  components_keep : Keeps (components_form parts words)
   unfolding components_form
   components_keep =
-      gives_skip (unless parts.stood.components) (λ once.
-      gives_bind (components_give library words) (λ components each. gives_some _ (record { of_words = sound.of_words; of_die = sound.of_die; of_components = each; of_rows = sound.of_rows; of_tracks = sound.of_tracks; of_vias = sound.of_vias; of_pins = sound.of_pins })))
+      gives_skip (unless parts.has.components) (λ once.
+      gives_bind (components_give parts.design.library words) (λ components each.
+      gives_some _ (record {
+        same = sound.same;
+        header = sound.header;
+        sections = record { vias_ = sound.sections.vias_; components_ = each; pins_ = sound.sections.pins_ };
+      })))
 
-  pins_keep : Keeps (pins_form library parts words)
+  pins_keep : Keeps (pins_form parts words)
   unfolding pins_form
-  pins_keep = gives_skip (unless parts.stood.pins) (λ once. gives_bind (pins_give library words) (λ pins each. gives_some _ (record { of_words = sound.of_words; of_die = sound.of_die; of_components = sound.of_components; of_rows = sound.of_rows; of_tracks = sound.of_tracks; of_vias = sound.of_vias; of_pins = each })))
+  pins_keep =
+      gives_skip (unless parts.has.pins) (λ once.
+      gives_bind (pins_give parts.design.library words) (λ pins each.
+      gives_some _ (record {
+        same = sound.same;
+        header = sound.header;
+        sections = record { vias_ = sound.sections.vias_; components_ = sound.sections.components_; pins_ = each };
+      })))
 
-  nets_keep : Keeps (nets_form library parts words)
+  nets_keep : Keeps (nets_form parts words)
   unfolding nets_form
   nets_keep =
-      gives_skip (unless parts.stood.nets) (λ once.
-      gives_skip (nets_at (known library parts) false parts.special words) (λ nets. gives_some _ sound))
+      gives_skip (unless parts.has.nets) (λ once.
+      gives_skip (nets_at (known parts.design) false parts.design.special words) (λ nets.
+      gives_some _ (record { same = sound.same; header = sound.header; sections = sound.sections })))
 
-  special_keep : Keeps (special_form library parts words)
+  special_keep : Keeps (special_form parts words)
   unfolding special_form
   special_keep =
-      gives_skip (unless parts.stood.special) (λ once.
-      gives_skip (nets_at (known library parts) true parts.nets words) (λ special. gives_some _ sound))
+      gives_skip (unless parts.has.special) (λ once.
+      gives_skip (nets_at (known parts.design) true parts.design.nets words) (λ special.
+      gives_some _ (record { same = sound.same; header = sound.header; sections = sound.sections })))
 
-  header_keeps : Keeps (header_form library parts words)
+  header_keeps : Keeps (header_form parts words)
   unfolding header_form
   header_keeps =
       gives_if (is_at (codes "DIVIDERCHAR") words) divider_keeps
@@ -135,7 +238,7 @@ module _ (library : Contents) (parts : DesignParts) (words : Words) (sound : Has
       (gives_if (is_at (codes "TRACKS") words) track_keeps
       (gives_skip (past_def_form words) (λ form. gives_some _ sound))))))))
 
-  pub form_keeps : Keeps (def_form_at library parts words)
+  pub form_keeps : Keeps (def_form_at parts words)
   unfolding def_form_at
   form_keeps =
       gives_if (is_at (codes "VIAS") words) vias_keep
@@ -144,13 +247,16 @@ module _ (library : Contents) (parts : DesignParts) (words : Words) (sound : Has
       (gives_if (is_at (codes "SPECIALNETS") words) special_keep
       (gives_if (is_at (codes "NETS") words) nets_keep header_keeps))))
 
-pub no_parts_sound : (library : Contents) → HasSoundParts library no_parts
-no_parts_sound library = record { of_words = record { name_ = tt; divider_ = tt; bus_ = tt }; of_die = tt; of_components = no_components library; of_rows = All-nil (IsRow library); of_tracks = All-nil (IsTrack library); of_vias = no_vias library; of_pins = no_pins library }
-
-pub die_of_parts : (die : Option Sides) → IsAreaIfAny die → Gives IsArea die
-die_of_parts None area = gives_none
-die_of_parts (Some die) area = gives_some die area
-
-pub name_of_parts : (name : Option (List ℕ)) → IsNameIfAny name → Gives (λ said. is_name said ≡ true) name
-name_of_parts None is = gives_none
-name_of_parts (Some name) is = gives_some name is
+pub no_parts_sound : (library : Contents) → HasSoundParts library (no_parts library)
+no_parts_sound library = record {
+  same = refl;
+  header = record {
+    name_ = λ there. absurd (let e : ⊥ = cc in e);
+    divider_ = tt;
+    bus_ = tt;
+    die_ = λ there. absurd (let e : ⊥ = cc in e);
+    rows_ = All-nil (IsRow library);
+    tracks_ = All-nil (IsTrack library);
+  };
+  sections = record { vias_ = no_vias library; components_ = no_components library; pins_ = no_pins library };
+}

@@ -28,16 +28,16 @@ use Rattle.leg_nets.proofs.MoreKnown.{Grows, nets_grow, vias_grow, components_gr
 abbrev pub lists_of : List NetSaid → List NetSaid → NetLists
 lists_of nets special = record { nets = nets; special = special }
 
--- The entries so far; what they may name is empty where it didn't stand yet.
+-- The entries so far; what they may name is empty where it hasn't appeared yet.
 pub record HasNetsSoFar (before : KnownSaid) (vias components pins : Bool) (nets special : List NetSaid) : Type 0 where
   pub no_vias : vias ≡ false → before.vias ≡ []
   pub no_components : components ≡ false → before.components ≡ []
   pub no_pins : pins ≡ false → before.pins ≡ []
   pub entries : HasEntries before (lists_of nets special)
 
-abbrev pub HasNetParts : Contents → DesignParts → Type 0
-HasNetParts library parts =
-    HasNetsSoFar (known library parts) parts.stood.vias parts.stood.components parts.stood.pins parts.nets parts.special
+abbrev pub HasNetParts : DesignParts → Type 0
+HasNetParts parts =
+    HasNetsSoFar (known parts.design) parts.has.vias parts.has.components parts.has.pins parts.design.nets parts.design.special
 
 entries_grow : (before next : KnownSaid) (lists : NetLists) → Grows before next → HasEntries before lists → HasEntries next lists
 entries_grow before next lists grows entries = record {
@@ -76,89 +76,89 @@ begins before special others one_net few few_wires = record {
 never : {P : Type 0} → true ≡ false → P
 never is = absurd (true≢false is)
 
-module _ (library : Contents) (parts : DesignParts) (words : Words) (sound : HasNetParts library parts) where
+module _ (parts : DesignParts) (words : Words) (sound : HasNetParts parts) where
   -- where something is said, this still holds
   abbrev Keeps : Option (DesignParts × Words) → Type 0
-  Keeps said = Gives (λ (next : DesignParts × Words). HasNetParts library next.0) said
+  Keeps said = Gives (λ (next : DesignParts × Words). HasNetParts next.0) said
 
   divider_keeps : Keeps (divider_form parts words)
   unfolding divider_form
-  divider_keeps = gives_skip (unless (is_some parts.divider)) (λ once. gives_skip (word_after (codes "DIVIDERCHAR") words) (λ word. gives_some _ sound))
+  divider_keeps = gives_skip (unless (is_some parts.design.divider)) (λ once. gives_skip (word_after (codes "DIVIDERCHAR") words) (λ word. gives_some _ sound))
 
   bus_keeps : Keeps (bus_form parts words)
   unfolding bus_form
-  bus_keeps = gives_skip (unless (is_some parts.bus)) (λ once. gives_skip (word_after (codes "BUSBITCHARS") words) (λ word. gives_some _ sound))
+  bus_keeps = gives_skip (unless (is_some parts.design.bus)) (λ once. gives_skip (word_after (codes "BUSBITCHARS") words) (λ word. gives_some _ sound))
 
   name_keeps : Keeps (name_form parts words)
   unfolding name_form
-  name_keeps = gives_skip (unless (is_some parts.name)) (λ once. gives_skip (design_name_at words) (λ name. gives_some _ sound))
+  name_keeps = gives_skip (unless parts.has.name) (λ once. gives_skip (design_name_at words) (λ name. gives_some _ sound))
 
-  units_keeps : Keeps (units_form library parts words)
+  units_keeps : Keeps (units_form parts words)
   unfolding units_form
   units_keeps =
-      gives_skip (unless parts.stood.units) (λ once.
+      gives_skip (unless parts.has.units) (λ once.
       gives_skip (units_at words) (λ n.
-      gives_skip (when (n.0 == library.units)) (λ same. gives_some _ sound)))
+      gives_skip (when (n.0 == parts.design.library.units)) (λ same. gives_some _ sound)))
 
   die_keeps : Keeps (die_form parts words)
   unfolding die_form
-  die_keeps = gives_skip (unless (is_some parts.die)) (λ once. gives_skip (die_at words) (λ die. gives_some _ sound))
+  die_keeps = gives_skip (unless parts.has.die) (λ once. gives_skip (die_at words) (λ die. gives_some _ sound))
 
-  row_keeps : Keeps (row_form library parts words)
+  row_keeps : Keeps (row_form parts words)
   unfolding row_form
-  row_keeps = gives_skip (row_at library words) (λ row. gives_some _ sound)
+  row_keeps = gives_skip (row_at parts.design.library words) (λ row. gives_some _ sound)
 
-  track_keeps : Keeps (track_form library parts words)
+  track_keeps : Keeps (track_form parts words)
   unfolding track_form
-  track_keeps = gives_skip (track_at library words) (λ track. gives_some _ sound)
+  track_keeps = gives_skip (track_at parts.design.library words) (λ track. gives_some _ sound)
 
-  vias_keep : Keeps (vias_form library parts words)
+  vias_keep : Keeps (vias_form parts words)
   unfolding vias_form
   vias_keep =
-      gives_bind (unless_gives parts.stood.vias) (λ once new.
-      gives_skip (vias_at library words) (λ vias.
-      let grows = vias_grow (known library parts) vias.0 (sound.no_vias new) in
+      gives_bind (unless_gives parts.has.vias) (λ once new.
+      gives_skip (vias_at parts.design.library words) (λ vias.
+      let grows = vias_grow (known parts.design) vias.0 (sound.no_vias new) in
       gives_some _ (record {
         no_vias = never;
         no_components = sound.no_components;
         no_pins = sound.no_pins;
-        entries = entries_grow (known library parts) _ (lists_of parts.nets parts.special) grows sound.entries;
+        entries = entries_grow (known parts.design) _ (lists_of parts.design.nets parts.design.special) grows sound.entries;
       })))
 
-  components_keep : Keeps (components_form library parts words)
+  components_keep : Keeps (components_form parts words)
   unfolding components_form
   components_keep =
-      gives_bind (unless_gives parts.stood.components) (λ once new.
-      gives_skip (components_at library words) (λ components.
-      let grows = components_grow (known library parts) components.0 (sound.no_components new) in
+      gives_bind (unless_gives parts.has.components) (λ once new.
+      gives_skip (components_at parts.design.library words) (λ components.
+      let grows = components_grow (known parts.design) components.0 (sound.no_components new) in
       gives_some _ (record {
         no_vias = sound.no_vias;
         no_components = never;
         no_pins = sound.no_pins;
-        entries = entries_grow (known library parts) _ (lists_of parts.nets parts.special) grows sound.entries;
+        entries = entries_grow (known parts.design) _ (lists_of parts.design.nets parts.design.special) grows sound.entries;
       })))
 
-  pins_keep : Keeps (pins_form library parts words)
+  pins_keep : Keeps (pins_form parts words)
   unfolding pins_form
   pins_keep =
-      gives_bind (unless_gives parts.stood.pins) (λ once new.
-      gives_skip (pins_at library words) (λ pins.
-      let grows = pins_grow (known library parts) pins.0 (sound.no_pins new) in
+      gives_bind (unless_gives parts.has.pins) (λ once new.
+      gives_skip (pins_at parts.design.library words) (λ pins.
+      let grows = pins_grow (known parts.design) pins.0 (sound.no_pins new) in
       gives_some _ (record {
         no_vias = sound.no_vias;
         no_components = sound.no_components;
         no_pins = never;
-        entries = entries_grow (known library parts) _ (lists_of parts.nets parts.special) grows sound.entries;
+        entries = entries_grow (known parts.design) _ (lists_of parts.design.nets parts.design.special) grows sound.entries;
       })))
 
-  nets_keep : Keeps (nets_form library parts words)
+  nets_keep : Keeps (nets_form parts words)
   unfolding nets_form
   nets_keep =
       let entries = sound.entries in
       let few = entries.few in
       let few_wires = entries.few_wires in
-      gives_skip (unless parts.stood.nets) (λ once.
-      gives_bind (nets_give (known library parts) false parts.special (begins (known library parts) false parts.special (only_others parts.nets parts.special entries.one_net) (omega arith) (omega arith)) words) (λ nets are.
+      gives_skip (unless parts.has.nets) (λ once.
+      gives_bind (nets_give (known parts.design) false parts.design.special (begins (known parts.design) false parts.design.special (only_others parts.design.nets parts.design.special entries.one_net) (omega arith) (omega arith)) words) (λ nets are.
       gives_some _ (record {
         no_vias = sound.no_vias;
         no_components = sound.no_components;
@@ -174,14 +174,14 @@ module _ (library : Contents) (parts : DesignParts) (words : Words) (sound : Has
         };
       })))
 
-  special_keep : Keeps (special_form library parts words)
+  special_keep : Keeps (special_form parts words)
   unfolding special_form
   special_keep =
       let entries = sound.entries in
       let few = entries.few in
       let few_wires = entries.few_wires in
-      gives_skip (unless parts.stood.special) (λ once.
-      gives_bind (nets_give (known library parts) true parts.nets (begins (known library parts) true parts.nets (only_others parts.special parts.nets (other_order parts.nets parts.special entries.one_net)) (omega arith) (omega arith)) words) (λ special are.
+      gives_skip (unless parts.has.special) (λ once.
+      gives_bind (nets_give (known parts.design) true parts.design.nets (begins (known parts.design) true parts.design.nets (only_others parts.design.special parts.design.nets (other_order parts.design.nets parts.design.special entries.one_net)) (omega arith) (omega arith)) words) (λ special are.
       let few_too = are.few in
       let few_wires_too = are.few_wires in
       gives_some _ (record {
@@ -193,13 +193,13 @@ module _ (library : Contents) (parts : DesignParts) (words : Words) (sound : Has
           nets_apart = entries.nets_apart;
           special = are.each;
           special_apart = are.apart;
-          one_net = other_order special.0 parts.nets are.one_net;
+          one_net = other_order special.0 parts.design.nets are.one_net;
           few = omega arith;
           few_wires = omega arith;
         };
       })))
 
-  header_keeps : Keeps (header_form library parts words)
+  header_keeps : Keeps (header_form parts words)
   unfolding header_form
   header_keeps =
       gives_if (is_at (codes "DIVIDERCHAR") words) divider_keeps
@@ -211,7 +211,7 @@ module _ (library : Contents) (parts : DesignParts) (words : Words) (sound : Has
       (gives_if (is_at (codes "TRACKS") words) track_keeps
       (gives_skip (past_def_form words) (λ form. gives_some _ sound))))))))
 
-  pub net_form_keeps : Keeps (def_form_at library parts words)
+  pub net_form_keeps : Keeps (def_form_at parts words)
   unfolding def_form_at
   net_form_keeps =
       gives_if (is_at (codes "VIAS") words) vias_keep
@@ -220,15 +220,15 @@ module _ (library : Contents) (parts : DesignParts) (words : Words) (sound : Has
       (gives_if (is_at (codes "SPECIALNETS") words) special_keep
       (gives_if (is_at (codes "NETS") words) nets_keep header_keeps))))
 
-pub no_net_parts : (library : Contents) → HasNetParts library no_parts
+pub no_net_parts : (library : Contents) → HasNetParts (no_parts library)
 no_net_parts library = record {
   no_vias = λ new. refl;
   no_components = λ new. refl;
   no_pins = λ new. refl;
   entries = record {
-    nets = All-nil (IsKnownNet (known library no_parts) false);
+    nets = All-nil (IsKnownNet (known (no_parts library).design) false);
     nets_apart = λ i less. absurd (omega arith);
-    special = All-nil (IsKnownNet (known library no_parts) true);
+    special = All-nil (IsKnownNet (known (no_parts library).design) true);
     special_apart = λ i less. absurd (omega arith);
     one_net = λ a b t in_a in_b lists_a lists_b. let less = in_a.1 in absurd (omega arith);
     few = omega arith;

@@ -1,9 +1,8 @@
 -- The forms of a DEF text, and the design that they denote (LEF/DEF 5.8, "DEF Syntax").
-use Rattle.std.specs.Prelude.{ℕ, ◌+◌, nat_lt, if◌then◌else◌, List, Option, Some, codes}
+use Rattle.std.specs.Prelude.{◌+◌, nat_lt, ◌&&◌, if◌then◌else◌, Option, Some, codes}
 use Rattle.leg_lex.specs.Words.{Words, ◌>>=◌, is_at, end_at, nothing_at}
 use Rattle.leg_lex.specs.Until.{until}
 use Rattle.leg_lex.specs.Statements.{at_end}
-use Rattle.leg_geom.specs.Plane.{Sides}
 use Rattle.leg_cells.specs.Records.{Contents}
 use Rattle.leg_block.specs.declared.limits.TheConstants.{PART_LIMIT}
 use Rattle.leg_section.specs.Guard.{when, unless}
@@ -13,59 +12,45 @@ use Rattle.leg_design.specs.Parts.{DesignParts, no_parts, divider_form, bus_form
 use Rattle.leg_design.specs.Skipped.{past_def_form}
 
 -- a form that comes before the sections
-unfoldable pub header_form : Contents → DesignParts → Words → Option (DesignParts × Words)
-header_form library parts words =
+unfoldable pub header_form : DesignParts → Words → Option (DesignParts × Words)
+header_form parts words =
     if is_at (codes "DIVIDERCHAR") words then divider_form parts words
     else (if is_at (codes "BUSBITCHARS") words then bus_form parts words
     else (if is_at (codes "DESIGN") words then name_form parts words
-    else (if is_at (codes "UNITS") words then units_form library parts words
+    else (if is_at (codes "UNITS") words then units_form parts words
     else (if is_at (codes "DIEAREA") words then die_form parts words
-    else (if is_at (codes "ROW") words then row_form library parts words
-    else (if is_at (codes "TRACKS") words then track_form library parts words
+    else (if is_at (codes "ROW") words then row_form parts words
+    else (if is_at (codes "TRACKS") words then track_form parts words
     else (past_def_form words >>= λ form. Some (parts, form.1))))))))
 
 -- one form
-unfoldable pub def_form_at : Contents → DesignParts → Words → Option (DesignParts × Words)
-def_form_at library parts words =
-    if is_at (codes "VIAS") words then vias_form library parts words
-    else (if is_at (codes "COMPONENTS") words then components_form library parts words
-    else (if is_at (codes "PINS") words then pins_form library parts words
-    else (if is_at (codes "SPECIALNETS") words then special_form library parts words
-    else (if is_at (codes "NETS") words then nets_form library parts words else header_form library parts words))))
+unfoldable pub def_form_at : DesignParts → Words → Option (DesignParts × Words)
+def_form_at parts words =
+    if is_at (codes "VIAS") words then vias_form parts words
+    else (if is_at (codes "COMPONENTS") words then components_form parts words
+    else (if is_at (codes "PINS") words then pins_form parts words
+    else (if is_at (codes "SPECIALNETS") words then special_form parts words
+    else (if is_at (codes "NETS") words then nets_form parts words else header_form parts words))))
 
-abbrev pub all_nets : DesignParts → NetLists
-all_nets parts = with_lone_pins (record { nets = parts.nets; special = parts.special }) 0 parts.pins
+-- the nets, with the lone pins too
+abbrev pub all_nets : DesignContents → NetLists
+all_nets design = with_lone_pins (record { nets = design.nets; special = design.special }) 0 design.pins
 
--- the design of this name and die area, with these nets
-abbrev pub design_with : Contents → DesignParts → List ℕ → Sides → NetLists → DesignContents
-design_with library parts name die lists = record {
-  library = library;
-  name = name;
-  divider = parts.divider;
-  bus = parts.bus;
-  die = die;
-  rows = parts.rows;
-  tracks = parts.tracks;
-  vias = parts.vias;
-  components = parts.components;
-  pins = parts.pins;
-  nets = lists.nets;
-  special = lists.special;
-}
+-- the design, whose nets list the lone pins too
+abbrev pub with_all_nets : DesignContents → DesignContents
+with_all_nets design = record design { nets = (all_nets design).nets; special = (all_nets design).special }
 
--- DESIGN, UNITS and DIEAREA appeared, and with the lone pins too there aren't too many terminals
-unfoldable pub design_of : Contents → DesignParts → Option DesignContents
-design_of library parts = do
-  name ← parts.name
-  units ← when parts.stood.units
-  die ← parts.die
-  few ← unless (nat_lt PART_LIMIT (terminal_count (all_nets parts).nets + terminal_count (all_nets parts).special))
-  Some (design_with library parts name die (all_nets parts))
+-- DESIGN, UNITS and DIEAREA have appeared, and with the lone pins too there aren't too many terminals
+unfoldable pub design_of : DesignParts → Option DesignContents
+design_of parts = do
+  there ← when (parts.has.name && parts.has.units && parts.has.die)
+  few ← unless (nat_lt PART_LIMIT (terminal_count (all_nets parts.design).nets + terminal_count (all_nets parts.design).special))
+  Some (with_all_nets parts.design)
 
 -- the forms, END DESIGN, and nothing after it
 unfoldable pub design_in : Contents → Words → Option DesignContents
 design_in library words = do
-  forms ← until at_end (def_form_at library) no_parts words
+  forms ← until at_end def_form_at (no_parts library) words
   end ← end_at (codes "DESIGN") forms.1
   nothing ← nothing_at end.1
-  design_of library forms.0
+  design_of forms.0

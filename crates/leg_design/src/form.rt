@@ -18,11 +18,10 @@ use std::alloc::Allocator;
 #[tactic(auto, unfolding(crate::specs::Form::header_form))]
 fn header_form<'a, A: Allocator + Copy>(
     alloc: A,
-    library: &Library<'a, A>,
     parts: &mut Parts<'a, A>,
     words: &mut Cursor<'_, 'a>,
 ) -> Result<(), ReadFault>
-    ensures { Reads (λ _. parts.new) result words.new (header_form library.now parts.old words.old) }
+    ensures { Reads (λ _. parts.new) result words.new (header_form parts.old words.old) }
 {
     if words.is_at(b"DIVIDERCHAR") {
         parts.divider_form(words)
@@ -31,13 +30,13 @@ fn header_form<'a, A: Allocator + Copy>(
     } else if words.is_at(b"DESIGN") {
         parts.name_form(words)
     } else if words.is_at(b"UNITS") {
-        parts.units_form(library, words)
+        parts.units_form(words)
     } else if words.is_at(b"DIEAREA") {
         parts.die_form(alloc, words)
     } else if words.is_at(b"ROW") {
-        parts.row_form(alloc, library, words)
+        parts.row_form(alloc, words)
     } else if words.is_at(b"TRACKS") {
-        parts.track_form(alloc, library, words)
+        parts.track_form(alloc, words)
     } else {
         past_form(words)
     }
@@ -47,24 +46,23 @@ fn header_form<'a, A: Allocator + Copy>(
 #[tactic(auto, unfolding(crate::specs::Form::def_form_at))]
 fn form<'a, A: Allocator + Copy>(
     alloc: A,
-    library: &Library<'a, A>,
     parts: &mut Parts<'a, A>,
     words: &mut Cursor<'_, 'a>,
 ) -> Result<(), ReadFault>
-    ensures { Reads (λ _. parts.new) result words.new (def_form_at library.now parts.old words.old) }
+    ensures { Reads (λ _. parts.new) result words.new (def_form_at parts.old words.old) }
 {
     if words.is_at(b"VIAS") {
-        parts.vias_form(alloc, library, words)
+        parts.vias_form(alloc, words)
     } else if words.is_at(b"COMPONENTS") {
-        parts.components_form(alloc, library, words)
+        parts.components_form(alloc, words)
     } else if words.is_at(b"PINS") {
-        parts.pins_form(alloc, library, words)
+        parts.pins_form(alloc, words)
     } else if words.is_at(b"SPECIALNETS") {
-        parts.special_form(alloc, library, words)
+        parts.special_form(alloc, words)
     } else if words.is_at(b"NETS") {
-        parts.nets_form(alloc, library, words)
+        parts.nets_form(alloc, words)
     } else {
-        header_form(alloc, library, parts, words)
+        header_form(alloc, parts, words)
     }
 }
 
@@ -72,14 +70,14 @@ fn form<'a, A: Allocator + Copy>(
 #[tactic(auto, using(crate::proofs::Forms::forms_end, crate::proofs::Forms::forms_on, crate::proofs::Forms::forms_fail, crate::proofs::FormsShorter::form_shorter))]
 fn forms<'a, A: Allocator + Copy>(
     alloc: A,
-    library: &Library<'a, A>,
+    library: &'a Library<'a, A>,
     words: &mut Cursor<'_, 'a>,
 ) -> Result<Parts<'a, A>, ReadFault>
-    ensures { Reads (λ parts. parts) result words.new (until at_end (def_form_at library.now) no_parts words.old) }
+    ensures { Reads (λ parts. parts) result words.new (until at_end def_form_at (no_parts library.now) words.old) }
 {
-    let mut parts = Parts::new(alloc);
+    let mut parts = Parts::new(alloc, library);
     'forms: while !words.is_at(b"END") {
-        form(alloc, library, &mut parts, words)?;
+        form(alloc, &mut parts, words)?;
     }
     Ok(parts)
 }
@@ -97,7 +95,7 @@ fn design_fields<'a, A: Allocator + Copy>(
     let end = words.again();
     words.end(b"DESIGN")?;
     words.nothing_more()?;
-    parts.design(library, &end)
+    parts.design(&end)
 }
 
 /// The design that the words of a DEF denote under a library.

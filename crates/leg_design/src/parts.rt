@@ -1,14 +1,12 @@
 //! What the forms of a DEF gave so far (LEF/DEF 5.8, "DEF Syntax").
 
-ghost use Rattle.std.specs.Prelude.{◌≡◌, ℕ, List, ◌≢◌, ◌≤◌, ◌+◌, nat_lt, true, Some, None, is_some, IfOk, IfErr, IfSome, OnOk};
-ghost use Rattle.leg_lex.specs.declared.read_fault.FaultKind.TheVariants.{Memory};
+ghost use Rattle.std.specs.Prelude.{◌≡◌, ◌≤◌, ◌+◌, nat_lt, ◌&&◌, true, OnOk};
 ghost use Rattle.leg_lex.specs.Words.{Reads, Means};
 ghost use Rattle.leg_block.specs.declared.limits.TheConstants.{PART_LIMIT};
 ghost use Rattle.leg_section.specs.Guard.{unless};
 ghost use Rattle.leg_block.specs.Records.{terminal_count};
-ghost use Rattle.leg_cells.specs.Records.{Contents};
 ghost use Rattle.leg_design.specs.Parts.{no_parts, divider_form, bus_form, name_form, units_form, die_form, row_form, track_form};
-ghost use Rattle.leg_design.specs.Form.{all_nets, design_with, design_of};
+ghost use Rattle.leg_design.specs.Form.{with_all_nets, design_of};
 
 mod sections;
 
@@ -24,9 +22,9 @@ use leg_nets::{NetTable, add_lone_pins};
 use std::alloc::{AllocError, Allocator};
 use std::marker::Model;
 
-// Which once-only forms have been seen.
+// Which forms have appeared, of those that appear at most once and of which nothing else in the parts tells it.
 #[derive(Drop)]
-struct Stood {
+struct Appearances {
     units: bool,
     vias: bool,
     components: bool,
@@ -35,10 +33,11 @@ struct Stood {
     special: bool,
 }
 
-/// What the forms before gave. Contracts see it as a record.
+/// What the forms before gave. Contracts see it as a design, and which forms have appeared.
 #[derive(Drop)]
 pub(crate) struct Parts<'a, A: Allocator + Copy> {
-    stood: Stood,
+    has: Appearances,
+    library: &'a Library<'a, A>,
     name: Option<Name<'a>>,
     divider: Option<Name<'a>>,
     bus: Option<Name<'a>>,
@@ -53,20 +52,46 @@ pub(crate) struct Parts<'a, A: Allocator + Copy> {
 }
 
 impl<'a, A: Allocator + Copy> Model for Parts<'a, A> {
-    ghost use Rattle.leg_design.specs.Parts.{DesignParts};
+    ghost use Rattle.std.specs.Prelude.{[], is_some, unwrap_or};
+    ghost use Rattle.leg_design.specs.Parts.{DesignParts, no_die};
 
     ghost Value = { DesignParts };
 
-    ghost view = { λ p. record { stood = record { units = p.stood.units; vias = p.stood.vias; components = p.stood.components; pins = p.stood.pins; nets = p.stood.nets; special = p.stood.special }; name = p.name; divider = p.divider; bus = p.bus; die = p.die; rows = p.rows.items; tracks = p.tracks.items; vias = p.vias; components = p.components; pins = p.pins; nets = p.nets; special = p.special } };
+    ghost view = { λ p. record {
+      has = record {
+        name = is_some p.name;
+        units = p.has.units;
+        die = is_some p.die;
+        vias = p.has.vias;
+        components = p.has.components;
+        pins = p.has.pins;
+        nets = p.has.nets;
+        special = p.has.special;
+      };
+      design = record {
+        library = p.library.now;
+        name = unwrap_or p.name [];
+        divider = p.divider;
+        bus = p.bus;
+        die = unwrap_or p.die no_die;
+        rows = p.rows.items;
+        tracks = p.tracks.items;
+        vias = p.vias;
+        components = p.components;
+        pins = p.pins;
+        nets = p.nets;
+        special = p.special;
+      };
+    } };
 }
 
 impl<'a, A: Allocator + Copy> Parts<'a, A> {
     /// What no forms give.
-    pub(crate) fn new(alloc: A) -> Parts<'a, A>
-        ensures { result ≡ no_parts }
+    pub(crate) fn new(alloc: A, library: &'a Library<'a, A>) -> Parts<'a, A>
+        ensures { result ≡ no_parts library.now }
     {
         Parts {
-            stood: Stood {
+            has: Appearances {
                 units: false,
                 vias: false,
                 components: false,
@@ -74,6 +99,7 @@ impl<'a, A: Allocator + Copy> Parts<'a, A> {
                 nets: false,
                 special: false,
             },
+            library,
             name: None,
             divider: None,
             bus: None,
@@ -123,19 +149,15 @@ impl<'a, A: Allocator + Copy> Parts<'a, A> {
 
     /// `UNITS`, once. Another number than the library's is `Unexpected`.
     #[tactic(auto, unfolding(crate::specs::Parts::units_form))]
-    pub(crate) fn units_form(
-        &mut self,
-        library: &Library<'a, A>,
-        words: &mut Cursor<'_, 'a>,
-    ) -> Result<(), ReadFault>
-        ensures { Reads (λ _. self.new) result words.new (units_form library.now self.old words.old) }
+    pub(crate) fn units_form(&mut self, words: &mut Cursor<'_, 'a>) -> Result<(), ReadFault>
+        ensures { Reads (λ _. self.new) result words.new (units_form self.old words.old) }
     {
-        once(self.stood.units, words)?;
+        once(self.has.units, words)?;
         let start = words.again();
-        if units(words)? != library.units() {
+        if units(words)? != self.library.units() {
             return Err(at_number(start)?.fault(FaultKind::Unexpected));
         }
-        self.stood.units = true;
+        self.has.units = true;
         Ok(())
     }
 
@@ -151,15 +173,10 @@ impl<'a, A: Allocator + Copy> Parts<'a, A> {
 
     /// One more row.
     #[tactic(auto, unfolding(crate::specs::Parts::row_form))]
-    pub(crate) fn row_form(
-        &mut self,
-        alloc: A,
-        library: &Library<'a, A>,
-        words: &mut Cursor<'_, 'a>,
-    ) -> Result<(), ReadFault>
-        ensures { Reads (λ _. self.new) result words.new (row_form library.now self.old words.old) }
+    pub(crate) fn row_form(&mut self, alloc: A, words: &mut Cursor<'_, 'a>) -> Result<(), ReadFault>
+        ensures { Reads (λ _. self.new) result words.new (row_form self.old words.old) }
     {
-        let row = row(alloc, library, words)?;
+        let row = row(alloc, self.library, words)?;
         self.rows.push(row)?;
         Ok(())
     }
@@ -169,46 +186,64 @@ impl<'a, A: Allocator + Copy> Parts<'a, A> {
     pub(crate) fn track_form(
         &mut self,
         alloc: A,
-        library: &Library<'a, A>,
         words: &mut Cursor<'_, 'a>,
     ) -> Result<(), ReadFault>
-        ensures { Reads (λ _. self.new) result words.new (track_form library.now self.old words.old) }
+        ensures { Reads (λ _. self.new) result words.new (track_form self.old words.old) }
     {
-        let track = track(alloc, library, words)?;
+        let track = track(alloc, self.library, words)?;
         self.tracks.push(track)?;
         Ok(())
     }
 
-    /// The die area of the design, where `DESIGN`, `UNITS` and `DIEAREA` appeared. Faults are reported at `end`.
-    fn die_area(&self, end: &Cursor<'_, '_>) -> Result<Rect, ReadFault>
-        ensures named { OnOk result (is_some self.now.name ≡ true) }
-        ensures stood { OnOk result (self.now.stood.units ≡ true) }
-        ensures die { IfOk result (λ die. self.now.die ≡ Some die) }
-        ensures lacks { IfErr result (λ fault. fault.kind ≢ Memory → (library : Contents) → design_of library self.now ≡ None) }
+    /// Whether `DESIGN`, `UNITS` and `DIEAREA` have appeared.
+    fn is_complete(&self) -> bool
+        ensures { result ≡ (self.now.has.name && self.now.has.units && self.now.has.die) }
     {
-        if self.name.is_none() {
-            return Err(end.fault(FaultKind::Unexpected));
-        }
-        let Some(die) = self.die else {
-            return Err(end.fault(FaultKind::Unexpected));
-        };
-        if !self.stood.units {
-            return Err(end.fault(FaultKind::Unexpected));
-        }
-        Ok(die)
+        self.name.is_some() && self.has.units && self.die.is_some()
     }
 
-    /// The fields of the design of this die area, where `DESIGN` appeared.
-    fn fields(self, library: &'a Library<'a, A>, die: Rect) -> DesignFields<'a, A>
-        requires { is_some self.name ≡ true }
-        ensures { IfSome self.entry.name (λ name. result ≡ design_with library.now self.entry name die (record { nets = self.entry.nets; special = self.entry.special })) }
+    /// Adds the lone pins to the nets. If an allocation fails, nothing is known of the nets.
+    fn add_lone_pins(&mut self) -> Result<(), AllocError>
+        requires { terminal_count self.old.design.nets + terminal_count self.old.design.special ≤ PART_LIMIT }
+        ensures { OnOk result (self.new ≡ record self.old { design = with_all_nets self.old.design }) }
+    {
+        add_lone_pins(self.pins.as_slice(), &mut self.nets, &mut self.special)
+    }
+
+    /// Adds the lone pins, where `DESIGN`, `UNITS` and `DIEAREA` have appeared and there aren't too many terminals.
+    /// Faults are reported at `end`.
+    #[tactic(auto, using(crate::proofs::Designs::not_whole, crate::proofs::Designs::too_many_before, crate::proofs::Designs::too_many, crate::proofs::Designs::design_made))]
+    fn complete(&mut self, end: &Cursor<'_, '_>) -> Result<(), ReadFault>
+        ensures design { Means (λ _. self.new.design) result (design_of self.old) }
+        ensures name { OnOk result (self.new.has.name ≡ true) }
+        ensures die { OnOk result (self.new.has.die ≡ true) }
+    {
+        if !self.is_complete() {
+            return Err(end.fault(FaultKind::Unexpected));
+        }
+        // Sections are refused where they list too many, so this is not found here; lone pins are counted from it on.
+        if are_too_many(&self.nets, &self.special) {
+            return Err(end.fault(FaultKind::TooMany));
+        }
+        self.add_lone_pins()?;
+        if are_too_many(&self.nets, &self.special) {
+            return Err(end.fault(FaultKind::TooMany));
+        }
+        Ok(())
+    }
+
+    /// The fields of the design, where `DESIGN` and `DIEAREA` have appeared.
+    fn fields(self) -> DesignFields<'a, A>
+        requires name { self.has.name ≡ true }
+        requires die { self.has.die ≡ true }
+        ensures { result ≡ self.entry.design }
     {
         DesignFields {
-            library,
+            library: self.library,
             name: self.name.unwrap(),
             divider: self.divider,
             bus: self.bus,
-            die,
+            die: self.die.unwrap(),
             rows: self.rows,
             tracks: self.tracks,
             vias: self.vias.into_vec(),
@@ -219,55 +254,21 @@ impl<'a, A: Allocator + Copy> Parts<'a, A> {
         }
     }
 
-    /// Adds the lone pins to the nets. If an allocation fails, nothing is known of the nets.
-    fn add_lone_pins(&mut self) -> Result<(), AllocError>
-        requires { terminal_count self.old.nets + terminal_count self.old.special ≤ PART_LIMIT }
-        ensures { OnOk result (self.new ≡ record self.old { nets = (all_nets self.old).nets; special = (all_nets self.old).special }) }
-    {
-        add_lone_pins(self.pins.as_slice(), &mut self.nets, &mut self.special)
-    }
-
-    /// Adds the lone pins and gives the die area, where `DESIGN`, `UNITS` and `DIEAREA` appeared and there aren't too
-    /// many terminals. Faults are reported at `end`.
-    #[tactic(auto, using(crate::proofs::Designs::too_many, crate::proofs::Designs::too_many_before, crate::proofs::Designs::design_made))]
-    fn complete(&mut self, end: &Cursor<'_, '_>) -> Result<Rect, ReadFault>
-        ensures named { OnOk result (is_some self.new.name ≡ true) }
-        ensures lone { OnOk result (self.new ≡ record self.old { nets = (all_nets self.old).nets; special = (all_nets self.old).special }) }
-        ensures made { IfOk result (λ die. (library : Contents) (name : List ℕ) → self.old.name ≡ Some name
-            → design_of library self.old ≡ Some (design_with library self.old name die (all_nets self.old))) }
-        ensures lacks { IfErr result (λ fault. fault.kind ≢ Memory → (library : Contents) → design_of library self.old ≡ None) }
-    {
-        let die = self.die_area(end)?;
-        // Sections are refused where they list too many, so this is not found here; lone pins are counted from it on.
-        if are_too_many(&self.nets, &self.special) {
-            return Err(end.fault(FaultKind::TooMany));
-        }
-        self.add_lone_pins()?;
-        if are_too_many(&self.nets, &self.special) {
-            return Err(end.fault(FaultKind::TooMany));
-        }
-        Ok(die)
-    }
-
-    /// The fields of the design, where `DESIGN`, `UNITS` and `DIEAREA` appeared. Faults are reported at `end`.
-    pub(crate) fn design(
-        self,
-        library: &'a Library<'a, A>,
-        end: &Cursor<'_, 'a>,
-    ) -> Result<DesignFields<'a, A>, ReadFault>
-        ensures { Means (λ d. d) result (design_of library.now self.entry) }
+    /// The fields of the design, where `DESIGN`, `UNITS` and `DIEAREA` have appeared. Faults are reported at `end`.
+    pub(crate) fn design(self, end: &Cursor<'_, 'a>) -> Result<DesignFields<'a, A>, ReadFault>
+        ensures { Means (λ d. d) result (design_of self.entry) }
     {
         let mut parts = self;
-        let die = parts.complete(end)?;
-        Ok(parts.fields(library, die))
+        parts.complete(end)?;
+        Ok(parts.fields())
     }
 }
 
 // Checks that a form that appears at most once has not appeared before. A second one is `Unexpected`.
-fn once(stood: bool, words: &Cursor<'_, '_>) -> Result<(), ReadFault>
-    ensures { Means (λ x. x) result (unless stood) }
+fn once(has: bool, words: &Cursor<'_, '_>) -> Result<(), ReadFault>
+    ensures { Means (λ x. x) result (unless has) }
 {
-    if stood {
+    if has {
         return Err(words.fault(FaultKind::Unexpected));
     }
     Ok(())

@@ -1,5 +1,5 @@
 -- Counts of shapes that go no further than one beyond the limit.
-use Rattle.std.proofs.Common.{◌≡◌, ℕ, ◌+◌, ◌<◌, ◌≤◌, List, ◌++◌, length, length-append, get_or, take, Some, slice_get, refl, sym, ap, ◌∙◌, add-one, zero-add, arith}
+use Rattle.std.proofs.Common.{◌≡◌, ℕ, ◌+◌, ◌<◌, ◌≤◌, List, [], ◌++◌, length, length-append, get_or, take, Some, slice_get, sym, ap, ◌∙◌, add-one, zero-add, arith}
 use Rattle.std.proofs.lemmas.List.{length-map, take_all}
 use Rattle.std.proofs.lemmas.Option.{slice_get_within, get_or_from_slice_get}
 use Rattle.leg_geom.specs.declared.place.Place.{Place}
@@ -8,9 +8,10 @@ use Rattle.leg_cells.specs.Measure.{Lengths}
 use Rattle.leg_block.specs.declared.limits.TheConstants.{PART_LIMIT}
 use Rattle.leg_block.specs.Records.{DesignContents}
 use Rattle.leg_flat.specs.Outline.Outline.{Drawn}
-use Rattle.leg_flat.specs.Metal.{OnLayer, Belonging, belonging, drawn, components_metal, design_pins_metal, nets_metal, specials_metal, metal_of}
+use Rattle.leg_flat.specs.Metal.{OnLayer, Belonging, Metal, belonging, drawn, metal_parts, metal_of}
 use Rattle.leg_flat.specs.Steps.ShapeCount.{counted}
 use Rattle.leg_flat.proofs.MetalAdded.{walk, walk_more}
+use Rattle.leg_flat.proofs.Parts.{AreSteps, step_on}
 
 -- what belongs to something has as many shapes as are drawn
 pub belonging_length : (belongs : Belonging) (outlines : List OnLayer) → length (belonging belongs outlines) ≡ length outlines
@@ -42,20 +43,17 @@ module _ {X Y : Type 0} (f : ℕ → X → List Y) (k : ℕ) (xs : List X) (star
       let all : length (walk f k (take i xs)) ≡ length metal = ap (λ ys. length (walk f k ys)) (take_all i xs past) ∙ ap length (sym is) in
       counted_both before 0 (length metal) (length metal) start count first (rw (← all) so_far) (sym (zero-add (length metal)))
 
-four_lengths : {X : Type 0} (w x y z : List X) → length (w ++ x ++ y ++ z) ≡ length w + length x + length y + length z
-four_lengths w x y z = simp length-append (omega arith)
+-- the count goes on by a part
+abbrev pub IsCounted : List Metal → ℕ → ℕ → Type 0
+IsCounted part before after = after ≡ counted before (length part)
 
-four_counted : (m n p q total a b c d : ℕ) → total ≡ m + n + p + q → a ≡ counted 0 m → b ≡ counted a n → c ≡ counted b p → d ≡ counted c q → d ≡ counted 0 total
-four_counted m n p q total a b c d all first second third fourth =
-    let two : b ≡ counted 0 (m + n) = counted_both 0 m n (m + n) a b first second refl in
-    let three : c ≡ counted 0 (m + n + p) = counted_both 0 (m + n) p (m + n + p) b c two third refl in
-    counted_both 0 (m + n + p) q total c d three fourth all
+counted_parts : (a b : List Metal) (s t u : ℕ) → IsCounted a s t → IsCounted b t u → IsCounted (a ++ b) s u
+counted_parts a b s t u first second = counted_both s (length a) (length b) (length (a ++ b)) t u first second (length-append a b)
 
--- the shapes of a design
-pub metal_counted : (design : DesignContents) (a b c d : ℕ) → a ≡ counted 0 (length (components_metal design 0 design.components)) → b ≡ counted a (length (design_pins_metal design 0 design.pins)) → c ≡ counted b (length (nets_metal design 0 design.nets)) → d ≡ counted c (length (specials_metal design 0 design.special)) → d ≡ counted 0 (length (metal_of design))
+-- the shapes of a design, part by part
+pub metal_counted : (design : DesignContents) (count : ℕ) → AreSteps IsCounted (metal_parts design) 0 count → count ≡ counted 0 (length (metal_of design))
 unfolding metal_of
-metal_counted design a b c d first second third fourth =
-    four_counted _ _ _ _ _ a b c d (four_lengths _ _ _ _) first second third fourth
+metal_counted design count steps = step_on IsCounted counted_parts (metal_parts design) [] 0 0 count (omega arith) steps
 
 -- a count within the limit is of so few
 pub counted_within : (n count : ℕ) → count ≡ counted 0 n → count ≤ PART_LIMIT → n ≤ PART_LIMIT

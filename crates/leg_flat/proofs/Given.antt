@@ -4,6 +4,7 @@ use Rattle.std.proofs.lemmas.List.Elements.{Contains-append_left, Contains-appen
 use Rattle.std.proofs.lemmas.Option.{slice_get_within, slice_get-get_or, slice_get-map}
 use Rattle.leg_flat.proofs.MetalAdded.{walk}
 use Rattle.leg_flat.proofs.NetOf.{contains_at}
+use Rattle.leg_flat.proofs.Parts.{nothing_in}
 
 -- an element with its place
 pub record Stands {X : Type 0} (xs : List X) (x : X) : Type 0 where
@@ -12,9 +13,6 @@ pub record Stands {X : Type 0} (xs : List X) (x : X) : Type 0 where
 
 pub stands : {X : Type 0} (xs : List X) (x : X) → Contains xs x → Stands xs x
 stands xs x c = record { k = c.0; there = slice_get-get_or xs c.0 x c.1 ∙ ap Some c.2 }
-
-pub nothing_in : {X : Type 0} (x : X) → Contains [] x → ⊥
-nothing_in x c = omega (arith, slice_get_within [] (stands [] x c).k x (stands [] x c).there)
 
 pub get_first : {X : Type 0} (xs ys : List X) (k : ℕ) (x : X) → slice_get xs k ≡ Some x → slice_get (xs ++ ys) k ≡ Some x
 get_first [] ys k x at = absurd (let e : ⊥ = omega (arith, slice_get_within [] k x at) in e)

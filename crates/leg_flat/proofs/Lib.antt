@@ -32,6 +32,7 @@ mod SomeFlat
 mod EntryNames
 mod Given
 mod PiecePlaces
+mod MetalCases
 mod MetalPieces
 mod TerminalsOnce
 mod PieceMetal
@@ -44,6 +45,7 @@ mod FlatWithin
 mod GotElements
 -- What the proofs of other crates cite
 pub mod OneFlat
+pub mod Parts
 -- A net that gets a wire
 mod LastPiece
 mod OneMoreWire

@@ -16,10 +16,11 @@ use Rattle.leg_block.specs.WellFormedNets.{IsWire, IsNet}
 use Rattle.leg_block.specs.WellFormed.{IsWellFormed}
 use Rattle.leg_flat.specs.Nets.{number_of_special}
 use Rattle.leg_flat.specs.Outline.Outline.{Shifted}
-use Rattle.leg_flat.specs.Metal.{OnLayer, Belonging, Metal, belonging, drawn, no_size, master_metal, component_metal, components_metal, port_outlines, design_pins_metal, via_outlines, wire_outlines, wires_metal, nets_metal, specials_metal, metal_of}
+use Rattle.leg_flat.specs.Metal.{OnLayer, Belonging, Metal, belonging, drawn, no_size, master_metal, component_metal, components_metal, port_outlines, design_pins_metal, via_outlines, wire_outlines, wires_metal, nets_metal, specials_metal, metal_parts, metal_of}
 use Rattle.leg_flat.specs.ProperLibrary.{AreProperShapes, IsProperMaster, IsProperLibrary}
 use Rattle.leg_flat.specs.Steps.AddedMetal.{AreDrawnWithin, IsPlaceWithin}
 use Rattle.leg_flat.proofs.MetalAdded.{walk}
+use Rattle.leg_flat.proofs.Parts.{all_parts}
 use Rattle.leg_flat.proofs.MetalWalks.{pin_metal, pins_walk, one_component, components_walk, design_pin_metal, design_pins_walk, wire_metal, wires_walk, net_metal, nets_walk, one_special, specials_walk, port_drawn, ports_drawn_walk}
 use Rattle.leg_flat.proofs.MetalKnown.{all_at, all_follow, master_drawn, via_drawn, placed_within, port_within, drawn_of_area}
 use Rattle.leg_flat.proofs.MetalLines.{wire_within}
@@ -161,4 +162,4 @@ module _ (images : ArePlacedImages) where
     pub metal_rects : All IsRectMetal (metal_of design)
     unfolding metal_of
     metal_rects =
-        All-append IsRectMetal _ _ (All-append IsRectMetal _ _ (All-append IsRectMetal _ _ components_rects pins_are_rects) nets_rects) specials_rects
+        all_parts IsRectMetal (metal_parts design) (components_rects, (pins_are_rects, (nets_rects, (specials_rects, tt))))

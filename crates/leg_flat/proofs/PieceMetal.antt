@@ -13,7 +13,7 @@ use Rattle.leg_flat.specs.declared.piece.Piece.{Piece}
 use Rattle.leg_flat.specs.declared.piece.Piece.TheVariants.{Term, Wire}
 use Rattle.leg_flat.specs.Nets.{terminals_of, pieces_of, regular_entry, special_entry, entry_wires}
 use Rattle.leg_flat.specs.Owner.{net_of, owner_of, piece_of}
-use Rattle.leg_flat.specs.Metal.{OnLayer, Belonging, Metal, belonging, drawn, of_terminal, pins_metal, components_metal, ports_outlines, design_pins_metal, wire_outlines, wires_metal, nets_metal, specials_metal, metal_of}
+use Rattle.leg_flat.specs.Metal.{OnLayer, Belonging, Metal, belonging, drawn, of_terminal, pins_metal, components_metal, ports_outlines, design_pins_metal, wire_outlines, wires_metal, nets_metal, specials_metal, metal_parts, metal_of}
 use Rattle.leg_flat.specs.Pieces.{IsOfTerminal, IsOfPiece, terminal_component, of_piece}
 use Rattle.leg_flat.specs.Sources.{IsOfComponentObstruction, of_obstruction}
 use Rattle.leg_flat.proofs.NetOf.{contains_at}
@@ -21,6 +21,7 @@ use Rattle.leg_flat.proofs.NetTerminals.{special_is}
 use Rattle.leg_flat.proofs.NetPlaces.{in_net}
 use Rattle.leg_flat.proofs.MetalWalks.{pin_metal, pins_walk, one_component, components_walk, design_pin_metal, design_pins_walk, wire_metal, wires_walk, net_metal, nets_walk, one_special, specials_walk}
 use Rattle.leg_flat.proofs.Given.{InSecond, goes, gives, gives_at}
+use Rattle.leg_flat.proofs.Parts.{from_part}
 use Rattle.leg_flat.proofs.PiecePlaces.{IsTerminalPiece, IsWirePiece, piece_cases, wire_cases}
 use Rattle.leg_flat.proofs.TerminalsOnce.{place_is}
 
@@ -31,28 +32,19 @@ with_belonging belongs m = record { metal = m; belongs = belongs }
 module _ (design : DesignContents) (m : Metal) where
   from_components : Contains (components_metal design 0 design.components) m → Contains (metal_of design) m
   unfolding metal_of
-  from_components c =
-      Contains-append_left _ (specials_metal design 0 design.special) m
-      (Contains-append_left _ (nets_metal design 0 design.nets) m
-      (Contains-append_left _ (design_pins_metal design 0 design.pins) m c))
+  from_components c = from_part (metal_parts design) 0 _ m refl c
 
   from_pins : Contains (design_pins_metal design 0 design.pins) m → Contains (metal_of design) m
   unfolding metal_of
-  from_pins c =
-      Contains-append_left _ (specials_metal design 0 design.special) m
-      (Contains-append_left _ (nets_metal design 0 design.nets) m
-      (Contains-append_right (components_metal design 0 design.components) _ m c))
+  from_pins c = from_part (metal_parts design) 1 _ m refl c
 
   from_nets : Contains (nets_metal design 0 design.nets) m → Contains (metal_of design) m
   unfolding metal_of
-  from_nets c =
-      Contains-append_left _ (specials_metal design 0 design.special) m
-      (Contains-append_right (components_metal design 0 design.components ++ design_pins_metal design 0 design.pins) _ m c)
+  from_nets c = from_part (metal_parts design) 2 _ m refl c
 
   from_specials : Contains (specials_metal design 0 design.special) m → Contains (metal_of design) m
   unfolding metal_of
-  from_specials c =
-      Contains-append_right (components_metal design 0 design.components ++ design_pins_metal design 0 design.pins ++ nets_metal design 0 design.nets) _ m c
+  from_specials c = from_part (metal_parts design) 3 _ m refl c
 
 module _ (design : DesignContents) where
   -- a terminal's shapes are metal

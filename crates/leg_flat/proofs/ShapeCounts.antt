@@ -1,5 +1,5 @@
 -- The metal of a design has as many shapes as are drawn.
-use Rattle.std.proofs.Common.{◌≡◌, ℕ, suc, ◌+◌, List, [], ◌∷◌, ◌++◌, length, sum_by, Option, None, Some, slice_get, refl, sym, ap, ◌∙◌, length-append, arith}
+use Rattle.std.proofs.Common.{◌≡◌, ℕ, suc, ◌+◌, List, [], ◌∷◌, length, sum_by, Option, None, Some, slice_get, refl, sym, ap, ◌∙◌, length-append, arith}
 use Rattle.std.proofs.lemmas.List.Sums.{sum_by-cons}
 use Rattle.leg_geom.specs.declared.place.Place.{Place}
 use Rattle.leg_cells.specs.Records as library
@@ -8,11 +8,12 @@ use Rattle.leg_block.specs.declared.records.Terminal.TheVariants.{Pin}
 use Rattle.leg_block.specs.Records.{DesignContents, PinSaid, NetSaid}
 use Rattle.leg_flat.specs.declared.owner.Owner.TheVariants.{Obs}
 use Rattle.leg_flat.specs.Nets.{number_of_special, terminals_of, entry_wires, regular_entry}
-use Rattle.leg_flat.specs.Metal.{Belonging, belonging, drawn, of_terminal, pins_metal, component_metal, components_metal, port_outlines, ports_outlines, design_pins_metal, wire_outlines, wires_metal, nets_metal, specials_metal, metal_of}
+use Rattle.leg_flat.specs.Metal.{Belonging, belonging, drawn, of_terminal, pins_metal, component_metal, components_metal, port_outlines, ports_outlines, design_pins_metal, wire_outlines, wires_metal, nets_metal, specials_metal, metal_parts, metal_of}
 use Rattle.leg_flat.specs.Sources.{component_shape_count, component_shapes, port_shape_count, pin_shapes, wire_shapes, shape_count}
 use Rattle.leg_flat.proofs.MetalAdded.{walk}
 use Rattle.leg_flat.proofs.MetalWalks.{pin_metal, pins_walk, one_component, components_walk, port_drawn, ports_drawn_walk, design_pin_metal, design_pins_walk, wire_metal, wires_walk, net_metal, nets_walk, one_special, specials_walk}
 use Rattle.leg_flat.proofs.Counted.{belonging_length, drawn_length}
+use Rattle.leg_flat.proofs.Parts.{whole_length}
 
 -- a walk gives as much as its elements give
 walk_length : {X Y : Type 0} (f : ℕ → X → List Y) (size : X → ℕ) → ((k : ℕ) (x : X) → length (f k x) ≡ size x) → (k : ℕ) (xs : List X) → length (walk f k xs) ≡ sum_by size xs
@@ -80,10 +81,11 @@ pins_count design =
 pub metal_count : (design : DesignContents) → length (metal_of design) ≡ shape_count design
 unfolding metal_of
 metal_count design =
-    let components = components_count design in
-    let pins = pins_count design in
-    let nets = nets_count design in
-    let special = specials_count design in
-    let whole : length (components_metal design 0 design.components ++ design_pins_metal design 0 design.pins ++ nets_metal design 0 design.nets ++ specials_metal design 0 design.special)
-    ≡ length (components_metal design 0 design.components) + length (design_pins_metal design 0 design.pins) + length (nets_metal design 0 design.nets) + length (specials_metal design 0 design.special) = simp length-append (omega arith) in
-    whole ∙ (let e : length (components_metal design 0 design.components) + length (design_pins_metal design 0 design.pins) + length (nets_metal design 0 design.nets) + length (specials_metal design 0 design.special) ≡ shape_count design = omega (arith, components, pins, nets, special) in e)
+    omega (
+      arith,
+      whole_length (metal_parts design),
+      components_count design,
+      pins_count design,
+      nets_count design,
+      specials_count design,
+    )

@@ -1,6 +1,7 @@
 -- The metal of a design: every shape with its layer, owner, component and piece, in order (lefdef's own rules; LEF/DEF 5.8,
 -- "Component orientation", "Macro Pin Statement", "Macro Obstruction Statement", "Nets", "Special Nets").
 use Rattle.std.specs.Prelude.{ℕ, suc, ◌+◌, pos, List, [], ◌∷◌, ◌++◌, length, map, Option, None, Some, slice_get}
+use Rattle.std.specs.List.{flat_map}
 use Rattle.leg_geom.specs.declared.place.Place.{Place}
 use Rattle.leg_cells.specs.declared.records.Shape.{Shape}
 use Rattle.leg_cells.specs.Measure.{Lengths}
@@ -124,8 +125,15 @@ specials_metal design k [] = []
 specials_metal design k (net ∷ nets) =
     special_metal design (number_of_special design k net) net ++ specials_metal design (suc k) nets
 
--- The metal of a design.
+-- the parts of the metal, in order: components, pins of the design, wires of NETS, wires of SPECIALNETS
+abbrev pub metal_parts : DesignContents → List (List Metal)
+metal_parts design =
+    components_metal design 0 design.components
+    ∷ design_pins_metal design 0 design.pins
+    ∷ nets_metal design 0 design.nets
+    ∷ specials_metal design 0 design.special
+    ∷ []
+
+-- The metal of a design: its parts one after another.
 unfoldable pub metal_of : DesignContents → List Metal
-metal_of design =
-    components_metal design 0 design.components ++ design_pins_metal design 0 design.pins
-    ++ nets_metal design 0 design.nets ++ specials_metal design 0 design.special
+metal_of design = flat_map (λ part. part) (metal_parts design)

@@ -13,6 +13,11 @@ use Rattle.leg_flat.specs.declared.owner.Owner.{Owner}
 use Rattle.leg_flat.specs.declared.owner.Owner.TheVariants as owners
 use Rattle.leg_flat.specs.Nets.{number_of_special, terminals_of}
 
+-- the obstructions of a component
+abbrev pub IsObstruction : Owner → Type 0
+IsObstruction (owners.Obs c) = Unit {0}
+IsObstruction other = ⊥
+
 -- the place of the first entry that lists the terminal
 abbrev pub listing_place : Terminal → List NetSaid → Option ℕ
 listing_place terminal [] = None

@@ -2,8 +2,6 @@
 
 ghost use Rattle.std.specs.Prelude.{◌≡◌, ◌↔◌, ◌<◌, ◌≤◌, length, Some, IfOk, IfErr, option_map, slice_get};
 ghost use Rattle.leg_cells.specs.Scale.{OneForOne};
-ghost use Rattle.leg_cells.specs.Sound.{IsSound};
-ghost use Rattle.leg_block.specs.WellFormed.{IsWellFormed};
 ghost use Rattle.leg_block.specs.declared.limits.TheConstants.{PART_LIMIT};
 ghost use Rattle.leg_flat.specs.declared.fault.FlatFault.TheVariants.{TooMany};
 ghost use Rattle.leg_flat.specs.Metal.{metal_of};
@@ -17,6 +15,7 @@ use crate::metal_wires::{add_nets, add_specials};
 use crate::nets::{Nets, nets_of};
 use crate::piece::Piece;
 use crate::shape::Shape;
+use leg_block::laws::design_is_sound;
 use leg_block::{Design, PART_LIMIT};
 use leg_cells::{Items, Library};
 use std::alloc::{AllocError, Allocator};
@@ -121,13 +120,4 @@ fn shapes_of<A: Allocator + Copy>(
     add_nets(&mut shapes, design, nets)?;
     add_specials(&mut shapes, design, nets)?;
     Ok(shapes)
-}
-
-/// What holds of every design and of its library, as their types state: it does nothing.
-pub(crate) fn design_is_sound<A: Allocator + Copy>(design: &Design<'_, A>)
-    ensures library { IsSound design.now.library }
-    ensures proper { IsWellFormed design.now }
-{
-    let _layers = design.library().layers();
-    let _vias = design.vias();
 }

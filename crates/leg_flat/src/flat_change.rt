@@ -13,13 +13,14 @@ ghost use Rattle.leg_flat.specs.MoreWires.{wire_metal, HasOneMoreWire};
 ghost use Rattle.leg_flat.specs.Steps.AddedMetal.{IsWireWithin};
 
 use crate::fault::FlatFault;
-use crate::flat::{Flat, design_is_sound};
+use crate::flat::Flat;
 use crate::metal_count::wire_shapes;
 use crate::metal_parts::Belongs;
 use crate::metal_wires::add_wire;
 use crate::owner::Owner;
 use crate::piece::Piece;
 use crate::shape::Shape;
+use leg_block::laws::design_is_sound;
 use leg_block::{Design, PART_LIMIT, Wire};
 use leg_cells::Library;
 use std::alloc::{AllocError, Allocator};

@@ -15,9 +15,9 @@ ghost use Rattle.leg_flat.specs.Owner.{lone_owner, owner_of, piece_of};
 ghost use Rattle.leg_flat.specs.Pieces.{IsOfTerminal, IsOfPiece, HasItsPiece, of_piece, IsEntryOf};
 ghost use Rattle.leg_flat.specs.Sources.{IsOfComponentObstruction, of_obstruction, IsLone, of_terminal_shape, HasSource, shape_count};
 
-use crate::flat::design_is_sound;
 use crate::proper::library_is_proper;
 use leg_block::Design;
+use leg_block::laws::design_is_sound;
 use leg_geom::laws::placed_rectangles_are_images;
 use std::alloc::Allocator;
 

@@ -131,8 +131,8 @@ fn count_nets<A: Allocator + Copy>(before: u64, design: &Design<'_, A>, nets: &[
 pub(crate) fn shape_count<A: Allocator + Copy>(design: &Design<'_, A>) -> u64
     ensures { result ≡ counted 0 (length (metal_of design.now)) }
 {
-    let with_components = count_components(0, design);
-    let with_pins = count_design_pins(with_components, design);
-    let with_nets = count_nets(with_pins, design, design.nets());
-    count_nets(with_nets, design, design.special())
+    let count = count_components(0, design);
+    let count = count_design_pins(count, design);
+    let count = count_nets(count, design, design.nets());
+    count_nets(count, design, design.special())
 }

@@ -1,5 +1,8 @@
 //! Whose metal a shape is.
 
+ghost use Rattle.std.specs.Prelude.{◌↔◌, IsTrue};
+ghost use Rattle.leg_flat.specs.Owner.{IsObstruction};
+
 use leg_block::Terminal;
 
 /// Whose metal a shape is. Shapes of one owner may touch.
@@ -16,4 +19,13 @@ pub enum Owner {
     Ground,
     /// The obstructions of a component, by its number.
     Obs(u32),
+}
+
+impl Owner {
+    /// Whether these are obstructions. Two of them are not compared with one another.
+    pub fn is_obstruction(self) -> bool
+        ensures { IsTrue result ↔ IsObstruction self }
+    {
+        matches!(self, Owner::Obs(_))
+    }
 }

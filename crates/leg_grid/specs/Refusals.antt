@@ -1,5 +1,5 @@
 -- Why a design isn't routed (lefdef's own rules).
-use Rattle.std.specs.Prelude.{◌≢◌, ℕ, ◌+◌, ◌<◌, ◌⊎◌, List, [], ◌∷◌, ◌++◌, length}
+use Rattle.std.specs.Prelude.{◌≢◌, ℕ, ◌+◌, ◌<◌, List, [], ◌∷◌, ◌++◌, length}
 use Rattle.leg_block.specs.declared.limits.TheConstants.{PART_LIMIT}
 use Rattle.leg_block.specs.declared.records.Wire.{Wire}
 use Rattle.leg_block.specs.declared.fault.Fault.{Fault}
@@ -7,16 +7,11 @@ use Rattle.leg_block.specs.Violation.{IsListOf}
 use Rattle.leg_block.specs.Records.{DesignContents}
 use Rattle.leg_flat.specs.Metal.{wire_outlines}
 use Rattle.leg_flat.specs.Flat.{FlatSaid}
-use Rattle.leg_place.specs.Faults as place
-use Rattle.leg_wire.specs.Spacing as spacing
+use Rattle.leg_rules.specs.Violations.{IsOtherThanOpen}
 use Rattle.leg_grid.specs.declared.node.Node.{Node}
 use Rattle.leg_grid.specs.Spelling.{AreWiresOf}
 use Rattle.leg_grid.specs.MoreWires.{HasMoreWires}
 use Rattle.leg_grid.specs.Run.{Added, Run, IsTurn, IsNextWalk, HasNoWalk}
-
--- a violation of any kind but Open, in the design or in this flat of it
-abbrev pub IsOtherThanOpen : DesignContents → FlatSaid → Fault → Type 0
-IsOtherThanOpen design flat fault = place.Holds design.library design fault ⊎ spacing.Holds design.library flat fault
 
 -- The design isn't clean: these are its violations of all kinds but Open, and there are some.
 pub record IsNotClean (design : DesignContents) (flat : FlatSaid) (faults : List Fault) : Type 0 where

@@ -22,6 +22,7 @@ use crate::size::{are_too_many, fits, slots_of};
 use crate::slot::Slot;
 use crate::through::vias_between;
 use crate::track_marks::track_marks;
+use leg_block::laws::design_is_sound;
 use leg_block::{Axis, Design};
 use leg_cells::{Direction, Items};
 use leg_geom::Point;
@@ -317,16 +318,9 @@ impl<'g, 'a, A: Allocator + Copy> Grid<'g, 'a, A> {
     {
         let slot = self.slot(number);
         let layer = self.layer_at(slot.layer);
-        widths_are_sound(self.design);
+        design_is_sound(self.design);
         layer.width
     }
-}
-
-/// The layers of the design's library are sound.
-fn widths_are_sound<A: Allocator + Copy>(design: &Design<'_, A>)
-    ensures { IsSound design.now.library }
-{
-    let _layers = design.library().layers();
 }
 
 /// What holds of each grid, as its type states: it does nothing.
@@ -335,6 +329,6 @@ pub fn grid_is_sound<A: Allocator + Copy>(grid: &Grid<'_, '_, A>)
     ensures proper { IsGrid grid.now }
     ensures few { slot_total grid.now < 2 ^ 32 }
 {
-    widths_are_sound(grid.design);
+    design_is_sound(grid.design);
     let _slots = grid.size();
 }

@@ -1,5 +1,5 @@
 -- A finished design is legal where the grown flat is.
-use Rattle.std.proofs.Common.{◌↔◌, ℕ, List, arith}
+use Rattle.std.proofs.Common.{◌↔◌, ℕ, List, inl, inr, arith}
 use Rattle.leg_cells.specs.Records.{Contents}
 use Rattle.leg_block.specs.declared.fault.Fault.{Fault}
 use Rattle.leg_block.specs.declared.fault.Fault.TheVariants.{Short, TooNear}
@@ -13,7 +13,8 @@ use Rattle.leg_wire.specs.Open.Holds.{open_net}
 use Rattle.leg_grown.specs.Growth.{AddedWire}
 use Rattle.leg_grown.specs.CleanWire.{HasNoSpacingFault}
 use Rattle.leg_grown.specs.Finished.{finished, IsFinishedFrom}
-use Rattle.leg_grown.specs.Violations.{HasShort, HasTooNear, IsLegalIn}
+use Rattle.leg_rules.specs.Violations.{IsViolationIn}
+use Rattle.leg_grown.specs.Violations.{HasShort, HasTooNear}
 use Rattle.leg_wire.specs.Open.{IsOpenNet}
 use Rattle.leg_grown.proofs.SameNets.{same_count}
 use Rattle.leg_grown.proofs.SameShapes.{alike_back, HaveLikes, short_there, near_there}
@@ -46,12 +47,15 @@ module _ (metal_has : MetalHasItsPiece) (piece_has : PieceHasItsMetal) (library 
   same_near = (near_there library grown end likes_then, near_there library end grown likes_before)
 
   pub is_legal : JoinedBothWays → JoinedOnward → ((fault : Fault) → ¬ place.Holds library design fault) → HasNoSpacingFault library grown
-      → ((n : ℕ) → ¬ IsOpenNet design grown n) → IsLegalIn library (finished design lists) end
-  is_legal back onward places shapes nets = record {
-    places = λ fault holds. places fault (placement_before library design lists fault holds);
-    shapes = no_fault_there library grown end likes_before shapes;
-    nets = none_open;
-  } where
-    none_open : (fault : Fault) → ¬ joins.Holds (finished design lists) end fault
-    none_open fault (open_net {n = n} {k = k} h) =
-        none_then metal_has piece_has back onward design added grown lists end from n (omega (arith, h.net, same_count design lists)) (nets n) (k, h)
+      → ((n : ℕ) → ¬ IsOpenNet design grown n) → (fault : Fault) → ¬ IsViolationIn library (finished design lists) end fault
+  is_legal back onward places shapes nets fault holds =
+      elim holds [
+        | inl placed ↦ places fault (placement_before library design lists fault placed)
+        | inr metal ↦ elim metal [
+          | inl spaced ↦ no_fault_there library grown end likes_before shapes fault spaced
+          | inr opened ↦ none_open fault opened
+        ]
+      ] where
+        none_open : (fault : Fault) → ¬ joins.Holds (finished design lists) end fault
+        none_open fault (open_net {n = n} {k = k} h) =
+            none_then metal_has piece_has back onward design added grown lists end from n (omega (arith, h.net, same_count design lists)) (nets n) (k, h)

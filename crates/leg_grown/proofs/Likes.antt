@@ -7,7 +7,7 @@ use Rattle.std.proofs.lemmas.Option.{slice_get_within, none-some}
 use Rattle.leg_block.specs.declared.records.Wire as records
 use Rattle.leg_block.specs.Records.{DesignContents}
 use Rattle.leg_flat.specs.declared.owner.Owner.{Owner}
-use Rattle.leg_flat.specs.declared.owner.Owner.TheVariants.{Net, Lone, Power, Ground, Obs}
+use Rattle.leg_flat.specs.declared.owner.Owner.TheVariants.{Net}
 use Rattle.leg_flat.specs.declared.piece.Piece.{Piece}
 use Rattle.leg_flat.specs.declared.piece.Piece.TheVariants.{Wire}
 use Rattle.leg_flat.specs.declared.shape.Shape.{Shape}
@@ -31,10 +31,7 @@ use Rattle.leg_grown.proofs.PieceMoves.{ComesBack, IsNewWire, added_there, piece
 -- the number of a net
 net_number : Owner → ℕ
 net_number (Net n) = n
-net_number (Lone t) = 0
-net_number Power = 0
-net_number Ground = 0
-net_number (Obs c) = 0
+net_number other = 0
 
 pub same_net : (owner : Owner) (m n : ℕ) → owner ≡ Net m → owner ≡ Net n → m ≡ n
 unfolding net_number

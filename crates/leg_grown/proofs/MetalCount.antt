@@ -10,11 +10,12 @@ use Rattle.leg_block.specs.Records.{DesignContents, NetSaid}
 use Rattle.leg_flat.specs.Nets.{number_of_special, terminals_of, regular_entry, entry_wires}
 use Rattle.leg_flat.specs.Metal.{wire_outlines, wires_metal, nets_metal, specials_metal, metal_of}
 use Rattle.leg_flat.specs.Flat.{FlatSaid, IsShapeOf, IsFlatOf}
+use Rattle.leg_flat.proofs.Parts.{whole, whole_length}
 use Rattle.leg_grown.specs.Growth.{AddedWire, Grows, wires_added, shapes_added}
 use Rattle.leg_grown.specs.Finished.{finished, AreByNet}
 use Rattle.leg_grown.proofs.Grown.{same_length, same_number, metal_count, added_here, added_elsewhere, has_grown}
 use Rattle.leg_grown.proofs.SameNets.{same_outlines}
-use Rattle.leg_grown.proofs.FixedMetal.{fixed_metal, same_fixed}
+use Rattle.leg_grown.proofs.FixedMetal.{fixed_metal, wire_parts, fixed_and_wires, same_fixed}
 
 -- how many shapes wires have together
 abbrev shapes_of : DesignContents → List Wire → ℕ
@@ -59,11 +60,15 @@ module _ (design : DesignContents) where
       ∙ ap (λ j. shapes_of design net.wires + j) (specials_count (suc k) nets)
 
   whole_count : length (metal_of design) ≡ length (fixed_metal design) + nets_shapes design design.nets + nets_shapes design design.special
-  unfolding metal_of
   whole_count =
-      let nets = nets_metal design 0 design.nets in
-      let special = specials_metal design 0 design.special in
-      omega (arith, length-append (fixed_metal design ++ nets) special, length-append (fixed_metal design) nets, nets_count 0 design.nets, specials_count 0 design.special)
+      omega (
+        arith,
+        ap length (fixed_and_wires design),
+        length-append (fixed_metal design) (whole (wire_parts design)),
+        whole_length (wire_parts design),
+        nets_count 0 design.nets,
+        specials_count 0 design.special,
+      )
 
   shapes_append : (xs ys : List Wire) → shapes_of design (xs ++ ys) ≡ shapes_of design xs + shapes_of design ys
   shapes_append [] ys = sym (zero-add (shapes_of design ys))

@@ -3,7 +3,7 @@ use Rattle.std.proofs.Common.{◌≡◌, ℕ, Contains, Some, slice_get, length,
 use Rattle.leg_block.specs.Records.{DesignContents}
 use Rattle.leg_block.specs.WellFormed.{IsWellFormed}
 use Rattle.leg_flat.specs.declared.owner.Owner.{Owner}
-use Rattle.leg_flat.specs.declared.owner.Owner.TheVariants.{Net, Lone, Power, Ground, Obs}
+use Rattle.leg_flat.specs.declared.owner.Owner.TheVariants.{Net}
 use Rattle.leg_flat.specs.declared.piece.Piece.{Piece}
 use Rattle.leg_flat.specs.declared.shape.Shape.{Shape}
 use Rattle.leg_flat.specs.Nets.{terminals_of, wires_of, pieces_of}
@@ -40,10 +40,7 @@ is_net other = ⊥
 pub net_or_not : (owner : Owner) → IsNet owner ⊎ (¬ IsNet owner)
 unfolding is_net
 net_or_not (Net n) = inl (n, refl)
-net_or_not (Lone t) = inr (λ net. subst is_net (sym net.1) tt)
-net_or_not Power = inr (λ net. subst is_net (sym net.1) tt)
-net_or_not Ground = inr (λ net. subst is_net (sym net.1) tt)
-net_or_not (Obs c) = inr (λ net. subst is_net (sym net.1) tt)
+net_or_not other = inr (λ net. subst is_net (sym net.1) tt)
 
 pub pieces_are : (design : DesignContents) (n : ℕ) → pieces_of design n ≡ pieces_with (terminals_of design n) (length (wires_of design n))
 unfolding pieces_of

@@ -21,7 +21,8 @@ ghost use Rattle.leg_grown.specs.Growth.{AddedWire, Grows, of_net, HasGrown};
 ghost use Rattle.leg_grown.specs.CleanWire.{HasNoSpacingFault, IsRectOf, IsCleanWire, HasCleanRect, LiesInClean};
 ghost use Rattle.leg_grown.specs.Lines.{EachStep, last_spot, AreInLine, line, square};
 ghost use Rattle.leg_grown.specs.Finished.{finished, AreByNet, IsFinishedFrom};
-ghost use Rattle.leg_grown.specs.Violations.{HasShort, HasTooNear, IsLegalIn};
+ghost use Rattle.leg_rules.specs.Violations.{IsViolationIn};
+ghost use Rattle.leg_grown.specs.Violations.{HasShort, HasTooNear};
 ghost use Rattle.leg_wire.specs.Open.{IsOpenNet};
 
 use leg_flat::laws::{metal_has_its_piece, piece_has_its_metal};
@@ -188,13 +189,13 @@ pub fn placement_stays()
         → place.Holds library design fault ↔ place.Holds library (finished design lists) fault }
 {}
 
-/// A design that got the wires that its flat grew by is legal if its components are legally placed and the grown flat
-/// has no short, no shapes too near one another and no open net.
+/// A design that got the wires that its flat grew by has no violation if its components are legally placed and the grown
+/// flat has no short, no shapes too near one another and no open net.
 pub fn finished_design_is_legal()
     ensures { (library : Contents) (design : DesignContents) (added : List AddedWire) (grown : FlatSaid) (lists : List (List Wire)) (end : FlatSaid)
         → IsFinishedFrom design added grown lists end
         → ((fault : Fault) → ¬ place.Holds library design fault) → HasNoSpacingFault library grown → ((n : ℕ) → ¬ IsOpenNet design grown n)
-        → IsLegalIn library (finished design lists) end }
+        → (fault : Fault) → ¬ IsViolationIn library (finished design lists) end fault }
 {
     metal_has_its_piece();
     piece_has_its_metal();

@@ -13,7 +13,7 @@ use Rattle.leg_place.specs.Box.{placed_box, StandsIn}
 use Rattle.leg_place.specs.Faults.{IsUnplaced, IsOutside, Holds}
 use Rattle.leg_place.specs.Faults.Holds.{unplaced, outside, off_site, overlap}
 use Rattle.leg_place.specs.Sites.{IsOffSite}
-use Rattle.leg_legal.specs.Movable.{IsMovable}
+use Rattle.leg_block.specs.Movable.{IsMovable}
 use Rattle.leg_sites.specs.declared.candidate.Candidate.{Candidate}
 use Rattle.leg_legal.specs.Free.{IsSettled, IsFree}
 use Rattle.leg_legal.specs.Run.{placed_at, moved_to}

@@ -19,14 +19,14 @@ use Rattle.leg_sites.specs.Known.{IsClear}
 use Rattle.leg_sites.specs.declared.candidate.Candidate.{Candidate}
 use Rattle.leg_sites.proofs.BestSoFar.{no_worse_itself, best_of_both, best_of_same}
 use Rattle.leg_sites.proofs.MacroPlaces.{some_sites}
-use Rattle.leg_legal.specs.Movable.{IsMovable}
+use Rattle.leg_block.specs.Movable.{IsMovable}
 use Rattle.leg_legal.specs.Start.{start_of, distance}
 use Rattle.leg_legal.specs.Standing.{orient_of, Takes, StandsAt}
 use Rattle.leg_legal.specs.Free.{IsSettled, IsTaken, IsFree, TakesBest}
 use Rattle.leg_legal.specs.Refusals.{HasRowFor}
 use Rattle.leg_legal.specs.FreePlaces.{HasMacroSizes}
 use Rattle.leg_legal.proofs.Elements.{all_at, contains_at}
-use Rattle.leg_legal.proofs.MovableOrNot.{movable_or_not}
+use Rattle.leg_block.proofs.MovableOrNot.{movable_or_not}
 use Rattle.leg_legal.proofs.OnRow.{HasSoundRows}
 use Rattle.leg_legal.proofs.BestSeat.{same_many}
 use Rattle.leg_legal.proofs.OneRun.{one_orient}

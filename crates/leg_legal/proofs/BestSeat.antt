@@ -29,7 +29,7 @@ use Rattle.leg_sites.specs.FreeRows.{RowLists, AreKnown}
 use Rattle.leg_sites.specs.BestPosition.{IsTurned, AreReady, IsCandidate, IsNoWorse}
 use Rattle.leg_sites.proofs.MacroBoxes.{fitting_upright}
 use Rattle.leg_sites.proofs.MacroPlaces.{free_just_where_macro_clear}
-use Rattle.leg_legal.specs.Movable.{IsMovable}
+use Rattle.leg_block.specs.Movable.{IsMovable}
 use Rattle.leg_legal.specs.Start.{start_of, distance}
 use Rattle.leg_legal.specs.Standing.{orient_of, Takes}
 use Rattle.leg_legal.specs.Refusals.{FitsSites, HasRowFor, IsUnsuited}

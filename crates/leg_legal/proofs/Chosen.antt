@@ -7,11 +7,11 @@ use Rattle.leg_block.specs.Records.{DesignContents}
 use Rattle.leg_block.specs.declared.fault.Fault.{Fault}
 use Rattle.leg_block.specs.Violation.{IsListOf}
 use Rattle.leg_block.specs.WellFormed.{IsWellFormed}
+use Rattle.leg_place.specs.Faults.{IsLegallyPlaced}
 use Rattle.leg_legal.specs.declared.fault.LegalFault.{LegalFault}
 use Rattle.leg_legal.specs.declared.fault.LegalFault.TheVariants.{FixedIllegal, NoSite, NoRoom, Memory}
 use Rattle.leg_legal.specs.declared.taken.Taken.{Taken}
 use Rattle.leg_legal.specs.declared.turns.TurnKey.{TurnKey}
-use Rattle.leg_legal.specs.Run.{IsLegallyPlaced}
 use Rattle.leg_legal.specs.Refusals.{HoldsOfStaying, NoneStaying, AreSuited, IsRefusal}
 use Rattle.leg_legal.specs.Steps.PlacedAll.{CanTake, placed_all}
 use Rattle.leg_legal.specs.Steps.TurnKeys.{numbers, AreInOrder}

@@ -1,12 +1,15 @@
 -- The list of the violations of placement with a property that holds or doesn't of each.
-use Rattle.std.proofs.Common.{◌≡◌, ℕ, zero, suc, ◌<◌, List, length, inl, inr, refl, sym, ap, subst, ◌∙◌, arith}
+use Rattle.std.proofs.Common.{◌≡◌, ◌≢◌, ℕ, ◌<◌, List, length, inl, inr, refl, sym, ap, subst, ◌∙◌, arith}
+use Rattle.std.proofs.lemmas.Bool.{cases_eq}
 use Rattle.std.proofs.lemmas.Option.{slice_get_within}
 use Rattle.leg_block.specs.Records.{DesignContents}
 use Rattle.leg_block.specs.declared.fault.Fault.{Fault}
-use Rattle.leg_block.specs.declared.fault.Fault.TheVariants.{Unplaced, Outside, OffSite, Overlap, Short, TooNear, OpenNet}
+use Rattle.leg_block.specs.declared.fault.Fault.TheVariants.{Overlap, Short}
 use Rattle.leg_block.specs.Violation.{kind_number, numbers_of, ComesBefore, IsListOf}
 use Rattle.leg_place.specs.Faults.{Holds}
+use Rattle.leg_place.specs.Steps.ComponentFault.{fault_of}
 use Rattle.leg_place.proofs.PlaceFaults.{kind_below, component_below, overlap_there}
+use Rattle.leg_place.proofs.ComponentFaults.{ComponentKind, number_of_kind, overlap_kind, of_component, is_of_component, is_overlap, component_or_overlap, kind_or_none}
 use Rattle.leg_legal.proofs.Decisions.{HoldsOrNot}
 use Rattle.leg_legal.proofs.Listings.{HasListing, IsOfKind, listing_of_none, listing_of_one, listing_below, listing_same}
 
@@ -60,68 +63,39 @@ module _ (design : DesignContents) (P : Fault → Type 0) (holds : (fault : Faul
       (λ j k v w below s t. rw (s.holds.is, t.holds.is) (by_first (Overlap j s.kind) (Overlap k t.kind) refl below)) count
 
   -- of the kind of this number
-  record IsOfNumber (kind : ℕ) (fault : Fault) : Type 0 where
-    is : kind_number fault ≡ kind
+  record IsOfNumber (number : ℕ) (fault : Fault) : Type 0 where
+    is : kind_number fault ≡ number
     has : P fault
 
   below_count : (fault : Fault) → P fault → (numbers_of fault).0 < count
   below_count fault p = component_below design.library design fault (holds fault p)
 
-  of_unplaced : (fault : Fault) → kind_number fault ≡ 0 → fault ≡ Unplaced (numbers_of fault).0
-  of_unplaced (Unplaced c) is = refl
-  of_unplaced (Outside c) is = absurd (omega arith)
-  of_unplaced (OffSite c) is = absurd (omega arith)
-  of_unplaced (Overlap a b) is = absurd (omega arith)
-  of_unplaced (Short a b) is = absurd (omega arith)
-  of_unplaced (TooNear a b) is = absurd (omega arith)
-  of_unplaced (OpenNet n k) is = absurd (omega arith)
-
-  of_outside : (fault : Fault) → kind_number fault ≡ 1 → fault ≡ Outside (numbers_of fault).0
-  of_outside (Outside c) is = refl
-  of_outside (Unplaced c) is = absurd (omega arith)
-  of_outside (OffSite c) is = absurd (omega arith)
-  of_outside (Overlap a b) is = absurd (omega arith)
-  of_outside (Short a b) is = absurd (omega arith)
-  of_outside (TooNear a b) is = absurd (omega arith)
-  of_outside (OpenNet n k) is = absurd (omega arith)
-
-  of_off_site : (fault : Fault) → kind_number fault ≡ 2 → fault ≡ OffSite (numbers_of fault).0
-  of_off_site (OffSite c) is = refl
-  of_off_site (Unplaced c) is = absurd (omega arith)
-  of_off_site (Outside c) is = absurd (omega arith)
-  of_off_site (Overlap a b) is = absurd (omega arith)
-  of_off_site (Short a b) is = absurd (omega arith)
-  of_off_site (TooNear a b) is = absurd (omega arith)
-  of_off_site (OpenNet n k) is = absurd (omega arith)
-
-  of_overlap : (fault : Fault) → kind_number fault ≡ 3 → fault ≡ Overlap (numbers_of fault).0 (numbers_of fault).1
-  of_overlap (Overlap a b) is = refl
-  of_overlap (Unplaced c) is = absurd (omega arith)
-  of_overlap (Outside c) is = absurd (omega arith)
-  of_overlap (OffSite c) is = absurd (omega arith)
-  of_overlap (Short a b) is = absurd (omega arith)
-  of_overlap (TooNear a b) is = absurd (omega arith)
-  of_overlap (OpenNet n k) is = absurd (omega arith)
-
   -- the list of one kind that names one component, by its number
-  by_number : (kind : ℕ) (make : ℕ → Fault) → ((c : ℕ) → kind_number (make c) ≡ kind) → ((c : ℕ) → (numbers_of (make c)).0 ≡ c)
-      → ((fault : Fault) → kind_number fault ≡ kind → fault ≡ make (numbers_of fault).0) → HasListing ComesBefore (IsOfNumber kind)
-  by_number kind make made named told =
-      listing_same ComesBefore (IsOfKind (λ c. IsThis (make c)) count) (IsOfNumber kind)
-      (λ fault k. record { is = ap kind_number k.holds.is ∙ made k.kind; has = k.holds.has })
-      (λ fault n. record { kind = (numbers_of fault).0; below = below_count fault n.has; holds = record { is = told fault n.is; has = n.has } })
-      (list_of_one_number make (λ j k below. by_first (make j) (make k) (made j ∙ sym (made k)) (rw (named j, named k) below)))
+  of_one_component : (kind : ComponentKind) → HasListing ComesBefore (IsOfNumber (number_of_kind kind))
+  of_one_component kind =
+      listing_same ComesBefore (IsOfKind (λ c. IsThis (fault_of kind c)) count) (IsOfNumber (number_of_kind kind))
+      (λ fault k. record { is = ap kind_number k.holds.is ∙ (of_component kind k.kind).0; has = k.holds.has })
+      (λ fault n. record { kind = (numbers_of fault).0; below = below_count fault n.has; holds = record { is = is_of_component kind fault n.is; has = n.has } })
+      (list_of_one_number (fault_of kind) rising)
+    where
+      rising : (j k : ℕ) → j < k → ComesBefore (fault_of kind j) (fault_of kind k)
+      rising j k below =
+          let one = of_component kind j in
+          let other = of_component kind k in
+          by_first (fault_of kind j) (fault_of kind k) (one.0 ∙ sym other.0) (rw (one.1, other.1) below)
 
-  overlap_below : (fault : Fault) → kind_number fault ≡ 3 → P fault → (numbers_of fault).1 < count
+  overlap_below : (fault : Fault) → kind_number fault ≡ overlap_kind → P fault → (numbers_of fault).1 < count
   overlap_below fault is p =
-      let h : Holds design.library design (Overlap (numbers_of fault).0 (numbers_of fault).1) = subst (Holds design.library design) (of_overlap fault is) (holds fault p) in
-      let o = overlap_there design.library design (numbers_of fault).0 (numbers_of fault).1 h in
-      slice_get_within design.components (numbers_of fault).1 o.stands_b.component o.stands_b.there
+      let first = (numbers_of fault).0 in
+      let second = (numbers_of fault).1 in
+      let h : Holds design.library design (Overlap first second) = subst (Holds design.library design) (is_overlap fault is) (holds fault p) in
+      let o = overlap_there design.library design first second h in
+      slice_get_within design.components second o.stands_b.component o.stands_b.there
 
-  by_numbers : HasListing ComesBefore (IsOfNumber 3)
+  of_overlaps : HasListing ComesBefore (IsOfNumber overlap_kind)
   unfolding AreOverlapsOf
-  by_numbers =
-      listing_same ComesBefore (IsOfKind AreOverlapsOf count) (IsOfNumber 3)
+  of_overlaps =
+      listing_same ComesBefore (IsOfKind AreOverlapsOf count) (IsOfNumber overlap_kind)
       (λ fault k. record { is = ap kind_number k.holds.holds.is; has = k.holds.holds.has })
       (λ fault n. record {
         kind = (numbers_of fault).0;
@@ -129,26 +103,39 @@ module _ (design : DesignContents) (P : Fault → Type 0) (holds : (fault : Faul
         holds = record {
           kind = (numbers_of fault).1;
           below = overlap_below fault n.is n.has;
-          holds = record { is = of_overlap fault n.is; has = n.has };
+          holds = record { is = is_overlap fault n.is; has = n.has };
         };
       })
       overlaps
 
-  of_each_kind : (kind : ℕ) → HasListing ComesBefore (IsOfNumber kind)
-  of_each_kind zero = by_number 0 (λ c. Unplaced c) (λ c. refl) (λ c. refl) of_unplaced
-  of_each_kind (suc zero) = by_number 1 (λ c. Outside c) (λ c. refl) (λ c. refl) of_outside
-  of_each_kind (suc (suc zero)) = by_number 2 (λ c. OffSite c) (λ c. refl) (λ c. refl) of_off_site
-  of_each_kind (suc (suc (suc zero))) = by_numbers
-  of_each_kind (suc (suc (suc (suc kind)))) =
-      listing_of_none ComesBefore (IsOfNumber (suc (suc (suc (suc kind)))))
-      (λ fault n. let below = kind_below design.library design fault (holds fault n.has) in let is = n.is in omega arith)
+  -- no violation of placement is of another kind
+  of_no_other : (number : ℕ) → ((kind : ComponentKind) → number ≢ number_of_kind kind) → number ≢ overlap_kind → HasListing ComesBefore (IsOfNumber number)
+  of_no_other number no_component no_overlap =
+      listing_of_none ComesBefore (IsOfNumber number) (λ fault n. elim (component_or_overlap design.library design fault (holds fault n.has)) [
+        | inl (kind, same) ↦ no_component kind (sym n.is ∙ same)
+        | inr same ↦ no_overlap (sym n.is ∙ same)
+      ])
+
+  of_each_kind : (number : ℕ) → HasListing ComesBefore (IsOfNumber number)
+  of_each_kind number =
+      elim (kind_or_none number) [
+        | inl (kind, is) ↦ subst (λ (n : ℕ). HasListing ComesBefore (IsOfNumber n)) (sym is) (of_one_component kind)
+        | inr no_component ↦ elim (cases_eq number overlap_kind) [
+          | inl is ↦ subst (λ (n : ℕ). HasListing ComesBefore (IsOfNumber n)) (sym is) of_overlaps
+          | inr no_overlap ↦ of_no_other number no_component no_overlap
+        ]
+      ]
+
+  -- the kinds of placement come before that of shorts
+  abbrev end : ℕ
+  end = kind_number (Short 0 0)
 
   all_kinds : HasListing ComesBefore P
   all_kinds =
-      listing_same ComesBefore (IsOfKind IsOfNumber 4) P
+      listing_same ComesBefore (IsOfKind IsOfNumber end) P
       (λ fault k. k.holds.has)
       (λ fault p. record { kind = kind_number fault; below = kind_below design.library design fault (holds fault p); holds = record { is = refl; has = p } })
-      (listing_below ComesBefore IsOfNumber of_each_kind (λ j k v w below s t. by_kind v w (let s_is = s.is in let t_is = t.is in omega arith)) 4)
+      (listing_below ComesBefore IsOfNumber of_each_kind (λ j k v w below s t. by_kind v w (let s_is = s.is in let t_is = t.is in omega arith)) end)
 
   pub list_of : (faults : List Fault) × IsListOf P faults
   list_of = let found = all_kinds in (found.0, record { increasing = found.1.rising; each = found.1.each; all = found.1.all })

@@ -1,5 +1,5 @@
 -- Whether a violation of placement holds, and whether it concerns only components that stay.
-use Rattle.leg_legal.specs.Movable.{IsMovable}
+use Rattle.leg_block.specs.Movable.{IsMovable}
 use Rattle.std.proofs.Common.{◌≡◌, ℕ, Option, None, Some, slice_get, inl, inr, refl, sym, ◌∙◌, arith}
 use Rattle.std.proofs.lemmas.Option.{same_Some, none-some}
 use Rattle.leg_geom.specs.Plane.{Sides}
@@ -16,7 +16,7 @@ use Rattle.leg_place.specs.Sites.{IsOnRow, IsOffSite}
 use Rattle.leg_place.proofs.PlaceFaults.{kind_below, unplaced_there, outside_there, off_site_there, overlap_there}
 use Rattle.leg_legal.specs.Refusals.{ConcernsStaying, HoldsOfStaying}
 use Rattle.leg_legal.proofs.OnRow.{HasSoundRows}
-use Rattle.leg_legal.proofs.MovableOrNot.{movable_or_not}
+use Rattle.leg_block.proofs.MovableOrNot.{movable_or_not}
 use Rattle.leg_legal.proofs.Decisions.{HoldsOrNot, by_other, both_or_not, never_or_not, less_or_not, some_or_not, there_or_not}
 use Rattle.leg_legal.proofs.Squares.{share_or_not, missing_or_all}
 use Rattle.leg_legal.proofs.RowTests.{some_element, on_row_or_not}

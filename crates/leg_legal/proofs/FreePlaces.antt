@@ -18,7 +18,7 @@ use Rattle.leg_place.specs.Sites.{IsOnSites}
 use Rattle.leg_place.proofs.OnSites.{IsWide, IsLevel, IsEdge, product_up, edge_is, level_from_on_sites, left_from_on_sites, right_from_on_sites}
 use Rattle.leg_sites.specs.BestPosition.{IsTurned}
 use Rattle.leg_sites.proofs.MacroBoxes.{upright_box, fitting_upright}
-use Rattle.leg_legal.specs.Movable.{MayMove, IsMovable}
+use Rattle.leg_block.specs.Movable.{MayMove, IsMovable}
 use Rattle.leg_legal.specs.Start.{start_of, distance}
 use Rattle.leg_legal.specs.Standing.{orient_of}
 use Rattle.leg_legal.specs.Refusals.{IsStuck}

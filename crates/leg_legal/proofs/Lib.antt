@@ -2,7 +2,6 @@
 mod Elements
 mod OnRow
 -- The theorem of the run
-mod MovableOrNot
 mod MovedTo
 mod AmongSettled
 mod SoFar
@@ -10,8 +9,6 @@ mod TheOrder
 mod TheRun
 -- The order of taking
 mod TurnsSorted
--- What is read
-mod PartsRead
 -- Causes of refusal
 mod StayingFaults
 mod Misfits

@@ -11,7 +11,7 @@ use Rattle.leg_cells.specs.Measure.{Lengths, HasArea}
 use Rattle.leg_block.specs.Records.{DesignContents}
 use Rattle.leg_block.specs.declared.records.Row.{Row}
 use Rattle.leg_block.specs.declared.records.Component.{Component}
-use Rattle.leg_legal.specs.Movable.{IsMovable}
+use Rattle.leg_block.specs.Movable.{IsMovable}
 use Rattle.leg_legal.specs.Refusals.{FitsSites, HasRowFor, IsUnsuited, IsLeastUnsuited, AreSuited}
 use Rattle.leg_legal.specs.Steps.HasRow.{HasRow}
 

@@ -9,7 +9,7 @@ use Rattle.leg_cells.specs.Records.{MasterSaid}
 use Rattle.leg_block.specs.Records.{DesignContents}
 use Rattle.leg_block.specs.declared.records.Component.{Component}
 use Rattle.leg_place.specs.Box.{box_of, placed_box, StandsIn}
-use Rattle.leg_legal.specs.Movable.{IsMovable}
+use Rattle.leg_block.specs.Movable.{IsMovable}
 use Rattle.leg_legal.specs.Free.{IsSettled, IsTaken}
 use Rattle.leg_legal.specs.Run.{placed_at, moved_to}
 use Rattle.leg_legal.proofs.Elements.{set_same, set_other}

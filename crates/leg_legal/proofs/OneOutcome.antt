@@ -11,15 +11,15 @@ use Rattle.leg_block.specs.declared.fault.Fault.{Fault}
 use Rattle.leg_block.specs.Violation.{IsListOf}
 use Rattle.leg_block.specs.declared.records.Component.{Component}
 use Rattle.leg_place.specs.Box.{StandsIn}
-use Rattle.leg_place.specs.Faults.{Holds}
+use Rattle.leg_place.specs.Faults.{Holds, IsLegallyPlaced}
 use Rattle.leg_place.specs.Faults.Holds.{unplaced, outside, off_site, overlap}
 use Rattle.leg_sites.specs.declared.candidate.Candidate.{Candidate}
 use Rattle.leg_legal.specs.declared.fault.LegalFault.{LegalFault}
 use Rattle.leg_legal.specs.declared.fault.LegalFault.TheVariants.{FixedIllegal, NoSite, NoRoom, Memory}
-use Rattle.leg_legal.specs.Movable.{IsMovable}
+use Rattle.leg_block.specs.Movable.{IsMovable}
 use Rattle.leg_legal.specs.Start.{moved_by}
 use Rattle.leg_legal.specs.Standing.{StandsAt}
-use Rattle.leg_legal.specs.Run.{Run, IsLegallyPlaced, IsRunOfAll, IsLegalised}
+use Rattle.leg_legal.specs.Run.{Run, IsRunOfAll, IsLegalised}
 use Rattle.leg_legal.specs.Run.Run.{none, one}
 use Rattle.leg_legal.specs.SameButForPlaces.{IsSameButForPlaces}
 use Rattle.leg_legal.specs.Moves.{total_of, greatest_of, AreMoves}

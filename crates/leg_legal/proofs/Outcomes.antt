@@ -13,12 +13,12 @@ use Rattle.leg_block.specs.Records.{DesignContents}
 use Rattle.leg_block.specs.WellFormed.{IsWellFormed}
 use Rattle.leg_block.specs.Violation.{IsListOf}
 use Rattle.leg_block.specs.declared.fault.Fault.{Fault}
-use Rattle.leg_place.specs.Faults.{Holds}
+use Rattle.leg_place.specs.Faults.{Holds, IsLegallyPlaced}
 use Rattle.leg_legal.specs.declared.fault.LegalFault.TheVariants.{FixedIllegal, NoSite, NoRoom}
-use Rattle.leg_legal.specs.Movable.{IsMovable}
+use Rattle.leg_block.specs.Movable.{IsMovable}
 use Rattle.leg_legal.specs.Start.{start_of}
 use Rattle.leg_legal.specs.Turns.{Turn, IsEarlier, HasTurn, IsTakenBefore, IsOrderOfTaking}
-use Rattle.leg_legal.specs.Run.{moved_to, Run, IsLegallyPlaced}
+use Rattle.leg_legal.specs.Run.{moved_to, Run}
 use Rattle.leg_legal.specs.Run.Run.{none, one}
 use Rattle.leg_legal.specs.Refusals.{HoldsOfStaying, NoneStaying, IsUnsuited, IsLeastUnsuited, AreSuited}
 use Rattle.leg_legal.specs.FreePlaces.{HasMacroSizes}
@@ -26,7 +26,7 @@ use Rattle.leg_legal.specs.Outcome.{HasOutcome}
 use Rattle.leg_legal.specs.Steps.Taking.{IsStuckAt}
 use Rattle.leg_legal.proofs.Elements.{all_at}
 use Rattle.leg_legal.proofs.OnRow.{HasSoundRows}
-use Rattle.leg_legal.proofs.MovableOrNot.{movable_or_not}
+use Rattle.leg_block.proofs.MovableOrNot.{movable_or_not}
 use Rattle.leg_legal.proofs.Misfits.{told, numbered}
 use Rattle.leg_legal.proofs.SoFar.{AreMovable, IsSoFar, so_far}
 use Rattle.leg_legal.proofs.TheOrder.{taken_before_trans, order_movable}

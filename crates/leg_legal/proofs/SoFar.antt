@@ -10,7 +10,7 @@ use Rattle.leg_block.specs.declared.fault.Fault.{Fault}
 use Rattle.leg_block.specs.declared.fault.Fault.TheVariants.{Unplaced, Outside, OffSite, Overlap, Short, TooNear, OpenNet}
 use Rattle.leg_block.specs.declared.records.Component.{Component}
 use Rattle.leg_sweep.proofs.Lists.{Contains-nil}
-use Rattle.leg_legal.specs.Movable.{IsMovable}
+use Rattle.leg_block.specs.Movable.{IsMovable}
 use Rattle.leg_legal.specs.Run.{placed_at, moved_to, Run}
 use Rattle.leg_legal.specs.Run.Run.{none, one}
 use Rattle.leg_legal.specs.SameButForPlaces.{IsPlacedAnew}

@@ -10,7 +10,7 @@ use Rattle.leg_block.specs.Violation.{IsListOf}
 use Rattle.leg_place.specs.Faults.{Holds}
 use Rattle.leg_place.specs.Faults.Holds.{unplaced, outside, off_site, overlap}
 use Rattle.leg_place.specs.Among.{TellsMarked, HoldsAmong}
-use Rattle.leg_legal.specs.Movable.{IsMovable}
+use Rattle.leg_block.specs.Movable.{IsMovable}
 use Rattle.leg_legal.specs.Refusals.{ConcernsStaying, HoldsOfStaying}
 use Rattle.leg_legal.specs.Steps.Marks.{AreMarksBelow}
 

@@ -5,7 +5,7 @@ use Rattle.std.proofs.lemmas.Option.{same_Some}
 use Rattle.leg_sweep.proofs.Lists.{same_rising}
 use Rattle.leg_block.specs.Records.{DesignContents}
 use Rattle.leg_block.specs.declared.records.Component.{Component}
-use Rattle.leg_legal.specs.Movable.{IsMovable}
+use Rattle.leg_block.specs.Movable.{IsMovable}
 use Rattle.leg_legal.specs.Start.{start_of}
 use Rattle.leg_legal.specs.Turns.{Turn, IsEarlier, HasTurn, IsTakenBefore, IsOrderOfTaking}
 use Rattle.leg_legal.proofs.SoFar.{AreMovable}

@@ -11,16 +11,16 @@ use Rattle.leg_block.specs.declared.fault.Fault.TheVariants.{Unplaced}
 use Rattle.leg_block.specs.declared.records.Status.{Status}
 use Rattle.leg_block.specs.declared.records.Status.TheVariants as status
 use Rattle.leg_block.specs.declared.records.Component.{Component}
-use Rattle.leg_place.specs.Faults.{Holds}
+use Rattle.leg_place.specs.Faults.{Holds, IsLegallyPlaced}
 use Rattle.leg_place.specs.Faults.Holds.{unplaced, outside, off_site, overlap}
-use Rattle.leg_legal.specs.Movable.{MayMove, IsMovable}
+use Rattle.leg_block.specs.Movable.{MayMove, IsMovable}
 use Rattle.leg_legal.specs.Free.{IsSettled}
 use Rattle.leg_legal.specs.Turns.{IsOrderOfTaking}
-use Rattle.leg_legal.specs.Run.{Run, IsLegallyPlaced, IsLegalised}
+use Rattle.leg_legal.specs.Run.{Run, IsLegalised}
 use Rattle.leg_legal.specs.SameButForPlaces.{IsPlacedAnew, IsSameButForPlaces}
 use Rattle.leg_legal.specs.Refusals.{NoneStaying}
 use Rattle.leg_legal.proofs.Elements.{all_at}
-use Rattle.leg_legal.proofs.MovableOrNot.{movable_or_not}
+use Rattle.leg_block.proofs.MovableOrNot.{movable_or_not}
 use Rattle.leg_legal.proofs.OnRow.{HasSoundRows}
 use Rattle.leg_legal.proofs.AmongSettled.{ConcernsSettled}
 use Rattle.leg_legal.proofs.SoFar.{IsSoFar, so_far, none_settled}

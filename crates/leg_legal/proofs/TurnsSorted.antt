@@ -18,7 +18,7 @@ use Rattle.leg_block.specs.Records.{DesignContents}
 use Rattle.leg_cells.specs.Records.{MasterSaid}
 use Rattle.leg_block.specs.declared.records.Component.{Component}
 use Rattle.leg_legal.specs.declared.turns.TurnKey.{TurnKey}
-use Rattle.leg_legal.specs.Movable.{IsMovable}
+use Rattle.leg_block.specs.Movable.{IsMovable}
 use Rattle.leg_legal.specs.Start.{start_of}
 use Rattle.leg_legal.specs.Turns.{Turn, HasTurn, IsEarlier, IsTakenBefore}
 use Rattle.leg_legal.specs.Steps.TurnKeys.{IsKeyOf, numbers, AreKeysBelow, AreInOrder}

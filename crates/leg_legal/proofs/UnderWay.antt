@@ -19,7 +19,7 @@ use Rattle.leg_legal.specs.declared.fault.LegalFault.{LegalFault}
 use Rattle.leg_legal.specs.declared.fault.LegalFault.TheVariants.{FixedIllegal, NoSite, NoRoom, Memory}
 use Rattle.leg_legal.specs.declared.taken.Taken.{Taken}
 use Rattle.leg_legal.specs.declared.turns.TurnKey.{TurnKey}
-use Rattle.leg_legal.specs.Movable.{IsMovable}
+use Rattle.leg_block.specs.Movable.{IsMovable}
 use Rattle.leg_legal.specs.Free.{IsSettled, IsTaken, IsFree, TakesBest}
 use Rattle.leg_legal.specs.Run.{placed_at, moved_to, Run}
 use Rattle.leg_legal.specs.Run.Run.{none, one}

@@ -7,7 +7,7 @@ use Rattle.leg_place.specs.Box.{StandsIn, placed_box}
 use Rattle.leg_sites.specs.declared.candidate.Candidate.{Candidate}
 use Rattle.leg_sites.specs.Known.{IsClear}
 use Rattle.leg_sites.specs.BestPosition.{IsNoWorse}
-use Rattle.leg_legal.specs.Movable.{IsMovable}
+use Rattle.leg_block.specs.Movable.{IsMovable}
 use Rattle.leg_legal.specs.Standing.{StandsAt}
 
 -- Component d is where it will remain: it stays, or its turn has come. One that waits for its turn is in nobody's way.

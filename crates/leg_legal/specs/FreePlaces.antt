@@ -10,7 +10,7 @@ use Rattle.leg_place.specs.Box.{placed_box}
 use Rattle.leg_place.specs.Sites.{IsOnRow}
 use Rattle.leg_sites.specs.Known.{IsClear}
 use Rattle.leg_sites.specs.declared.candidate.Candidate.{Candidate}
-use Rattle.leg_legal.specs.Movable.{IsMovable}
+use Rattle.leg_block.specs.Movable.{IsMovable}
 use Rattle.leg_legal.specs.Standing.{orient_of, Takes}
 use Rattle.leg_legal.specs.Free.{IsTaken, IsFree}
 

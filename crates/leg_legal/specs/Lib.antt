@@ -1,4 +1,3 @@
-pub mod Movable
 pub mod Start
 pub mod Standing
 pub mod Free

@@ -1,9 +1,10 @@
 -- What may become of a design (lefdef's own rules).
 use Rattle.std.specs.Prelude.{◌≢◌, ◌⊎◌}
 use Rattle.leg_block.specs.Records.{DesignContents}
+use Rattle.leg_place.specs.Faults.{IsLegallyPlaced}
 use Rattle.leg_legal.specs.declared.fault.LegalFault.{LegalFault}
 use Rattle.leg_legal.specs.declared.fault.LegalFault.TheVariants.{Memory}
-use Rattle.leg_legal.specs.Run.{IsLegallyPlaced, IsLegalised}
+use Rattle.leg_legal.specs.Run.{IsLegalised}
 use Rattle.leg_legal.specs.Refusals.{IsRefusal}
 
 -- it is legalised, and legally placed then

@@ -8,14 +8,14 @@ use Rattle.leg_block.specs.declared.fault.Fault.{Fault}
 use Rattle.leg_block.specs.declared.fault.Fault.TheVariants.{Unplaced, Outside, OffSite, Overlap, Short, TooNear, OpenNet}
 use Rattle.leg_block.specs.declared.records.Row.{Row}
 use Rattle.leg_block.specs.Violation.{IsListOf}
-use Rattle.leg_place.specs.Faults.{Holds}
+use Rattle.leg_place.specs.Faults.{Holds, IsLegallyPlaced}
 use Rattle.leg_legal.specs.declared.fault.LegalFault.{LegalFault}
 use Rattle.leg_legal.specs.declared.fault.LegalFault.TheVariants.{FixedIllegal, NoSite, NoRoom, Memory}
-use Rattle.leg_legal.specs.Movable.{IsMovable}
+use Rattle.leg_block.specs.Movable.{IsMovable}
 use Rattle.leg_sites.specs.declared.candidate.Candidate.{Candidate}
 use Rattle.leg_legal.specs.Free.{IsFree}
 use Rattle.leg_legal.specs.Turns.{IsOrderOfTaking}
-use Rattle.leg_legal.specs.Run.{Run, IsLegallyPlaced}
+use Rattle.leg_legal.specs.Run.{Run}
 
 -- a violation of placement concerns only components that stay
 abbrev pub ConcernsStaying : DesignContents → Fault → Type 0

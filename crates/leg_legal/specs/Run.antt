@@ -2,10 +2,9 @@
 use Rattle.std.specs.Prelude.{◌≡◌, ◌⊎◌, ℕ, List, [], ◌∷◌, ◌++◌, Some, slice_get, slice_set}
 use Rattle.leg_geom.specs.declared.place.Place.{Place}
 use Rattle.leg_block.specs.Records.{DesignContents}
-use Rattle.leg_block.specs.declared.fault.Fault.{Fault}
 use Rattle.leg_block.specs.declared.records.Status.TheVariants.{Placed}
 use Rattle.leg_block.specs.declared.records.Component.{Component}
-use Rattle.leg_place.specs.Faults.{Holds}
+use Rattle.leg_place.specs.Faults.{IsLegallyPlaced}
 use Rattle.leg_legal.specs.Free.{TakesBest}
 use Rattle.leg_legal.specs.Turns.{IsOrderOfTaking}
 
@@ -26,10 +25,6 @@ pub data Run (before : DesignContents) : List ℕ → DesignContents → Type 0 
       → slice_get now.components c ≡ Some component
       → TakesBest now done c place
       → Run before (done ++ c ∷ []) (moved_to now c component place)
-
--- no violation of placement holds
-abbrev pub IsLegallyPlaced : DesignContents → Type 0
-IsLegallyPlaced design = (fault : Fault) → ¬ Holds design.library design fault
 
 -- all movable components have taken their places, in their order
 pub record IsRunOfAll (before after : DesignContents) : Type 0 where

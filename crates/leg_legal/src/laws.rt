@@ -5,18 +5,19 @@ ghost use Rattle.leg_geom.specs.declared.place.Place.{Place};
 ghost use Rattle.leg_cells.specs.Sound.{IsSound};
 ghost use Rattle.leg_block.specs.Records.{DesignContents};
 ghost use Rattle.leg_block.specs.WellFormed.{IsWellFormed};
-ghost use Rattle.leg_legal.specs.Movable.{IsMovable};
+ghost use Rattle.leg_block.specs.Movable.{IsMovable};
+ghost use Rattle.leg_place.specs.Faults.{IsLegallyPlaced};
 ghost use Rattle.leg_legal.specs.FreePlaces.{HasMacroSizes, IsFreePlace, HasFreePosition};
-ghost use Rattle.leg_legal.specs.Run.{IsLegallyPlaced, IsLegalised};
+ghost use Rattle.leg_legal.specs.Run.{IsLegalised};
 ghost use Rattle.leg_legal.specs.Moves.{AreMoves};
 ghost use Rattle.leg_legal.specs.Refusals.{IsStuck, IsRefusal};
 ghost use Rattle.leg_legal.specs.Outcome.{HasOutcome};
 ghost use Rattle.leg_legal.specs.declared.fault.LegalFault.TheVariants.{Memory};
 
 use crate::fault::LegalFault;
-use crate::legaliser::known_sound;
 use crate::sizes::macros_have_sizes;
 use leg_block::Design;
+use leg_block::laws::design_is_sound;
 use std::alloc::Allocator;
 
 /// A design is legalised in one way: the order of taking is one, and so is the best free position of each component.
@@ -75,7 +76,7 @@ pub fn every_design_is_well_formed<A: Allocator + Copy>(design: &Design<'_, A>)
     ensures sound { IsSound design.now.library }
     ensures sizes { HasMacroSizes design.now.library }
 {
-    known_sound(design);
+    design_is_sound(design);
     macros_have_sizes(design.library().masters());
 }
 

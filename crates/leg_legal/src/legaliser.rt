@@ -3,7 +3,8 @@
 ghost use Rattle.std.specs.Prelude.{◌≡◌, IfOk, IfErr};
 ghost use Rattle.leg_cells.specs.Sound.{IsSound};
 ghost use Rattle.leg_block.specs.WellFormed.{IsWellFormed};
-ghost use Rattle.leg_legal.specs.Run.{IsLegallyPlaced, IsLegalised};
+ghost use Rattle.leg_place.specs.Faults.{IsLegallyPlaced};
+ghost use Rattle.leg_legal.specs.Run.{IsLegalised};
 ghost use Rattle.leg_legal.specs.SameButForPlaces.{IsSameButForPlaces};
 ghost use Rattle.leg_legal.specs.Moves.{AreMoves};
 ghost use Rattle.leg_legal.specs.Refusals.{AreSuited, IsRefusal};
@@ -18,6 +19,7 @@ use crate::taking::{take_in_turn, take_staying};
 use crate::turns::order_of_taking;
 use crate::unsuited::least_unsuited;
 use leg_block::Design;
+use leg_block::laws::design_is_sound;
 use leg_cells::{Items, Library};
 use leg_place::is_placed;
 use leg_sites::FreeRows;
@@ -55,15 +57,6 @@ pub fn legalise<'a, A: Allocator + Copy>(
     }
 }
 
-/// What holds of every design and of its library.
-pub(crate) fn known_sound<A: Allocator + Copy>(design: &Design<'_, A>)
-    ensures proper { IsWellFormed design.now }
-    ensures sound { IsSound design.now.library }
-{
-    let _rows = design.rows();
-    let _masters = design.library().masters();
-}
-
 /// The places that components take: none where the design is legally placed, and else one for each movable component.
 fn chosen_places<A: Allocator + Copy>(
     alloc: A,
@@ -74,7 +67,7 @@ fn chosen_places<A: Allocator + Copy>(
     ensures chosen { IfOk result (λ taken. AreChosen design.now taken.items) }
     ensures refused { IfErr result (IsRefusal design.now) }
 {
-    known_sound(design);
+    design_is_sound(design);
     let placed = is_placed(alloc, library, design)?;
     if placed {
         return Ok(Vec::new(alloc));

@@ -7,7 +7,6 @@ mod distances;
 mod fault;
 pub mod laws;
 mod legaliser;
-mod movable;
 mod moves;
 mod seats;
 mod sizes;

@@ -6,7 +6,7 @@ ghost use Rattle.leg_geom.specs.Plane.{Sides};
 ghost use Rattle.leg_cells.specs.Measure.{IsExtent};
 ghost use Rattle.leg_block.specs.WellFormedParts.{IsPosition};
 ghost use Rattle.leg_sites.specs.FreeRows.{AreKnown};
-ghost use Rattle.leg_legal.specs.Movable.{IsMovable};
+ghost use Rattle.leg_block.specs.Movable.{IsMovable};
 ghost use Rattle.leg_legal.specs.Standing.{orient_of, Takes};
 ghost use Rattle.leg_legal.specs.Refusals.{IsUnsuited};
 ghost use Rattle.leg_legal.specs.Steps.Seats.{IsWantedOf, IsBestPlace, AreToBeAsked};

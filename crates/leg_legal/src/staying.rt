@@ -5,7 +5,6 @@ ghost use Rattle.leg_block.specs.Violation.{IsListOf};
 ghost use Rattle.leg_legal.specs.Refusals.{HoldsOfStaying};
 ghost use Rattle.leg_legal.specs.Steps.Marks.{AreMarksBelow};
 
-use crate::movable::is_movable;
 use leg_block::{Design, Fault};
 use leg_cells::Library;
 use leg_place::place_faults_among;
@@ -20,7 +19,7 @@ fn marks_of_staying<A: Allocator + Copy>(
 {
     let mut marks = Vec::with_capacity(alloc, design.components().len())?;
     for i in 0..design.components().len() {
-        marks.push(!is_movable(design, i))?;
+        marks.push(!design.is_movable(i))?;
     }
     Ok(marks)
 }

@@ -7,13 +7,12 @@ ghost use Rattle.leg_block.specs.WellFormedParts.{IsPosition};
 ghost use Rattle.leg_block.specs.declared.records.Component.{Component};
 ghost use Rattle.leg_place.specs.Box.{placed_box};
 ghost use Rattle.leg_sites.specs.FreeRows.{AreKnown};
-ghost use Rattle.leg_legal.specs.Movable.{IsMovable};
+ghost use Rattle.leg_block.specs.Movable.{IsMovable};
 ghost use Rattle.leg_legal.specs.Refusals.{IsUnsuited, AreSuited};
 ghost use Rattle.leg_legal.specs.Steps.TurnKeys.{AreInOrder, numbers};
 ghost use Rattle.leg_legal.specs.Steps.Taking.{KnowStaying, KnowTaken, IsSeated, IsSeatFault, AreAllTaken, IsTakingFault};
 
 use crate::fault::LegalFault;
-use crate::movable::is_movable;
 use crate::seats::{best_place, wanted_of};
 use crate::taken::Taken;
 use crate::turns::TurnKey;
@@ -33,7 +32,7 @@ fn take_if_staying<A: Allocator + Copy>(
     requires known { KnowStaying design.now number free.old }
     ensures { OnOk result (KnowStaying design.now (number + 1) free.new) }
 {
-    if is_movable(design, number) {
+    if design.is_movable(number) {
         return Ok(());
     }
     match box_of(design.library(), &design.components()[number]) {

@@ -1,11 +1,10 @@
 //! The order in which movable components are taken.
 
 ghost use Rattle.std.specs.Prelude.{◌≡◌, pos, ◌-ℤ◌, length, IfOk};
-ghost use Rattle.leg_legal.specs.Movable.{IsMovable};
+ghost use Rattle.leg_block.specs.Movable.{IsMovable};
 ghost use Rattle.leg_legal.specs.Start.{start_of};
 ghost use Rattle.leg_legal.specs.Steps.TurnKeys.{IsKeyOf, AreKeysBelow, AreInOrder};
 
-use crate::movable::is_movable;
 use leg_block::Design;
 use leg_cells::Extent;
 use leg_geom::{Place, Point};
@@ -67,7 +66,7 @@ fn turn_keys<A: Allocator + Copy>(
 {
     let mut keys = Vec::new(alloc);
     for i in 0..design.components().len() {
-        if is_movable(design, i) {
+        if design.is_movable(i) {
             keys.push(turn_key(design, i))?;
         }
     }

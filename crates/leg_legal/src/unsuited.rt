@@ -4,7 +4,6 @@ ghost use Rattle.std.specs.Prelude.{◌↔◌, IsTrue, MatchOption};
 ghost use Rattle.leg_legal.specs.Steps.HasRow.{HasRow};
 ghost use Rattle.leg_legal.specs.Refusals.{FitsSites, HasRowFor, IsUnsuited, IsLeastUnsuited, AreSuited};
 
-use crate::movable::is_movable;
 use leg_block::{Design, Row};
 use leg_cells::Extent;
 use std::alloc::Allocator;
@@ -49,7 +48,7 @@ fn has_row_for<A: Allocator + Copy>(design: &Design<'_, A>, size: &Extent, numbe
 fn is_unsuited<A: Allocator + Copy>(design: &Design<'_, A>, number: usize) -> bool
     ensures { IsTrue result ↔ IsUnsuited design.now number }
 {
-    if !is_movable(design, number) {
+    if !design.is_movable(number) {
         return false;
     }
     let component = &design.components()[number];

@@ -16,4 +16,5 @@ mod Overlaps
 mod Misplaced
 -- What the proofs of other crates cite
 pub mod PlaceFaults
+pub mod ComponentFaults
 pub mod OnSites

@@ -1,135 +1,102 @@
 -- How the list of violations goes on.
-use Rattle.std.proofs.Common.{◌≡◌, ℕ, Bool, ◌+◌, ◌<◌, List, [], ◌∷◌, ◌++◌, length, ◌⊎◌, inl, inr, arith}
+use Rattle.std.proofs.Common.{◌≡◌, ℕ, Bool, ◌+◌, List, [], ◌∷◌, ◌++◌, length, ◌⊎◌, inl, inr, arith}
 use Rattle.std.proofs.lemmas.Bool.{cases_lt, cases_eq}
 use Rattle.std.proofs.lemmas.List.Elements.{All-push, All-weaker, Contains-append_left, Contains-push}
 use Rattle.std.proofs.lemmas.List.Quantifiers.{all_pairs_push}
 use Rattle.leg_cells.specs.Records.{Contents}
 use Rattle.leg_block.specs.Records.{DesignContents}
 use Rattle.leg_block.specs.declared.fault.Fault.{Fault}
-use Rattle.leg_block.specs.Violation.{kind_number, numbers_of, ComesBefore}
+use Rattle.leg_block.specs.declared.fault.Fault.TheVariants.{Short}
+use Rattle.leg_block.specs.Violation.{kind_number, numbers_of, ComesBefore, IsListOf}
+use Rattle.leg_place.specs.declared.component_fault.ComponentFault.{ComponentFault}
 use Rattle.leg_place.specs.Among.{HoldsAmong}
+use Rattle.leg_place.specs.Steps.ComponentFault.{fault_of}
 use Rattle.leg_place.specs.Steps.ListPrefix.{HoldsBefore, IsListBefore}
-use Rattle.leg_block.proofs.FaultNumbers.{same_fault, no_second_number}
-use Rattle.leg_place.proofs.PlaceFaults.{component_below}
-
--- the violation tells this component alone, and is of the kind of this number
-pub record Tells (v : Fault) (kind c : ℕ) : Type 0 where
-  pub is_kind : kind_number v ≡ kind
-  pub first : (numbers_of v).0 ≡ c
-  pub second : (numbers_of v).1 ≡ 0
-
--- the order goes on
-pub ComesBefore-trans : (u v w : Fault) → ComesBefore u v → ComesBefore v w → ComesBefore u w
-ComesBefore-trans u v w a b = record {
-  kind = omega (arith, a.kind, b.kind);
-  first = λ same.
-      let ku : kind_number u ≡ kind_number v = omega (arith, a.kind, b.kind, same) in
-      let kv : kind_number v ≡ kind_number w = omega (arith, a.kind, b.kind, same) in
-      omega (arith, a.first ku, b.first kv);
-  second = λ same equal.
-      let ku : kind_number u ≡ kind_number v = omega (arith, a.kind, b.kind, same) in
-      let kv : kind_number v ≡ kind_number w = omega (arith, a.kind, b.kind, same) in
-      let first_u : (numbers_of u).0 ≡ (numbers_of v).0 = omega (arith, a.first ku, b.first kv, equal) in
-      let first_v : (numbers_of v).0 ≡ (numbers_of w).0 = omega (arith, a.first ku, b.first kv, equal) in
-      omega (arith, a.second ku first_u, b.second kv first_v);
-}
-
-module _ (v next : Fault) (kind c : ℕ) (one : kind < 3) (this : Tells v kind c) (after : Tells next kind (c + 1)) where
-  -- the violation of the next component comes later
-  next_later : ComesBefore v next
-  next_later = record {
-    kind = omega (arith, this.is_kind, after.is_kind);
-    first = λ same. omega (arith, this.first, after.first);
-    second = λ same equal. absurd (omega (arith, this.first, after.first, equal));
-  }
-
-  -- and there is none in between
-  next_back : (w : Fault) → ComesBefore w next → ComesBefore w v ⊎ (v ≡ w)
-  next_back w b =
-      elim (cases_eq (kind_number w) kind) [
-        | inl same ↦
-            let alike : kind_number w ≡ kind_number next = omega (arith, same, after.is_kind) in
-            let few : kind_number w < 3 = omega (arith, same, one) in
-            let at_most = b.first alike in
-            let alone : (numbers_of w).1 ≡ 0 = no_second_number w few in
-            elim (cases_lt (numbers_of w).0 c) [
-              | inl earlier ↦ inl (record {
-                kind = omega (arith, same, this.is_kind);
-                first = λ e. omega (arith, this.first, earlier);
-                second = λ e equal. absurd (omega (arith, this.first, earlier, equal));
-              })
-              | inr late ↦ elim (cases_eq (numbers_of w).0 c) [
-                | inl here ↦ inr (same_fault v w (omega (arith, same, this.is_kind)) (omega (arith, here, this.first)) (omega (arith, alone, this.second)))
-                | inr beyond ↦
-                    let last : (numbers_of w).0 ≡ (numbers_of next).0 = omega (arith, after.first, at_most, late, beyond) in
-                    absurd (omega (arith, b.second alike last, after.second))
-              ]
-            ]
-        | inr apart ↦ inl (record {
-          kind = omega (arith, b.kind, this.is_kind, after.is_kind);
-          first = λ e. absurd (omega (arith, apart, e, this.is_kind));
-          second = λ e. absurd (omega (arith, apart, e, this.is_kind));
-        })
-      ]
+use Rattle.leg_place.proofs.PlaceFaults.{kind_below, component_below, same_list}
+use Rattle.leg_place.proofs.ComponentFaults.{number_of_kind, of_component, is_of_component}
 
 module _ (library : Contents) (design : DesignContents) (marks : List Bool) where
-  -- the same list behind another violation, where no others hold
-  listing_upto : (end later : Fault) (found : List Fault) → ComesBefore end later → ((w : Fault) → ComesBefore w later → HoldsAmong library design marks w → ComesBefore w end) → IsListBefore library design marks end found → IsListBefore library design marks later found
-  listing_upto end later found onward back done = record {
-    increasing = done.increasing;
-    each =
-        All-weaker (HoldsBefore library design marks end) (HoldsBefore library design marks later)
-        (λ w held. record { holds = held.holds; before = ComesBefore-trans w end later held.before onward }) found done.each;
-    all = λ w held. done.all w (record { holds = held.holds; before = back w held.before held.holds });
-  }
+  -- behind the last component the next kind begins
+  pub listing_end : (kind c : ℕ) → c ≡ length design.components → (found : List Fault)
+      → IsListBefore library design marks kind c found → IsListBefore library design marks (kind + 1) 0 found
+  listing_end kind c last found done =
+      same_list (HoldsBefore library design marks kind c) (HoldsBefore library design marks (kind + 1) 0)
+      (λ v held. record { holds = held.holds; upto = omega (arith, held.upto); below = λ same. absurd (omega (arith, held.upto, same)) })
+      (λ v held. record {
+        holds = held.holds;
+        upto = elim (cases_eq (kind_number v) (kind + 1)) [
+          | inl same ↦ absurd (let first = held.below same in omega (arith, first))
+          | inr apart ↦ omega (arith, held.upto, apart)
+        ];
+        below = λ same. (let within = component_below library design v held.holds.holds in omega (arith, within, last));
+      })
+      found done
 
-  module _ (v next : Fault) (kind c : ℕ) (one : kind < 3) (this : Tells v kind c) (after : Tells next kind (c + 1)) where
-    -- one more violation that holds
-    pub listing_more : (found : List Fault) → HoldsAmong library design marks v → IsListBefore library design marks v found → IsListBefore library design marks next (found ++ v ∷ [])
-    listing_more found holds done =
-        let later = next_later v next kind c one this after in
+  -- before the first kind that is none of placement the list is whole
+  pub listing_whole : (found : List Fault) → IsListBefore library design marks (kind_number (Short 0 0)) 0 found
+      → IsListOf (HoldsAmong library design marks) found
+  listing_whole found done =
+      same_list (HoldsBefore library design marks (kind_number (Short 0 0)) 0) (HoldsAmong library design marks)
+      (λ v held. held.holds)
+      (λ v holds.
+      let below = kind_below library design v holds.holds in
+      record { holds = holds; upto = omega (arith, below); below = λ same. absurd (omega (arith, below, same)) })
+      found done
+
+  module _ (kind : ComponentFault) (c : ℕ) where
+    -- what comes before the violation of the next component is that of this one, or comes before it
+    this_or_before : (v : Fault) → HoldsBefore library design marks (number_of_kind kind) (c + 1) v
+        → HoldsBefore library design marks (number_of_kind kind) c v ⊎ (v ≡ fault_of kind c)
+    this_or_before v held =
+        elim (cases_eq (kind_number v) (number_of_kind kind)) [
+          | inr apart ↦ inl (record { holds = held.holds; upto = held.upto; below = λ same. absurd (apart same) })
+          | inl same ↦ elim (cases_lt (numbers_of v).0 c) [
+            | inl lower ↦ inl (record { holds = held.holds; upto = held.upto; below = λ _. lower })
+            | inr late ↦
+                let below = held.below same in
+                let here : (numbers_of v).0 ≡ c = omega (arith, below, late) in
+                inr (rw here at (is_of_component kind v same))
+          ]
+        ]
+
+    -- the violation of one component comes behind those before it
+    behind : (v : Fault) → HoldsBefore library design marks (number_of_kind kind) c v → ComesBefore v (fault_of kind c)
+    behind v held =
+        let this = of_component kind c in
         record {
-          increasing =
-              all_pairs_push ComesBefore found v done.increasing
-              (All-weaker (HoldsBefore library design marks v) (λ w. ComesBefore w v) (λ w held. held.before) found done.each);
+          kind = omega (arith, held.upto, this.0);
+          first = λ same. (let lower = held.below (omega (arith, same, this.0)) in omega (arith, lower, this.1));
+          second = λ same equal. absurd (let lower = held.below (omega (arith, same, this.0)) in omega (arith, lower, this.1, equal));
+        }
+
+    onward : (v : Fault) → HoldsBefore library design marks (number_of_kind kind) c v → HoldsBefore library design marks (number_of_kind kind) (c + 1) v
+    onward v held = record { holds = held.holds; upto = held.upto; below = λ same. (let lower = held.below same in omega (arith, lower)) }
+
+    -- one more violation that holds
+    pub listing_more : (found : List Fault) → HoldsAmong library design marks (fault_of kind c)
+        → IsListBefore library design marks (number_of_kind kind) c found
+        → IsListBefore library design marks (number_of_kind kind) (c + 1) (found ++ fault_of kind c ∷ [])
+    listing_more found holds done =
+        let v = fault_of kind c in
+        let this = of_component kind c in
+        let before = HoldsBefore library design marks (number_of_kind kind) c in
+        let after = HoldsBefore library design marks (number_of_kind kind) (c + 1) in
+        record {
+          increasing = all_pairs_push ComesBefore found v done.increasing (All-weaker before (λ w. ComesBefore w v) behind found done.each);
           each =
-              All-push (HoldsBefore library design marks next) found v
-              (All-weaker (HoldsBefore library design marks v) (HoldsBefore library design marks next)
-              (λ w held. record { holds = held.holds; before = ComesBefore-trans w v next held.before later }) found done.each)
-              (record { holds = holds; before = later });
-          all = λ w held. elim (next_back v next kind c one this after w held.before) [
-            | inl earlier ↦ Contains-append_left found (v ∷ []) w (done.all w (record { holds = held.holds; before = earlier }))
-            | inr same ↦ rw (← same) (Contains-push found v)
+              All-push after found v (All-weaker before after onward found done.each)
+              (record { holds = holds; upto = omega (arith, this.0); below = λ _. omega (arith, this.1) });
+          all = λ w held. elim (this_or_before w held) [
+            | inl earlier ↦ Contains-append_left found (v ∷ []) w (done.all w earlier)
+            | inr same ↦ rw same (Contains-push found v)
           ];
         }
 
     -- it doesn't hold
-    pub listing_skip : (found : List Fault) → (HoldsAmong library design marks v → ⊥) → IsListBefore library design marks v found → IsListBefore library design marks next found
-    listing_skip found not_holds done =
-        listing_upto v next found (next_later v next kind c one this after)
-        (λ w below held. elim (next_back v next kind c one this after w below) [ inl earlier ↦ earlier | inr same ↦ absurd (not_holds (rw same held)) ])
-        done
-
-  -- behind the last component the next kind begins
-  pub listing_end : (end later : Fault) (kind c : ℕ) → Tells end kind c → Tells later (kind + 1) 0 → c ≡ length design.components → (found : List Fault) → IsListBefore library design marks end found → IsListBefore library design marks later found
-  listing_end end later kind c this after last found done =
-      listing_upto end later found
-      (record {
-        kind = omega (arith, this.is_kind, after.is_kind);
-        first = λ same. absurd (omega (arith, this.is_kind, after.is_kind, same));
-        second = λ same. absurd (omega (arith, this.is_kind, after.is_kind, same));
-      })
-      (λ w below holds.
-      let within = component_below library design w holds.holds in
-      elim (cases_eq (kind_number w) (kind + 1)) [
-        | inl same ↦
-            let alike : kind_number w ≡ kind_number later = omega (arith, same, after.is_kind) in
-            let first : (numbers_of w).0 ≡ (numbers_of later).0 = omega (arith, below.first alike, after.first) in
-            absurd (omega (arith, below.second alike first, after.second))
-        | inr apart ↦ record {
-          kind = omega (arith, below.kind, apart, this.is_kind, after.is_kind);
-          first = λ e. omega (arith, within, last, this.first);
-          second = λ e equal. absurd (omega (arith, within, last, this.first, equal));
-        }
-      ])
-      done
+    pub listing_skip : (found : List Fault) → (HoldsAmong library design marks (fault_of kind c) → ⊥)
+        → IsListBefore library design marks (number_of_kind kind) c found
+        → IsListBefore library design marks (number_of_kind kind) (c + 1) found
+    listing_skip found never done =
+        same_list (HoldsBefore library design marks (number_of_kind kind) c) (HoldsBefore library design marks (number_of_kind kind) (c + 1)) onward
+        (λ v held. elim (this_or_before v held) [ inl earlier ↦ earlier | inr same ↦ absurd (never (rw same at held.holds)) ])
+        found done

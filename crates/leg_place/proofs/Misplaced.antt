@@ -1,15 +1,17 @@
 -- Whether any violation holds of where components stand.
-use Rattle.std.proofs.Common.{◌≡◌, ℕ, Bool, true, false, not, IsTrue, ◌+◌, ◌↔◌, length, refl, inl, inr, arith}
+use Rattle.std.proofs.Common.{◌≡◌, ℕ, Bool, true, false, not, IsTrue, ◌+◌, ◌↔◌, length, refl, subst, inl, inr, arith}
 use Rattle.std.proofs.lemmas.Bool.{cases_lt, false≢true}
-use Rattle.std.proofs.lemmas.Option.{slice_get_within}
 use Rattle.leg_cells.specs.Records.{Contents}
 use Rattle.leg_block.specs.Records.{DesignContents}
 use Rattle.leg_block.specs.declared.fault.Fault.{Fault}
-use Rattle.leg_block.specs.declared.fault.Fault.TheVariants.{Unplaced, Outside, OffSite, Overlap}
+use Rattle.leg_block.specs.declared.fault.Fault.TheVariants.{Overlap}
+use Rattle.leg_block.specs.Violation.{numbers_of}
 use Rattle.leg_place.specs.Faults.{Holds}
-use Rattle.leg_place.specs.Faults.Holds.{unplaced, outside, off_site, overlap}
+use Rattle.leg_place.specs.Faults.Holds.{overlap}
 use Rattle.leg_place.specs.Steps.ListPrefix.{IsMisplaced, IsOneMisplaced, DoSomeOverlap}
-use Rattle.leg_place.specs.Steps.ListPrefix.IsMisplaced.{no_place, off_die, off_sites}
+use Rattle.leg_place.specs.Steps.ComponentFault.{fault_of}
+use Rattle.leg_place.proofs.PlaceFaults.{component_below, overlap_there}
+use Rattle.leg_place.proofs.ComponentFaults.{component_or_overlap, is_of_component, is_overlap}
 
 module _ (library : Contents) (design : DesignContents) where
   pub none_at_first : IsOneMisplaced library design 0 → ⊥
@@ -23,24 +25,28 @@ module _ (library : Contents) (design : DesignContents) where
         | inr late ↦ let is : m.c ≡ i = omega (arith, m.below, late) in here (rw is at m.misplaced)
       ]
 
-  fault_of : (c : ℕ) → IsMisplaced library design c → (fault : Fault) × Holds library design fault
-  fault_of c (no_place h) = (Unplaced c, unplaced h)
-  fault_of c (off_die h) = (Outside c, outside h)
-  fault_of c (off_sites h) = (OffSite c, off_site h)
-
   -- a misplaced component is a violation
   pub misplaced_holds : {n : ℕ} → IsOneMisplaced library design n → ((fault : Fault) → Holds library design fault → ⊥) → ⊥
-  misplaced_holds m none = let fault = fault_of m.c m.misplaced in none fault.0 fault.1
+  misplaced_holds m none = none (fault_of m.misplaced.kind m.c) m.misplaced.holds
 
   -- where no component is misplaced and no two overlap, none holds
-  none_holds : (IsOneMisplaced library design (length design.components) → ⊥) → (DoSomeOverlap library design → ⊥) → (fault : Fault) → Holds library design fault → ⊥
-  none_holds placed apart fault (unplaced {c = c} h) =
-      placed (record { c = c; below = slice_get_within design.components c h.component h.there; misplaced = no_place h })
-  none_holds placed apart fault (outside {c = c} h) =
-      placed (record { c = c; below = slice_get_within design.components c h.stands.component h.stands.there; misplaced = off_die h })
-  none_holds placed apart fault (off_site {c = c} h) =
-      placed (record { c = c; below = slice_get_within design.components c h.component h.there; misplaced = off_sites h })
-  none_holds placed apart fault (overlap {a = a} {b = b} h) = apart (record { a = a; b = b; overlap = h })
+  none_holds : (IsOneMisplaced library design (length design.components) → ⊥) → (DoSomeOverlap library design → ⊥)
+      → (fault : Fault) → Holds library design fault → ⊥
+  none_holds placed apart fault holds =
+      let first = (numbers_of fault).0 in
+      let second = (numbers_of fault).1 in
+      elim (component_or_overlap library design fault holds) [
+        | inl (kind, same) ↦
+            let is : fault ≡ fault_of kind first = is_of_component kind fault same in
+            placed (record {
+              c = first;
+              below = component_below library design fault holds;
+              misplaced = record { kind = kind; holds = subst (Holds library design) is holds };
+            })
+        | inr same ↦
+            let is : fault ≡ Overlap first second = is_overlap fault same in
+            apart (record { a = first; b = second; overlap = overlap_there library design first second (subst (Holds library design) is holds) })
+      ]
 
   pub none_by_overlap : (IsOneMisplaced library design (length design.components) → ⊥) → (some : Bool) → IsTrue some ↔ DoSomeOverlap library design → IsTrue (not some) ↔ ((fault : Fault) → Holds library design fault → ⊥)
   none_by_overlap placed true test = (

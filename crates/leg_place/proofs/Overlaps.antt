@@ -1,6 +1,6 @@
 -- Overlaps by the pairs of boxes that share a unit square.
-use Rattle.std.proofs.Common.{◌≡◌, ℕ, Bool, true, replicate, ◌<◌, List, ◌++◌, map, Option, Some, None, slice_get, length, Contains, refl, sym, ap, ◌∙◌, inl, inr, All, ◌+◌, ◌∷◌, [], get_or, take, arith}
-use Rattle.std.proofs.lemmas.Bool.{cases_lt}
+use Rattle.std.proofs.Common.{◌≡◌, ℕ, Bool, true, replicate, ◌<◌, ◌≤◌, List, ◌++◌, map, Option, Some, None, slice_get, length, Contains, refl, sym, ap, ◌∙◌, inl, inr, All, ◌+◌, ◌∷◌, [], get_or, take, arith}
+use Rattle.std.proofs.lemmas.Bool.{cases_lt, cases_eq}
 use Rattle.std.proofs.lemmas.List.{take_more, map-append, append_assoc}
 use Rattle.std.proofs.lemmas.List.Elements.{All-append, All-map, All-weaker, Contains-append_left, Contains-append_right}
 use Rattle.std.proofs.lemmas.Option.{same_Some, slice_get_within, slice_get-get_or, get_or_from_slice_get}
@@ -12,14 +12,15 @@ use Rattle.leg_cells.specs.Records.{Contents}
 use Rattle.leg_block.specs.Records.{DesignContents}
 use Rattle.leg_block.specs.declared.fault.Fault.{Fault}
 use Rattle.leg_block.specs.declared.fault.Fault.TheVariants.{Overlap}
-use Rattle.leg_block.specs.Violation.{ComesBefore, kind_number, numbers_of, IsListOf}
+use Rattle.leg_block.specs.Violation.{ComesBefore, kind_number, numbers_of}
 use Rattle.leg_place.specs.declared.placed_box.PlacedBox.{PlacedBox}
 use Rattle.leg_place.specs.Box.{StandsIn}
-use Rattle.leg_place.specs.Faults.{DoOverlap, Holds}
-use Rattle.leg_place.specs.Among.{IsMarked, TellsMarked, HoldsAmong}
-use Rattle.leg_place.specs.Faults.Holds.{unplaced, outside, off_site, overlap}
+use Rattle.leg_place.specs.Faults.{DoOverlap}
+use Rattle.leg_place.specs.Among.{IsMarked, HoldsAmong}
+use Rattle.leg_place.specs.Faults.Holds.{overlap}
 use Rattle.leg_place.specs.Steps.ListPrefix.{HoldsBefore, IsListBefore, AreBoxesBelow, HasLowerNumber, DoSomeOverlap, HasPair}
 use Rattle.leg_place.proofs.PlaceFaults.{overlap_there, marked_by_all}
+use Rattle.leg_place.proofs.ComponentFaults.{overlap_kind, is_overlap}
 use Rattle.leg_place.proofs.Places.{place_of_contained, All-at, AllPairs-at, lower_first, same_place}
 
 -- two boxes share a unit square
@@ -104,50 +105,61 @@ module _ (library : Contents) (design : DesignContents) (marks : List Bool) (n :
       let has = Contains-map (overlap_of boxes) found (first.0, second.0) (pairs.all (first.0, second.0) pair) in
       rw (first.1, second.1) at has
 
--- overlaps behind the violations of the other kinds
-module _ (library : Contents) (design : DesignContents) (marks : List Bool) (found : List Fault) (before : IsListBefore library design marks (Overlap 0 0) found) (boxes : List PlacedBox) (are : AreBoxesBelow library design marks (length design.components) boxes) where
-  pub listing_Overlap_end : (pairs : List (ℕ × ℕ)) → ArePairs Share boxes pairs → IsListOf (HoldsAmong library design marks) (found ++ map (overlap_of boxes) pairs)
+-- overlaps behind the violations of the kinds before
+module _ (library : Contents) (design : DesignContents) (marks : List Bool) (found : List Fault) (before : IsListBefore library design marks overlap_kind 0 found) (boxes : List PlacedBox) (are : AreBoxesBelow library design marks (length design.components) boxes) where
+  pub listing_Overlap_end : (pairs : List (ℕ × ℕ)) → ArePairs Share boxes pairs
+      → IsListBefore library design marks (overlap_kind + 1) 0 (found ++ map (overlap_of boxes) pairs)
   listing_Overlap_end pairs are_pairs = record {
     increasing =
-        AllPairs-append_by ComesBefore (HoldsBefore library design marks (Overlap 0 0)) (λ w. kind_number w ≡ 3) kinds_rise found (map (overlap_of boxes) pairs)
-        before.each (All-map (λ w. kind_number w ≡ 3) (overlap_of boxes) pairs (λ k d within. refl)) before.increasing
+        AllPairs-append_by ComesBefore (HoldsBefore library design marks overlap_kind 0) (λ w. kind_number w ≡ overlap_kind) kinds_rise found (map (overlap_of boxes) pairs)
+        before.each (All-map (λ w. kind_number w ≡ overlap_kind) (overlap_of boxes) pairs (λ k d within. refl)) before.increasing
         (AllPairs-map_where Before ComesBefore (overlap_of boxes) (IsPair Share boxes) (ComesBefore-overlap_of library design marks (length design.components) boxes are) pairs are_pairs.each are_pairs.increasing);
     each =
-        All-append (HoldsAmong library design marks) found (map (overlap_of boxes) pairs)
-        (All-weaker (HoldsBefore library design marks (Overlap 0 0)) (HoldsAmong library design marks) (λ v held. held.holds) found before.each)
-        (All-map (HoldsAmong library design marks) (overlap_of boxes) pairs
-        (All-weaker (IsPair Share boxes) (λ p. HoldsAmong library design marks (overlap_of boxes p)) (Holds-overlap_of library design marks (length design.components) boxes are) pairs are_pairs.each));
-    all = λ v held. found_in v held.holds held.marked;
+        All-append after found (map (overlap_of boxes) pairs)
+        (All-weaker (HoldsBefore library design marks overlap_kind 0) after (λ v held. upto v held.holds held.upto) found before.each)
+        (All-map after (overlap_of boxes) pairs
+        (All-weaker (IsPair Share boxes) (λ p. after (overlap_of boxes p))
+        (λ p pair.
+        upto (overlap_of boxes p) (Holds-overlap_of library design marks (length design.components) boxes are p pair) (omega arith))
+        pairs are_pairs.each));
+    all = λ v held. elim (cases_eq (kind_number v) overlap_kind) [
+      | inl same ↦
+          let is = is_overlap v same in
+          rw (← is) at (overlap_in (numbers_of v).0 (numbers_of v).1 (rw is at held.holds))
+      | inr apart ↦
+          Contains-append_left found (map (overlap_of boxes) pairs) v
+          (before.all v (record { holds = held.holds; upto = below_next v held; below = λ same. absurd (apart same) }))
+    ];
   }
     where
-      kinds_rise : (v w : Fault) → HoldsBefore library design marks (Overlap 0 0) v → kind_number w ≡ 3 → ComesBefore v w
+      after : Fault → Type 0
+      after = HoldsBefore library design marks (overlap_kind + 1) 0
+
+      upto : (v : Fault) → HoldsAmong library design marks v → kind_number v ≤ overlap_kind → HoldsBefore library design marks (overlap_kind + 1) 0 v
+      upto v holds kind = record { holds = holds; upto = omega (arith, kind); below = λ same. absurd (omega (arith, kind, same)) }
+
+      below_next : (v : Fault) → HoldsBefore library design marks (overlap_kind + 1) 0 v → kind_number v ≤ overlap_kind
+      below_next v held = elim (cases_eq (kind_number v) (overlap_kind + 1)) [
+        | inl same ↦ absurd (let first = held.below same in omega (arith, first))
+        | inr apart ↦ omega (arith, held.upto, apart)
+      ]
+
+      kinds_rise : (v w : Fault) → HoldsBefore library design marks overlap_kind 0 v → kind_number w ≡ overlap_kind → ComesBefore v w
       kinds_rise v w held kind =
-          let none : kind_number v ≡ 3 → ⊥ = λ last.
-          let start : (numbers_of v).0 ≡ 0 = omega (arith, held.before.first last) in
-          omega (arith, held.before.second last start) in
+          let earlier : kind_number v ≡ overlap_kind → ⊥ = λ same. (let first = held.below same in omega (arith, first)) in
           record {
-            kind = omega (arith, held.before.kind, kind);
-            first = λ same. absurd (none (same ∙ kind));
-            second = λ same. absurd (none (same ∙ kind));
+            kind = omega (arith, held.upto, kind);
+            first = λ same. absurd (earlier (same ∙ kind));
+            second = λ same. absurd (earlier (same ∙ kind));
           }
 
-      earlier_in : (v : Fault) → kind_number v < 3 → HoldsAmong library design marks v → Contains (found ++ map (overlap_of boxes) pairs) v
-      earlier_in v few holds =
-          Contains-append_left found (map (overlap_of boxes) pairs) v
-          (before.all v (record {
-            holds = holds;
-            before = record { kind = omega (arith, few); first = λ e. absurd (omega (arith, few, e)); second = λ e. absurd (omega (arith, few, e)) };
-          }))
-
-      found_in : (v : Fault) → Holds library design v → TellsMarked marks v → Contains (found ++ map (overlap_of boxes) pairs) v
-      found_in v (unplaced h) marked = earlier_in v (omega arith) (record { holds = unplaced h; marked = marked })
-      found_in v (outside h) marked = earlier_in v (omega arith) (record { holds = outside h; marked = marked })
-      found_in v (off_site h) marked = earlier_in v (omega arith) (record { holds = off_site h; marked = marked })
-      found_in v (overlap {a = a} {b = b} h) marked =
+      overlap_in : (a b : ℕ) → HoldsAmong library design marks (Overlap a b) → Contains (found ++ map (overlap_of boxes) pairs) (Overlap a b)
+      overlap_in a b held =
+          let h = overlap_there library design a b held.holds in
           Contains-append_right found (map (overlap_of boxes) pairs) (Overlap a b)
           (overlap_from_pair library design marks (length design.components) boxes are pairs are_pairs a b h
           (slice_get_within design.components a h.stands_a.component h.stands_a.there)
-          (slice_get_within design.components b h.stands_b.component h.stands_b.there) marked.0 marked.1)
+          (slice_get_within design.components b h.stands_b.component h.stands_b.there) held.marked.0 held.marked.1)
 
 -- two boxes at places in order that share a unit square
 pub pair_at : (boxes : List PlacedBox) (a b : ℕ) (first second : PlacedBox) → a < b → b < length boxes → ShareSquare (get_or boxes a first).rect (get_or boxes b second).rect → HasPair boxes

@@ -6,16 +6,24 @@ use Rattle.std.proofs.lemmas.Option.{slice_get_within, slice_get-get_or}
 use Rattle.leg_cells.specs.Records.{Contents}
 use Rattle.leg_block.specs.Records.{DesignContents}
 use Rattle.leg_block.specs.declared.fault.Fault.{Fault}
-use Rattle.leg_block.specs.declared.fault.Fault.TheVariants.{Unplaced, Outside, OffSite, Overlap}
+use Rattle.leg_block.specs.declared.fault.Fault.TheVariants.{Unplaced, Outside, OffSite, Overlap, Short}
 use Rattle.leg_block.specs.Violation.{kind_number, numbers_of, IsListOf}
 use Rattle.leg_place.specs.Sites.{IsOffSite}
 use Rattle.leg_place.specs.Faults.{IsUnplaced, IsOutside, DoOverlap, Holds}
 use Rattle.leg_place.specs.Among.{IsMarked, TellsMarked, HoldsAmong}
 use Rattle.leg_place.specs.Faults.Holds.{unplaced, outside, off_site, overlap}
 
+-- a list of the violations for which one property holds is that of another one, which holds of the same
+pub same_list : (P Q : Fault → Type 0) → ((v : Fault) → P v → Q v) → ((v : Fault) → Q v → P v) → (found : List Fault) → IsListOf P found → IsListOf Q found
+same_list P Q onward back found list = record {
+  increasing = list.increasing;
+  each = All-weaker P Q onward found list.each;
+  all = λ v q. list.all v (back v q);
+}
+
 module _ (library : Contents) (design : DesignContents) where
-  -- a violation that speaks of where components stand is of one of the first four kinds
-  pub kind_below : (v : Fault) → Holds library design v → kind_number v < 4
+  -- the kinds of violations of where components stand come before those of metal
+  pub kind_below : (v : Fault) → Holds library design v → kind_number v < kind_number (Short 0 0)
   kind_below v (unplaced h) = omega arith
   kind_below v (outside h) = omega arith
   kind_below v (off_site h) = omega arith
@@ -62,8 +70,5 @@ module _ (library : Contents) (design : DesignContents) where
   pub list_of_all : (found : List Fault) → library ≡ design.library → IsListOf (HoldsAmong library design (replicate (length design.components) true)) found → IsListOf (Holds library design) found
   list_of_all found same list =
       let marks = replicate (length design.components) true in
-      record {
-        increasing = list.increasing;
-        each = All-weaker (HoldsAmong library design marks) (Holds library design) (λ v held. held.holds) found list.each;
-        all = λ v holds. list.all v (record { holds = holds; marked = all_told marks marked_by_all v holds });
-      }
+      same_list (HoldsAmong library design marks) (Holds library design) (λ v held. held.holds)
+      (λ v holds. record { holds = holds; marked = all_told marks marked_by_all v holds }) found list

@@ -39,3 +39,7 @@ pub data Holds (library : Contents) (design : DesignContents) : Fault → Type 0
   outside : {c : ℕ} → IsOutside library design c → Holds library design (Outside c)
   off_site : {c : ℕ} → IsOffSite library design c → Holds library design (OffSite c)
   overlap : {a b : ℕ} → DoOverlap library design a b → Holds library design (Overlap a b)
+
+-- no violation of placement holds
+abbrev pub IsLegallyPlaced : DesignContents → Type 0
+IsLegallyPlaced design = (fault : Fault) → ¬ Holds design.library design fault

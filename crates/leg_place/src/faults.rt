@@ -1,16 +1,18 @@
 //! The violations of placement.
 
-ghost use Rattle.std.specs.Prelude.{◌≡◌, ◌<◌, ◌↔◌, length, IsTrue, IfOk, OnOk};
-ghost use Rattle.leg_block.specs.Violation.{IsListOf};
-ghost use Rattle.leg_place.specs.Faults.{IsUnplaced, IsOutside, Holds};
+ghost use Rattle.std.specs.Prelude.{◌≡◌, ◌+◌, IfOk, OnOk};
+ghost use Rattle.leg_block.specs.Violation.{kind_number, IsListOf};
+ghost use Rattle.leg_place.specs.Faults.{Holds};
 ghost use Rattle.leg_place.specs.Among.{HoldsAmong};
+ghost use Rattle.leg_place.specs.Steps.RowSpans.{AreRowSpans};
+ghost use Rattle.leg_place.specs.Steps.ComponentFault.{fault_of};
 ghost use Rattle.leg_place.specs.Steps.ListPrefix.{IsListBefore};
 
+use crate::component_fault::ComponentFault;
 use crate::marks::{all_marked, is_marked};
 use crate::overlap::push_overlaps;
-use crate::placed_box::box_of;
 use crate::row_spans::row_spans;
-use crate::sites::is_off_site;
+use crate::site_span::SiteSpan;
 use leg_block::{Design, Fault};
 use leg_cells::Library;
 use std::alloc::{AllocError, Allocator};
@@ -45,81 +47,31 @@ pub fn place_faults_among<A: Allocator + Copy>(
     requires { library.now ≡ design.now.library }
     ensures { IfOk result (λ found. IsListOf (HoldsAmong library.now design.now marks.now) found.items) }
 {
+    let rows = row_spans(alloc, design)?;
     let mut found = Vec::new(alloc);
-    push_unplaced(design, marks, &mut found)?;
-    push_outside(design, marks, &mut found)?;
-    push_off_site(alloc, design, marks, &mut found)?;
+    push_each(design, &rows, marks, ComponentFault::Unplaced, &mut found)?;
+    push_each(design, &rows, marks, ComponentFault::Outside, &mut found)?;
+    push_each(design, &rows, marks, ComponentFault::OffSite, &mut found)?;
     push_overlaps(alloc, design, marks, &mut found)?;
     Ok(found)
 }
 
-/// Adds the marked components that have no place to an empty list.
-fn push_unplaced<A: Allocator + Copy>(
+/// Adds the violations of a kind that is asked of one component, as far as they name marked ones, to those of the kinds
+/// before it. The sites of the rows are given as `row_spans` gives them.
+fn push_each<A: Allocator + Copy>(
     design: &Design<'_, A>,
+    rows: &[SiteSpan],
     marks: &[bool],
+    kind: ComponentFault,
     found: &mut Vec<Fault, A>,
 ) -> Result<(), AllocError>
-    requires { IsListBefore design.now.library design.now marks.now (Fault.Unplaced 0) found.old.items }
-    ensures { OnOk result (IsListBefore design.now.library design.now marks.now (Fault.Outside 0) found.new.items) }
+    requires rows { AreRowSpans design.now.library design.now.rows rows.now }
+    requires before { IsListBefore design.now.library design.now marks.now (kind_number (fault_of kind 0)) 0 found.old.items }
+    ensures { OnOk result (IsListBefore design.now.library design.now marks.now (kind_number (fault_of kind 0) + 1) 0 found.new.items) }
 {
     for i in 0..design.components().len() {
-        if is_marked(marks, i) && is_unplaced(design, i) {
-            found.push(Fault::Unplaced(i as u32))?;
-        }
-    }
-    Ok(())
-}
-
-/// Whether the component has no place.
-pub(crate) fn is_unplaced<A: Allocator + Copy>(design: &Design<'_, A>, number: usize) -> bool
-    requires { number < length design.now.components }
-    ensures { IsTrue result ↔ IsUnplaced design.now number }
-{
-    design.components()[number].place.is_none()
-}
-
-/// Adds the marked components that lie outside the die to those that have no place.
-fn push_outside<A: Allocator + Copy>(
-    design: &Design<'_, A>,
-    marks: &[bool],
-    found: &mut Vec<Fault, A>,
-) -> Result<(), AllocError>
-    requires { IsListBefore design.now.library design.now marks.now (Fault.Outside 0) found.old.items }
-    ensures { OnOk result (IsListBefore design.now.library design.now marks.now (Fault.OffSite 0) found.new.items) }
-{
-    for i in 0..design.components().len() {
-        if is_marked(marks, i) && is_outside(design, i) {
-            found.push(Fault::Outside(i as u32))?;
-        }
-    }
-    Ok(())
-}
-
-/// Whether a unit square of the component lies outside the die.
-pub(crate) fn is_outside<A: Allocator + Copy>(design: &Design<'_, A>, number: usize) -> bool
-    requires { number < length design.now.components }
-    ensures { IsTrue result ↔ IsOutside design.now.library design.now number }
-{
-    match box_of(design.library(), &design.components()[number]) {
-        Some(rect) => !design.die().contains(&rect),
-        None => false,
-    }
-}
-
-/// Adds the marked components that are not on the sites of a row to those without a place and those outside the die.
-fn push_off_site<A: Allocator + Copy>(
-    alloc: A,
-    design: &Design<'_, A>,
-    marks: &[bool],
-    found: &mut Vec<Fault, A>,
-) -> Result<(), AllocError>
-    requires { IsListBefore design.now.library design.now marks.now (Fault.OffSite 0) found.old.items }
-    ensures { OnOk result (IsListBefore design.now.library design.now marks.now (Fault.Overlap 0 0) found.new.items) }
-{
-    let rows = row_spans(alloc, design)?;
-    for i in 0..design.components().len() {
-        if is_marked(marks, i) && is_off_site(design, &rows, i) {
-            found.push(Fault::OffSite(i as u32))?;
+        if is_marked(marks, i) && kind.holds(design, rows, i) {
+            found.push(kind.fault(i as u32))?;
         }
     }
     Ok(())

@@ -6,6 +6,7 @@
 //! component lies.
 #![tactic(auto)]
 
+mod component_fault;
 mod faults;
 mod marks;
 mod overlap;

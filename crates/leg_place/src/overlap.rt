@@ -1,11 +1,10 @@
 //! Overlapping components.
 
-ghost use Rattle.std.specs.Prelude.{◌≡◌, ◌^◌, ◌↔◌, IsTrue, IfOk, OnOk};
+ghost use Rattle.std.specs.Prelude.{◌≡◌, ◌+◌, ◌^◌, ◌↔◌, IsTrue, IfOk, OnOk};
 ghost use Rattle.std.proofs.Common.{refl};
 ghost use Rattle.leg_geom.specs.Plane.{ShareSquare};
 ghost use Rattle.leg_geom.proofs.Gaps.{ShareSquare-symmetric, ShareSquare-gaps};
-ghost use Rattle.leg_block.specs.Violation.{IsListOf};
-ghost use Rattle.leg_place.specs.Among.{HoldsAmong};
+ghost use Rattle.leg_block.specs.Violation.{kind_number};
 ghost use Rattle.leg_place.specs.Steps.ListPrefix.{IsListBefore, DoSomeOverlap, HasPair};
 
 use crate::marks::all_marked;
@@ -100,15 +99,15 @@ impl LayeredRule for OnOneAnother {
     ghost near_on_layer = { λ r a b h. ShareSquare-gaps _ _ h };
 }
 
-/// Adds the pairs of marked components that share a unit square to the violations of the other kinds.
+/// Adds the pairs of marked components that share a unit square to the violations of the kinds before.
 pub(crate) fn push_overlaps<A: Allocator + Copy>(
     alloc: A,
     design: &Design<'_, A>,
     marks: &[bool],
     found: &mut Vec<Fault, A>,
 ) -> Result<(), AllocError>
-    requires { IsListBefore design.now.library design.now marks.now (Fault.Overlap 0 0) found.old.items }
-    ensures { OnOk result (IsListOf (HoldsAmong design.now.library design.now marks.now) found.new.items) }
+    requires { IsListBefore design.now.library design.now marks.now (kind_number (Fault.Overlap 0 0)) 0 found.old.items }
+    ensures { OnOk result (IsListBefore design.now.library design.now marks.now (kind_number (Fault.Overlap 0 0) + 1) 0 found.new.items) }
 {
     let boxes = placed_boxes(alloc, design, marks)?;
     let mut rule = OnOneAnother { tests: 0, looks: 0 };

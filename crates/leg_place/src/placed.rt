@@ -1,16 +1,14 @@
 //! Whether all components are legally placed.
 
 ghost use Rattle.std.specs.Prelude.{◌≡◌, ◌<◌, ◌↔◌, length, IsTrue, IfOk};
-ghost use Rattle.leg_block.specs.declared.fault.Fault.{Fault};
-ghost use Rattle.leg_place.specs.Faults.{Holds};
+ghost use Rattle.leg_place.specs.Faults.{IsLegallyPlaced};
 ghost use Rattle.leg_place.specs.Steps.RowSpans.{AreRowSpans};
 ghost use Rattle.leg_place.specs.Steps.ListPrefix.{IsMisplaced, IsOneMisplaced};
 
-use crate::faults::{is_outside, is_unplaced};
+use crate::component_fault::ComponentFault;
 use crate::overlap::do_some_overlap;
 use crate::row_spans::row_spans;
 use crate::site_span::SiteSpan;
-use crate::sites::is_off_site;
 use leg_block::Design;
 use leg_cells::Library;
 use std::alloc::{AllocError, Allocator};
@@ -25,7 +23,7 @@ pub fn is_placed<A: Allocator + Copy>(
     design: &Design<'_, A>,
 ) -> Result<bool, AllocError>
     requires { library.now ≡ design.now.library }
-    ensures { IfOk result (λ placed. IsTrue placed ↔ ((fault : Fault) → ¬ Holds library.now design.now fault)) }
+    ensures { IfOk result (λ placed. IsTrue placed ↔ IsLegallyPlaced design.now) }
 {
     let rows = row_spans(alloc, design)?;
     if is_one_misplaced(design, &rows) {
@@ -58,5 +56,7 @@ fn is_misplaced<A: Allocator + Copy>(
     requires rows { AreRowSpans design.now.library design.now.rows rows.now }
     ensures { IsTrue result ↔ IsMisplaced design.now.library design.now number }
 {
-    is_unplaced(design, number) || is_outside(design, number) || is_off_site(design, rows, number)
+    ComponentFault::Unplaced.holds(design, rows, number)
+        || ComponentFault::Outside.holds(design, rows, number)
+        || ComponentFault::OffSite.holds(design, rows, number)
 }

@@ -20,7 +20,8 @@ use Rattle.leg_block.specs.WellFormedParts.{AreVias, IsDesignVia}
 use Rattle.leg_block.specs.WellFormedNets.{IsWire, IsNet}
 use Rattle.leg_flat.specs.declared.owner.Owner.TheVariants.{Net}
 use Rattle.leg_flat.specs.Nets.{terminals_of, number_of_special, regular_entry, entry_wires}
-use Rattle.leg_flat.specs.Metal.{Belonging, belonging, wire_outlines, via_outlines, wires_metal, nets_metal, special_metal, specials_metal, components_metal, design_pins_metal, metal_of}
+use Rattle.leg_flat.specs.Metal.{Belonging, belonging, wire_outlines, via_outlines, wires_metal, nets_metal, special_metal, specials_metal, metal_parts, metal_of}
+use Rattle.leg_flat.proofs.Parts.{whole_length}
 use Rattle.leg_grown.specs.Finished.{finished}
 use Rattle.leg_route.proofs.Places.{contains_at}
 
@@ -102,15 +103,7 @@ module _ (design : DesignContents) where
   metal_least : All AllHave design.nets → All AllHave design.special → wire_count design.nets + wire_count design.special ≤ length (metal_of design)
   unfolding metal_of
   metal_least nets special =
-      let a = components_metal design 0 design.components in
-      let b = design_pins_metal design 0 design.pins in
-      let c = nets_metal design 0 design.nets in
-      let d = specials_metal design 0 design.special in
-      let one = length-append (a ++ b ++ c) d in
-      let two = length-append (a ++ b) c in
-      let own = nets_least 0 design.nets nets in
-      let other = specials_least 0 design.special special in
-      omega (arith, one, two, own, other)
+      omega (arith, whole_length (metal_parts design), nets_least 0 design.nets nets, specials_least 0 design.special special)
 
 all_with : (P : Wire → Type 0) (nets : List NetSaid) (lists : List (List Wire)) → All (λ (net : NetSaid). All P net.wires) nets → All (All P) lists
     → All (λ (net : NetSaid). All P net.wires) (with_more_wires nets lists)

@@ -10,12 +10,10 @@ use Rattle.leg_block.specs.MoreWires.{each_with, with_more_wires}
 use Rattle.leg_block.specs.Records.{DesignContents, NetSaid}
 use Rattle.leg_block.specs.WellFormed.{IsWellFormed}
 use Rattle.leg_flat.specs.Metal.{metal_of}
-use Rattle.leg_flat.specs.Flat.{FlatSaid, IsFlatOf, IsJudgedBy}
+use Rattle.leg_flat.specs.Flat.{FlatSaid, IsFlatOf}
 use Rattle.leg_grid.specs.Run.{Added, Run, IsDone}
-use Rattle.leg_grid.specs.Refusals.{IsOtherThanOpen}
+use Rattle.leg_rules.specs.Violations.{IsViolationIn, IsViolation, IsOtherThanOpen}
 use Rattle.leg_grown.specs.Finished.{finished, AreByNet, IsFinishedFrom}
-use Rattle.leg_grown.specs.Violations as grown_flat
-use Rattle.leg_route.specs.Legal.{IsLegal}
 use Rattle.leg_route.specs.SameButForWires.{IsSameNetButForWires, IsSameButForWires}
 use Rattle.leg_route.specs.Routed.{wires_for, HasAdded, IsRouted}
 use Rattle.leg_route.specs.AddedLists.{AreListsOf}
@@ -68,32 +66,31 @@ by_net goes_on design flat grown added lists run are = record {
 }
 
 module _ (run_of : RunOfCleanWires) (stay : CleanWiresStay) (goes_on : GrowthGoesOn) (is_legal : FinishedIsLegal) (placement : PlacementStays) where
+  -- no violation of the finished design holds
   pub legal_then : (design : DesignContents) (flat grown : FlatSaid) (added : List Added) (lists : List (List Wire))
       → IsSound design.library → IsWellFormed design → IsWellFormed (finished design lists) → IsFlatOf design flat
       → ((fault : Fault) → ¬ IsOtherThanOpen design flat fault) → Run design flat added grown → IsDone design grown
-      → AreListsOf (length design.nets) added lists → (end : FlatSaid) → IsJudgedBy (finished design lists) end → IsLegal (finished design lists)
-  legal_then design flat grown added lists sound proper proper_then is_flat clean run done are end judged_by = record {
-    places = λ fault holds. clean fault (inl ((placement design.library design lists fault).1 holds));
-    flat = end;
-    judged = judged_by;
-    shapes = λ fault. (judged end judged_by.is_flat).shapes fault;
-    nets = λ fault. (judged end judged_by.is_flat).nets fault;
-  } where
-    from : (end : FlatSaid) → IsFlatOf (finished design lists) end → IsFinishedFrom design (told added) grown lists end
-    from end is_end = record {
-      flat = flat;
-      is_flat = is_flat;
-      proper = proper;
-      grows = run_grows goes_on design flat grown added run;
-      by_net = by_net goes_on design flat grown added lists run are;
-      proper_end = proper_then;
-      is_end = is_end;
-    }
+      → AreListsOf (length design.nets) added lists → (fault : Fault) → ¬ IsViolation design.library (finished design lists) fault
+  legal_then design flat grown added lists sound proper proper_then is_flat clean run done are fault holds =
+      elim holds [
+        | inl placed ↦ clean fault (inl ((placement design.library design lists fault).1 placed))
+        | inr metal ↦ in_flat metal.flat metal.is_flat fault (inr metal.holds)
+      ] where
+        from : (end : FlatSaid) → IsFlatOf (finished design lists) end → IsFinishedFrom design (told added) grown lists end
+        from end is_end = record {
+          flat = flat;
+          is_flat = is_flat;
+          proper = proper;
+          grows = run_grows goes_on design flat grown added run;
+          by_net = by_net goes_on design flat grown added lists run are;
+          proper_end = proper_then;
+          is_end = is_end;
+        }
 
-    judged : (end : FlatSaid) → IsFlatOf (finished design lists) end → grown_flat.IsLegalIn design.library (finished design lists) end
-    judged end is_end =
-        is_legal design.library design (told added) grown lists end (from end is_end) (λ fault holds. clean fault (inl holds))
-        (run_clean run_of stay design flat grown added sound (λ fault holds. clean fault (inr holds)) run) done
+        in_flat : (end : FlatSaid) → IsFlatOf (finished design lists) end → (fault : Fault) → ¬ IsViolationIn design.library (finished design lists) end fault
+        in_flat end is_end =
+            is_legal design.library design (told added) grown lists end (from end is_end) (λ fault holds. clean fault (inl holds))
+            (run_clean run_of stay design flat grown added sound (λ fault holds. clean fault (inr holds)) run) done
 
 pub routed_then : (design : DesignContents) (flat grown : FlatSaid) (added : List Added) (lists : List (List Wire)) → IsFlatOf design flat → Run design flat added grown
     → IsDone design grown → AreListsOf (length design.nets) added lists → IsRouted design (finished design lists)

@@ -14,7 +14,7 @@ use Rattle.leg_grown.specs.Growth.{AddedWire, Grows, of_net}
 use Rattle.leg_grown.specs.CleanWire.{HasNoSpacingFault, IsCleanWire}
 use Rattle.leg_grown.specs.Lines.{EachStep, last_spot, AreInLine}
 use Rattle.leg_grown.specs.Finished.{finished, AreByNet, IsFinishedFrom}
-use Rattle.leg_grown.specs.Violations.{IsLegalIn}
+use Rattle.leg_rules.specs.Violations.{IsViolationIn}
 use Rattle.leg_wire.specs.Open.{IsOpenNet}
 
 abbrev pub RunOfCleanWires : Type 0
@@ -40,7 +40,7 @@ FinishedIsLegal =
     (library : Contents) (design : DesignContents) (added : List AddedWire) (grown : FlatSaid) (lists : List (List Wire)) (end : FlatSaid)
     → IsFinishedFrom design added grown lists end
     → ((fault : Fault) → ¬ place.Holds library design fault) → HasNoSpacingFault library grown → ((n : ℕ) → ¬ IsOpenNet design grown n)
-    → IsLegalIn library (finished design lists) end
+    → (fault : Fault) → ¬ IsViolationIn library (finished design lists) end fault
 
 abbrev pub PlacementStays : Type 0
 PlacementStays =

@@ -8,7 +8,6 @@ mod Finished
 mod MoreWires
 mod Turn
 mod Onward
-mod KindsJoined
 mod FewWires
 mod Noted
 mod Ready

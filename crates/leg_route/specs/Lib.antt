@@ -1,4 +1,3 @@
-pub mod Legal
 pub mod SameButForWires
 pub mod Routed
 pub mod Refusal

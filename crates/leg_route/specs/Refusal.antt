@@ -10,7 +10,8 @@ use Rattle.leg_flat.specs.Flat.{FlatSaid, IsJudgedBy}
 use Rattle.leg_grid.specs.declared.fault.GridFault.{GridFault}
 use Rattle.leg_grid.specs.declared.fault.GridFault.TheVariants as grid_fault
 use Rattle.leg_grid.specs.GridSize.{IsGridTooLarge}
-use Rattle.leg_grid.specs.Refusals.{IsOtherThanOpen, IsNotClean, IsUnroutable, HasTooManyShapes}
+use Rattle.leg_rules.specs.Violations.{IsOtherThanOpen}
+use Rattle.leg_grid.specs.Refusals.{IsNotClean, IsUnroutable, HasTooManyShapes}
 use Rattle.leg_route.specs.declared.fault.RouteFault.{RouteFault}
 use Rattle.leg_route.specs.declared.fault.RouteFault.TheVariants.{NotClean, GridTooLarge, Unroutable, TooMany, Memory}
 

@@ -2,7 +2,7 @@
 
 ghost use Rattle.std.specs.Prelude.{◌≡◌, IfOk, IfErr};
 ghost use Rattle.leg_block.specs.Violation.{IsListOf};
-ghost use Rattle.leg_grid.specs.Refusals.{IsOtherThanOpen};
+ghost use Rattle.leg_rules.specs.Violations.{IsOtherThanOpen};
 ghost use Rattle.leg_route.specs.Refusal.{IsCleanIn, IsRefusal};
 
 use crate::fault::RouteFault;

@@ -1,13 +1,11 @@
 //! The design gets the wires of a run that has come to its end.
 
 ghost use Rattle.std.specs.Prelude.{◌≡◌, ◌≤◌, false, All, length, map, IfOk, IfErr, OnOk};
-ghost use Rattle.leg_cells.specs.Sound.{IsSound};
 ghost use Rattle.leg_block.specs.declared.limits.TheConstants.{PART_LIMIT};
-ghost use Rattle.leg_block.specs.WellFormed.{IsWellFormed};
 ghost use Rattle.leg_block.specs.WellFormedNets.{IsWire};
 ghost use Rattle.leg_flat.specs.Metal.{metal_of};
 ghost use Rattle.leg_grid.specs.GridSize.{IsGridTooLarge};
-ghost use Rattle.leg_route.specs.Legal.{IsLegal};
+ghost use Rattle.leg_rules.specs.Legal.{IsLegal};
 ghost use Rattle.leg_route.specs.SameButForWires.{IsSameButForWires};
 ghost use Rattle.leg_route.specs.Routed.{IsRouted};
 ghost use Rattle.leg_route.specs.Refusal.{IsRefusal};
@@ -15,18 +13,10 @@ ghost use Rattle.leg_route.specs.FinishedRun.{IsFinishedRun};
 
 use crate::fault::RouteFault;
 use crate::laws::finished_run;
+use leg_block::laws::design_is_sound;
 use leg_block::{Design, Wire};
 use leg_flat::laws::every_design_has_a_flat;
 use std::alloc::Allocator;
-
-/// What holds of every design and of its library, as their types state: it does nothing.
-fn design_is_sound<A: Allocator + Copy>(design: &Design<'_, A>)
-    ensures library { IsSound design.now.library }
-    ensures proper { IsWellFormed design.now }
-{
-    let _layers = design.library().layers();
-    let _vias = design.vias();
-}
 
 /// Gives each entry of `NETS` the wires of its list. If an allocation fails, the design comes back as it was.
 pub(crate) fn finish<'a, A: Allocator + Copy>(

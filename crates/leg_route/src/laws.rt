@@ -9,13 +9,12 @@ ghost use Rattle.leg_block.specs.Records.{DesignContents, wire_count};
 ghost use Rattle.leg_block.specs.WellFormed.{IsWellFormed};
 ghost use Rattle.leg_block.specs.WellFormedNets.{IsWire};
 ghost use Rattle.leg_flat.specs.Metal.{metal_of};
-ghost use Rattle.leg_flat.specs.Flat.{FlatSaid, IsFlatOf, IsJudgedBy};
+ghost use Rattle.leg_flat.specs.Flat.{FlatSaid, IsFlatOf};
 ghost use Rattle.leg_grid.specs.Run.{Added, Run, IsDone};
 ghost use Rattle.leg_wire.specs.Open.{IsOpenNet};
-ghost use Rattle.leg_grid.specs.Refusals.{IsOtherThanOpen};
+ghost use Rattle.leg_rules.specs.Violations.{IsViolation, IsOtherThanOpen};
 ghost use Rattle.leg_grown.specs.CleanWire.{HasNoSpacingFault};
 ghost use Rattle.leg_grown.specs.Finished.{finished};
-ghost use Rattle.leg_route.specs.Legal.{IsLegal};
 ghost use Rattle.leg_route.specs.SameButForWires.{IsSameButForWires};
 ghost use Rattle.leg_route.specs.Routed.{IsRouted, wires_for};
 ghost use Rattle.leg_route.specs.AddedLists.{AreListsOf};
@@ -49,8 +48,8 @@ pub fn joined_nets_get_no_wires()
 
 /// A design gets the wires of a run that has come to its end, each entry of `NETS` its own list of them.
 ///
-/// It is then the same but for wires, and is routed. It is legal, by each flat by which it is judged, if before the run no violation
-/// held but that nets were open.
+/// It is then the same but for wires, and is routed. No violation of it holds if before the run none held but that nets were
+/// open.
 /// It has as many shapes as the flat has grown to, and no more wires than shapes.
 pub fn finished_run()
     ensures same { (design : DesignContents) (lists : List (List Wire)) → IsSameButForWires design (finished design lists) }
@@ -59,7 +58,7 @@ pub fn finished_run()
     ensures legal { (design : DesignContents) (flat grown : FlatSaid) (added : List Added) (lists : List (List Wire))
         → IsSound design.library → IsWellFormed design → IsWellFormed (finished design lists) → IsFlatOf design flat
         → ((fault : Fault) → ¬ IsOtherThanOpen design flat fault) → Run design flat added grown → IsDone design grown
-        → AreListsOf (length design.nets) added lists → (end : FlatSaid) → IsJudgedBy (finished design lists) end → IsLegal (finished design lists) }
+        → AreListsOf (length design.nets) added lists → (fault : Fault) → ¬ IsViolation design.library (finished design lists) fault }
     ensures shapes { (design : DesignContents) (flat grown : FlatSaid) (added : List Added) (lists : List (List Wire)) → IsFlatOf design flat
         → Run design flat added grown → AreListsOf (length design.nets) added lists → length (metal_of (finished design lists)) ≡ length grown.shapes }
     ensures wires { (design : DesignContents) (lists : List (List Wire)) → IsSound design.library → IsWellFormed design

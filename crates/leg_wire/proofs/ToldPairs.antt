@@ -6,10 +6,11 @@ use Rattle.std.proofs.lemmas.List.Quantifiers.{all_pairs_push}
 use Rattle.std.proofs.lemmas.Option.{same_Some}
 use Rattle.leg_sweep.specs.Pairs.{Before}
 use Rattle.leg_block.specs.declared.fault.Fault.{Fault}
-use Rattle.leg_block.specs.declared.fault.Fault.TheVariants.{Short, TooNear}
 use Rattle.leg_block.specs.Violation.{ComesBefore, IsListOf}
 use Rattle.leg_flat.specs.declared.shape.Shape.{Shape}
-use Rattle.leg_wire.specs.Steps.PairViolations.{IsTold}
+use Rattle.leg_wire.specs.declared.pair_kind.PairKind.{PairKind}
+use Rattle.leg_wire.specs.declared.pair_kind.PairKind.TheVariants.{Short, TooNear}
+use Rattle.leg_wire.specs.Steps.PairViolations.{IsOfKind, fault_of, IsToldAs}
 use Rattle.leg_wire.specs.Steps.AddedFaults.{AreAdded}
 
 module _ (Told Next : Fault → Type 0) (into : (w : Fault) → Told w → Next w) where
@@ -32,15 +33,13 @@ module _ (Told Next : Fault → Type 0) (into : (w : Fault) → Told w → Next 
     all = λ w told. done.all w (back w told);
   }
 
--- shorts, and shapes too near one another, keep the order of their pairs
-pub Short-keeps : (p q : ℕ × ℕ) → Before p q → ComesBefore (Short p.0 p.1) (Short q.0 q.1)
-Short-keeps p q before = record { kind = omega arith; first = λ _. before.first; second = λ _ same. before.second same }
+-- violations of a kind keep the order of their pairs
+keeps : (kind : PairKind) (p q : ℕ × ℕ) → Before p q → ComesBefore (fault_of kind p.0 p.1) (fault_of kind q.0 q.1)
+keeps Short p q before = record { kind = omega arith; first = λ _. before.first; second = λ _ same. before.second same }
+keeps TooNear p q before = record { kind = omega arith; first = λ _. before.first; second = λ _ same. before.second same }
 
-pub TooNear-keeps : (p q : ℕ × ℕ) → Before p q → ComesBefore (TooNear p.0 p.1) (TooNear q.0 q.1)
-TooNear-keeps p q before = record { kind = omega arith; first = λ _. before.first; second = λ _ same. before.second same }
-
--- pairs of shapes in increasing order, told as violations of a kind, which keeps the order of the pairs
-module _ (fault_of : ℕ → ℕ → Fault) (keeps : (p q : ℕ × ℕ) → Before p q → ComesBefore (fault_of p.0 p.1) (fault_of q.0 q.1)) (Test : Shape → Shape → Type 0) (shapes : List Shape) (close : List (ℕ × ℕ)) (increasing : AllPairs Before close) (k : ℕ) (within : k < length close) (a b : Shape) (a_at : slice_get shapes (get_or close k (0, 0)).0 ≡ Some a) (b_at : slice_get shapes (get_or close k (0, 0)).1 ≡ Some b) where
+-- pairs of shapes in increasing order, told as violations of a kind
+module _ (kind : PairKind) (shapes : List Shape) (close : List (ℕ × ℕ)) (increasing : AllPairs Before close) (k : ℕ) (within : k < length close) (a b : Shape) (a_at : slice_get shapes (get_or close k (0, 0)).0 ≡ Some a) (b_at : slice_get shapes (get_or close k (0, 0)).1 ≡ Some b) where
   abbrev told_here : ℕ × ℕ
   told_here = get_or close k (0, 0)
 
@@ -53,7 +52,7 @@ module _ (fault_of : ℕ → ℕ → Fault) (keeps : (p q : ℕ × ℕ) → Befo
       let rises : Before (get_or close m d) told_here = rw (get_or_default close k d (0, 0) within) at (increasing m k d less within) in
       rw (get_or-take k close m d less) rises
 
-  told_earlier : (w : Fault) → IsTold fault_of Test shapes (take k close) w → IsTold fault_of Test shapes (take (k + 1) close) w
+  told_earlier : (w : Fault) → IsToldAs kind shapes (take k close) w → IsToldAs kind shapes (take (k + 1) close) w
   told_earlier w told = record {
     p = told.p;
     is = told.is;
@@ -66,9 +65,9 @@ module _ (fault_of : ℕ → ℕ → Fault) (keeps : (p q : ℕ × ℕ) → Befo
   }
 
   -- this pair passes the test
-  pub told_more : (before after : List Fault) → Test a b → AreAdded (IsTold fault_of Test shapes (take k close)) before after → AreAdded (IsTold fault_of Test shapes (take (k + 1) close)) before (after ++ fault_of told_here.0 told_here.1 ∷ [])
+  pub told_more : (before after : List Fault) → IsOfKind kind a b → AreAdded (IsToldAs kind shapes (take k close)) before after → AreAdded (IsToldAs kind shapes (take (k + 1) close)) before (after ++ fault_of kind told_here.0 told_here.1 ∷ [])
   told_more before after passes done =
-      let this : IsTold fault_of Test shapes (take (k + 1) close) (fault_of told_here.0 told_here.1) = record {
+      let this : IsToldAs kind shapes (take (k + 1) close) (fault_of kind told_here.0 told_here.1) = record {
         p = told_here;
         is = refl;
         among = rw grown (Contains-push (take k close) told_here);
@@ -79,12 +78,12 @@ module _ (fault_of : ℕ → ℕ → Fault) (keeps : (p q : ℕ × ℕ) → Befo
         test = passes;
       } in
       record {
-        more = done.more ++ fault_of told_here.0 told_here.1 ∷ [];
+        more = done.more ++ fault_of kind told_here.0 told_here.1 ∷ [];
         is = rw (← append_assoc, done.is);
         list =
-            listing_push (IsTold fault_of Test shapes (take k close)) (IsTold fault_of Test shapes (take (k + 1) close)) told_earlier
-            (fault_of told_here.0 told_here.1) done.more this
-            (λ w told. rw told.is (keeps told.p told_here (All-contains (λ q. Before q told_here) (take k close) told.p all_before told.among)))
+            listing_push (IsToldAs kind shapes (take k close)) (IsToldAs kind shapes (take (k + 1) close)) told_earlier
+            (fault_of kind told_here.0 told_here.1) done.more this
+            (λ w told. rw told.is (keeps kind told.p told_here (All-contains (λ q. Before q told_here) (take k close) told.p all_before told.among)))
             (λ w told. elim (Contains-push_cases (take k close) told_here told.p (rw grown at told.among)) [
               | inl earlier ↦ inl (record { p = told.p; is = told.is; among = earlier; a = told.a; b = told.b; a_at = told.a_at; b_at = told.b_at; test = told.test })
               | inr same ↦ inr (rw same (sym told.is))
@@ -93,12 +92,12 @@ module _ (fault_of : ℕ → ℕ → Fault) (keeps : (p q : ℕ × ℕ) → Befo
       }
 
   -- it doesn't
-  pub told_skip : (before after : List Fault) → (Test a b → ⊥) → AreAdded (IsTold fault_of Test shapes (take k close)) before after → AreAdded (IsTold fault_of Test shapes (take (k + 1) close)) before after
+  pub told_skip : (before after : List Fault) → (IsOfKind kind a b → ⊥) → AreAdded (IsToldAs kind shapes (take k close)) before after → AreAdded (IsToldAs kind shapes (take (k + 1) close)) before after
   told_skip before after fails done = record {
     more = done.more;
     is = done.is;
     list =
-        listing_same (IsTold fault_of Test shapes (take k close)) (IsTold fault_of Test shapes (take (k + 1) close)) told_earlier done.more
+        listing_same (IsToldAs kind shapes (take k close)) (IsToldAs kind shapes (take (k + 1) close)) told_earlier done.more
         (λ w told. elim (Contains-push_cases (take k close) told_here told.p (rw grown at told.among)) [
           | inl earlier ↦ record { p = told.p; is = told.is; among = earlier; a = told.a; b = told.b; a_at = told.a_at; b_at = told.b_at; test = told.test }
           | inr same ↦

@@ -1,15 +1,7 @@
 -- Which shapes are compared with one another (lefdef's own rules).
 use Rattle.std.specs.Prelude.{◌≡◌, ◌≢◌, ℕ, Some}
-use Rattle.leg_flat.specs.declared.owner.Owner.{Owner}
-use Rattle.leg_flat.specs.declared.owner.Owner.TheVariants.{Net, Lone, Power, Ground, Obs}
 use Rattle.leg_flat.specs.declared.shape.Shape.{Shape}
-
-abbrev pub IsObstruction : Owner → Type 0
-IsObstruction (Net n) = ⊥
-IsObstruction (Lone terminal) = ⊥
-IsObstruction Power = ⊥
-IsObstruction Ground = ⊥
-IsObstruction (Obs c) = Unit {0}
+use Rattle.leg_flat.specs.Owner.{IsObstruction}
 
 -- both shapes belong to one component
 pub record AreOfOneComponent (a b : Shape) : Type 0 where

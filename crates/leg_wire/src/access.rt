@@ -61,6 +61,6 @@ pub fn access_beside<A: Allocator + Copy>(
     }
     match shape.owner {
         Owner::Net(net) => Access::Only(net),
-        Owner::Lone(_) | Owner::Power | Owner::Ground | Owner::Obs(_) => Access::Blocked,
+        _ => Access::Blocked,
     }
 }

@@ -1,9 +1,9 @@
 //! Which shapes are compared with one another.
 
 ghost use Rattle.std.specs.Prelude.{◌↔◌, IsTrue};
-ghost use Rattle.leg_wire.specs.Comparable.{AreOfOneComponent, AreComparable, IsObstruction};
+ghost use Rattle.leg_wire.specs.Comparable.{AreOfOneComponent, AreComparable};
 
-use leg_flat::{Owner, Shape};
+use leg_flat::Shape;
 
 /// Whether the shapes are compared with one another: they lie on one layer, have different owners, are not of one
 /// component, and are not both obstructions.
@@ -13,7 +13,7 @@ pub(crate) fn are_comparable(a: &Shape, b: &Shape) -> bool
     a.layer == b.layer
         && a.owner != b.owner
         && !are_of_one_component(a, b)
-        && !(is_obstruction(a.owner) && is_obstruction(b.owner))
+        && !(a.owner.is_obstruction() && b.owner.is_obstruction())
 }
 
 /// Whether both shapes belong to one component.
@@ -23,15 +23,5 @@ fn are_of_one_component(a: &Shape, b: &Shape) -> bool
     match (a.component, b.component) {
         (Some(first), Some(second)) => first == second,
         _ => false,
-    }
-}
-
-/// Whether the owner is an obstruction.
-fn is_obstruction(owner: Owner) -> bool
-    ensures { IsTrue result ↔ IsObstruction owner }
-{
-    match owner {
-        Owner::Obs(_) => true,
-        Owner::Net(_) | Owner::Lone(_) | Owner::Power | Owner::Ground => false,
     }
 }

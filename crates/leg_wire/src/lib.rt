@@ -17,6 +17,7 @@ pub mod laws;
 mod meeting;
 mod net_shapes;
 mod open_fault;
+mod pair_kind;
 mod piece_shape;
 mod sets;
 mod spacing;

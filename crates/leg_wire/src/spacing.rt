@@ -4,9 +4,10 @@ ghost use Rattle.std.specs.Prelude.{◌<◌, length, All, AllPairs, IfOk, OnOk};
 ghost use Rattle.leg_sweep.specs.Pairs.{Before};
 ghost use Rattle.leg_block.specs.Violation.{IsListOf};
 ghost use Rattle.leg_wire.specs.Spacing.{Holds};
-ghost use Rattle.leg_wire.specs.Steps.PairViolations.{DoShare, ShareNoPoint, IsTold};
+ghost use Rattle.leg_wire.specs.Steps.PairViolations.{IsToldAs};
 ghost use Rattle.leg_wire.specs.Steps.AddedFaults.{AreAdded};
 
+use crate::pair_kind::PairKind;
 use crate::too_close::TooClose;
 use leg_block::Fault;
 use leg_cells::Library;
@@ -30,13 +31,14 @@ pub fn spacing_faults<A: Allocator + Copy>(
     let mut rule = TooClose::new(library.layers());
     let close = pairs_in_bands(alloc, shapes, &mut rule)?;
     let mut found = Vec::new(alloc);
-    push_shorts(shapes, &close, &mut found)?;
-    push_too_near(shapes, &close, &mut found)?;
+    push_pairs(PairKind::Short, shapes, &close, &mut found)?;
+    push_pairs(PairKind::TooNear, shapes, &close, &mut found)?;
     Ok(found)
 }
 
-/// Adds those of the pairs that share a point.
-fn push_shorts<A: Allocator>(
+/// Adds the violations of this kind of those of the pairs that are of this kind.
+fn push_pairs<A: Allocator>(
+    kind: PairKind,
     shapes: &[Shape],
     close: &[(u32, u32)],
     found: &mut Vec<Fault, A>,
@@ -44,34 +46,11 @@ fn push_shorts<A: Allocator>(
     requires increasing { AllPairs Before close.now }
     requires first { All (λ p. p.0 < length shapes.now) close.now }
     requires second { All (λ p. p.1 < length shapes.now) close.now }
-    ensures { OnOk result (AreAdded (IsTold Fault.Short DoShare shapes.now close.now) found.old.items found.new.items) }
+    ensures { OnOk result (AreAdded (IsToldAs kind shapes.now close.now) found.old.items found.new.items) }
 {
     for (i, j) in close {
-        let a = &shapes[*i as usize];
-        let b = &shapes[*j as usize];
-        if a.rect.shares_point(&b.rect) {
-            found.push(Fault::Short(*i, *j))?;
-        }
-    }
-    Ok(())
-}
-
-/// Adds those of the pairs that share no point.
-fn push_too_near<A: Allocator>(
-    shapes: &[Shape],
-    close: &[(u32, u32)],
-    found: &mut Vec<Fault, A>,
-) -> Result<(), AllocError>
-    requires increasing { AllPairs Before close.now }
-    requires first { All (λ p. p.0 < length shapes.now) close.now }
-    requires second { All (λ p. p.1 < length shapes.now) close.now }
-    ensures { OnOk result (AreAdded (IsTold Fault.TooNear ShareNoPoint shapes.now close.now) found.old.items found.new.items) }
-{
-    for (i, j) in close {
-        let a = &shapes[*i as usize];
-        let b = &shapes[*j as usize];
-        if !a.rect.shares_point(&b.rect) {
-            found.push(Fault::TooNear(*i, *j))?;
+        if kind.holds(&shapes[*i as usize], &shapes[*j as usize]) {
+            found.push(kind.fault(*i, *j))?;
         }
     }
     Ok(())

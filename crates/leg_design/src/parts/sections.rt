@@ -5,7 +5,6 @@ ghost use Rattle.leg_lex.specs.Words.{Reads};
 ghost use Rattle.leg_design.specs.Parts.{known, vias_form, components_form, pins_form, nets_form, special_form};
 
 use crate::parts::{Parts, once};
-use leg_cells::Library;
 use leg_floorplan::component::components;
 use leg_floorplan::pin::pins;
 use leg_floorplan::via::vias;
@@ -21,15 +20,14 @@ impl<'a, A: Allocator + Copy> Parts<'a, A> {
     pub(crate) fn vias_form(
         &mut self,
         alloc: A,
-        library: &Library<'a, A>,
         words: &mut Cursor<'_, 'a>,
     ) -> Result<(), ReadFault>
-        ensures { Reads (λ _. self.new) result words.new (vias_form library.now self.old words.old) }
+        ensures { Reads (λ _. self.new) result words.new (vias_form self.old words.old) }
     {
-        once(self.stood.vias, words)?;
-        let vias = vias(alloc, library, words)?;
+        once(self.has.vias, words)?;
+        let vias = vias(alloc, self.library, words)?;
         drop(replace(&mut self.vias, vias));
-        self.stood.vias = true;
+        self.has.vias = true;
         Ok(())
     }
 
@@ -38,15 +36,14 @@ impl<'a, A: Allocator + Copy> Parts<'a, A> {
     pub(crate) fn components_form(
         &mut self,
         alloc: A,
-        library: &Library<'a, A>,
         words: &mut Cursor<'_, 'a>,
     ) -> Result<(), ReadFault>
-        ensures { Reads (λ _. self.new) result words.new (components_form library.now self.old words.old) }
+        ensures { Reads (λ _. self.new) result words.new (components_form self.old words.old) }
     {
-        once(self.stood.components, words)?;
-        let components = components(alloc, library, words)?;
+        once(self.has.components, words)?;
+        let components = components(alloc, self.library, words)?;
         drop(replace(&mut self.components, components));
-        self.stood.components = true;
+        self.has.components = true;
         Ok(())
     }
 
@@ -55,15 +52,14 @@ impl<'a, A: Allocator + Copy> Parts<'a, A> {
     pub(crate) fn pins_form(
         &mut self,
         alloc: A,
-        library: &Library<'a, A>,
         words: &mut Cursor<'_, 'a>,
     ) -> Result<(), ReadFault>
-        ensures { Reads (λ _. self.new) result words.new (pins_form library.now self.old words.old) }
+        ensures { Reads (λ _. self.new) result words.new (pins_form self.old words.old) }
     {
-        once(self.stood.pins, words)?;
-        let pins = pins(alloc, library, words)?;
+        once(self.has.pins, words)?;
+        let pins = pins(alloc, self.library, words)?;
         drop(replace(&mut self.pins, pins));
-        self.stood.pins = true;
+        self.has.pins = true;
         Ok(())
     }
 
@@ -72,15 +68,14 @@ impl<'a, A: Allocator + Copy> Parts<'a, A> {
     pub(crate) fn nets_form(
         &mut self,
         alloc: A,
-        library: &Library<'a, A>,
         words: &mut Cursor<'_, 'a>,
     ) -> Result<(), ReadFault>
-        ensures { Reads (λ _. self.new) result words.new (nets_form library.now self.old words.old) }
+        ensures { Reads (λ _. self.new) result words.new (nets_form self.old words.old) }
     {
-        once(self.stood.nets, words)?;
-        let nets = nets(alloc, &self.known(library), false, &self.special, words)?;
+        once(self.has.nets, words)?;
+        let nets = nets(alloc, &self.known(), false, &self.special, words)?;
         drop(replace(&mut self.nets, nets));
-        self.stood.nets = true;
+        self.has.nets = true;
         Ok(())
     }
 
@@ -89,24 +84,23 @@ impl<'a, A: Allocator + Copy> Parts<'a, A> {
     pub(crate) fn special_form(
         &mut self,
         alloc: A,
-        library: &Library<'a, A>,
         words: &mut Cursor<'_, 'a>,
     ) -> Result<(), ReadFault>
-        ensures { Reads (λ _. self.new) result words.new (special_form library.now self.old words.old) }
+        ensures { Reads (λ _. self.new) result words.new (special_form self.old words.old) }
     {
-        once(self.stood.special, words)?;
-        let special = nets(alloc, &self.known(library), true, &self.nets, words)?;
+        once(self.has.special, words)?;
+        let special = nets(alloc, &self.known(), true, &self.nets, words)?;
         drop(replace(&mut self.special, special));
-        self.stood.special = true;
+        self.has.special = true;
         Ok(())
     }
 
     // What nets name parts of.
-    fn known<'k>(&'k self, library: &'k Library<'a, A>) -> Known<'k, 'a, A>
-        ensures { result ≡ known library.now self.now }
+    fn known<'k>(&'k self) -> Known<'k, 'a, A>
+        ensures { result ≡ known self.now.design }
     {
         Known {
-            library,
+            library: self.library,
             vias: &self.vias,
             components: &self.components,
             pins: &self.pins,

@@ -1,11 +1,12 @@
 -- The places that components get when a design is legalised.
 use Rattle.std.specs.Prelude.{ℕ, List, All}
 use Rattle.leg_block.specs.Records.{DesignContents}
+use Rattle.leg_place.specs.Faults.{IsLegallyPlaced}
 use Rattle.leg_legal.specs.declared.fault.LegalFault.{LegalFault}
 use Rattle.leg_legal.specs.declared.fault.LegalFault.TheVariants.{FixedIllegal, NoSite, NoRoom, Memory}
 use Rattle.leg_legal.specs.declared.taken.Taken.{Taken}
 use Rattle.leg_legal.specs.Turns.{IsOrderOfTaking}
-use Rattle.leg_legal.specs.Run.{Run, IsLegallyPlaced, IsLegalised}
+use Rattle.leg_legal.specs.Run.{Run, IsLegalised}
 use Rattle.leg_legal.specs.SameButForPlaces.{IsSameButForPlaces}
 use Rattle.leg_legal.specs.Steps.PlacedAll.{CanTake, placed_all}
 use Rattle.leg_legal.specs.Steps.Taking.{IsStuckAt}

@@ -10,7 +10,7 @@ use Rattle.leg_legal.specs.declared.fault.LegalFault.{LegalFault}
 use Rattle.leg_legal.specs.declared.fault.LegalFault.TheVariants.{FixedIllegal, NoSite, NoRoom, Memory}
 use Rattle.leg_legal.specs.declared.taken.Taken.{Taken}
 use Rattle.leg_legal.specs.declared.turns.TurnKey.{TurnKey}
-use Rattle.leg_legal.specs.Movable.{IsMovable}
+use Rattle.leg_block.specs.Movable.{IsMovable}
 use Rattle.leg_legal.specs.Free.{IsTaken, IsFree}
 use Rattle.leg_legal.specs.Run.{Run}
 use Rattle.leg_legal.specs.Steps.PlacedAll.{CanTake, placed_all}

@@ -2,7 +2,7 @@
 use Rattle.std.specs.Prelude.{◌≡◌, ℕ, ◌<◌, pos, ◌-ℤ◌, List, map, All, AllPairs, Contains}
 use Rattle.leg_block.specs.Records.{DesignContents}
 use Rattle.leg_legal.specs.declared.turns.TurnKey.{TurnKey}
-use Rattle.leg_legal.specs.Movable.{IsMovable}
+use Rattle.leg_block.specs.Movable.{IsMovable}
 use Rattle.leg_legal.specs.Start.{start_of}
 use Rattle.leg_legal.specs.Turns.{IsOrderOfTaking}
 

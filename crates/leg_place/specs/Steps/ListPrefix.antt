@@ -1,25 +1,28 @@
 -- What a walk over a design has found so far.
-use Rattle.std.specs.Prelude.{ℕ, ◌<◌, Bool, Option, Some, None, List, All, AllPairs, Contains}
+use Rattle.std.specs.Prelude.{◌≡◌, ℕ, ◌≤◌, ◌<◌, Bool, Option, Some, None, List, All, AllPairs, Contains}
 use Rattle.leg_geom.specs.Plane.{Sides, ShareSquare}
 use Rattle.leg_sweep.specs.Pairs.{IsPair}
 use Rattle.leg_cells.specs.Records.{Contents}
 use Rattle.leg_block.specs.Records.{DesignContents}
 use Rattle.leg_block.specs.declared.fault.Fault.{Fault}
-use Rattle.leg_block.specs.Violation.{ComesBefore, IsListOf}
+use Rattle.leg_block.specs.Violation.{kind_number, numbers_of, IsListOf}
 use Rattle.leg_place.specs.declared.placed_box.PlacedBox.{PlacedBox}
 use Rattle.leg_place.specs.Box.{StandsIn}
-use Rattle.leg_place.specs.Faults.{DoOverlap, IsUnplaced, IsOutside}
-use Rattle.leg_place.specs.Sites.{IsOffSite}
+use Rattle.leg_place.specs.Faults.{DoOverlap, Holds}
 use Rattle.leg_place.specs.Among.{IsMarked, HoldsAmong}
+use Rattle.leg_place.specs.declared.component_fault.ComponentFault.{ComponentFault}
+use Rattle.leg_place.specs.Steps.ComponentFault.{fault_of}
 
--- a violation among the marked components holds, and comes before the given one
-pub record HoldsBefore (library : Contents) (design : DesignContents) (marks : List Bool) (end fault : Fault) : Type 0 where
+-- A violation among the marked components holds. It is of a kind before the one of this number, or of that one, and then it
+-- names first a component below end.
+pub record HoldsBefore (library : Contents) (design : DesignContents) (marks : List Bool) (kind end : ℕ) (fault : Fault) : Type 0 where
   pub holds : HoldsAmong library design marks fault
-  pub before : ComesBefore fault end
+  pub upto : kind_number fault ≤ kind
+  pub below : kind_number fault ≡ kind → (numbers_of fault).0 < end
 
--- the list of the violations of these that come before the given one: all of them, each once, in order
-abbrev pub IsListBefore : Contents → DesignContents → List Bool → Fault → List Fault → Type 0
-IsListBefore library design marks end faults = IsListOf (HoldsBefore library design marks end) faults
+-- the list of these: all of them, each once, in order
+abbrev pub IsListBefore : Contents → DesignContents → List Bool → ℕ → ℕ → List Fault → Type 0
+IsListBefore library design marks kind end faults = IsListOf (HoldsBefore library design marks kind end) faults
 
 abbrev pub HasLowerNumber : PlacedBox → PlacedBox → Type 0
 HasLowerNumber a b = a.component < b.component
@@ -37,13 +40,12 @@ abbrev pub IsMarkedBox : Contents → DesignContents → List Bool → ℕ → O
 IsMarkedBox library design marks c None = (rect : Sides) → IsMarked marks c → ¬ StandsIn library design c rect
 IsMarkedBox library design marks c (Some rect) = IsMarked marks c × StandsIn library design c rect
 
--- a component has no place, is outside the die, or is off the sites of the rows
-pub data IsMisplaced (library : Contents) (design : DesignContents) (c : ℕ) : Type 0 where
-  no_place : IsUnplaced design c → IsMisplaced library design c
-  off_die : IsOutside library design c → IsMisplaced library design c
-  off_sites : IsOffSite library design c → IsMisplaced library design c
+-- a violation of a kind that is asked of one component holds of this one
+pub record IsMisplaced (library : Contents) (design : DesignContents) (c : ℕ) : Type 0 where
+  pub kind : ComponentFault
+  pub holds : Holds library design (fault_of kind c)
 
--- some component is, whose number is below end
+-- one does of some component whose number is below end
 pub record IsOneMisplaced (library : Contents) (design : DesignContents) (end : ℕ) : Type 0 where
   pub c : ℕ
   pub below : c < end

@@ -2,4 +2,4 @@ use Rattle.leg_again.proofs.Forms.{version_line}
 use Rattle.leg_again.proofs.laws.version_line_is_read.Goals as goal
 
 pub returns : goal.returns
-returns c = λ library parts. version_line library parts
+returns c = λ parts. version_line parts

@@ -9,8 +9,8 @@ returns-in-Ok g c =
       legal = c.in-Ok.ensures.legal;
       same = c.in-Ok.ensures.same;
       run = c.in-Ok.ensures.run;
-      proper = c.known_sound.ensures.proper;
-      sound = c.known_sound.ensures.sound;
+      proper = c.design_is_sound.ensures.proper;
+      sound = c.design_is_sound.ensures.library;
     } in
     ok_weaker _ _ c.routing_answer.result (λ answer made. made c.args.design legalises c.in-Ok.ensures.moves) c.routing_answer.ensures
 

@@ -11,8 +11,8 @@ returns-in_ok-text-in-Ok g c design legalises moves = record {
     legal = c.in-Ok.ensures.legal;
     same = c.in-Ok.ensures.same;
     run = c.in-Ok.ensures.run;
-    proper = c.known_sound.ensures.proper;
-    sound = c.known_sound.ensures.sound;
+    proper = c.design_is_sound.ensures.proper;
+    sound = c.design_is_sound.ensures.library;
   };
   distances = c.args.moves.now.per_component;
   total = c.args.moves.now.total;

@@ -7,8 +7,8 @@ returns-in_ok-text-in-Ok g c = record {
     legal = c.in-Ok.ensures.legal;
     same = c.in-Ok.ensures.same;
     run = c.in-Ok.ensures.run;
-    proper = c.known_sound.ensures.proper;
-    sound = c.known_sound.ensures.sound;
+    proper = c.design_is_sound.ensures.proper;
+    sound = c.design_is_sound.ensures.library;
   };
   distances = c.in-Ok.moves.per_component;
   total = c.in-Ok.moves.total;

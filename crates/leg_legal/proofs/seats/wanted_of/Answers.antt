@@ -2,7 +2,7 @@
 use Rattle.std.proofs.Common.{◌≡◌, ◌<◌, ◌/◌, length, slice_get, Some, unsigned_abs, refl, sym, ap, ◌∙◌}
 use Rattle.std.proofs.lemmas.Option.{slice_get_within, slice_get_read}
 use Rattle.leg_legal.specs.Standing.{orient_of}
-use Rattle.leg_legal.proofs.PartsRead.{component_read, master_read}
+use Rattle.leg_block.proofs.ComponentMacro.{component_read, master_read}
 use Rattle.leg_legal.proofs.BestSeat.{site_inside, wanted_is}
 use Rattle.leg_legal.proofs.seats.wanted_of.Goals as goal
 

@@ -4,6 +4,7 @@ use Rattle.leg_block.specs.WellFormedNets.{IsWire}
 use Rattle.leg_block.specs.declared.limits.TheConstants.{PART_LIMIT}
 use Rattle.leg_flat.specs.Metal.{metal_of}
 use Rattle.leg_flat.specs.Flat.{IsJudgedBy}
+use Rattle.leg_rules.specs.Legal.{IsLegal}
 use Rattle.leg_grown.specs.Finished.{finished}
 use Rattle.leg_route.proofs.finish.finish.Goals as goal
 
@@ -43,5 +44,8 @@ returns-in-Ok-clause-legal g c =
     let few : length (metal_of (finished c.args.design lists)) ≤ PART_LIMIT = rw shapes it.within in
     let judged : IsJudgedBy (finished c.args.design lists) flat.0 = record { few = few; is_flat = rw is at flat.1 } in
     let proper = rw c.in-Ok.ensures.added at c.design_is_sound-in-Ok.ensures.proper in
-    rw c.in-Ok.ensures.added (c.finished_run.ensures.legal c.args.design it.flat it.grown it.added (map (λ wires. wires.items) c.args.lists.items) c.design_is_sound.ensures.library
-    c.design_is_sound.ensures.proper proper it.comes.clean.judged.is_flat it.comes.clean.none it.run it.done it.lists_are flat.0 judged)
+    let none =
+    c.finished_run.ensures.legal c.args.design it.flat it.grown it.added lists c.design_is_sound.ensures.library c.design_is_sound.ensures.proper proper
+    it.comes.clean.judged.is_flat it.comes.clean.none it.run it.done it.lists_are in
+    let legal : IsLegal (finished c.args.design lists) = record { flat = flat.0; judged = judged; none = none } in
+    rw is legal

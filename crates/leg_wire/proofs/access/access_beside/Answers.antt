@@ -1,5 +1,5 @@
 -- A near shape is an obstacle to all nets but its own.
-use Rattle.std.proofs.Common.{inl, inr}
+use Rattle.std.proofs.Common.{sym}
 use Rattle.leg_wire.proofs.AccessBeside.{IsNear, clean_only, not_clean_near}
 use Rattle.leg_wire.proofs.access.access_beside.Goals as goal
 
@@ -10,20 +10,11 @@ returns-in-Net g c =
     let near : IsNear library c.args.shape.now c.args.layer c.args.rect.now = record { layer_is = c.if-layer-shape.false; close = close } in
     clean_only library c.args.shape.now c.args.layer c.args.rect.now near c.in-Net.net c.in-Net.is
 
-pub returns-in-Lone : goal.returns-in-Lone
-returns-in-Lone g c net =
+pub returns-in_default : goal.returns-in_default
+returns-in_default g c net =
     let library = c.args.library.now in
     let close = rw (c.spacing_at-spacing.ensures.is, c.layers.ensures.is) at (c.are_close.ensures.0 c.if-not-are_close.false) in
     let near : IsNear library c.args.shape.now c.args.layer c.args.rect.now = record { layer_is = c.if-layer-shape.false; close = close } in (
       λ none. absurd none,
-      not_clean_near library c.args.shape.now c.args.layer c.args.rect.now near net (λ own. elim c.in-Lone.is [
-        | inl lone ↦ cc (own, lone.1)
-        | inr others ↦ elim others [
-          | inl power ↦ cc (own, power)
-          | inr rest ↦ elim rest [
-            | inl ground ↦ cc (own, ground)
-            | inr obstruction ↦ cc (own, obstruction.1)
-          ]
-        ]
-      ]),
+      not_clean_near library c.args.shape.now c.args.layer c.args.rect.now near net (λ own. c.in_default.not-Net net (sym own)),
     )

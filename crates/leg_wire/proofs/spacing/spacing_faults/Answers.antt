@@ -8,20 +8,20 @@ use Rattle.leg_wire.specs.Steps.PairViolations.{DoShare, ShareNoPoint, IsTold}
 use Rattle.leg_wire.proofs.AllTold.{first_within, second_within, listing_told}
 use Rattle.leg_wire.proofs.spacing.spacing_faults.Goals as goal
 
-pub push_shorts-requires-clause-increasing : goal.push_shorts-requires-clause-increasing
-push_shorts-requires-clause-increasing g c = rw c.deref.ensures.value c.in_ok-close.ensures.pairs.increasing
+pub push_pairs-requires-clause-increasing : goal.push_pairs-requires-clause-increasing
+push_pairs-requires-clause-increasing g c = rw c.deref.ensures.value c.in_ok-close.ensures.pairs.increasing
 
-pub push_shorts-requires-clause-first : goal.push_shorts-requires-clause-first
-push_shorts-requires-clause-first g c = rw c.deref.ensures.value (first_within _ _ _ c.in_ok-close.ensures.pairs)
+pub push_pairs-requires-clause-first : goal.push_pairs-requires-clause-first
+push_pairs-requires-clause-first g c = rw c.deref.ensures.value (first_within _ _ _ c.in_ok-close.ensures.pairs)
 
-pub push_shorts-requires-clause-second : goal.push_shorts-requires-clause-second
-push_shorts-requires-clause-second g c = rw c.deref.ensures.value (second_within _ _ _ c.in_ok-close.ensures.pairs)
+pub push_pairs-requires-clause-second : goal.push_pairs-requires-clause-second
+push_pairs-requires-clause-second g c = rw c.deref.ensures.value (second_within _ _ _ c.in_ok-close.ensures.pairs)
 
-pub push_too_near-requires-clause-first : goal.push_too_near-requires-clause-first
-push_too_near-requires-clause-first g c = rw c.deref-2.ensures.value (first_within _ _ _ c.in_ok-close.ensures.pairs)
+pub push_pairs-requires-2-clause-first : goal.push_pairs-requires-2-clause-first
+push_pairs-requires-2-clause-first g c = rw c.deref-2.ensures.value (first_within _ _ _ c.in_ok-close.ensures.pairs)
 
-pub push_too_near-requires-clause-second : goal.push_too_near-requires-clause-second
-push_too_near-requires-clause-second g c = rw c.deref-2.ensures.value (second_within _ _ _ c.in_ok-close.ensures.pairs)
+pub push_pairs-requires-2-clause-second : goal.push_pairs-requires-2-clause-second
+push_pairs-requires-2-clause-second g c = rw c.deref-2.ensures.value (second_within _ _ _ c.in_ok-close.ensures.pairs)
 
 pub returns : goal.returns
 returns g c =
@@ -31,9 +31,9 @@ returns g c =
     let close = c.in_ok-close.close.items in
     let within : All (λ layer. unsigned_abs layer.spacing ≤ reach) library.layers = rw (← c.layers.ensures.is) c.new-rule.ensures.reach in
     let are : ArePairs (AreClose library.layers reach) flat.shapes close = rw (c.new-rule.ensures.layers, c.layers.ensures.is, c.shapes-shapes.ensures.is) at c.in_ok-close.ensures.pairs in
-    let s = c.in_ok-push_shorts.ensures in
-    let n = c.in_ok-push_too_near.ensures in
+    let s = c.in_ok-push_pairs.ensures in
+    let n = c.in_ok-push_pairs-2.ensures in
     let shorts : IsListOf (IsTold Short DoShare flat.shapes close) s.more = rw (c.deref.ensures.value, c.shapes-shapes.ensures.is) at s.list in
     let near : IsListOf (IsTold TooNear ShareNoPoint flat.shapes close) n.more = rw (c.deref-2.ensures.value, c.shapes-shapes.ensures.is) at n.list in
-    let found : c.push_too_near.new.found.items ≡ s.more ++ n.more = rw (n.is, s.is, c.new-found.ensures.items) in
+    let found : c.push_pairs-2.new.found.items ≡ s.more ++ n.more = rw (n.is, s.is, c.new-found.ensures.items) in
     rw found (listing_told library reach within flat close are s.more n.more shorts near)

@@ -4,6 +4,7 @@ use Rattle.std.proofs.lemmas.List.{take_at}
 use Rattle.std.proofs.lemmas.List.Elements.{All-map}
 use Rattle.leg_block.specs.declared.limits.TheConstants.{PART_LIMIT}
 use Rattle.leg_block.specs.Records.{DesignContents, wire_count}
+use Rattle.leg_block.specs.WellFormed.{IsWellFormed}
 use Rattle.leg_block.specs.MoreWires.{with_more_wires}
 use Rattle.leg_block.specs.WellFormedNets.{IsWire}
 use Rattle.leg_block.proofs.EachWith.{each_with_length}
@@ -12,13 +13,14 @@ use Rattle.leg_block.proofs.design.Design.with_all_wires.Goals as goal
 
 pub invariant_of-self : goal.invariant_of-self
 invariant_of-self g c =
-    let back = sym c.self.view_is in
+    let inside = ap (λ d. d.fields) c.self-inside.view_is in
+    let back = sym (inside ∙ c.self.view_is) in
     let lists = map (λ w. w.items) c.args.lists.items in
     let spelled = subst (λ (d : DesignContents). All (λ w. All (IsWire d.library d.vias false) w.items) c.args.lists.items) back c.requires.spelled in
     let few = subst (λ (d : DesignContents). wire_count (with_more_wires d.nets lists) + wire_count d.special ≤ PART_LIMIT) back c.requires.few in
-    let old = c.self.inside.nets.items in
+    let old = c.self-inside.inside.0.0.nets.items in
     let new = c.append_to_all.new.nets in
     let value = c.as_mut_slice.ensures.value in
     let are : new ≡ with_more_wires old lists = rw value at c.in-Ok.ensures.appended in
-    let long : length new ≡ c.self.inside.nets.len = ap length are ∙ each_with_length _ old lists ∙ sym (ap length value) ∙ c.as_mut_slice.ensures.len in
-    rw (take_at new (drop (length new) old) c.self.inside.nets.len long, are) (all_stay_well_formed _ lists (record { spelled = All-map (All (IsWire c.self.inside.library.now c.self.inside.vias.items false)) (λ w. w.items) c.args.lists.items spelled; few = few }) c.self.invariant)
+    let long : length new ≡ c.self-inside.inside.0.0.nets.len = ap length are ∙ each_with_length _ old lists ∙ sym (ap length value) ∙ c.as_mut_slice.ensures.len in
+    rw (take_at new (drop (length new) old) c.self-inside.inside.0.0.nets.len long, are) (all_stay_well_formed _ lists (record { spelled = All-map (All (IsWire c.self-inside.inside.0.0.library.now c.self-inside.inside.0.0.vias.items false)) (λ w. w.items) c.args.lists.items spelled; few = few }) (subst IsWellFormed (sym inside) c.self.invariant))

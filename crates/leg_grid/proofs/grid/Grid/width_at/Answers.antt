@@ -10,7 +10,7 @@ pub returns-clause-is : goal.returns-clause-is
 returns-clause-is g c node number =
     let grid = c.args.self.now in
     let runs = runs_there grid c.layer_at-layer.ensures.proper c.slot-slot.result.layer c.layer_at-layer.result c.layer_at-layer.ensures.is in
-    let sound : IsSound grid.design.library = rw (ap (λ (s : GridSaid). s.design.library) c.self.view_is) at c.widths_are_sound.ensures in
+    let sound : IsSound grid.design.library = rw (ap (λ (s : GridSaid). s.design.library) c.self.view_is) at c.design_is_sound.ensures.library in
     let wide = width_is grid.design.library _ _ _ sound runs in
     let fits : FitsSigned w64 c.layer_at-layer.result.width = let within = wide.within in omega (arith, ints, within) in
     let lies = lies_at grid c.args.number c.slot-slot.result.layer c.slot-slot.result.row c.slot-slot.result.column node c.slot-slot.ensures.is number in
@@ -20,7 +20,7 @@ pub returns-clause-proper : goal.returns-clause-proper
 returns-clause-proper g c =
     let grid = c.args.self.now in
     let runs = runs_there grid c.layer_at-layer.ensures.proper c.slot-slot.result.layer c.layer_at-layer.result c.layer_at-layer.ensures.is in
-    let sound : IsSound grid.design.library = rw (ap (λ (s : GridSaid). s.design.library) c.self.view_is) at c.widths_are_sound.ensures in
+    let sound : IsSound grid.design.library = rw (ap (λ (s : GridSaid). s.design.library) c.self.view_is) at c.design_is_sound.ensures.library in
     let wide = width_is grid.design.library _ _ _ sound runs in
     let fits : FitsSigned w64 c.layer_at-layer.result.width = let within = wide.within in omega (arith, ints, within) in
     rw (to_z-of_z w64 c.layer_at-layer.result.width fits) wide

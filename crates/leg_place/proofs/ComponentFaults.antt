@@ -1,0 +1,75 @@
+-- The violations that are asked of one component by itself, and those that are not.
+use Rattle.std.proofs.Common.{◌≡◌, ◌≢◌, ◌↔◌, ℕ, Bool, List, ◌⊎◌, inl, inr, refl, arith}
+use Rattle.std.proofs.lemmas.Bool.{cases_eq}
+use Rattle.leg_cells.specs.Records.{Contents}
+use Rattle.leg_block.specs.Records.{DesignContents}
+use Rattle.leg_block.specs.declared.fault.Fault.{Fault}
+use Rattle.leg_block.specs.declared.fault.Fault.TheVariants as faults
+use Rattle.leg_block.specs.Violation.{kind_number, numbers_of}
+use Rattle.leg_block.proofs.FaultNumbers.{same_fault, no_second_number}
+use Rattle.leg_place.specs.declared.component_fault.ComponentFault.{ComponentFault}
+use Rattle.leg_place.specs.declared.component_fault.ComponentFault.TheVariants.{Unplaced, Outside, OffSite}
+use Rattle.leg_place.specs.Faults.{Holds}
+use Rattle.leg_place.specs.Faults.Holds.{unplaced, outside, off_site, overlap}
+use Rattle.leg_place.specs.Among.{IsMarked, TellsMarked}
+use Rattle.leg_place.specs.Steps.ComponentFault.{fault_of}
+
+-- a kind that is asked of one component, as proofs of other crates name it
+abbrev pub ComponentKind : Type 0
+ComponentKind = ComponentFault
+
+-- the numbers of these kinds, and of the kind of overlaps
+abbrev pub number_of_kind : ComponentFault → ℕ
+number_of_kind kind = kind_number (fault_of kind 0)
+
+abbrev pub overlap_kind : ℕ
+overlap_kind = kind_number (faults.Overlap 0 0)
+
+-- the violation of a component is of the kind, and names the component
+pub of_component : (kind : ComponentFault) (c : ℕ) → (kind_number (fault_of kind c) ≡ number_of_kind kind) × ((numbers_of (fault_of kind c)).0 ≡ c)
+of_component Unplaced c = (refl, refl)
+of_component Outside c = (refl, refl)
+of_component OffSite c = (refl, refl)
+
+-- each violation of the kind is that of the component that it names
+pub is_of_component : (kind : ComponentFault) (v : Fault) → kind_number v ≡ number_of_kind kind → v ≡ fault_of kind (numbers_of v).0
+is_of_component Unplaced v same = same_fault v (faults.Unplaced (numbers_of v).0) same refl (no_second_number v (omega (arith, same)))
+is_of_component Outside v same = same_fault v (faults.Outside (numbers_of v).0) same refl (no_second_number v (omega (arith, same)))
+is_of_component OffSite v same = same_fault v (faults.OffSite (numbers_of v).0) same refl (no_second_number v (omega (arith, same)))
+
+-- and an overlap that of its two
+pub is_overlap : (v : Fault) → kind_number v ≡ overlap_kind → v ≡ faults.Overlap (numbers_of v).0 (numbers_of v).1
+is_overlap v same = same_fault v (faults.Overlap (numbers_of v).0 (numbers_of v).1) same refl refl
+
+-- the violation of a component names marked ones alone just where the component is marked
+pub tells_marked : (kind : ComponentFault) (marks : List Bool) (c : ℕ) → TellsMarked marks (fault_of kind c) ↔ IsMarked marks c
+tells_marked Unplaced marks c = (λ h. h, λ h. h)
+tells_marked Outside marks c = (λ h. h, λ h. h)
+tells_marked OffSite marks c = (λ h. h, λ h. h)
+
+-- a violation of placement is asked of one component, or is an overlap
+pub component_or_overlap : (library : Contents) (design : DesignContents) (v : Fault) → Holds library design v
+    → ((kind : ComponentFault) × (kind_number v ≡ number_of_kind kind)) ⊎ (kind_number v ≡ overlap_kind)
+component_or_overlap library design v (unplaced h) = inl (Unplaced, refl)
+component_or_overlap library design v (outside h) = inl (Outside, refl)
+component_or_overlap library design v (off_site h) = inl (OffSite, refl)
+component_or_overlap library design v (overlap h) = inr refl
+
+-- a number is that of such a kind, or of none of them
+pub kind_or_none : (number : ℕ) → ((kind : ComponentFault) × (number ≡ number_of_kind kind)) ⊎ ((kind : ComponentFault) → number ≢ number_of_kind kind)
+kind_or_none number =
+    elim (cases_eq number (number_of_kind Unplaced)) [
+      | inl is ↦ inl (Unplaced, is)
+      | inr not_unplaced ↦ elim (cases_eq number (number_of_kind Outside)) [
+        | inl is ↦ inl (Outside, is)
+        | inr not_outside ↦ elim (cases_eq number (number_of_kind OffSite)) [
+          | inl is ↦ inl (OffSite, is)
+          | inr not_off_site ↦ inr (none_of not_unplaced not_outside not_off_site)
+        ]
+      ]
+    ] where
+      none_of : number ≢ number_of_kind Unplaced → number ≢ number_of_kind Outside → number ≢ number_of_kind OffSite
+          → (kind : ComponentFault) → number ≢ number_of_kind kind
+      none_of not_unplaced not_outside not_off_site Unplaced = not_unplaced
+      none_of not_unplaced not_outside not_off_site Outside = not_outside
+      none_of not_unplaced not_outside not_off_site OffSite = not_off_site

@@ -1,0 +1,12 @@
+-- Designs of which nothing is wrong (lefdef's own rules).
+use Rattle.leg_block.specs.Records.{DesignContents}
+use Rattle.leg_block.specs.declared.fault.Fault.{Fault}
+use Rattle.leg_flat.specs.Flat.{FlatSaid, IsJudgedBy}
+use Rattle.leg_rules.specs.Violations.{IsViolation}
+
+-- A design is legal: its metal is judged, by its flat, which is within the limit of shapes, and no violation holds, be it of
+-- placement, of two shapes of its metal or of a piece of a net.
+pub record IsLegal (design : DesignContents) : Type 0 where
+  pub flat : FlatSaid
+  pub judged : IsJudgedBy design flat
+  pub none : (fault : Fault) → ¬ IsViolation design.library design fault

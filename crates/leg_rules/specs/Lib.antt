@@ -1,0 +1,2 @@
+pub mod Violations
+pub mod Legal

@@ -1,9 +1,0 @@
--- Those of the pairs so far that share no point are added.
-use Rattle.std.proofs.Common.{take}
-use Rattle.leg_block.specs.declared.fault.Fault.TheVariants.{TooNear}
-use Rattle.leg_wire.specs.Steps.PairViolations.{ShareNoPoint, IsTold}
-use Rattle.leg_wire.specs.Steps.AddedFaults.{AreAdded}
-use Rattle.leg_wire.proofs.spacing.push_too_near.Given as goal
-
-abbrev pub invariant-loop-i : goal.invariant-loop-i
-invariant-loop-i g l = AreAdded (IsTold TooNear ShareNoPoint l.shapes (take l.i-index l.close)) l.fn.found.items l.found.items
