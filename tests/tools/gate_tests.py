@@ -174,6 +174,17 @@ class GateTests(Room):
         self.assertEqual(started.communicate(timeout=60)[0].splitlines()[:2], ['seen', '100 passed, 0 failed'])
         self.assertEqual(started.returncode, 0)
 
+    def test_wrong_bodies_begin_when_their_crates_are_proved(self):
+        self.file('tests/edits/gate', '# words\nlow/some f\nhigh/other g::h\n')
+        self.script('tests/edits/run', SUITE + '[ "$1" != --gate ] || touch "$ROOM/begun"\n')
+        for last, begins in (('rt: high proved', True), ('rt: high is kept: from a run before', True), ('rt: high NOT PROVED', False)):
+            with self.subTest(last=last):
+                waits = 'for i in 1 2 3 4 5 6 7 8; do [ -e "$ROOM/begun" ] || sleep 0.5; done\n[ ! -e "$ROOM/begun" ] || echo early\n'
+                self.script('commands/rt', f"{RT}echo 'rt: low proved'\necho '{last}'\n{waits}{PASSED}")
+                status, lines = self.run_gate()
+                self.assertEqual((status, 'early' in lines), (0, begins), lines)
+                os.remove(os.path.join(self.room, 'begun'))
+
     def test_the_program_that_it_proved_is_not_built_again(self):
         self.run_gate()
         called = self.started('lefdef', 'check')
