@@ -1,12 +1,14 @@
 """The libraries that a crate's edits are tried over, and the words of a check.
 
-Libraries in crates/*/out are used if they are of the sources that stand in the tree: the kit notes beside a library the sum of these and
-of itself, and `rt check` compares it. Otherwise `rt ci` makes them in a copy of the crates: it takes from what it keeps on the machine
-what it has proved of the same sources over the same libraries, by their sums, and proves the rest. So after an `rt ci` of the same
-sources nothing is proved a second time, whatever is in out/ since then."""
+Libraries in crates/*/out are used if they are of the sources that stand in the tree. Of those that `rt lib` and `rt check` make, the kit
+notes the sum of the sources beside the library. `rt ci` leaves no such note, but keeps on the machine, by the sum of a crate's sources and
+of the libraries below it, the sums of the files that it made of them. Otherwise `rt ci` makes them anew: it takes what it keeps of the same
+sources over the same libraries, and proves the rest. All is done in a copy of the crates, so what another rt does meanwhile changes nothing,
+as the one that puts a checkout's own libraries back when its `rt ci` ends."""
 import fcntl
 import importlib.machinery
 import importlib.util
+import json
 import os
 import re
 import shutil
@@ -69,23 +71,65 @@ def copy_kept(name, folder):
         os.close(lock)
 
 
-def are_current(names, folder):
-    """Returns whether the libraries of these crates in out/ are of the sources in the tree, as the kit in this folder finds."""
+def copy_crates(names, top):
+    """Copies these crates to the folder `top`, as a repository of their own, with the libraries that stand in their out/."""
+    lines, _ = lines_of_crates()
+    for name in names:
+        crate, made = top / 'crates' / name, TOP / 'crates' / name / 'out/rlib'
+        copy_parts(TOP / 'crates' / name, crate)
+        try:
+            if made.is_dir():
+                shutil.copytree(str(made), str(crate / 'out/rlib'), copy_function=link)
+        except (OSError, shutil.Error):
+            # (another rt makes it anew)
+            shutil.rmtree(str(crate / 'out'), ignore_errors=True)
+    (top / 'crates.txt').write_text('\n'.join([*[lines[it] for it in lines if it in names], '']), encoding='utf-8')
+    shutil.copy(str(TOP / 'HANDLES'), str(top))
+
+
+def module_of_rt(folder):
+    """Returns the command rt of the kit in this folder, as a module."""
     loader = importlib.machinery.SourceFileLoader('rt', f'{folder}/bin/rt')
     rt = importlib.util.module_from_spec(importlib.util.spec_from_loader('rt', loader))
     sys.modules['rt'] = rt
     loader.exec_module(rt)
-    return all(it.is_built() for it in rt.rtlib.crates_below(str(TOP)) if it.name in names)
+    return rt
 
 
-def build(names, room, call):
-    """Has `rt ci` make the libraries of these crates in a copy, and returns whether all are proved."""
-    lines, _ = lines_of_crates()
-    for name in names:
-        copy_parts(TOP / 'crates' / name, room / 'crates' / name)
-    (room / 'crates.txt').write_text('\n'.join([*[lines[it] for it in lines if it in names], '']), encoding='utf-8')
-    shutil.copy(str(TOP / 'HANDLES'), str(room))
-    said = call(['rt', 'ci'], room)
+def is_of_ci(kept, crate, sum_of):
+    """Returns whether the library in the crate's out/ is the one that an `rt ci` made of the crate's sources over the libraries below it,
+    by what it has kept; those below have to be asked for before."""
+    try:
+        entry = json.loads((Path(kept.place(crate, False, kept.key(crate))) / 'made.json').read_text(encoding='utf-8'))
+    except (OSError, ValueError):
+        return False
+    # (its sum is a part of the keys of the crates above)
+    kept.is_built(crate)
+    files = kept.made(crate, False)
+    return files != [] and entry['files'] == [[it, sum_of(f'{crate.folder}/out/{it}')] for it in files]
+
+
+def are_current(top, folder):
+    """Returns whether each crate of the repository `top` has a library in its out/ that is of its sources, as the kit in this folder finds."""
+    rt = module_of_rt(folder)
+    if all(it.is_built() for it in rt.rtlib.crates_below(str(top))):
+        return True
+    try:
+        # (the sums that `rt ci` goes by are those of its own kind of crate)
+        rt.rtlib.Crate, rt.Crate.allowed = rt.Crate, rt.handles_of(str(top))
+        crates = sorted(rt.rtlib.crates_below(str(top)), key=lambda it: len(it.below()))
+        kept = rt.Kept(crates)
+        return all(is_of_ci(kept, it, rt.rtlib.sum_of) for it in crates)
+    except AttributeError:
+        # (another kit may keep it in another way: then `rt ci` itself gives it)
+        return False
+
+
+def build(top, call):
+    """Has `rt ci` make the libraries of the repository `top`, and returns whether all its crates are proved."""
+    for made in top.glob('crates/*/out'):
+        shutil.rmtree(str(made))
+    said = call(['rt', 'ci'], top)
     is_well = re.search(r'^\d+ passed, 0 failed$', said.rstrip().rpartition('\n')[2]) is not None
     if not is_well:
         print(said, end='')

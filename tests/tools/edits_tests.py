@@ -1,5 +1,5 @@
 """Tests of tests/edits/run: which functions an edit changes, how rounds are made, and what is taken from the words of the checker, for
-which small texts stand in."""
+which small texts stand in; and, with the kit itself, whether libraries are of the sources that stand there."""
 import contextlib
 import io
 import os
@@ -361,6 +361,16 @@ class RunTests(Room):
         self.assertEqual((status, out.splitlines()[-1]), (1, '0 passed, 1 failed'))
         self.assertIn('counts/least_is_greatest: FAILED', out)
 
+    def test_the_gate_tries_what_keeps_the_meaning_of_a_function_that_it_breaks(self):
+        (self.edits / 'keep').mkdir()
+        shutil.move(str(self.edit('in_turn', ('twice(a, b) + c', 'c + twice(a, b)'), keep=True).parent), str(self.edits / 'keep'))
+        self.assertEqual(self.last('--gate', says=self.REFUSAL), (0, '1 passed, 0 failed'))
+        self.assertEqual(self.last(says=(*self.REFUSAL, 'fn counts::sum: proved')), (0, '2 passed, 0 failed'))
+        (self.edits / 'keep/counts/other_way_round.edit').write_text('file: src/lib.rt\nold: a < b\nnew: b > a\n', encoding='utf-8')
+        self.assertEqual(self.last('--gate', says=self.REFUSAL), (1, '1 passed, 1 failed'))
+        (self.edits / 'keep/counts/gone.edit').write_text('file: src/lib.rt\nold: no such text\nnew: x\n', encoding='utf-8')
+        self.assertEqual(self.last('--gate', says=self.REFUSAL), (1, '1 passed, 2 failed'))
+
     def test_an_empty_list_is_a_failure(self):
         self.gate()
         status, out = self.run_script('--gate', says=self.REFUSAL)
@@ -392,6 +402,54 @@ class RunTests(Room):
         status, out = self.run_script('--changed', '--minutes', '0', says=self.REFUSAL)
         self.assertEqual((status, out.splitlines()[-1]), (1, '0 passed, 0 failed'))
         self.assertIn('not tried, for want of time: counts/least_is_greatest', out)
+
+
+class LibraryTests(unittest.TestCase):
+    """Libraries that the kit itself makes, of two small crates."""
+
+    @classmethod
+    def setUpClass(cls):
+        room = tempfile.TemporaryDirectory()
+        cls.addClassCleanup(room.cleanup)
+        cls.room = Path(room.name)
+        shutil.copytree(str(TOP / 'tests' / 'edits'), str(cls.room / 'tests' / 'edits'), ignore=lambda at, names: [it for it in names if not Path(at, it).is_file()])
+        for name, use in (('lower', ''), ('upper', 'use lower::least;\n\n')):
+            text = f'//! Numbers.\n#![tactic(auto)]\n\n{use}/// One of two numbers.\npub fn {"least_of" if use else "least"}(a: u8, b: u8) -> u8 {{\n    '
+            folder = cls.room / 'crates' / name / 'src'
+            folder.mkdir(parents=True)
+            (folder / 'lib.rt').write_text(text + ('least(b, a)' if use else 'if a < b { a } else { b }') + '\n}\n', encoding='utf-8')
+        (cls.room / 'crates.txt').write_text('lower:\nupper: lower\n', encoding='utf-8')
+        (cls.room / 'HANDLES').write_text('Handles allowed: none.\n', encoding='utf-8')
+        ran = subprocess.run(['rt', 'ci'], cwd=str(cls.room), stdout=subprocess.PIPE, stderr=subprocess.STDOUT, universal_newlines=True)
+        assert ran.returncode == 0, ran.stdout
+
+    def are_current(self, *names):
+        """Returns what a run of the script would find of these crates."""
+        script = '\n'.join(['import sys, tempfile', 'from pathlib import Path', 'import libraries', 'top = Path(tempfile.mkdtemp(dir=sys.argv[1]))',
+                            'libraries.copy_crates(sys.argv[2:], top)', 'print(libraries.are_current(top, libraries.kit()))'])
+        words = [sys.executable, '-c', script, str(self.room), *names]
+        ran = subprocess.run(words, cwd=str(self.room / 'tests' / 'edits'), stdout=subprocess.PIPE, universal_newlines=True, check=True)
+        return ran.stdout == 'True\n'
+
+    def test_what_rt_ci_has_made_is_current_until_a_source_or_a_library_changes(self):
+        self.assertTrue(self.are_current('lower', 'upper'))
+        self.assertTrue(self.are_current('lower'))
+        source = self.room / 'crates/lower/src/lib.rt'
+        text = source.read_text(encoding='utf-8')
+        source.write_text(text.replace('Numbers', 'Small numbers'), encoding='utf-8')
+        self.assertFalse(self.are_current('lower', 'upper'))
+        source.write_text(text, encoding='utf-8')
+        self.assertTrue(self.are_current('lower', 'upper'))
+        made = self.room / 'crates/lower/out/rlib/lower.rlib/format'
+        # (it is a second name of a file that the kit keeps)
+        text = made.read_bytes()
+        made.unlink()
+        made.write_bytes(text + b'\n')
+        self.assertFalse(self.are_current('lower', 'upper'))
+        shutil.rmtree(str(self.room / 'crates/upper/out'))
+        made.write_bytes(text)
+        self.assertTrue(self.are_current('lower'))
+        self.assertFalse(self.are_current('lower', 'upper'))
 
 
 if __name__ == '__main__':

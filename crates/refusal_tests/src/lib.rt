@@ -1,13 +1,16 @@
-//! Every public call that takes memory, with each of its allocations refused in turn, and those that take none, with all
-//! refused: calls that are lent what they work on. `change_tests` has those that are given a design, and the commands.
+//! Public calls on a design and its metal that take memory and are lent what they work on, with each of their allocations refused in
+//! turn, and those that take none, with all refused. `check_refusal_tests` has those that a check is made of, and `change_tests` those
+//! that are given a design, and the commands.
 //!
-//! What both share is public here.
+//! What these share is public here.
 #![tactic(auto)]
 
+mod flats;
 mod library;
 #[cfg(test)]
 mod tests;
 mod turn;
 
+pub use flats::are_same_flats;
 pub use library::library_of_cells;
 pub use turn::{has_text, is_last, turn_of_list};

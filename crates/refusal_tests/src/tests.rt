@@ -2,29 +2,23 @@
 //! answer what they answer with ample memory.
 
 mod designs;
-mod texts;
 mod without;
 
 use crate::library::library_of_cells;
-use block_texts::{
-    around_an_obstruction, cells, every_form, net_at_one_place, two_at_one_place, wired,
-};
+use block_texts::{around_an_obstruction, every_form, net_at_one_place, two_at_one_place, wired};
 use designs::DesignCall;
 use leg_cells::Library;
 use refusing_alloc::RefusingAlloc;
 use std::alloc::{Allocator, Global};
-use texts::TextCall;
 
-/// What is tried under the library, on a DEF.
+/// What is tried under the library, on the design of a DEF.
 #[derive(Clone, Copy)]
 enum Trial {
-    /// The DEF is read.
-    Read,
-    /// Its design is lent.
+    /// It is lent.
     Lend(DesignCall),
-    /// Its design is lent to a call that asks for no memory on it.
+    /// It is lent to a call that asks for no memory on it.
     LendWithout(DesignCall),
-    /// Its design is lent to calls that take no memory.
+    /// It is lent to calls that take no memory.
     Without,
 }
 
@@ -49,34 +43,10 @@ fn goes_right_under<A: Allocator + Copy>(
     def: &[u8],
 ) -> bool {
     match trial {
-        Trial::Read => texts::is_read_right(alloc, refusing, library, def),
         Trial::Lend(call) => designs::goes_right(alloc, refusing, library, call, def),
         Trial::LendWithout(call) => designs::asks_for_none(alloc, refusing, library, call, def),
         Trial::Without => without::goes_right(alloc, refusing, library, def),
     }
-}
-
-#[test]
-fn texts_without_memory(rt: HostRuntime) {
-    let refusing = &RefusingAlloc::new(rt.alloc());
-    for def in [
-        two_at_one_place(),
-        around_an_obstruction(),
-        net_at_one_place(),
-        every_form(),
-    ] {
-        assert!(rt; texts::goes_right(refusing, refusing, TextCall::Tokens, def));
-        assert!(rt; texts::goes_right(refusing, refusing, TextCall::DefUnits, def));
-        assert!(rt; texts::goes_right(refusing, refusing, TextCall::CheckTexts, def));
-        assert!(rt; goes_right(refusing, refusing, Trial::Read, def));
-    }
-}
-
-#[test]
-fn libraries_without_memory(rt: HostRuntime) {
-    let refusing = &RefusingAlloc::new(rt.alloc());
-    assert!(rt; texts::goes_right(refusing, refusing, TextCall::ReadLefs, cells()));
-    assert!(rt; texts::goes_right(refusing, refusing, TextCall::At, cells()));
 }
 
 #[test]
@@ -118,7 +88,7 @@ fn nets_without_memory(rt: HostRuntime) {
 }
 
 #[test]
-fn checks_without_memory(rt: HostRuntime) {
+fn placement_and_printed_text_without_memory(rt: HostRuntime) {
     let refusing = &RefusingAlloc::new(rt.alloc());
     for def in [
         two_at_one_place(),
@@ -134,23 +104,7 @@ fn checks_without_memory(rt: HostRuntime) {
                 def
             )
         );
-        assert!(rt;
-            goes_right(
-                refusing,
-                refusing,
-                Trial::Lend(DesignCall::CheckDesign),
-                def
-            )
-        );
         assert!(rt; goes_right(refusing, refusing, Trial::Lend(DesignCall::PrintDef), def));
-        assert!(rt;
-            goes_right(
-                refusing,
-                refusing,
-                Trial::Lend(DesignCall::PrintFaults),
-                def
-            )
-        );
     }
 }
 

@@ -3,15 +3,15 @@
 ghost use Rattle.std.specs.Prelude.{false, IfSome};
 ghost use Rattle.leg_block.specs.WellFormedNets.{IsWire};
 
+use crate::flats::are_same_flats;
 use crate::turn::{is_last, turn_of_list};
 use block_texts::wired;
-use leg_app::check_design;
 use leg_block::{Design, Wire};
 use leg_cells::Library;
 use leg_design::read_def;
 use leg_flat::{Flat, FlatFault, flatten};
 use leg_place::place_faults;
-use leg_print::{print_def, print_faults};
+use leg_print::print_def;
 use leg_wire::{joined, open_faults, spacing_faults};
 use refusing_alloc::{Refused, RefusingAlloc, Turn, Turns};
 use std::alloc::{Allocator, Global};
@@ -22,28 +22,12 @@ pub(super) enum DesignCall {
     Flatten,
     /// Its first net gets a wire.
     AddWire,
-    CheckDesign,
     PlaceFaults,
     SpacingFaults,
     /// Of its first net.
     Joined,
     OpenFaults,
     PrintDef,
-    /// Of all its violations.
-    PrintFaults,
-}
-
-/// Whether these have the same shapes, and nets with the same pieces.
-fn are_same_flats<A: Allocator + Copy>(flat: &Flat<A>, other: &Flat<A>) -> bool {
-    if flat.shapes() != other.shapes() || flat.net_count() != other.net_count() {
-        return false;
-    }
-    for net in 0..flat.net_count() {
-        if flat.pieces(net) != other.pieces(net) {
-            return false;
-        }
-    }
-    true
 }
 
 fn flatten_in_turn<A: Allocator + Copy>(
@@ -127,26 +111,6 @@ fn add_wire_in_turn<A: Allocator + Copy>(
     is_right.then_some(turn)
 }
 
-fn check_design_in_turn<A: Allocator + Copy>(
-    alloc: A,
-    refusing: &RefusingAlloc<Global>,
-    design: &Design<'_, A>,
-    number: u64,
-) -> Option<Turn> {
-    let ample = check_design(alloc, design).ok()?;
-    refusing.refuse(Refused::Growth(number));
-    let found = check_design(alloc, design);
-    let turn = refusing.turn_ended(found.is_err());
-    let is_right = match found {
-        Ok(checked) => {
-            are_same_flats(&checked.flat, &ample.flat)
-                && checked.violations.as_slice() == ample.violations.as_slice()
-        }
-        Err(fault) => fault == FlatFault::Memory,
-    };
-    is_right.then_some(turn)
-}
-
 fn place_faults_in_turn<A: Allocator + Copy>(
     alloc: A,
     refusing: &RefusingAlloc<Global>,
@@ -213,20 +177,6 @@ fn print_def_in_turn<A: Allocator + Copy>(
     turn_of_list(refusing, found, &ample)
 }
 
-fn print_faults_in_turn<A: Allocator + Copy>(
-    alloc: A,
-    refusing: &RefusingAlloc<Global>,
-    design: &Design<'_, A>,
-    number: u64,
-) -> Option<Turn> {
-    let checked = check_design(alloc, design).ok()?;
-    let (library, flat) = (design.library(), Some(&checked.flat));
-    let ample = print_faults(alloc, library, design, flat, &checked.violations).ok()?;
-    refusing.refuse(Refused::Growth(number));
-    let found = print_faults(alloc, library, design, flat, &checked.violations);
-    turn_of_list(refusing, found, &ample)
-}
-
 fn turn_of<A: Allocator + Copy>(
     alloc: A,
     refusing: &RefusingAlloc<Global>,
@@ -237,13 +187,11 @@ fn turn_of<A: Allocator + Copy>(
     match call {
         DesignCall::Flatten => flatten_in_turn(alloc, refusing, design, number),
         DesignCall::AddWire => add_wire_in_turn(alloc, refusing, design, number),
-        DesignCall::CheckDesign => check_design_in_turn(alloc, refusing, design, number),
         DesignCall::PlaceFaults => place_faults_in_turn(alloc, refusing, design, number),
         DesignCall::SpacingFaults => spacing_faults_in_turn(alloc, refusing, design, number),
         DesignCall::Joined => joined_in_turn(alloc, refusing, design, number),
         DesignCall::OpenFaults => open_faults_in_turn(alloc, refusing, design, number),
         DesignCall::PrintDef => print_def_in_turn(alloc, refusing, design, number),
-        DesignCall::PrintFaults => print_faults_in_turn(alloc, refusing, design, number),
     }
 }
 

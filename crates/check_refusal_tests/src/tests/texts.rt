@@ -1,12 +1,12 @@
 //! Calls on texts.
 
-use crate::turn::{has_text, is_last};
 use block_texts::cells;
 use leg_app::{TextFault, check_texts};
 use leg_cells::{Library, RawLibrary, ScaleKind};
 use leg_design::{def_units, read_def};
 use leg_lex::{FaultKind, LexFault, Token, tokens};
 use leg_lib::read_lefs;
+use refusal_tests::{has_text, is_last};
 use refusing_alloc::{Refused, RefusingAlloc, Turn, Turns};
 use std::alloc::{Allocator, Global};
 
