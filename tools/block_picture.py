@@ -12,12 +12,13 @@ from violation_marks import xml_text
 LAYER_COLOURS = ('#2457d6', '#d62222', '#1f9a3c', '#c9a400', '#e8771a', '#8a3fc4', '#149fb5', '#7a5230')
 CUT_COLOUR = '#222222'
 MARK_COLOUR = '#e6007e'
+PLACEMENT_COLOUR = '#8a6d3b'
 MOVABLE_COLOUR, FIXED_COLOUR, ROW_COLOUR, SITE_COLOUR = '#fbf7e6', '#e4e4e4', '#eaf0f6', '#b8c6d4'
 WIDEST, HIGHEST = 900, 640
 LEFT, TOP, BOTTOM = 64, 40, 44
 LINE, KEY_LINE = 18, 21
-# How opaque the metal of each role is, in the order in which it is drawn; obstructions are hatched.
-ROLES = {'OBS': 1, 'PIN': 0.6, 'WIRE': 0.42}
+# How opaque the metal of each role is, in the order in which it is drawn; obstructions are hatched, and blockages the other way.
+ROLES = {'OBS': 1, 'BLOCKAGE': 1, 'PIN': 0.6, 'WIRE': 0.42}
 MOST_DETAILED = 20_000
 MOST_LISTED = 12
 MOST_NUMBERED = 60
@@ -55,7 +56,7 @@ def number(value):
 def whole_window(design):
     """Returns the window of the whole block: the die, what stands outside it, and a margin."""
     boxes = [design.box(component) for component in design.components.values() if component.place]
-    box = least_box([design.die, *boxes, *(shape.rect for shape in design.shapes())])
+    box = least_box([design.die, *boxes, *(rect for _, rect in design.placement_rects()), *(shape.rect for shape in design.shapes())])
     return grown(box, max(max(box.x2 - box.x1, box.y2 - box.y1) // 24, 1))
 
 
@@ -97,11 +98,12 @@ class Picture:
         self.view = View(window, scale)
         self.shapes = list(design.shapes(window))
         self.components = [component for component in design.components.values() if component.place and meets(design.box(component), window)]
-        self.is_detailed = len(self.shapes) + len(self.components) <= MOST_DETAILED
+        self.placement_rects = [(of, rect) for of, rect in design.placement_rects() if meets(rect, window)]
+        self.is_detailed = len(self.shapes) + len(self.components) + len(self.placement_rects) <= MOST_DETAILED
         self.colours = colours_of(design.library)
         present = {(shape.layer, shape.role) for shape in self.shapes}
         self.drawn = [name for name in self.colours if any((name, role) in present for role in ROLES)]
-        self.obstructed = [name for name in self.drawn if (name, 'OBS') in present]
+        self.hatched = [(name, role) for name in self.drawn for role in ('OBS', 'BLOCKAGE') if (name, role) in present]
         self.seen = [mark for mark in marks if mark.box and meets(mark.box, window) or not mark.box and chosen in (None, mark.number)]
 
     def text(self):
@@ -126,10 +128,13 @@ class Picture:
     # The block, in database units
 
     def hatches(self):
-        """Yields a pattern for the obstructions of each layer that is drawn, and one for marks; each for the block and for the key."""
-        names = [(f'hatch{at}', self.colours[name]) for at, name in enumerate(self.drawn)] + [('hatch-mark', MARK_COLOUR)]
-        for name, colour in names:
-            for which, size, line, turn in ((name, self.view.pixels(7), self.view.pixels(1.6), 45), (f'{name}-key', 6, 1.6, -45)):
+        """Yields patterns for the obstructions of each layer that is drawn and for blockages, and one for marks; each for the block and for
+        the key."""
+        names = [(f'hatch{at}', self.colours[name], 45) for at, name in enumerate(self.drawn)]
+        names += [(f'hatch{self.drawn.index(name)}-blockage', self.colours[name], -45) for name, role in self.hatched if role == 'BLOCKAGE']
+        names += [('hatch-placement', PLACEMENT_COLOUR, -45)] if self.placement_rects else []
+        for name, colour, lean in names + [('hatch-mark', MARK_COLOUR, 45)]:
+            for which, size, line, turn in ((name, self.view.pixels(7), self.view.pixels(1.6), lean), (f'{name}-key', 6, 1.6, -lean)):
                 yield (f'<pattern id="{which}" patternUnits="userSpaceOnUse" width="{size}" height="{size}" patternTransform="rotate({turn})">'
                        f'<rect width="{line}" height="{size}" fill="{colour}"/></pattern>')
 
@@ -148,6 +153,10 @@ class Picture:
         else:
             yield f'<path fill="{MOVABLE_COLOUR}" d="{path_of(design.box(component) for component in self.components)}"/>'
         yield '</g>'
+        if self.placement_rects:
+            yield f'<g id="placement-blockages" fill="url(#hatch-placement)" stroke="{PLACEMENT_COLOUR}" stroke-width="{view.pixels(1)}">'
+            yield from self.placement_blockages()
+            yield '</g>'
         if self.has_tracks:
             yield f'<g id="tracks" fill="none" stroke-width="{view.pixels(0.8)}" stroke-dasharray="{view.pixels(1.5)} {view.pixels(3)}" stroke-opacity="0.6">'
             for tracks in design.tracks:
@@ -192,8 +201,16 @@ class Picture:
         (xa, ya), (xb, yb) = [(box.x1 + x, box.y1 + y) for x, y in corners]
         yield f'<path fill="none" d="M{number(xa)} {number(ya)}L{number(xb)} {number(yb)}"/>'
 
+    def placement_blockages(self):
+        """Yields the rectangles of the placement blockages, over the components."""
+        if self.is_detailed:
+            for of, rect in self.placement_rects:
+                yield rect_element(rect, '', f'placement blockage {of}: {rect.x1} {rect.y1} {rect.x2} {rect.y2}')
+        else:
+            yield f'<path d="{path_of(rect for _, rect in self.placement_rects)}"/>'
+
     def metal(self):
-        """Yields a group for each layer: obstructions, pins, wires."""
+        """Yields a group for each layer: obstructions, blockages, pins, wires."""
         groups = {name: {role: [] for role in ROLES} for name in self.drawn}
         for shape in self.shapes:
             groups[shape.layer][shape.role].append(shape)
@@ -205,7 +222,8 @@ class Picture:
                 shapes = groups[name][role]
                 if not shapes:
                     continue
-                fill = f' fill="url(#hatch{at})"' if role == 'OBS' else f' fill-opacity="{0.8 if is_cut else opacity}"'
+                hatch = {'OBS': f'hatch{at}', 'BLOCKAGE': f'hatch{at}-blockage'}.get(role)
+                fill = f' fill="url(#{hatch})"' if hatch else f' fill-opacity="{0.8 if is_cut else opacity}"'
                 if self.is_detailed:
                     yield f'<g class="{role.lower()}"{fill}>'
                     yield from (rect_element(shape.rect, '', self.shape_title(shape)) for shape in shapes)
@@ -223,7 +241,7 @@ class Picture:
 
     @staticmethod
     def shape_title(shape):
-        what = {'OBS': f'obstruction of {shape.of}', 'PIN': f'{shape.of or "PIN"} {shape.name}', 'WIRE': f'wire {shape.name} of {shape.of}'}[shape.role]
+        what = {'OBS': f'obstruction of {shape.of}', 'BLOCKAGE': f'blockage {shape.name}', 'PIN': f'{shape.of or "PIN"} {shape.name}', 'WIRE': f'wire {shape.name} of {shape.of}'}[shape.role]
         owner = '' if shape.role != 'PIN' or shape.owner.startswith('TERM') else f', {shape.owner}'
         return f'{what}{owner}: {shape.layer} {shape.rect.x1} {shape.rect.y1} {shape.rect.x2} {shape.rect.y2}'
 
@@ -283,7 +301,7 @@ class Picture:
         for shape in self.shapes:
             room = (shape.rect.x2 - shape.rect.x1) * (shape.rect.y2 - shape.rect.y1)
             key = shape.role, shape.of, shape.name if shape.role == 'PIN' else ''
-            if shape.role != 'OBS' and room > largest.get(key, (0, None))[0]:
+            if shape.role in ('PIN', 'WIRE') and room > largest.get(key, (0, None))[0]:
                 largest[key] = room, shape
         labels += [self.label(shape.rect, shape.name if shape.role == 'PIN' else shape.of, 12, '#111111') for _, shape in largest.values()]
         yield from filter(None, labels)
@@ -355,7 +373,9 @@ class Picture:
     def key_entries(self):
         """Returns how each thing is painted, with its name, the highest layer first."""
         layers = [(f'fill="{self.colours[name]}" fill-opacity="0.5" stroke="{self.colours[name]}"', name) for name in reversed(self.drawn)]
-        entries = layers + [(f'fill="url(#hatch{self.drawn.index(name)}-key)" stroke="{self.colours[name]}"', f'{name} obstruction') for name in self.obstructed]
+        entries = layers + [self.hatched_entry(*it) for it in self.hatched]
+        if self.placement_rects:
+            entries.append((f'fill="url(#hatch-placement-key)" stroke="{PLACEMENT_COLOUR}"', 'placement blockage'))
         stays = {component.status in ('FIXED', 'COVER') for component in self.components}
         if False in stays:
             entries.append((f'fill="{MOVABLE_COLOUR}" stroke="#444444"', 'component'))
@@ -366,6 +386,11 @@ class Picture:
         if any(mark.box for mark in self.seen):
             entries.append((f'fill="url(#hatch-mark-key)" stroke="{MARK_COLOUR}" stroke-width="2"', 'violation'))
         return entries
+
+    def hatched_entry(self, name, role):
+        """Returns how the obstructions or the blockages of a layer are painted, with their name."""
+        hatch, what = ('', 'obstruction') if role == 'OBS' else ('-blockage', 'blockage')
+        return f'fill="url(#hatch{self.drawn.index(name)}{hatch}-key)" stroke="{self.colours[name]}"', f'{name} {what}'
 
     def key(self, entries):
         """Yields what the colours mean."""

@@ -1,7 +1,7 @@
 """Where violations lie in a block, and the marker database that KLayout shows with the layout.
 
-A violation of placement lies at the component's box, or where two boxes overlap; a short or two shapes too near
-where the two meet, which is what they share or the gap between them; an open piece of a net at the piece.
+A violation of placement lies at the component's box, or at what it shares with another one or with placement blockages; a short
+or two shapes too near where the two meet, which is what they share or the gap between them; an open piece of a net at the piece.
 """
 import math
 from typing import List, NamedTuple, Optional, Tuple
@@ -13,6 +13,7 @@ KINDS = {
     'OUTSIDE': 'a part of a component is outside the die',
     'OFFSITE': 'a component is not on consecutive sites of one row that its orientation fits',
     'OVERLAP': 'two components overlap',
+    'BLOCKED': 'a component that may be moved stands in a placement blockage',
     'SHORT': 'metal of two owners on one layer shares a point',
     'TOONEAR': 'metal of two owners on one layer is nearer than the spacing of the layer',
     'OPEN': 'a piece of a net is not joined to its first piece',
@@ -38,6 +39,11 @@ def between(a, b):
     x1, x2 = sorted((max(a[0], b[0]), min(a[2], b[2])))
     y1, y2 = sorted((max(a[1], b[1]), min(a[3], b[3])))
     return Rect(x1, y1, x2, y2)
+
+
+def do_overlap(a, b):
+    """Returns whether two rectangles share a unit square."""
+    return a[0] < b[2] and b[0] < a[2] and a[1] < b[3] and b[1] < a[3]
 
 
 def squared_distance(a, b):
@@ -75,7 +81,7 @@ class Finder:
 
     def marks(self):
         self.check_shapes()
-        find = {'OVERLAP': self.overlap, 'SHORT': self.pair, 'TOONEAR': self.pair, 'OPEN': self.open_piece}
+        find = {'OVERLAP': self.overlap, 'BLOCKED': self.blocked, 'SHORT': self.pair, 'TOONEAR': self.pair, 'OPEN': self.open_piece}
         return [Mark(number, violation, *find.get(violation.kind, self.component)(violation))
                 for number, violation in enumerate(self.violations, 1)]
 
@@ -100,9 +106,20 @@ class Finder:
     def overlap(self, violation):
         a, b = [self.design.box(self.named_component(violation, name)) for name in violation.names]
         box = between(a, b)
-        if not (a.x1 < b.x2 and b.x1 < a.x2 and a.y1 < b.y2 and b.y1 < a.y2):
+        if not do_overlap(a, b):
             self.refuse(violation, 'the two components do not overlap')
         return box, [a, b], None, f'they share {box.x2 - box.x1} by {box.y2 - box.y1}'
+
+    def blocked(self, violation):
+        name = violation.names[0]
+        component = self.named_component(violation, name)
+        box = self.design.box(component)
+        rects = [(number, rect) for number, rect in self.design.placement_rects() if do_overlap(box, rect)]
+        if not rects or not self.design.is_movable(component):
+            self.refuse(violation, f'{name} {"may not be moved" if rects else "is in no placement blockage"}')
+        numbers = ', '.join(map(str, sorted({number for number, _ in rects})))
+        shared = least_box(between(box, rect) for _, rect in rects)
+        return shared, [box, *(rect for _, rect in rects)], None, f'{name} stands in placement blockage {numbers}'
 
     @staticmethod
     def pair_of(violation):

@@ -140,6 +140,13 @@ class FromQflowTests(FlowCase):
         self.assertIn('SPECIALNETS 3 ;', out)
         self.assertIn('1 entry of SPECIALNETS joined to the net\'s first: n.0', err)
 
+    def test_numbers_of_blockages_are_written_whole(self):
+        text = QFLOW.replace('NETS 1 ;', 'BLOCKAGES 2 ;\n- LAYER m1 + PUSHDOWN RECT ( 10.0 -20 ) ( 30.00 40. ) ;\n- PLACEMENT RECT ( 0.0 0 ) ( 1 1.0 ) ;\n'
+                             'END BLOCKAGES\nNETS 1 ;')
+        out, err = self.edited('from-qflow', text, STANDARD)
+        self.assertIn('- LAYER m1 + PUSHDOWN RECT ( 10 -20 ) ( 30 40 ) ;\n- PLACEMENT RECT ( 0 0 ) ( 1 1 ) ;\n', out)
+        self.assertIn('10 numbers written whole', err)
+
     def test_a_second_time_changes_nothing(self):
         once, _ = self.edited('from-qflow', QFLOW, STANDARD)
         twice, err = self.edited('from-qflow', once, STANDARD)
@@ -233,6 +240,15 @@ END DESIGN
                 strap = f'- s + ROUTED m2 100 ( {right - 50} 0 ) ( {right - 50} 2000 ) ;\n'
                 text = self.BLOCK.replace('END NETS\n', f'END NETS\nSPECIALNETS 1 ;\n{strap}END SPECIALNETS\n')
                 out, _ = self.edited('ease-routing', text, STANDARD)
+                self.assertEqual('( 300 900 ) V12' in out, is_free)
+
+    def test_new_metal_keeps_its_distance_from_blockages_of_its_layer(self):
+        for layer, right, is_free in (('m2', 150, True), ('m2', 152, False), ('m1', 152, False), ('v1', 152, False), ('mark', 400, True)):
+            with self.subTest(layer=layer, right=right):
+                blockages = f'BLOCKAGES 2 ;\n- PLACEMENT RECT ( 0 0 ) ( 2000 4000 ) ;\n- LAYER {layer} RECT ( 0 800 ) ( {right} 1000 ) ;\nEND BLOCKAGES\n'
+                library = self.file('mark.lef', 'LAYER mark TYPE OVERLAP ; END mark\n')
+                out, _ = self.edited('ease-routing', self.BLOCK.replace('NETS 3', f'{blockages}NETS 3'), STANDARD, library)
+                self.assertIn(blockages, out)
                 self.assertEqual('( 300 900 ) V12' in out, is_free)
 
     def test_half_a_stub_where_a_whole_one_has_no_room(self):
@@ -336,6 +352,12 @@ class OutputTests(FlowCase):
                 self.assertEqual(open(out, encoding='utf-8').read(), 'kept')
                 self.assertEqual(self.run_tool(tool, text, *libraries, '-o', out, '--force')[0], 0)
                 self.assertIn('END DESIGN', open(out, encoding='utf-8').read())
+
+    def test_blockages_stay_byte_for_byte(self):
+        blockages = 'BLOCKAGES 9 ;\n- LAYER m1 + PUSHDOWN\n  RECT ( 9 9 ) ( 0 0 );\n- placement RECT ( 0 0 ) ( 5 5 ) ; END BLOCKAGES\n'
+        for tool, libraries in self.TOOLS:
+            with self.subTest(tool=tool):
+                self.assertIn(blockages, self.edited(tool, EaseRoutingTests.BLOCK.replace('NETS 3', f'{blockages}NETS 3'), *libraries)[0])
 
     def test_a_text_that_is_read_is_never_overwritten(self):
         for tool, libraries in self.TOOLS:

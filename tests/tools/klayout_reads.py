@@ -46,7 +46,7 @@ def metal(found, case):
         ours.setdefault(layer, pya.Region()).insert(pya.Box(*sides))
     for index in found.layer_indexes():
         name, _, purpose = found.get_info(index).name.partition('.')
-        if purpose not in ('LABEL', 'BLK') and name != 'OUTLINE':
+        if purpose not in ('LABEL', 'BLK') and name not in ('OUTLINE', 'PLACEMENT_BLK'):
             theirs.setdefault(name, pya.Region()).insert(found.top_cell().begin_shapes_rec(index))
     none = pya.Region()
     return {name: [theirs.get(name, none).merged().area(), (ours.get(name, none) ^ theirs.get(name, none)).area()]

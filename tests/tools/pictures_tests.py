@@ -50,19 +50,19 @@ class PicturesTests(unittest.TestCase):
             subprocess.run([os.path.join(PICTURES, 'make'), program, made], check=True)
             names = sorted(name for name in os.listdir(PICTURES) if name.endswith('.svg'))
             self.assertEqual(sorted(os.listdir(made)), names)
-            self.assertEqual(len(names), 8)
+            self.assertEqual(len(names), 9)
             for name in names:
                 with open(os.path.join(made, name), encoding='utf-8') as new, open(os.path.join(PICTURES, name), encoding='utf-8') as kept:
                     self.assertEqual(new.read(), kept.read(), f'docs/pictures/make was not run since {name} changed')
 
     def test_what_they_show(self):
         for name, metal, marks in (('wired', 9, 0), ('unfinished', 6, 2), ('rows', 16, 3), ('rows-legalised', 16, 0), ('stacked', 8, 4),
-                                   ('stacked-routed', 9, 0), ('around', 9, 0), ('around-routed', 24, 0)):
+                                   ('stacked-routed', 9, 0), ('around', 9, 0), ('around-routed', 24, 0), ('blocked', 9, 3)):
             with self.subTest(picture=name):
                 root = ElementTree.parse(os.path.join(PICTURES, f'{name}.svg')).getroot()
                 classes = [element.get('class') for element in root.iter('{http://www.w3.org/2000/svg}g')]
                 self.assertEqual(classes.count('mark'), marks)
-                rects = [rect for group in root.iter('{http://www.w3.org/2000/svg}g') if group.get('class') in ('pin', 'wire', 'obs') for rect in group]
+                rects = [rect for group in root.iter('{http://www.w3.org/2000/svg}g') if group.get('class') in ('pin', 'wire', 'obs', 'blockage') for rect in group]
                 self.assertEqual(len(rects), metal)
 
 

@@ -15,7 +15,8 @@ OTHER_LINES = (
     'MEMORY', 'SCALE core TooLarge', 'DIVIDERCHAR "/" ;', 'BUSBITCHARS "[ ]" ;', 'VIAS 1 ;', 'END VIAS', '# greatest 0',
     '- w + RECT m1 ( -50 -50 ) ( 50 50 ) ;', '- p + NET n + USE "a b" + PORT + LAYER m1 ( 0 0 ) ( 1 1 ) + PLACED ( 0 0 ) N ;', '- n',
     '  NEW m1 100 ( 0 0 ) ( 9 0 5 ) ;', 'TRACKS Y -100 DO 2 STEP 200 ;', 'TRACKS X 0 DO 1 STEP 1 LAYER m1 m2 ;', 'SPECIALNETS 2 ;', 'PINS 1 ;',
-    'OPEN a PIN p', 'OPEN a WIRE 12', 'SHORT m1 POWER -1 -2 3 4 GROUND 1 2 3 4', 'TOONEAR m1 OBS u1 1 2 3 4 TERM PIN p 1 2 3 4', 'DESIGN END ;')
+    'OPEN a PIN p', 'OPEN a WIRE 12', 'SHORT m1 POWER -1 -2 3 4 GROUND 1 2 3 4', 'TOONEAR m1 OBS u1 1 2 3 4 TERM PIN p 1 2 3 4',
+    'SHORT m1 NET BLOCKAGE 1 2 3 4 BLOCKAGE 12 1 2 3 4', 'DESIGN END ;')
 
 
 def expressions():
@@ -73,7 +74,8 @@ class ExpressionTests(unittest.TestCase):
 
     def test_lines_that_lefdef_does_not_print_match_none(self):
         for line in ('', 'Legal', 'legal ', ' legal', 'violations', 'OFFSITE', 'OFFSITE a b', 'OVERLAP a', 'OPEN n WIRE', 'hpwl -1', 'REFUSED 0 1',
-                     'SHORT m1 NET a 1 2 3 4 NET b 1 2 3', 'SHORT m1 OBS 1 2 3 4 NET b 1 2 3 4', 'TOONEAR m1 NET a 1 2 3 4', 'END LIBRARY'):
+                     'SHORT m1 NET a 1 2 3 4 NET b 1 2 3', 'SHORT m1 OBS 1 2 3 4 NET b 1 2 3 4',
+                     'SHORT m1 BLOCKAGE b 1 2 3 4 NET b 1 2 3 4', 'BLOCKED a b', 'TOONEAR m1 NET a 1 2 3 4', 'END LIBRARY'):
             with self.subTest(line=line):
                 self.assertEqual(self.matching(line), [])
 
@@ -104,12 +106,14 @@ class CountTests(unittest.TestCase):
         done = self.count('check_a_wired_net')
         self.assertEqual((done.returncode, done.stderr), (0, ''))
         self.assertEqual([line.split() for line in done.stdout.splitlines()],
-                         [[kind, '0'] for kind in ('UNPLACED', 'OUTSIDE', 'OFFSITE', 'OVERLAP', 'SHORT', 'TOONEAR', 'OPEN')])
+                         [[kind, '0'] for kind in ('UNPLACED', 'OUTSIDE', 'OFFSITE', 'OVERLAP', 'BLOCKED', 'SHORT', 'TOONEAR', 'OPEN')])
 
     def test_violations_fail_the_build(self):
         done = self.count('kinds_stand_in_order')
         self.assertEqual((done.returncode, done.stderr), (1, ''))
-        self.assertEqual(done.stdout.split(), 'UNPLACED 1 OUTSIDE 1 OFFSITE 2 OVERLAP 2 SHORT 0 TOONEAR 0 OPEN 0'.split())
+        self.assertEqual(done.stdout.split(), 'UNPLACED 1 OUTSIDE 1 OFFSITE 2 OVERLAP 2 BLOCKED 0 SHORT 0 TOONEAR 0 OPEN 0'.split())
+        done = self.count('check_blockages_of_both_kinds')
+        self.assertEqual(done.stdout.split(), 'UNPLACED 0 OUTSIDE 0 OFFSITE 1 OVERLAP 1 BLOCKED 2 SHORT 1 TOONEAR 1 OPEN 1'.split())
 
     def test_what_the_page_shows(self):
         with open(os.path.join(TOP, 'docs', 'SCRIPTS.md'), encoding='utf-8') as file:

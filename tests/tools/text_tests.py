@@ -264,6 +264,23 @@ class MetalTests(Room):
         owners = {(shape.of, shape.name): shape.owner for shape in self.shapes(WIRES) if shape.of == 'u1'}
         self.assertEqual(owners, {('u1', 'A'): 'TERM u1 A', ('u1', 'Y'): 'NET n1', ('u1', 'VDD'): 'POWER', ('u1', 'VSS'): 'GROUND'})
 
+    def test_blockages(self):
+        # (the second one is on a layer without metal: it is dropped, and not counted)
+        library = self.write('cells.lef', 'LAYER m1 TYPE ROUTING ; DIRECTION VERTICAL ; WIDTH 0.1 ; END m1 LAYER mark TYPE OVERLAP ; END mark\n'
+                             'LAYER v1 TYPE CUT ; END v1')
+        block = self.write('block.def', 'DESIGN top ; UNITS DISTANCE MICRONS 1000 ; DIEAREA ( 0 0 ) ( 9 9 ) ; NETS 1 ; - n + ROUTED m1 ( 0 0 ) ( 0 9 ) ; '
+                           'END NETS BLOCKAGES 4 ; - placement RECT ( 5 6 ) ( 3 4 ) RECT ( 0 0 ) ( 1 1 ) ; - LAYER mark RECT ( 0 0 ) ( 1 1 ) ; '
+                           '- LAYER v1 + PUSHDOWN + PUSHDOWN RECT ( 1 2 ) ( 3 4 ) RECT ( 5 -6 ) ( -7 8 ) ; - LAYER m1 RECT ( 0 0 ) ( 9 9 ) ; END BLOCKAGES '
+                           'PINS 1 ; - p + LAYER m1 ( 0 0 ) ( 1 1 ) + PLACED ( 50 50 ) N ; END PINS END DESIGN')
+        design = read_design(block, read_library([library]))
+        self.assertEqual([(blockage.layer, blockage.rects) for blockage in design.blockages],
+                         [(None, [(3, 4, 5, 6), (0, 0, 1, 1)]), ('v1', [(1, 2, 3, 4), (-7, -6, 5, 8)]), ('m1', [(0, 0, 9, 9)])])
+        self.assertEqual([(shape.layer, tuple(shape.rect), shape.owner, shape.role) for shape in design.shapes()], [
+            ('m1', (50, 50, 51, 51), 'TERM PIN p', 'PIN'), ('v1', (1, 2, 3, 4), 'BLOCKAGE 2', 'BLOCKAGE'), ('v1', (-7, -6, 5, 8), 'BLOCKAGE 2', 'BLOCKAGE'),
+            ('m1', (0, 0, 9, 9), 'BLOCKAGE 3', 'BLOCKAGE'), ('m1', (-50, -50, 50, 59), 'NET n', 'WIRE')])
+        self.assertEqual(design.placement_rects(), [(1, (3, 4, 5, 6)), (1, (0, 0, 1, 1))])
+        self.assertEqual([shape.owner for shape in design.shapes(Rect(20, 20, 60, 60))], ['TERM PIN p', 'NET n'])
+
     def test_a_window_has_what_shares_a_point_with_it(self):
         design = read_design(self.write('block.def', WIRES), read_library([STANDARD]))
         for window in (Rect(900, 1050, 1000, 1100), Rect(951, 1051, 952, 1052), Rect(0, 0, 4000, 4000), Rect(2120, 2000, 2200, 2049)):
@@ -290,11 +307,15 @@ class LineTests(Room):
                     self.assertEqual([violation.text for violation in read_violations(path)], lines[:-1])
                 for violation in read_violations(path):
                     kinds[violation.kind] = kinds.get(violation.kind, 0) + 1
-        self.assertEqual(sorted(kinds), ['OFFSITE', 'OPEN', 'OUTSIDE', 'OVERLAP', 'SHORT', 'TOONEAR', 'UNPLACED'])
+        self.assertEqual(sorted(kinds), ['BLOCKED', 'OFFSITE', 'OPEN', 'OUTSIDE', 'OVERLAP', 'SHORT', 'TOONEAR', 'UNPLACED'])
 
     def test_names_that_are_words_of_lines(self):
-        line = 'SHORT NET TERM POWER NET 1 2 3 4 NET OBS -5 -6 7 8'
-        self.assertEqual(self.violations(f'{line}\nviolations 1\n')[0].names, ('NET', 'TERM POWER NET', '1 2 3 4', 'NET OBS', '-5 -6 7 8'))
+        for line, names in (
+                ('SHORT NET TERM POWER NET 1 2 3 4 NET OBS -5 -6 7 8', ('NET', 'TERM POWER NET', '1 2 3 4', 'NET OBS', '-5 -6 7 8')),
+                ('TOONEAR m1 BLOCKAGE 12 1 2 3 4 NET BLOCKAGE 5 6 7 8', ('m1', 'BLOCKAGE 12', '1 2 3 4', 'NET BLOCKAGE', '5 6 7 8')),
+                ('SHORT BLOCKAGE TERM BLOCKAGE 1 1 2 3 4 BLOCKAGE 1 5 6 7 8', ('BLOCKAGE', 'TERM BLOCKAGE 1', '1 2 3 4', 'BLOCKAGE 1', '5 6 7 8'))):
+            with self.subTest(line=line):
+                self.assertEqual(self.violations(f'{line}\nviolations 1\n')[0].names, names)
 
     def test_lists_that_are_refused(self):
         for text, line, why in (
@@ -306,6 +327,8 @@ class LineTests(Room):
                 ('OFFSITE u1\nOFFSITE u1 u2\nviolations 2\n', 2, 'no line of a list of violations'),
                 ('REFUSED 1 8 UnexpectedEnd\n', 1, 'no line of a list of violations'),
                 ('TOONEAR m1 NET a 1 2 3 4 NET b 1 2 3\nviolations 1\n', 1, 'no line of a list of violations'),
+                ('TOONEAR m1 BLOCKAGE b 1 2 3 4 NET b 1 2 3 4\nviolations 1\n', 1, 'no line of a list of violations'),
+                ('BLOCKED u1 u2\nviolations 1\n', 1, 'no line of a list of violations'),
                 (' OFFSITE u1\nviolations 1\n', 1, 'no line of a list of violations')):
             with self.subTest(text=text):
                 with self.assertRaises(Refused) as caught:

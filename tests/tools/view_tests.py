@@ -185,6 +185,28 @@ class PictureTests(ViewCase):
         self.assertIn('PIN p, NET n1: m1 0 400 100 500', pins.titles())
         self.assertIn('PIN q: m1 150 400 250 500', pins.titles())
 
+    def test_blockages_of_both_kinds(self):
+        name = 'check_blockages_of_both_kinds'
+        picture = self.picture(case(name, 'block.def'), case(name, 'cells.lef'), '--violations', case(name, 'stdout'))
+        self.assertEqual(picture.metal('m1', 'blockage'), [(200, 1200, 300, 1300), (60, 400, 160, 800)])
+        self.assertEqual(picture.metal('m2', 'blockage'), [(0, 0, 800, 2000)])
+        group = picture.group('placement-blockages')
+        self.assertEqual([sides(rect) for rect in group.findall(f'{SVG}rect')], [(650, 0, 800, 2000), (0, 0, 10, 10), (100, 0, 150, 150)])
+        self.assertIn('blockage 2: m1 60 400 160 800', picture.titles())
+        self.assertIn('placement blockage 4: 100 0 150 150', picture.titles())
+        self.assertEqual([text.text for text in picture.group('key').findall(f'{SVG}text')], [
+            'm2', 'm1', 'm1 blockage', 'm2 blockage', 'placement blockage', 'component', 'row', 'violation'])
+        # (each is hatched in the colour of its layer)
+        fills = {group.get('fill') for layer in picture.root.iter(f'{SVG}g') for group in layer.findall(f"{SVG}g[@class='blockage']")}
+        colours = {pattern.get('id'): pattern.find(f'{SVG}rect').get('fill') for pattern in picture.root.iter(f'{SVG}pattern')}
+        self.assertEqual({colours[fill[len('url(#'):-1]] for fill in fills}, {'#2457d6', '#d62222'})
+        self.assertIn(group.get('fill'), {f'url(#{name})' for name in colours})
+        blocked = [mark for mark in picture.marks() if mark[1] == 'BLOCKED']
+        self.assertEqual(blocked, [
+            (3, 'BLOCKED', [(0, 0, 150, 150)], [(0, 0, 400, 2000), (0, 0, 10, 10), (100, 0, 150, 150)], None),
+            (4, 'BLOCKED', [(650, 0, 700, 2000)], [(300, 0, 700, 2000), (650, 0, 800, 2000)], None)])
+        self.assertIn('3: BLOCKED u1 (u1 stands in placement blockage 4)', picture.listed())
+
     def test_rows_and_their_sites(self):
         picture = self.picture(example('rows.def'), STANDARD)
         self.assertEqual([sides(rect) for rect in picture.group('rows').findall(f'{SVG}rect')], [(0, 0, 1600, 2000), (0, 2000, 1600, 4000)])
@@ -325,6 +347,18 @@ class MarkerTests(ViewCase):
             ('OFFSITE', ['box: (0.399,0;0.799,2)']), ('OVERLAP', ['box: (0.399,0;0.4,2)']),
             ('TOONEAR', ['box: (0.35,0.85;0.449,1.05)', 'edge: (0.35,0.95;0.449,0.95)'])])
 
+    def test_components_in_placement_blockages(self):
+        markers = self.markers_of('kinds_stand_in_order_with_placement_blockages')
+        self.assertEqual(markers.categories, ['UNPLACED', 'OUTSIDE', 'OFFSITE', 'OVERLAP', 'BLOCKED'])
+        self.assertEqual(markers.places()[-2:], [('BLOCKED', ['box: (0,0;0.002,0.002)']), ('BLOCKED', ['box: (0.7,0;0.799,2)'])])
+        self.assertEqual(markers.items[-2][2][1:], ["text: 'BLOCKED u1'", "text: 'u1 stands in placement blockage 2'"])
+
+    def test_blockages_that_metal_is_too_near_to(self):
+        self.assertEqual(self.markers_of('check_a_layer_blockage_too_near').places(), [
+            ('TOONEAR', ['box: (0.35,0.85;0.38,1)', 'edge: (0.35,0.925;0.38,0.925)']),
+            ('TOONEAR', ['box: (0.42,0.85;0.45,1)', 'edge: (0.45,0.925;0.42,0.925)']),
+            ('OPEN', ['box: (0.45,0.85;0.55,1.05)', 'edge: (0.45,0.95;0.35,0.95)'])])
+
     def test_an_open_pin_of_a_component(self):
         self.assertEqual(self.markers_of('check_an_open_net').places(), [('OPEN', ['box: (0.45,0.85;0.55,1.05)', 'edge: (0.45,0.95;0.35,0.95)'])])
 
@@ -434,7 +468,8 @@ class RefusalTests(ViewCase):
                 (head + 'NETS 1 ;\n- n ( u1 A ) ;\nEND NETS\n', 4, 'there is no component u1'),
                 (head + 'NETS 1 ;\n- n + ROUTED m1 ( 0 0 )\n( 9 9 ) ;\nEND NETS\n', 5, 'neither horizontal nor vertical'),
                 (head + 'NETS 1 ;\n- n + ROUTED m2 ( 0 0 ) V99 ;\n', 4, 'there is no via V99'),
-                (head + 'BLOCKAGES 0 ;\n', 3, 'BLOCKAGES are not supported'),
+                (head + 'BLOCKAGES 1 ;\n- PLACEMENT\n+ SOFT RECT ( 0 0 ) ( 1 1 ) ;\n', 5, 'SOFT of a blockage is not supported'),
+                (head + 'BLOCKAGES 1 ;\n- PLACEMENT ;\n', 4, 'RECT was expected, not ;'),
                 (head + 'ROW r core 0 0 W ;\n', 3, 'a row of orientation W is not supported'),
                 (head, 2, 'the text ends too early'),
                 ('DESIGN top ;\nEND DESIGN\n', 2, 'UNITS DISTANCE MICRONS is missing')):
@@ -458,6 +493,8 @@ class RefusalTests(ViewCase):
                 ('OFFSITE u9', 'there is no component u9'),
                 ('UNPLACED u2', 'component u2 is placed'),
                 ('OVERLAP u1 u2', 'the two components do not overlap'),
+                ('BLOCKED u2', 'u2 is in no placement blockage'),
+                ('TOONEAR m1 TERM u2 Y 650 850 750 1050 BLOCKAGE 1 600 1140 700 1240', 'there is no metal of BLOCKAGE 1'),
                 ('TOONEAR m1 TERM u2 Y 650 850 750 1050 NET n2 600 1141 700 1240', 'there is no metal of NET n2 with the sides 600 1141 700 1240 on m1'),
                 ('TOONEAR m1 TERM u2 A 650 850 750 1050 NET n2 600 1140 700 1240', 'there is no metal of TERM u2 A'),
                 ('TOONEAR m2 TERM u2 Y 650 850 750 1050 NET n2 600 1140 700 1240', 'on m2'),
@@ -471,6 +508,11 @@ class RefusalTests(ViewCase):
                 lines = self.write('lines', f'OPEN n1 u2 A\n{line}\nviolations 2\n')
                 self.refused(2, f'{lines}:2: ', example('unfinished.def'), STANDARD, '--violations', lines, '--markers', 'x.lyrdb')
                 self.refused(2, why, example('unfinished.def'), STANDARD, '--violations', lines, '--markers', 'x.lyrdb')
+
+    def test_a_fixed_component_is_never_blocked(self):
+        name = 'a_fixed_component_in_a_placement_blockage'
+        lines = self.write('lines', 'BLOCKED u1\nviolations 1\n')
+        self.refused(2, f'{lines}:1: u1 may not be moved', case(name, 'block.def'), STANDARD, '--violations', lines, '--svg', 'x.svg')
 
     def test_a_number_that_no_violation_has(self):
         lines = self.write('lines', UNFINISHED_LINES)

@@ -13,7 +13,7 @@ the number of its entries are not judged. Keywords are compared without regard t
 are written.
 """
 from .def_reader import read_design
-from .design import Component, Design, Net, Patch, Pin, Place, Port, Row, Segment, Shape, Tracks, ViaAt
+from .design import Blockage, Component, Design, Net, Patch, Pin, Place, Port, Row, Segment, Shape, Tracks, ViaAt
 from .lef_reader import read_library
 from .library import Layer, Library, Macro, MacroPin, Site, Via
 from .lines import VIOLATION_LINES, Violation, read_violations
@@ -22,6 +22,6 @@ from .rects import ORIENTATIONS, TURNS, Rect, grown, least_box, meets, moved, or
 from .words import Refused, Words, read_text
 
 __all__ = [
-    'Component', 'Design', 'Layer', 'Library', 'Macro', 'MacroPin', 'Net', 'ORIENTATIONS', 'Patch', 'Pin', 'Place', 'Port', 'Rect', 'Refused', 'Row',
-    'Segment', 'Shape', 'Site', 'TURNS', 'Tracks', 'VIOLATION_LINES', 'Via', 'ViaAt', 'Violation', 'Words', 'grown', 'least_box', 'meets',
+    'Blockage', 'Component', 'Design', 'Layer', 'Library', 'Macro', 'MacroPin', 'Net', 'ORIENTATIONS', 'Patch', 'Pin', 'Place', 'Port', 'Rect',
+    'Refused', 'Row', 'Segment', 'Shape', 'Site', 'TURNS', 'Tracks', 'VIOLATION_LINES', 'Via', 'ViaAt', 'Violation', 'Words', 'grown', 'least_box', 'meets',
     'message_of', 'moved', 'ordered', 'read_design', 'read_library', 'read_text', 'read_violations', 'turned']

@@ -1,5 +1,5 @@
 """Reading a DEF text (docs/FORMATS.md, "DEF"); nets and their wiring are read by `net_reader`."""
-from .design import Component, Design, Pin, Place, Port, Row, Tracks
+from .design import Blockage, Component, Design, Pin, Place, Port, Row, Tracks
 from .library import Via, joined_layers
 from .entries import EntryReader
 from .net_reader import NetReader
@@ -45,7 +45,8 @@ class DefReader(EntryReader):
         text, nets = self.text, NetReader(self.text, self.design)
         forms = {'DIVIDERCHAR': self.kept_word, 'BUSBITCHARS': self.kept_word, 'DESIGN': self.design_name, 'UNITS': self.units,
                  'DIEAREA': self.die, 'ROW': self.row, 'TRACKS': self.tracks}
-        sections = {'VIAS': self.via, 'COMPONENTS': self.component, 'PINS': self.pin, 'SPECIALNETS': nets.special_net, 'NETS': nets.net}
+        sections = {'VIAS': self.via, 'COMPONENTS': self.component, 'PINS': self.pin, 'BLOCKAGES': self.blockage,
+                    'SPECIALNETS': nets.special_net, 'NETS': nets.net}
         while (word := text.keyword()) != 'END':
             if word in forms or word in sections:
                 if word in self.seen and word not in ('ROW', 'TRACKS'):
@@ -63,7 +64,7 @@ class DefReader(EntryReader):
                 while text.keyword() != 'ENDEXT':
                     pass
             else:
-                text.refuse('BLOCKAGES are not supported' if word == 'BLOCKAGES' else f'{text.words[text.at - 1]} is no form of a DEF')
+                text.refuse(f'{text.words[text.at - 1]} is no form of a DEF')
         self.end()
         return self.design
 
@@ -245,6 +246,26 @@ class DefReader(EntryReader):
 
         self.clauses(clause)
         self.design.pins[name] = Pin(name, words.get('NET'), words.get('DIRECTION'), words.get('USE'), ports)
+
+    def blockage(self):
+        """Takes an entry of BLOCKAGES, and keeps it unless its layer has no metal."""
+        text, layer, rects = self.text, None, []
+        if (word := text.keyword()) == 'LAYER':
+            layer = self.layer()
+        elif word != 'PLACEMENT':
+            text.unexpected('LAYER or PLACEMENT')
+        while text.peek() == '+':
+            text.take()
+            if text.keyword() != 'PUSHDOWN':
+                text.refuse(f'{text.words[text.at - 1]} of a blockage is not supported')
+        while not rects or text.peek() != ';':
+            if text.peek() == 'POLYGON':
+                text.refuse('POLYGON of a blockage is not supported', text.at)
+            text.expect('RECT')
+            rects.append(text.corners(self.point))
+        text.expect(';')
+        if layer is None or layer.has_metal():
+            self.design.blockages.append(Blockage(layer and layer.name, rects))
 
     def port_layer(self, port):
         text = self.text

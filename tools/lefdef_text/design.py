@@ -52,6 +52,12 @@ class Pin(NamedTuple):
     ports: List[Port]
 
 
+class Blockage(NamedTuple):
+    """An entry of BLOCKAGES on a layer with metal; the layer is None where it keeps components out, and no metal."""
+    layer: Optional[str]
+    rects: List[Rect]
+
+
 class Segment(NamedTuple):
     """A straight wire between two points, with its width and how far it reaches past each of them."""
     layer: str
@@ -90,7 +96,7 @@ class Net:
 
 class Shape(NamedTuple):
     """A rectangle of metal. Its owner is written as lefdef prints it. Its role is PIN (of the component `of`, or of the design where
-    that is ''), OBS or WIRE, and its name the pin's, or the number of the wire in its net."""
+    that is ''), OBS, BLOCKAGE or WIRE, and its name the pin's, or the number of the wire in its net or of the blockage."""
     layer: str
     rect: Rect
     owner: str
@@ -109,6 +115,7 @@ class Design:
         self.vias: Dict[str, Via] = dict(library.vias)
         self.components: Dict[str, Component] = {}
         self.pins: Dict[str, Pin] = {}
+        self.blockages: List[Blockage] = []
         self.nets: Dict[str, Net] = {}
         self.special: Dict[str, Net] = {}
         self.net_of: Dict[Tuple[str, str], str] = {}
@@ -120,6 +127,14 @@ class Design:
         macro = component.macro
         across, along = (macro.height, macro.width) if orientation in ('W', 'E', 'FW', 'FE') else (macro.width, macro.height)
         return Rect(x, y, x + across, y + along)
+
+    def is_movable(self, component):
+        """Returns whether a component is one that `legalise` may move."""
+        return component.status in ('PLACED', 'UNPLACED') and component.macro.site is not None
+
+    def placement_rects(self):
+        """Returns the rectangles of placement blockages, each with the number of its blockage."""
+        return [(number, rect) for number, blockage in enumerate(self.blockages, 1) if blockage.layer is None for rect in blockage.rects]
 
     def turned_macro(self, macro, orientation):
         """Returns the shapes of a macro in an orientation, each with its pin (or '' for obstructions), and their least box."""
@@ -161,6 +176,12 @@ class Design:
                 rect = moved(turned(rect, 0, 0, port.place.orientation), port.place.x, port.place.y)
                 yield Shape(layer, rect, owner, 'PIN', '', pin.name)
 
+    def blockage_shapes(self):
+        """Yields the rectangles of the blockages of layers."""
+        for number, blockage in enumerate(self.blockages, 1):
+            for rect in blockage.rects if blockage.layer is not None else ():
+                yield Shape(blockage.layer, rect, f'BLOCKAGE {number}', 'BLOCKAGE', '', str(number))
+
     def wire_rects(self, wire):
         """Returns the layers and rectangles of a wire."""
         if isinstance(wire, ViaAt):
@@ -189,6 +210,9 @@ class Design:
             for shape in self.pin_shapes(pin):
                 if window is None or meets(shape.rect, window):
                     yield shape
+        for shape in self.blockage_shapes():
+            if window is None or meets(shape.rect, window):
+                yield shape
         for entries in (self.nets, self.special):
             for net in entries.values():
                 owner = f'NET {net.name}'

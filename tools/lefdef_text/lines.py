@@ -7,13 +7,14 @@ from .words import Refused, read_text
 
 NAME = r'\S+'
 SIDES = r'-?[0-9]+ -?[0-9]+ -?[0-9]+ -?[0-9]+'
-OWNER = rf'NET {NAME}|TERM {NAME} {NAME}|POWER|GROUND|OBS {NAME}'
+OWNER = rf'NET {NAME}|TERM {NAME} {NAME}|POWER|GROUND|OBS {NAME}|BLOCKAGE [0-9]+'
 PAIR = rf'({NAME}) ({OWNER}) ({SIDES}) ({OWNER}) ({SIDES})'
 VIOLATION_LINES = {
     'UNPLACED': re.compile(rf'UNPLACED ({NAME})', re.ASCII),
     'OUTSIDE': re.compile(rf'OUTSIDE ({NAME})', re.ASCII),
     'OFFSITE': re.compile(rf'OFFSITE ({NAME})', re.ASCII),
     'OVERLAP': re.compile(rf'OVERLAP ({NAME}) ({NAME})', re.ASCII),
+    'BLOCKED': re.compile(rf'BLOCKED ({NAME})', re.ASCII),
     'SHORT': re.compile(rf'SHORT {PAIR}', re.ASCII),
     'TOONEAR': re.compile(rf'TOONEAR {PAIR}', re.ASCII),
     'OPEN': re.compile(rf'OPEN ({NAME}) ({NAME}) ({NAME})', re.ASCII),

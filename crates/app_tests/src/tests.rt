@@ -1,5 +1,6 @@
 //! What no clause states: the words of lines, cuts of streams, and that writing goes on and stops.
 
+mod blockages;
 mod input;
 mod metal;
 

@@ -1,7 +1,7 @@
 -- Kinds of violations, and the components that they name.
 use Rattle.std.specs.Prelude.{ℕ, Bool, false, ◌||◌, ◌==◌, List, codes, bytes_eq}
 use Rattle.leg_block.specs.declared.fault.Fault.{Fault}
-use Rattle.leg_block.specs.declared.fault.Fault.TheVariants.{Unplaced, Outside, OffSite, Overlap, Short, TooNear, OpenNet}
+use Rattle.leg_block.specs.declared.fault.Fault.TheVariants.{Unplaced, Outside, OffSite, Overlap, Blocked, Short, TooNear, OpenNet}
 
 -- the kind of a violation: the first word of its line
 abbrev pub kind_of : Fault → List ℕ
@@ -9,6 +9,7 @@ kind_of (Unplaced c) = codes "UNPLACED"
 kind_of (Outside c) = codes "OUTSIDE"
 kind_of (OffSite c) = codes "OFFSITE"
 kind_of (Overlap a b) = codes "OVERLAP"
+kind_of (Blocked c) = codes "BLOCKED"
 kind_of (Short i j) = codes "SHORT"
 kind_of (TooNear i j) = codes "TOONEAR"
 kind_of (OpenNet n k) = codes "OPEN"
@@ -23,6 +24,7 @@ names c (Unplaced a) = c == a
 names c (Outside a) = c == a
 names c (OffSite a) = c == a
 names c (Overlap a b) = (c == a) || (c == b)
+names c (Blocked a) = c == a
 names c (Short i j) = false
 names c (TooNear i j) = false
 names c (OpenNet n k) = false

@@ -11,8 +11,8 @@ use std::alloc::{AllocError, Allocator};
 use std::collections::BTreeSet;
 
 /// The kinds of violations, in the order in which they are listed.
-pub const KINDS: [&str; 7] = [
-    "UNPLACED", "OUTSIDE", "OFFSITE", "OVERLAP", "SHORT", "TOONEAR", "OPEN",
+pub const KINDS: [&str; 8] = [
+    "UNPLACED", "OUTSIDE", "OFFSITE", "OVERLAP", "BLOCKED", "SHORT", "TOONEAR", "OPEN",
 ];
 
 /// The kind of a violation: the first word of its line.
@@ -24,6 +24,7 @@ pub fn kind_of(violation: &Fault) -> &'static str
         Fault::Outside(_) => "OUTSIDE",
         Fault::OffSite(_) => "OFFSITE",
         Fault::Overlap(..) => "OVERLAP",
+        Fault::Blocked(_) => "BLOCKED",
         Fault::Short(..) => "SHORT",
         Fault::TooNear(..) => "TOONEAR",
         Fault::OpenNet(..) => "OPEN",
@@ -63,7 +64,7 @@ fn add_named<A: Allocator + Copy>(
     ensures { OnOk result ((c : ℕ) → contains nat_cmp found.new c ≡ (contains nat_cmp found.old c || names c violation.now)) }
 {
     match *violation {
-        Fault::Unplaced(c) | Fault::Outside(c) | Fault::OffSite(c) => {
+        Fault::Unplaced(c) | Fault::Outside(c) | Fault::OffSite(c) | Fault::Blocked(c) => {
             found.insert(c)?;
         }
         Fault::Overlap(a, b) => {

@@ -122,6 +122,54 @@ END DESIGN
 "
 }
 
+/// Two inverters in a net, and blockages of both kinds between them, in the bytes that are printed of them.
+pub fn around_blockages() -> &'static [u8] {
+    b"VERSION 5.8 ;
+DESIGN top ;
+UNITS DISTANCE MICRONS 1000 ;
+DIEAREA ( 0 0 ) ( 1200 2000 ) ;
+ROW r0 core 0 0 N DO 6 BY 1 STEP 200 0 ;
+TRACKS X 100 DO 6 STEP 200 LAYER m2 ;
+TRACKS Y 100 DO 10 STEP 200 LAYER m1 ;
+COMPONENTS 2 ;
+- u1 INV + PLACED ( 0 0 ) N ;
+- u2 INV + PLACED ( 800 0 ) N ;
+END COMPONENTS
+BLOCKAGES 2 ;
+- PLACEMENT RECT ( 400 0 ) ( 800 2000 ) ;
+- LAYER m1 RECT ( 500 700 ) ( 700 1200 ) ;
+END BLOCKAGES
+NETS 1 ;
+- n1 ( u1 Y ) ( u2 A ) ;
+END NETS
+END DESIGN
+"
+}
+
+/// The same, where the second inverter is in the placement blockage, and one of its pins touches the other one.
+pub fn in_a_blockage() -> &'static [u8] {
+    b"VERSION 5.8 ;
+DESIGN top ;
+UNITS DISTANCE MICRONS 1000 ;
+DIEAREA ( 0 0 ) ( 1200 2000 ) ;
+ROW r0 core 0 0 N DO 6 BY 1 STEP 200 0 ;
+TRACKS X 100 DO 6 STEP 200 LAYER m2 ;
+TRACKS Y 100 DO 10 STEP 200 LAYER m1 ;
+COMPONENTS 2 ;
+- u1 INV + PLACED ( 0 0 ) N ;
+- u2 INV + PLACED ( 400 0 ) N ;
+END COMPONENTS
+BLOCKAGES 2 ;
+- PLACEMENT RECT ( 400 0 ) ( 600 2000 ) ;
+- LAYER m1 RECT ( 450 700 ) ( 550 1200 ) ;
+END BLOCKAGES
+NETS 1 ;
+- n1 ( u1 Y ) ( u2 A ) ;
+END NETS
+END DESIGN
+"
+}
+
 /// Two inverters in a net with its wire, in the bytes that are printed of it.
 pub fn wired() -> &'static [u8] {
     b"VERSION 5.8 ;
@@ -188,6 +236,11 @@ END COMPONENTS
 PINS 1 ;
 - p + NET n1 + DIRECTION INPUT + USE SIGNAL + PORT + LAYER m2 ( 0 0 ) ( 100 100 ) + PLACED ( 2000 1800 ) N ;
 END PINS
+BLOCKAGES 3 ;
+- LAYER m1 RECT ( 380 800 ) ( 420 1000 ) ;
+- PLACEMENT RECT ( 900 0 ) ( 1000 2000 ) RECT ( 1200 0 ) ( 1300 2000 ) ;
+- LAYER m2 RECT ( 2150 1800 ) ( 2250 1900 ) RECT ( 2300 0 ) ( 2400 100 ) ;
+END BLOCKAGES
 SPECIALNETS 1 ;
 - P ( u1 VDD ) ( u2 VDD ) + USE POWER
   + ROUTED m1 100 ( 1700 400 25 ) ( 1900 400 )

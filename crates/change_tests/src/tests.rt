@@ -6,7 +6,9 @@ mod commands;
 mod two_nets;
 mod wires;
 
-use block_texts::{around_an_obstruction, net_at_one_place, two_at_one_place};
+use block_texts::{
+    around_an_obstruction, around_blockages, in_a_blockage, net_at_one_place, two_at_one_place,
+};
 use changes::Change;
 use commands::Asked;
 use leg_app::Command;
@@ -75,23 +77,35 @@ fn a_legaliser_without_memory(rt: HostRuntime) {
             around_an_obstruction()
         )
     );
+    assert!(rt;
+        goes_right(
+            refusing,
+            refusing,
+            Trial::Give(Change::Legalise(&[0, 200])),
+            in_a_blockage()
+        )
+    );
 }
 
 #[test]
 fn a_router_without_memory(rt: HostRuntime) {
     let refusing = &RefusingAlloc::new(rt.alloc());
-    assert!(rt;
-        goes_right(
-            refusing,
-            refusing,
-            Trial::Give(Change::Route(0)),
-            around_an_obstruction()
-        )
-    );
+    for def in [around_an_obstruction(), around_blockages()] {
+        assert!(rt; goes_right(refusing, refusing, Trial::Give(Change::Route(0)), def));
+    }
     // The inverters overlap, and so does the metal of their two signal pins.
     for def in [two_at_one_place(), net_at_one_place()] {
         assert!(rt; goes_right(refusing, refusing, Trial::Give(Change::Route(3)), def));
     }
+    // The second inverter is in a blockage, and its pin touches another one.
+    assert!(rt;
+        goes_right(
+            refusing,
+            refusing,
+            Trial::Give(Change::Route(2)),
+            in_a_blockage()
+        )
+    );
 }
 
 #[test]
@@ -145,4 +159,10 @@ fn commands_on_a_net_at_one_place_without_memory(rt: HostRuntime) {
 fn commands_around_an_obstruction_without_memory(rt: HostRuntime) {
     let refusing = &RefusingAlloc::new(rt.alloc());
     assert!(rt; are_commands_right(refusing, rt.alloc(), refusing, around_an_obstruction()));
+}
+
+#[test]
+fn commands_in_a_blockage_without_memory(rt: HostRuntime) {
+    let refusing = &RefusingAlloc::new(rt.alloc());
+    assert!(rt; are_commands_right(refusing, rt.alloc(), refusing, in_a_blockage()));
 }

@@ -58,9 +58,26 @@ fn texts_without_memory(rt: HostRuntime) {
     ] {
         assert!(rt; texts::goes_right(refusing, refusing, TextCall::Tokens, def));
         assert!(rt; texts::goes_right(refusing, refusing, TextCall::DefUnits, def));
-        assert!(rt; texts::goes_right(refusing, refusing, TextCall::CheckTexts, def));
         assert!(rt; goes_right(refusing, refusing, Trial::Read, def));
     }
+}
+
+#[test]
+fn checks_of_texts_without_memory(rt: HostRuntime) {
+    let refusing = &RefusingAlloc::new(rt.alloc());
+    for def in [
+        two_at_one_place(),
+        around_an_obstruction(),
+        net_at_one_place(),
+    ] {
+        assert!(rt; texts::goes_right(refusing, refusing, TextCall::CheckTexts, def));
+    }
+}
+
+#[test]
+fn a_check_of_every_form_without_memory(rt: HostRuntime) {
+    let refusing = &RefusingAlloc::new(rt.alloc());
+    assert!(rt; texts::goes_right(refusing, refusing, TextCall::CheckTexts, every_form()));
 }
 
 #[test]

@@ -12,7 +12,7 @@ use Rattle.leg_cells.specs.declared.records.Layer.{Layer}
 use Rattle.leg_cells.specs.declared.records.Shape.{Shape}
 use Rattle.leg_cells.specs.Records.{Contents}
 use Rattle.leg_cells.specs.Sound.{IsSound}
-use Rattle.leg_block.specs.Layers.{is_metal}
+use Rattle.leg_block.specs.Layers.{is_metal, has_metal}
 use Rattle.leg_block.specs.Records.{DesignContents}
 use Rattle.leg_block.specs.WellFormedParts.{IsMetalShape}
 use Rattle.leg_section.specs.Layers.{layer_named_at}
@@ -39,8 +39,11 @@ metal_there library layer None is metal = absurd (false≢true metal)
 metal_there library layer (Some l) is metal = slice_get_within library.layers layer l is
 
 module _ (design : DesignContents) (sound : IsSound design.library) where
+  pub with_metal_named : (layer : ℕ) → has_metal design.library layer ≡ true → IsLayerName design.library layer (layer_name design layer)
+  with_metal_named layer metal = layer_named design layer sound (metal_there design.library layer (slice_get design.library.layers layer) refl metal)
+
   pub metal_named : (shape : Shape) → IsMetalShape design.library shape → IsLayerName design.library shape.layer (layer_name design shape.layer)
-  metal_named shape is = layer_named design shape.layer sound (metal_there design.library shape.layer (slice_get design.library.layers shape.layer) refl is.metal)
+  metal_named shape is = with_metal_named shape.layer is.metal
 
   pub layer_again : (layer : ℕ) (rest : Words) → IsLayerName design.library layer (layer_name design layer) → layer_named_at design.library (layer_name design layer ∷ rest) ≡ Some (layer, rest)
   unfolding layer_named_at name_at next_at

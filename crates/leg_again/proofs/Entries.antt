@@ -5,24 +5,27 @@ use Rattle.leg_text.specs.Spaced.{line}
 use Rattle.leg_cells.specs.Records.{ViaSaid}
 use Rattle.leg_cells.specs.Sound.{IsSound}
 use Rattle.leg_block.specs.declared.records.Component.{Component}
-use Rattle.leg_block.specs.Records.{DesignContents, PinSaid, NetSaid, design_via_names, component_names, pin_names}
-use Rattle.leg_block.specs.WellFormedParts.{IsDesignVia, IsComponent, IsPin}
+use Rattle.leg_block.specs.Records.{DesignContents, PinSaid, BlockageSaid, NetSaid, design_via_names, component_names, pin_names}
+use Rattle.leg_block.specs.WellFormedParts.{IsDesignVia, IsComponent, IsPin, IsBlockage}
 use Rattle.leg_block.specs.WellFormed.{IsWellFormed}
 use Rattle.leg_floorplan.specs.Via.{via_entry}
 use Rattle.leg_floorplan.specs.Component.{component_entry}
 use Rattle.leg_floorplan.specs.Pin.{pin_entry}
+use Rattle.leg_floorplan.specs.Blockage.{blockage_entry}
 use Rattle.leg_nets.specs.Net.{net_entry}
 use Rattle.leg_print.specs.Text.Vias.{via_words}
 use Rattle.leg_print.specs.Text.Components.{component_words}
 use Rattle.leg_print.specs.Text.Pins.{pin_words}
+use Rattle.leg_print.specs.Text.Blockages.{blockage_words}
 use Rattle.leg_print.specs.Text.Nets.{net_text}
 use Rattle.leg_again.specs.Known.{known_of}
-use Rattle.leg_again.specs.PrintedNames.{StayOne, via_entry_names, component_entry_names, pin_entry_names, net_entry_names}
+use Rattle.leg_again.specs.PrintedNames.{StayOne, via_entry_names, component_entry_names, pin_entry_names, blockage_entry_names, net_entry_names}
 use Rattle.leg_again.specs.SaysForm.{SaysForm}
 use Rattle.leg_again.proofs.Named.{not_before, middle, fewer_before}
 use Rattle.leg_again.proofs.Vias.{via_line}
 use Rattle.leg_again.proofs.Components.{component_line}
 use Rattle.leg_again.proofs.Pins.{pin_line}
+use Rattle.leg_again.proofs.Blockages.{fewer_rects, blockage_line}
 use Rattle.leg_again.proofs.Nets.{HasParts, one_net_line}
 use Rattle.leg_again.proofs.SectionForms.{nets_are, special_are}
 
@@ -46,6 +49,13 @@ module _ (design : DesignContents) (sound : IsSound design.library) (well : IsWe
       pin_line design sound pin (middle (IsPin design.library) design.pins before pin after is well.pins.each) one before
       (omega (arith, fewer_before design.pins before pin after is, well.pins.few))
       (not_before (λ (p : PinSaid). p.name) before pin after (subst (λ ps. AreApart (pin_names ps)) is well.pins.apart))
+
+  pub blockage_entry_said : (before after : List BlockageSaid) (blockage : BlockageSaid) → design.blockages ≡ before ++ (blockage ∷ after) → StayOne (blockage_entry_names design blockage)
+      → SaysForm (blockage_entry design.library before) (line (blockage_words design blockage)) (before ++ blockage ∷ [])
+  blockage_entry_said before after blockage is one =
+      blockage_line design sound blockage (middle (IsBlockage design.library) design.blockages before blockage after is well.blockages.each) one before
+      (omega (arith, fewer_before design.blockages before blockage after is, well.blockages.few))
+      (fewer_rects design.blockages before blockage after is well.blockages.few_rects)
 
   has : HasParts design
   has = record { sound = sound; vias = well.vias; components = well.components; pins = well.pins }

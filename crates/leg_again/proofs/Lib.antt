@@ -19,6 +19,7 @@ pub mod Sections
 pub mod Clauses
 pub mod Vias
 pub mod Pins
+pub mod Blockages
 -- Wires
 pub mod GoodVias
 pub mod Wires

@@ -7,14 +7,15 @@ use Rattle.leg_lex.specs.declared.limits.TheConstants.{NUMBER_LIMIT}
 use Rattle.leg_cells.specs.Records.{ViaSaid}
 use Rattle.leg_block.specs.declared.limits.TheConstants.{PART_LIMIT}
 use Rattle.leg_block.specs.declared.records.Component.{Component}
-use Rattle.leg_block.specs.Records.{DesignContents, PinSaid, NetSaid, terminal_count}
-use Rattle.leg_block.specs.WellFormedParts.{AreComponents, AreVias, ArePins}
+use Rattle.leg_block.specs.Records.{DesignContents, PinSaid, BlockageSaid, NetSaid, terminal_count}
+use Rattle.leg_block.specs.WellFormedParts.{AreComponents, AreVias, ArePins, AreBlockages}
 use Rattle.leg_block.specs.WellFormedNets.{IsInSomeNet, HasNets}
-use Rattle.leg_design.specs.Parts.{Appearances, DesignParts, vias_form, components_form, pins_form, nets_form, special_form}
+use Rattle.leg_design.specs.Parts.{Appearances, DesignParts, vias_form, components_form, pins_form, blockages_form, nets_form, special_form}
 use Rattle.leg_design.specs.Form.{def_form_at, design_of}
 use Rattle.leg_print.specs.Text.Vias.{via_words}
 use Rattle.leg_print.specs.Text.Components.{component_words}
 use Rattle.leg_print.specs.Text.Pins.{pin_words}
+use Rattle.leg_print.specs.Text.Blockages.{blockage_words}
 use Rattle.leg_print.specs.Text.Nets.{net_words}
 use Rattle.leg_print.specs.Text.Whole.{net_section}
 use Rattle.leg_again.proofs.Facts.{not_above}
@@ -22,6 +23,7 @@ use Rattle.leg_again.specs.PrintedNames.{StayOne, via_entry_names, component_ent
 use Rattle.leg_again.proofs.Vias.{vias_again}
 use Rattle.leg_again.proofs.Components.{components_again}
 use Rattle.leg_again.proofs.Pins.{pins_again}
+use Rattle.leg_again.proofs.Blockages.{blockages_again}
 use Rattle.leg_again.proofs.Nets.{HasParts, AreEntries, nets_again}
 use Rattle.leg_again.proofs.NoLonePins.{no_lone_pins}
 use Rattle.leg_again.proofs.Sections.{section_words}
@@ -33,59 +35,78 @@ has_some [] = false
 has_some (x ∷ xs) = true
 
 -- which sections have appeared, after the forms before them
-abbrev pub appearances : Bool → Bool → Bool → Bool → Bool → Appearances
-appearances vias components pins special nets = record { name = true; units = true; die = true; vias = vias; components = components; pins = pins; nets = nets; special = special }
+abbrev pub appearances : Bool → Bool → Bool → Bool → Bool → Bool → Appearances
+appearances vias components pins blockages special nets = record {
+  name = true;
+  units = true;
+  die = true;
+  vias = vias;
+  components = components;
+  pins = pins;
+  blockages = blockages;
+  nets = nets;
+  special = special;
+}
 
 -- what the sections gave so far
-abbrev pub said_parts : DesignContents → Appearances → List ViaSaid → List Component → List PinSaid → List NetSaid → List NetSaid → DesignParts
-said_parts design forms vias components pins special nets = record {
+abbrev pub said_parts : DesignContents → Appearances → List ViaSaid → List Component → List PinSaid → List BlockageSaid → List NetSaid → List NetSaid → DesignParts
+said_parts design forms vias components pins blockages special nets = record {
   has = forms;
-  design = record design { vias = vias; components = components; pins = pins; nets = nets; special = special };
+  design = record design { vias = vias; components = components; pins = pins; blockages = blockages; nets = nets; special = special };
 }
 
 module _ (design : DesignContents) (has : HasParts design) where
   pub vias_lead : (vias : List ViaSaid) → AreVias design.library vias → length vias ≤ NUMBER_LIMIT → StayOne (flat_map (via_entry_names design) vias)
-      → Leads (said_parts design (appearances false false false false false) [] [] [] [] []) (section_words (codes "VIAS") (via_words design) vias)
-      (said_parts design (appearances (has_some vias) false false false false) vias [] [] [] [])
+      → Leads (said_parts design (appearances false false false false false false) [] [] [] [] [] []) (section_words (codes "VIAS") (via_words design) vias)
+      (said_parts design (appearances (has_some vias) false false false false false) vias [] [] [] [] [])
   unfolding def_form_at vias_form
-  vias_lead [] are few one = leads_nil (said_parts design (appearances false false false false false) [] [] [] [] [])
+  vias_lead [] are few one = leads_nil (said_parts design (appearances false false false false false false) [] [] [] [] [] [])
   vias_lead (via ∷ vias) are few one =
       leads_form _ (section_words (codes "VIAS") (via_words design) (via ∷ vias)) _ (omega arith) (λ rest. refl)
       (λ rest. rw (vias_again design via vias has.sound are few one rest) refl)
 
   pub components_lead : (v : Bool) (vias : List ViaSaid) (components : List Component) → AreComponents design.library components → StayOne (flat_map (component_entry_names design) components)
-      → Leads (said_parts design (appearances v false false false false) vias [] [] [] []) (section_words (codes "COMPONENTS") (component_words design) components)
-      (said_parts design (appearances v (has_some components) false false false) vias components [] [] [])
+      → Leads (said_parts design (appearances v false false false false false) vias [] [] [] [] []) (section_words (codes "COMPONENTS") (component_words design) components)
+      (said_parts design (appearances v (has_some components) false false false false) vias components [] [] [] [])
   unfolding def_form_at components_form
-  components_lead v vias [] are one = leads_nil (said_parts design (appearances v false false false false) vias [] [] [] [])
+  components_lead v vias [] are one = leads_nil (said_parts design (appearances v false false false false false) vias [] [] [] [] [])
   components_lead v vias (component ∷ components) are one =
       leads_form _ (section_words (codes "COMPONENTS") (component_words design) (component ∷ components)) _ (omega arith) (λ rest. refl)
       (λ rest. rw (components_again design component components has.sound are one rest) refl)
 
   pub pins_lead : (v c : Bool) (vias : List ViaSaid) (components : List Component) (pins : List PinSaid) → ArePins design.library pins → StayOne (flat_map (pin_entry_names design) pins)
-      → Leads (said_parts design (appearances v c false false false) vias components [] [] []) (section_words (codes "PINS") (pin_words design) pins)
-      (said_parts design (appearances v c (has_some pins) false false) vias components pins [] [])
+      → Leads (said_parts design (appearances v c false false false false) vias components [] [] [] []) (section_words (codes "PINS") (pin_words design) pins)
+      (said_parts design (appearances v c (has_some pins) false false false) vias components pins [] [] [])
   unfolding def_form_at pins_form
-  pins_lead v c vias components [] are one = leads_nil (said_parts design (appearances v c false false false) vias components [] [] [])
+  pins_lead v c vias components [] are one = leads_nil (said_parts design (appearances v c false false false false) vias components [] [] [] [])
   pins_lead v c vias components (pin ∷ pins) are one =
       leads_form _ (section_words (codes "PINS") (pin_words design) (pin ∷ pins)) _ (omega arith) (λ rest. refl)
       (λ rest. rw (pins_again design pin pins has.sound are one rest) refl)
 
-  pub special_lead : (v c p : Bool) (special : List NetSaid) → AreEntries design true special [] → StayOne (flat_map (net_entry_names design) special)
-      → Leads (said_parts design (appearances v c p false false) design.vias design.components design.pins [] []) (section_words (net_section true) (net_words design true) special)
-      (said_parts design (appearances v c p (has_some special) false) design.vias design.components design.pins special [])
+  pub blockages_lead : (v c p : Bool) (vias : List ViaSaid) (components : List Component) (pins : List PinSaid) (blockages : List BlockageSaid) → AreBlockages design.library blockages
+      → Leads (said_parts design (appearances v c p false false false) vias components pins [] [] []) (section_words (codes "BLOCKAGES") (blockage_words design) blockages)
+      (said_parts design (appearances v c p (has_some blockages) false false) vias components pins blockages [] [])
+  unfolding def_form_at blockages_form
+  blockages_lead v c p vias components pins [] are = leads_nil (said_parts design (appearances v c p false false false) vias components pins [] [] [])
+  blockages_lead v c p vias components pins (blockage ∷ blockages) are =
+      leads_form _ (section_words (codes "BLOCKAGES") (blockage_words design) (blockage ∷ blockages)) _ (omega arith) (λ rest. refl)
+      (λ rest. rw (blockages_again design blockage blockages has.sound are rest) refl)
+
+  pub special_lead : (v c p b : Bool) (special : List NetSaid) → AreEntries design true special [] → StayOne (flat_map (net_entry_names design) special)
+      → Leads (said_parts design (appearances v c p b false false) design.vias design.components design.pins design.blockages [] []) (section_words (net_section true) (net_words design true) special)
+      (said_parts design (appearances v c p b (has_some special) false) design.vias design.components design.pins design.blockages special [])
   unfolding def_form_at special_form
-  special_lead v c p [] are one = leads_nil (said_parts design (appearances v c p false false) design.vias design.components design.pins [] [])
-  special_lead v c p (net ∷ nets) are one =
+  special_lead v c p b [] are one = leads_nil (said_parts design (appearances v c p b false false) design.vias design.components design.pins design.blockages [] [])
+  special_lead v c p b (net ∷ nets) are one =
       leads_form _ (section_words (net_section true) (net_words design true) (net ∷ nets)) _ (omega arith) (λ rest. refl)
       (λ rest. rw (nets_again design has true net nets [] are one rest) refl)
 
-  pub nets_lead : (v c p s : Bool) (special nets : List NetSaid) → AreEntries design false nets special → StayOne (flat_map (net_entry_names design) nets)
-      → Leads (said_parts design (appearances v c p s false) design.vias design.components design.pins special []) (section_words (net_section false) (net_words design false) nets)
-      (said_parts design (appearances v c p s (has_some nets)) design.vias design.components design.pins special nets)
+  pub nets_lead : (v c p b s : Bool) (special nets : List NetSaid) → AreEntries design false nets special → StayOne (flat_map (net_entry_names design) nets)
+      → Leads (said_parts design (appearances v c p b s false) design.vias design.components design.pins design.blockages special []) (section_words (net_section false) (net_words design false) nets)
+      (said_parts design (appearances v c p b s (has_some nets)) design.vias design.components design.pins design.blockages special nets)
   unfolding def_form_at nets_form
-  nets_lead v c p s special [] are one = leads_nil (said_parts design (appearances v c p s false) design.vias design.components design.pins special [])
-  nets_lead v c p s special (net ∷ nets) are one =
+  nets_lead v c p b s special [] are one = leads_nil (said_parts design (appearances v c p b s false) design.vias design.components design.pins design.blockages special [])
+  nets_lead v c p b s special (net ∷ nets) are one =
       leads_form _ (section_words (net_section false) (net_words design false) (net ∷ nets)) _ (omega arith) (λ rest. refl)
       (λ rest. rw (nets_again design has false net nets special are one rest) refl)
 
@@ -108,10 +129,10 @@ module _ (design : DesignContents) (has : HasParts design) where
 from_zero : (k : ℕ) → k ≡ 0 + k
 from_zero k = omega arith
 
-pub design_said : (design : DesignContents) (v c p s n : Bool) → HasNets design
-    → design_of (said_parts design (appearances v c p s n) design.vias design.components design.pins design.special design.nets) ≡ Some design
+pub design_said : (design : DesignContents) (v c p b s n : Bool) → HasNets design
+    → design_of (said_parts design (appearances v c p b s n) design.vias design.components design.pins design.blockages design.special design.nets) ≡ Some design
 unfolding design_of
-design_said design v c p s n nets =
+design_said design v c p b s n nets =
     rw (
       no_lone_pins (record { nets = design.nets; special = design.special }) 0 design.pins
           (λ k pin is. subst (λ i. IsInSomeNet (design.nets ++ design.special) i pin.net_name) (from_zero k) (nets.lone k pin is)),

@@ -24,11 +24,12 @@ use Rattle.leg_print.specs.Text.Tracks.{track_words}
 use Rattle.leg_print.specs.Text.Vias.{via_words}
 use Rattle.leg_print.specs.Text.Components.{component_words}
 use Rattle.leg_print.specs.Text.Pins.{pin_words}
+use Rattle.leg_print.specs.Text.Blockages.{blockage_words}
 use Rattle.leg_print.specs.Text.Nets.{net_words}
 use Rattle.leg_print.specs.Text.Sections.{end_words, section_text}
-use Rattle.leg_print.specs.Text.Whole.{rows_text, tracks_text, vias_text, components_text, pins_text, nets_text, net_section, design_text}
+use Rattle.leg_print.specs.Text.Whole.{rows_text, tracks_text, vias_text, components_text, pins_text, blockages_text, nets_text, net_section, design_text}
 use Rattle.leg_again.specs.SaysForm.{WordsSay}
-use Rattle.leg_again.specs.PrintedNames.{StayOne, kept_words, row_names, track_names, via_entry_names, component_entry_names, pin_entry_names, net_entry_names, printed_names}
+use Rattle.leg_again.specs.PrintedNames.{StayOne, kept_words, row_names, track_names, via_entry_names, component_entry_names, pin_entry_names, blockage_entry_names, net_entry_names, printed_names}
 use Rattle.leg_again.proofs.FreeWords.{IsFree, free_literal, free_word, free_nil, free_cons}
 use Rattle.leg_again.proofs.Named.{each_passes, first_run_passes, next_run_passes}
 use Rattle.leg_again.proofs.Saying.{said_printable}
@@ -38,11 +39,12 @@ use Rattle.leg_again.proofs.Tracks.{track_printable}
 use Rattle.leg_again.proofs.Vias.{vias_lines}
 use Rattle.leg_again.proofs.Components.{components_lines}
 use Rattle.leg_again.proofs.Pins.{pins_lines}
+use Rattle.leg_again.proofs.Blockages.{blockages_lines}
 use Rattle.leg_again.proofs.Nets.{HasParts, nets_lines}
 use Rattle.leg_again.proofs.Sections.{section_words}
 use Rattle.leg_again.proofs.Leads.{Leads, leads_append, leads_all}
 use Rattle.leg_again.proofs.Forms.{kept_line_words, header_leads, rows_lead, tracks_lead}
-use Rattle.leg_again.proofs.SectionForms.{has_some, appearances, said_parts, vias_lead, components_lead, pins_lead, special_lead, nets_lead, nets_are, special_are, design_said}
+use Rattle.leg_again.proofs.SectionForms.{has_some, appearances, said_parts, vias_lead, components_lead, pins_lead, blockages_lead, special_lead, nets_lead, nets_are, special_are, design_said}
 
 -- the words of the whole text
 abbrev naming_words : DesignContents → Words
@@ -55,8 +57,8 @@ abbrev forms_words : DesignContents → Words
 forms_words design =
     (naming_words design ++ frame_words design) ++ flat_map (row_words design) design.rows ++ flat_map (track_words design) design.tracks
     ++ section_words (codes "VIAS") (via_words design) design.vias ++ section_words (codes "COMPONENTS") (component_words design) design.components
-    ++ section_words (codes "PINS") (pin_words design) design.pins ++ section_words (net_section true) (net_words design true) design.special
-    ++ section_words (net_section false) (net_words design false) design.nets
+    ++ section_words (codes "PINS") (pin_words design) design.pins ++ section_words (codes "BLOCKAGES") (blockage_words design) design.blockages
+    ++ section_words (net_section true) (net_words design true) design.special ++ section_words (net_section false) (net_words design false) design.nets
 
 abbrev pub whole_words : DesignContents → Words
 whole_words design = forms_words design ++ end_words (codes "DESIGN")
@@ -71,6 +73,7 @@ record AllStayOne (design : DesignContents) : Type 0 where
   vias : StayOne (flat_map (via_entry_names design) design.vias)
   components : StayOne (flat_map (component_entry_names design) design.components)
   pins : StayOne (flat_map (pin_entry_names design) design.pins)
+  blockages : StayOne (flat_map (blockage_entry_names design) design.blockages)
   special : StayOne (flat_map (net_entry_names design) design.special)
   nets : StayOne (flat_map (net_entry_names design) design.nets)
 
@@ -84,9 +87,11 @@ all_stay_one design one =
     let e = d ++ flat_map (via_entry_names design) design.vias in
     let f = e ++ flat_map (component_entry_names design) design.components in
     let g = f ++ flat_map (pin_entry_names design) design.pins in
-    let h = g ++ flat_map (net_entry_names design) design.special in
-    let in_h = first_run_passes stays_one h (flat_map (net_entry_names design) design.nets) one in
-    let in_g = first_run_passes stays_one g (flat_map (net_entry_names design) design.special) in_h in
+    let h = g ++ flat_map (blockage_entry_names design) design.blockages in
+    let i = h ++ flat_map (net_entry_names design) design.special in
+    let in_i = first_run_passes stays_one i (flat_map (net_entry_names design) design.nets) one in
+    let in_h = first_run_passes stays_one h (flat_map (net_entry_names design) design.special) in_i in
+    let in_g = first_run_passes stays_one g (flat_map (blockage_entry_names design) design.blockages) in_h in
     let in_f = first_run_passes stays_one f (flat_map (pin_entry_names design) design.pins) in_g in
     let in_e = first_run_passes stays_one e (flat_map (component_entry_names design) design.components) in_f in
     let in_d = first_run_passes stays_one d (flat_map (via_entry_names design) design.vias) in_e in
@@ -101,8 +106,9 @@ all_stay_one design one =
       vias = next_run_passes stays_one d (flat_map (via_entry_names design) design.vias) in_e;
       components = next_run_passes stays_one e (flat_map (component_entry_names design) design.components) in_f;
       pins = next_run_passes stays_one f (flat_map (pin_entry_names design) design.pins) in_g;
-      special = next_run_passes stays_one g (flat_map (net_entry_names design) design.special) in_h;
-      nets = next_run_passes stays_one h (flat_map (net_entry_names design) design.nets) one;
+      blockages = next_run_passes stays_one g (flat_map (blockage_entry_names design) design.blockages) in_h;
+      special = next_run_passes stays_one h (flat_map (net_entry_names design) design.special) in_i;
+      nets = next_run_passes stays_one i (flat_map (net_entry_names design) design.nets) one;
     }
 
 -- there are no more vias than half of the text's bytes
@@ -119,9 +125,9 @@ in_section keyword text (x ∷ xs) some = fits _ (flat_map text (x ∷ xs)) (lin
   fits : (start middle end : List ℕ) → length (x ∷ xs) + length (x ∷ xs) ≤ length middle → length (x ∷ xs) + length (x ∷ xs) ≤ length (start ++ middle ++ end)
   fits start middle end le = rw (length-append (start ++ middle) end, length-append start middle) (omega arith)
 
-inner : (a v b c d e f : List ℕ) → length v ≤ length (a ++ v ++ b ++ c ++ d ++ e ++ f)
-inner a v b c d e f =
-    rw (length-append (a ++ v ++ b ++ c ++ d ++ e) f, length-append (a ++ v ++ b ++ c ++ d) e, length-append (a ++ v ++ b ++ c) d, length-append (a ++ v ++ b) c, length-append (a ++ v) b, length-append a v) (omega arith)
+inner : (a v b c d e f g : List ℕ) → length v ≤ length (a ++ v ++ b ++ c ++ d ++ e ++ f ++ g)
+inner a v b c d e f g =
+    rw (length-append (a ++ v ++ b ++ c ++ d ++ e ++ f) g, length-append (a ++ v ++ b ++ c ++ d ++ e) f, length-append (a ++ v ++ b ++ c ++ d) e, length-append (a ++ v ++ b ++ c) d, length-append (a ++ v ++ b) c, length-append (a ++ v) b, length-append a v) (omega arith)
 
 few_vias : (design : DesignContents) → length (design_text design) ≤ TEXT_LIMIT → length design.vias ≤ NUMBER_LIMIT
 unfolding design_text
@@ -129,7 +135,7 @@ few_vias design fits =
     let some : (via : ViaSaid) → 1 < length (line (via_words design via)) = λ via. omega arith in
     let inside = in_section (codes "VIAS") (λ via. line (via_words design via)) design.vias some in
     let whole = inner (header_text design ++ rows_text design design.rows ++ tracks_text design design.tracks) (vias_text design design.vias) (components_text design design.components)
-    (pins_text design design.pins) (nets_text design true design.special) (nets_text design false design.nets) (line (end_words (codes "DESIGN"))) in
+    (pins_text design design.pins) (blockages_text design design.blockages) (nets_text design true design.special) (nets_text design false design.nets) (line (end_words (codes "DESIGN"))) in
     omega (arith, fits, inside, whole)
 
 -- lines of the header
@@ -164,33 +170,35 @@ module _ (design : DesignContents) (sound : IsSound design.library) (well : IsWe
   whole_lines : Lines (design_text design) (whole_words design)
   unfolding design_text
   whole_lines =
-      lines_append (lines_append (lines_append (lines_append (lines_append (lines_append (lines_append (lines_append header_lines rows_lines) tracks_lines)
+      lines_append (lines_append (lines_append (lines_append (lines_append (lines_append (lines_append (lines_append (lines_append header_lines rows_lines) tracks_lines)
       (vias_lines design design.vias sound well.vias few one.vias)) (components_lines design design.components sound well.components one.components))
       (pins_lines design design.pins sound well.pins one.pins))
+      (blockages_lines design design.blockages sound well.blockages one.blockages))
       (nets_lines design has true design.special [] (special_are design has well.nets) one.special))
       (nets_lines design has false design.nets design.special (nets_are design has well.nets) one.nets))
       (lines_of_words (end_words (codes "DESIGN")) refl)
 
   forms_lead : Leads (no_parts design.library) (forms_words design)
-      (said_parts design (appearances (has_some design.vias) (has_some design.components) (has_some design.pins) (has_some design.special) (has_some design.nets))
-      design.vias design.components design.pins design.special design.nets)
+      (said_parts design (appearances (has_some design.vias) (has_some design.components) (has_some design.pins) (has_some design.blockages) (has_some design.special) (has_some design.nets))
+      design.vias design.components design.pins design.blockages design.special design.nets)
   forms_lead =
-      leads_append (leads_append (leads_append (leads_append (leads_append (leads_append (leads_append
+      leads_append (leads_append (leads_append (leads_append (leads_append (leads_append (leads_append (leads_append
       (header_leads design sound well.name well.divider well.bus well.die)
       (rows_lead design sound [] design.rows well.rows one.rows))
       (tracks_lead design sound [] design.tracks well.tracks one.tracks))
       (vias_lead design has design.vias well.vias few one.vias))
       (components_lead design has (has_some design.vias) design.vias design.components well.components one.components))
       (pins_lead design has (has_some design.vias) (has_some design.components) design.vias design.components design.pins well.pins one.pins))
-      (special_lead design has (has_some design.vias) (has_some design.components) (has_some design.pins) design.special (special_are design has well.nets) one.special))
-      (nets_lead design has (has_some design.vias) (has_some design.components) (has_some design.pins) (has_some design.special) design.special design.nets (nets_are design has well.nets) one.nets)
+      (blockages_lead design has (has_some design.vias) (has_some design.components) (has_some design.pins) design.vias design.components design.pins design.blockages well.blockages))
+      (special_lead design has (has_some design.vias) (has_some design.components) (has_some design.pins) (has_some design.blockages) design.special (special_are design has well.nets) one.special))
+      (nets_lead design has (has_some design.vias) (has_some design.components) (has_some design.pins) (has_some design.blockages) (has_some design.special) design.special design.nets (nets_are design has well.nets) one.nets)
 
   whole_again : design_in design.library (whole_words design) ≡ Some design
   unfolding design_in end_at keyword_at nothing_at next_at
   whole_again =
       rw (
         leads_all (no_parts design.library) _ (forms_words design) (end_words (codes "DESIGN")) forms_lead refl,
-        design_said design (has_some design.vias) (has_some design.components) (has_some design.pins) (has_some design.special) (has_some design.nets) well.nets,
+        design_said design (has_some design.vias) (has_some design.components) (has_some design.pins) (has_some design.blockages) (has_some design.special) (has_some design.nets) well.nets,
       ) refl
 
 -- The text says the design.
@@ -282,11 +290,12 @@ units_are design sound =
     begins_more (end_words (codes "DESIGN"))
     (begins_more (section_words (net_section false) (net_words design false) design.nets)
     (begins_more (section_words (net_section true) (net_words design true) design.special)
+    (begins_more (section_words (codes "BLOCKAGES") (blockage_words design) design.blockages)
     (begins_more (section_words (codes "PINS") (pin_words design) design.pins)
     (begins_more (section_words (codes "COMPONENTS") (component_words design) design.components)
     (begins_more (section_words (codes "VIAS") (via_words design) design.vias)
     (begins_more (flat_map (track_words design) design.tracks)
-    (begins_more (flat_map (row_words design) design.rows) (begins_itself (naming_words design ++ frame_words design))))))))) in
+    (begins_more (flat_map (row_words design) design.rows) (begins_itself (naming_words design ++ frame_words design)))))))))) in
     ap units_in begins.are ∙ units_read design sound begins.tail
 
 -- The text says the units of the library.

@@ -11,7 +11,7 @@ use Rattle.leg_block.specs.declared.records.Terminal.{Terminal}
 use Rattle.leg_block.specs.declared.records.Terminal.TheVariants.{Comp, Pin}
 use Rattle.leg_block.specs.declared.records.Wire.{Wire}
 use Rattle.leg_block.specs.declared.records.Wire.TheVariants.{Segment, ViaAt, Patch}
-use Rattle.leg_block.specs.Records.{DesignContents, TrackSaid, PortSaid, PinSaid, NetSaid}
+use Rattle.leg_block.specs.Records.{DesignContents, TrackSaid, PortSaid, PinSaid, BlockageSaid, NetSaid}
 use Rattle.leg_print.specs.Names.{layer_name, site_name, master_name, via_name, component_name, component_pin_name, design_pin_name}
 use Rattle.leg_print.specs.Text.Wires.{layer_of_via}
 
@@ -43,6 +43,13 @@ pin_entry_names design pin =
     pin.name ∷ kept_words pin.net_name ++ kept_words pin.direction ++ kept_words pin.usage
     ++ flat_map (λ (port : PortSaid). names_of_layers design port.shapes) pin.ports
 
+abbrev pub name_of_layer : DesignContents → Option ℕ → Words
+name_of_layer design None = []
+name_of_layer design (Some layer) = layer_name design layer ∷ []
+
+abbrev pub blockage_entry_names : DesignContents → BlockageSaid → Words
+blockage_entry_names design blockage = name_of_layer design blockage.layer
+
 abbrev pub terminal_names : DesignContents → Terminal → Words
 terminal_names design (Comp c k) = component_name design c ∷ component_pin_name design c k ∷ []
 terminal_names design (Pin p) = design_pin_name design p ∷ []
@@ -63,4 +70,5 @@ printed_names design =
     design.name ∷ kept_words design.divider ++ kept_words design.bus ++ flat_map (row_names design) design.rows
     ++ flat_map (track_names design) design.tracks ++ flat_map (via_entry_names design) design.vias
     ++ flat_map (component_entry_names design) design.components ++ flat_map (pin_entry_names design) design.pins
-    ++ flat_map (net_entry_names design) design.special ++ flat_map (net_entry_names design) design.nets
+    ++ flat_map (blockage_entry_names design) design.blockages ++ flat_map (net_entry_names design) design.special
+    ++ flat_map (net_entry_names design) design.nets

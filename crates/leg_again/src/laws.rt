@@ -14,7 +14,7 @@ ghost use Rattle.leg_cells.specs.Records.{ViaSaid};
 ghost use Rattle.leg_cells.specs.Sound.{IsSound};
 ghost use Rattle.leg_block.specs.declared.records.Row.{Row};
 ghost use Rattle.leg_block.specs.declared.records.Component.{Component};
-ghost use Rattle.leg_block.specs.Records.{DesignContents, TrackSaid, PinSaid, NetSaid};
+ghost use Rattle.leg_block.specs.Records.{DesignContents, TrackSaid, PinSaid, BlockageSaid, NetSaid};
 ghost use Rattle.leg_block.specs.WellFormedParts.{IsArea, IsRow, IsTrack};
 ghost use Rattle.leg_block.specs.WellFormed.{IsWellFormed};
 ghost use Rattle.leg_floorplan.specs.Die.{die_at};
@@ -23,6 +23,7 @@ ghost use Rattle.leg_floorplan.specs.Track.{track_at};
 ghost use Rattle.leg_floorplan.specs.Via.{via_entry};
 ghost use Rattle.leg_floorplan.specs.Component.{component_entry};
 ghost use Rattle.leg_floorplan.specs.Pin.{pin_entry};
+ghost use Rattle.leg_floorplan.specs.Blockage.{blockage_entry};
 ghost use Rattle.leg_nets.specs.Net.{net_entry};
 ghost use Rattle.leg_design.specs.Header.{word_after, design_name_at, units_at, units_in};
 ghost use Rattle.leg_section.specs.Section.{section_start};
@@ -34,12 +35,13 @@ ghost use Rattle.leg_print.specs.Text.Tracks.{track_words};
 ghost use Rattle.leg_print.specs.Text.Vias.{via_words};
 ghost use Rattle.leg_print.specs.Text.Components.{component_words};
 ghost use Rattle.leg_print.specs.Text.Pins.{pin_words};
+ghost use Rattle.leg_print.specs.Text.Blockages.{blockage_words};
 ghost use Rattle.leg_print.specs.Text.Nets.{net_text};
 ghost use Rattle.leg_print.specs.Text.Sections.{section_start_words, end_words};
 ghost use Rattle.leg_print.specs.Text.Whole.{design_text};
 ghost use Rattle.leg_again.specs.SaysForm.{SaysForm, WordsSay};
 ghost use Rattle.leg_again.specs.Known.{known_of};
-ghost use Rattle.leg_again.specs.PrintedNames.{StayOne, row_names, track_names, via_entry_names, component_entry_names, pin_entry_names, net_entry_names, printed_names};
+ghost use Rattle.leg_again.specs.PrintedNames.{StayOne, row_names, track_names, via_entry_names, component_entry_names, pin_entry_names, blockage_entry_names, net_entry_names, printed_names};
 
 use leg_block::Design;
 use std::alloc::Allocator;
@@ -94,7 +96,7 @@ pub fn version_line_is_read()
 {}
 
 /// The first line of a section contains its keyword and the count of its entries, and its last line ends it: VIAS, COMPONENTS,
-/// PINS, SPECIALNETS and NETS are printed so.
+/// PINS, BLOCKAGES, SPECIALNETS and NETS are printed so.
 pub fn section_lines_are_read()
     ensures first { (keyword : List ℕ) (count : ℕ) → IsTrue (is_name keyword) → IsTrue (stays_one keyword) → count ≤ NUMBER_LIMIT
         → SaysForm (section_start keyword) (line (section_start_words keyword count)) tt }
@@ -154,6 +156,13 @@ pub fn pin_entry_is_read()
     ensures { (design : DesignContents) (before after : List PinSaid) (pin : PinSaid) → IsSound design.library → IsWellFormed design
         → design.pins ≡ before ++ (pin ∷ after) → StayOne (pin_entry_names design pin)
         → SaysForm (pin_entry design.library before) (line (pin_words design pin)) (before ++ pin ∷ []) }
+{}
+
+/// The entry of a blockage denotes this blockage, after those before it.
+pub fn blockage_entry_is_read()
+    ensures { (design : DesignContents) (before after : List BlockageSaid) (blockage : BlockageSaid) → IsSound design.library → IsWellFormed design
+        → design.blockages ≡ before ++ (blockage ∷ after) → StayOne (blockage_entry_names design blockage)
+        → SaysForm (blockage_entry design.library before) (line (blockage_words design blockage)) (before ++ blockage ∷ []) }
 {}
 
 /// The entry of a net denotes this net, with its terminals and its wires, after those before it: an entry of

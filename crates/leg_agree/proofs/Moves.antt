@@ -13,7 +13,7 @@ use Rattle.leg_block.specs.Records.{DesignContents}
 use Rattle.leg_block.specs.WellFormedParts.{IsComponent}
 use Rattle.leg_block.specs.WellFormed.{IsWellFormed}
 use Rattle.leg_print.specs.Text.Header.{header_text}
-use Rattle.leg_print.specs.Text.Whole.{rows_text, tracks_text, vias_text, components_text, pins_text, nets_text, design_text}
+use Rattle.leg_print.specs.Text.Whole.{rows_text, tracks_text, vias_text, components_text, pins_text, blockages_text, nets_text, design_text}
 use Rattle.leg_app.specs.LegaliseLines.{move_line, move_lines, length_line, total_lines, legalised_text}
 use Rattle.leg_agree.proofs.NoFeeds.{HasNoFeed, feed_append, name_feed, number_feed}
 use Rattle.leg_agree.proofs.Comments.{EndsLine, comment_line, says_before}
@@ -23,8 +23,8 @@ abbrev before_end : DesignContents → List ℕ
 before_end design =
     header_text design ++ rows_text design design.rows ++ tracks_text design design.tracks
     ++ vias_text design design.vias ++ components_text design design.components
-    ++ pins_text design design.pins ++ nets_text design true design.special
-    ++ nets_text design false design.nets
+    ++ pins_text design design.pins ++ blockages_text design design.blockages
+    ++ nets_text design true design.special ++ nets_text design false design.nets
 
 text_ends : (design : DesignContents) → EndsLine (design_text design)
 unfolding design_text

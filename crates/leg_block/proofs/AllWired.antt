@@ -102,5 +102,6 @@ all_stay_well_formed design lists may proper = record {
   tracks = proper.tracks;
   vias = proper.vias;
   pins = proper.pins;
+  blockages = proper.blockages;
   nets = all_nets_stay design lists may proper.nets;
 }

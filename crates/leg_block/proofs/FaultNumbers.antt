@@ -2,12 +2,12 @@
 use Rattle.std.proofs.Common.{◌≡◌, ℕ, ◌<◌, List, [], ◌∷◌, Some, slice_get, refl, sym, ◌∙◌, arith}
 use Rattle.std.proofs.lemmas.Option.{same_Some}
 use Rattle.leg_block.specs.declared.fault.Fault.{Fault}
-use Rattle.leg_block.specs.declared.fault.Fault.TheVariants.{Unplaced, Outside, OffSite, Overlap, Short, TooNear, OpenNet}
+use Rattle.leg_block.specs.declared.fault.Fault.TheVariants.{Unplaced, Outside, OffSite, Overlap, Blocked, Short, TooNear, OpenNet}
 use Rattle.leg_block.specs.Violation.{kind_number, numbers_of}
 
 -- a violation of each kind that tells these numbers, in the order of kinds
 abbrev kinds : ℕ × ℕ → List Fault
-kinds p = Unplaced p.0 ∷ Outside p.0 ∷ OffSite p.0 ∷ Overlap p.0 p.1 ∷ Short p.0 p.1 ∷ TooNear p.0 p.1 ∷ OpenNet p.0 p.1 ∷ []
+kinds p = Unplaced p.0 ∷ Outside p.0 ∷ OffSite p.0 ∷ Overlap p.0 p.1 ∷ Blocked p.0 ∷ Short p.0 p.1 ∷ TooNear p.0 p.1 ∷ OpenNet p.0 p.1 ∷ []
 
 -- the number of a kind is its place in this list
 by_kind : (v : Fault) → slice_get (kinds (numbers_of v)) (kind_number v) ≡ Some v
@@ -15,6 +15,7 @@ by_kind (Unplaced c) = refl
 by_kind (Outside c) = refl
 by_kind (OffSite c) = refl
 by_kind (Overlap a b) = refl
+by_kind (Blocked c) = refl
 by_kind (Short a b) = refl
 by_kind (TooNear a b) = refl
 by_kind (OpenNet n k) = refl
@@ -35,6 +36,7 @@ no_second_number (Unplaced c) few = refl
 no_second_number (Outside c) few = refl
 no_second_number (OffSite c) few = refl
 no_second_number (Overlap a b) few = absurd (omega (arith, few))
+no_second_number (Blocked c) few = absurd (omega (arith, few))
 no_second_number (Short a b) few = absurd (omega (arith, few))
 no_second_number (TooNear a b) few = absurd (omega (arith, few))
 no_second_number (OpenNet n k) few = absurd (omega (arith, few))

@@ -78,5 +78,6 @@ stays_well_formed design n component place at within proper = record {
   tracks = proper.tracks;
   vias = proper.vias;
   pins = proper.pins;
+  blockages = proper.blockages;
   nets = nets_stay design n component place at proper.nets;
 }

@@ -111,5 +111,6 @@ stays_well_formed design n net wires may proper = record {
   tracks = proper.tracks;
   vias = proper.vias;
   pins = proper.pins;
+  blockages = proper.blockages;
   nets = nets_stay design n net wires may proper.nets;
 }

@@ -1,5 +1,5 @@
 -- What a DEF text denotes, as records.
-use Rattle.std.specs.Prelude.{ℕ, ℤ, List, [], ◌∷◌, ◌+◌, length, map, Option}
+use Rattle.std.specs.Prelude.{ℕ, ℤ, List, [], ◌∷◌, ◌++◌, ◌+◌, length, map, Option, None, Some}
 use Rattle.leg_geom.specs.Plane.{Sides}
 use Rattle.leg_geom.specs.declared.place.Place.{Place}
 use Rattle.leg_cells.specs.declared.records.Shape.{Shape}
@@ -10,6 +10,8 @@ use Rattle.leg_block.specs.declared.records.Row.{Row}
 use Rattle.leg_block.specs.declared.records.Component.{Component}
 use Rattle.leg_block.specs.declared.records.Terminal.{Terminal}
 use Rattle.leg_block.specs.declared.records.Wire.{Wire}
+use Rattle.leg_block.specs.declared.records.Blockage.{Blockage}
+use Rattle.leg_block.specs.declared.records.Blockage.TheVariants.{LayerRects, Placement}
 
 -- tracks at start + k * step for k from 0 below the count, on these layers or on all
 pub record TrackSaid : Type 0 where
@@ -33,6 +35,15 @@ pub record PinSaid : Type 0 where
   pub usage : Option (List ℕ)
   pub ports : List PortSaid
 
+-- an entry of BLOCKAGES: the rectangles of a layer, or, where no layer is named, those that keep movable components out
+pub record BlockageSaid : Type 0 where
+  pub layer : Option ℕ
+  pub rects : List Sides
+
+abbrev pub blockage_said : {A : Type 0} → Blockage A → BlockageSaid
+blockage_said (LayerRects layer rects) = record { layer = Some layer; rects = rects }
+blockage_said (Placement rects) = record { layer = None; rects = rects }
+
 -- an entry of NETS or SPECIALNETS
 pub record NetSaid : Type 0 where
   pub name : List ℕ
@@ -52,6 +63,7 @@ pub record DesignContents : Type 0 where
   pub vias : List ViaSaid
   pub components : List Component
   pub pins : List PinSaid
+  pub blockages : List BlockageSaid
   pub nets : List NetSaid
   pub special : List NetSaid
 
@@ -66,6 +78,21 @@ pin_names pins = map (λ p. p.name) pins
 
 abbrev pub net_names : List NetSaid → List (List ℕ)
 net_names nets = map (λ n. n.name) nets
+
+-- the rectangles of a blockage that keeps movable components out
+abbrev pub rects_without_layer : Option ℕ → List Sides → List Sides
+rects_without_layer None rects = rects
+rects_without_layer (Some layer) rects = []
+
+-- the rectangles of all placement blockages, in file order
+abbrev pub placement_rects : List BlockageSaid → List Sides
+placement_rects [] = []
+placement_rects (blockage ∷ blockages) = rects_without_layer blockage.layer blockage.rects ++ placement_rects blockages
+
+-- how many rectangles the entries have
+abbrev pub rect_count : List BlockageSaid → ℕ
+rect_count [] = 0
+rect_count (blockage ∷ blockages) = length blockage.rects + rect_count blockages
 
 -- how many terminals the entries list, each counted once in an entry
 abbrev pub terminal_count : List NetSaid → ℕ

@@ -1,7 +1,7 @@
 -- What holds of every design that a DEF denotes under a library (lefdef's own rules, after LEF/DEF 5.8, "DEF Syntax").
 use Rattle.std.specs.Prelude.{All, IsTrue}
 use Rattle.leg_lex.specs.Words.{is_name}
-use Rattle.leg_block.specs.WellFormedParts.{IsKept, IsArea, AreComponents, IsRow, IsTrack, AreVias, ArePins}
+use Rattle.leg_block.specs.WellFormedParts.{IsKept, IsArea, AreComponents, IsRow, IsTrack, AreVias, ArePins, AreBlockages}
 use Rattle.leg_block.specs.WellFormedNets.{HasNets}
 use Rattle.leg_block.specs.Records.{DesignContents}
 
@@ -16,4 +16,5 @@ pub record IsWellFormed (design : DesignContents) : Type 0 where
   pub tracks : All (IsTrack design.library) design.tracks
   pub vias : AreVias design.library design.vias
   pub pins : ArePins design.library design.pins
+  pub blockages : AreBlockages design.library design.blockages
   pub nets : HasNets design

@@ -10,14 +10,14 @@ use Rattle.leg_cells.specs.declared.records.Shape.{Shape}
 use Rattle.leg_cells.specs.Measure.{IsProper}
 use Rattle.leg_cells.specs.GoodVia.{is_good_via}
 use Rattle.leg_cells.specs.Records.{Contents, ViaSaid, via_names}
-use Rattle.leg_block.specs.declared.limits.TheConstants.{ENTRY_LIMIT}
+use Rattle.leg_block.specs.declared.limits.TheConstants.{ENTRY_LIMIT, PART_LIMIT}
 use Rattle.leg_block.specs.declared.records.Status.{Status}
 use Rattle.leg_block.specs.declared.records.Status.TheVariants.{Unplaced, Placed, Fixed, Cover}
 use Rattle.leg_block.specs.declared.records.Row.{Row}
 use Rattle.leg_block.specs.declared.records.Component.{Component}
 use Rattle.leg_block.specs.Layers.{has_metal}
 use Rattle.leg_block.specs.Rows.{is_upright}
-use Rattle.leg_block.specs.Records.{TrackSaid, PortSaid, PinSaid, component_names, design_via_names, pin_names}
+use Rattle.leg_block.specs.Records.{TrackSaid, PortSaid, PinSaid, BlockageSaid, component_names, design_via_names, pin_names, rect_count}
 
 -- both coordinates are numbers that a DEF may have
 pub record IsPosition (p : Spot) : Type 0 where
@@ -123,3 +123,20 @@ pub record ArePins (library : Contents) (pins : List PinSaid) : Type 0 where
   pub each : All (IsPin library) pins
   pub apart : AreApart (pin_names pins)
   pub few : length pins ≤ ENTRY_LIMIT
+
+-- the layer of a blockage, where one is named, carries metal
+abbrev pub IsLayerOfBlockage : Contents → Option ℕ → Type 0
+IsLayerOfBlockage library None = Unit {0}
+IsLayerOfBlockage library (Some layer) = IsTrue (has_metal library layer)
+
+-- a blockage: it has one rectangle at least, and each has area; nothing is said of where they lie
+pub record IsBlockage (library : Contents) (blockage : BlockageSaid) : Type 0 where
+  pub layer : IsLayerOfBlockage library blockage.layer
+  pub some : 1 ≤ length blockage.rects
+  pub rects : All IsArea blockage.rects
+
+-- there are no more blockages, and they have no more rectangles, than there may be
+pub record AreBlockages (library : Contents) (blockages : List BlockageSaid) : Type 0 where
+  pub each : All (IsBlockage library) blockages
+  pub few : length blockages ≤ ENTRY_LIMIT
+  pub few_rects : rect_count blockages ≤ PART_LIMIT

@@ -1,9 +1,10 @@
 //! A design.
 
-ghost use Rattle.std.specs.Prelude.{◌≡◌, ◌↔◌, IsTrue, option_map};
+ghost use Rattle.std.specs.Prelude.{◌≡◌, ◌↔◌, IsTrue, map, option_map};
+ghost use Rattle.leg_block.specs.Records.{blockage_said};
 ghost use Rattle.leg_block.specs.WellFormed.{IsWellFormed};
 
-use crate::records::{Component, Net, Pin, Row, Track};
+use crate::records::{Blockage, Component, Net, Pin, Row, Track};
 use leg_cells::{Library, Via};
 use leg_geom::Rect;
 use leg_lex::Name;
@@ -24,16 +25,18 @@ pub struct DesignFields<'a, A: Allocator + Copy> {
     pub vias: Vec<Via<'a, A>, A>,
     pub components: Vec<Component<'a>, A>,
     pub pins: Vec<Pin<'a, A>, A>,
+    pub blockages: Vec<Blockage<A>, A>,
     pub nets: Vec<Net<'a, A>, A>,
     pub special: Vec<Net<'a, A>, A>,
 }
 
 impl<'a, A: Allocator + Copy> Model for DesignFields<'a, A> {
-    ghost use Rattle.leg_block.specs.Records.{DesignContents};
+    ghost use Rattle.std.specs.Prelude.{map};
+    ghost use Rattle.leg_block.specs.Records.{DesignContents, blockage_said};
 
     ghost Value = { DesignContents };
 
-    ghost view = { λ d. record { library = d.library.now; name = d.name; divider = d.divider; bus = d.bus; die = d.die; rows = d.rows.items; tracks = d.tracks.items; vias = d.vias.items; components = d.components.items; pins = d.pins.items; nets = d.nets.items; special = d.special.items } };
+    ghost view = { λ d. record { library = d.library.now; name = d.name; divider = d.divider; bus = d.bus; die = d.die; rows = d.rows.items; tracks = d.tracks.items; vias = d.vias.items; components = d.components.items; pins = d.pins.items; blockages = map blockage_said d.blockages.items; nets = d.nets.items; special = d.special.items } };
 }
 
 /// A design, in file order, with the library that it was read with. Contracts see it as its record, which has the
@@ -144,6 +147,14 @@ impl<'a, A: Allocator + Copy> Design<'a, A> {
         ensures proper { IsWellFormed self.now }
     {
         self.fields.pins.as_slice()
+    }
+
+    /// The blockages, in file order. Those on layers without metal are left out.
+    pub fn blockages(&self) -> &[Blockage<A>]
+        ensures is { map blockage_said result.now ≡ self.now.blockages }
+        ensures proper { IsWellFormed self.now }
+    {
+        self.fields.blockages.as_slice()
     }
 
     /// The entries of `NETS`, in file order.

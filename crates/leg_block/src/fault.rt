@@ -12,6 +12,8 @@ pub enum Fault {
     OffSite(u32),
     /// The two components share a unit square.
     Overlap(u32, u32),
+    /// The component may be moved, and shares a unit square with a rectangle of a placement blockage.
+    Blocked(u32),
     /// The two shapes, of different owners, share a point.
     Short(u32, u32),
     /// The two shapes, of different owners, are nearer than their layer's spacing.

@@ -15,4 +15,4 @@ mod records;
 pub use design::{Design, DesignFields};
 pub use fault::Fault;
 pub use limits::{ENTRY_LIMIT, PART_LIMIT};
-pub use records::{Axis, Component, Net, Pin, Port, Row, Status, Terminal, Track, Wire};
+pub use records::{Axis, Blockage, Component, Net, Pin, Port, Row, Status, Terminal, Track, Wire};

@@ -109,6 +109,15 @@ impl<'a, A: Allocator> Model for Pin<'a, A> {
     ghost view = { λ p. record { name = p.name; net_name = p.net_name; direction = p.direction; usage = p.usage; ports = p.ports } };
 }
 
+/// Rectangles that are to be kept free (LEF/DEF 5.8, "Blockages"). Contracts see one by its record, `blockage_said`.
+#[derive(Drop)]
+pub enum Blockage<A: Allocator> {
+    /// Rectangles of a layer that carries metal, which no net's metal may meet.
+    LayerRects { layer: usize, rects: Items<Rect, A> },
+    /// Rectangles in which no movable component may stand.
+    Placement { rects: Items<Rect, A> },
+}
+
 /// What a net joins.
 #[derive(Clone, Copy, PartialEq, Eq, Hash, Debug)]
 pub enum Terminal {

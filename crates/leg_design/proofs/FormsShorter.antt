@@ -9,7 +9,7 @@ use Rattle.leg_section.specs.Guard.{when, unless}
 use Rattle.leg_section.specs.Namespace.{KnownSaid}
 use Rattle.leg_block.specs.Records.{NetSaid}
 use Rattle.leg_nets.specs.Net.{net_entry, section_word, nets_at}
-use Rattle.leg_design.specs.Parts.{DesignParts, known, divider_form, bus_form, name_form, units_form, die_form, row_form, track_form, vias_form, components_form, pins_form, nets_form, special_form}
+use Rattle.leg_design.specs.Parts.{DesignParts, known, divider_form, bus_form, name_form, units_form, die_form, row_form, track_form, vias_form, components_form, pins_form, blockages_form, nets_form, special_form}
 use Rattle.leg_design.specs.Skipped.{is_past_statement, is_past_section, past_def_section, past_def_extension, past_def_form}
 use Rattle.leg_design.specs.Form.{header_form, def_form_at}
 use Rattle.leg_section.proofs.Sections.{section_below}
@@ -20,6 +20,7 @@ use Rattle.leg_floorplan.proofs.Tracks.{track_below}
 use Rattle.leg_floorplan.proofs.Vias.{vias_below}
 use Rattle.leg_floorplan.proofs.Components.{components_below}
 use Rattle.leg_floorplan.proofs.Pins.{pins_below}
+use Rattle.leg_floorplan.proofs.Blockages.{blockages_below}
 use Rattle.leg_nets.proofs.NetEntries.{net_entry_shortens}
 
 -- the entries of nets
@@ -110,6 +111,12 @@ pins_form_below parts words =
     below_ask (unless parts.has.pins) (λ once.
     below_bind (omega arith) (pins_below parts.design.library words) (λ pins l. below_some _ pins.1 l))
 
+blockages_form_below : (parts : DesignParts) (words : Words) → Below (length words) (blockages_form parts words)
+unfolding blockages_form
+blockages_form_below parts words =
+    below_ask (unless parts.has.blockages) (λ once.
+    below_bind (omega arith) (blockages_below parts.design.library words) (λ blockages l. below_some _ blockages.1 l))
+
 nets_form_below : (parts : DesignParts) (words : Words) → Below (length words) (nets_form parts words)
 unfolding nets_form
 nets_form_below parts words =
@@ -140,8 +147,9 @@ form_shortens parts words =
     below_if (is_at (codes "VIAS") words) (vias_form_below parts words)
     (below_if (is_at (codes "COMPONENTS") words) (components_form_below parts words)
     (below_if (is_at (codes "PINS") words) (pins_form_below parts words)
+    (below_if (is_at (codes "BLOCKAGES") words) (blockages_form_below parts words)
     (below_if (is_at (codes "SPECIALNETS") words) (special_form_below parts words)
-    (below_if (is_at (codes "NETS") words) (nets_form_below parts words) (header_form_below parts words)))))
+    (below_if (is_at (codes "NETS") words) (nets_form_below parts words) (header_form_below parts words))))))
 
 pub form_shorter : (parts more : DesignParts) (words rest : Words) → def_form_at parts words ≡ Some (more, rest) → length rest < length words
 form_shorter parts more words rest said = (form_shortens parts words).left more rest said

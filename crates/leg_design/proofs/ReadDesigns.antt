@@ -108,6 +108,7 @@ design_gives library parts are =
         tracks = header.tracks_;
         vias = sections.vias_;
         pins = sections.pins_;
+        blockages = sections.blockages_;
         nets = all_nets_are parts are.nets is;
       },
       are.sound.same,

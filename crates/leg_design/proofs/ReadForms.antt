@@ -9,11 +9,11 @@ use Rattle.leg_block.specs.declared.records.Row.{Row}
 use Rattle.leg_section.specs.Guard.{when, unless}
 use Rattle.leg_design.specs.Header.{word_after, design_name_at, units_at}
 use Rattle.leg_nets.specs.Net.{nets_at}
-use Rattle.leg_block.specs.Records.{TrackSaid, PinSaid}
-use Rattle.leg_design.specs.Parts.{DesignParts, no_parts, known, divider_form, bus_form, name_form, units_form, die_form, row_form, track_form, vias_form, components_form, pins_form, nets_form, special_form}
+use Rattle.leg_block.specs.Records.{TrackSaid, PinSaid, BlockageSaid}
+use Rattle.leg_design.specs.Parts.{DesignParts, no_parts, known, divider_form, bus_form, name_form, units_form, die_form, row_form, track_form, vias_form, components_form, pins_form, blockages_form, nets_form, special_form}
 use Rattle.leg_design.specs.Skipped.{past_def_form}
 use Rattle.leg_design.specs.Form.{header_form, def_form_at}
-use Rattle.leg_block.specs.WellFormedParts.{IsKept, IsArea, AreComponents, IsRow, IsTrack, AreVias, ArePins}
+use Rattle.leg_block.specs.WellFormedParts.{IsKept, IsArea, AreComponents, IsRow, IsTrack, AreVias, ArePins, AreBlockages}
 use Rattle.leg_section.proofs.Gives.{Gives, gives_some, gives_bind, gives_skip, gives_if, name_gives, word_gives}
 use Rattle.leg_floorplan.proofs.ReadDie.{die_gives}
 use Rattle.leg_floorplan.proofs.ReadComponents.{components_give, no_components}
@@ -21,6 +21,7 @@ use Rattle.leg_floorplan.proofs.ReadRows.{row_gives}
 use Rattle.leg_floorplan.proofs.ReadTracks.{track_gives}
 use Rattle.leg_floorplan.proofs.ReadVias.{vias_give, no_vias}
 use Rattle.leg_floorplan.proofs.ReadPins.{pins_give, no_pins}
+use Rattle.leg_floorplan.proofs.ReadBlockages.{blockages_give, no_blockages}
 
 -- what the forms before the sections gave is well-formed
 pub record AreHeaderForms (library : Contents) (has_name has_die : Bool) (name : List ℕ) (divider bus : Option (List ℕ)) (die : Sides)
@@ -33,16 +34,18 @@ pub record AreHeaderForms (library : Contents) (has_name has_die : Bool) (name :
   pub tracks_ : All (IsTrack library) tracks
 
 -- what the sections before those of nets gave is well-formed
-pub record AreSections (library : Contents) (vias : List ViaSaid) (components : List Component) (pins : List PinSaid) : Type 0 where
+pub record AreSections (library : Contents) (vias : List ViaSaid) (components : List Component) (pins : List PinSaid)
+    (blockages : List BlockageSaid) : Type 0 where
   pub vias_ : AreVias library vias
   pub components_ : AreComponents library components
   pub pins_ : ArePins library pins
+  pub blockages_ : AreBlockages library blockages
 
 -- what was read so far is well-formed, and under this library
 pub record HasSoundParts (library : Contents) (parts : DesignParts) : Type 0 where
   pub same : parts.design.library ≡ library
   pub header : AreHeaderForms parts.design.library parts.has.name parts.has.die parts.design.name parts.design.divider parts.design.bus parts.design.die parts.design.rows parts.design.tracks
-  pub sections : AreSections parts.design.library parts.design.vias parts.design.components parts.design.pins
+  pub sections : AreSections parts.design.library parts.design.vias parts.design.components parts.design.pins parts.design.blockages
 
 word_after_gives : (keyword : List ℕ) (words : Words) → Gives (λ said. is_word said.0 ≡ true) (word_after keyword words)
 unfolding word_after
@@ -182,34 +185,49 @@ module _ (library : Contents) (parts : DesignParts) (words : Words) (sound : Has
   vias_keep : Keeps (vias_form parts words)
   unfolding vias_form
   vias_keep =
+      let sections = sound.sections in
       gives_skip (unless parts.has.vias) (λ once.
       gives_bind (vias_give parts.design.library words) (λ vias each.
       gives_some _ (record {
         same = sound.same;
         header = sound.header;
-        sections = record { vias_ = each; components_ = sound.sections.components_; pins_ = sound.sections.pins_ };
+        sections = record { vias_ = each; components_ = sections.components_; pins_ = sections.pins_; blockages_ = sections.blockages_ };
       })))
 
   components_keep : Keeps (components_form parts words)
   unfolding components_form
   components_keep =
+      let sections = sound.sections in
       gives_skip (unless parts.has.components) (λ once.
       gives_bind (components_give parts.design.library words) (λ components each.
       gives_some _ (record {
         same = sound.same;
         header = sound.header;
-        sections = record { vias_ = sound.sections.vias_; components_ = each; pins_ = sound.sections.pins_ };
+        sections = record { vias_ = sections.vias_; components_ = each; pins_ = sections.pins_; blockages_ = sections.blockages_ };
       })))
 
   pins_keep : Keeps (pins_form parts words)
   unfolding pins_form
   pins_keep =
+      let sections = sound.sections in
       gives_skip (unless parts.has.pins) (λ once.
       gives_bind (pins_give parts.design.library words) (λ pins each.
       gives_some _ (record {
         same = sound.same;
         header = sound.header;
-        sections = record { vias_ = sound.sections.vias_; components_ = sound.sections.components_; pins_ = each };
+        sections = record { vias_ = sections.vias_; components_ = sections.components_; pins_ = each; blockages_ = sections.blockages_ };
+      })))
+
+  blockages_keep : Keeps (blockages_form parts words)
+  unfolding blockages_form
+  blockages_keep =
+      let sections = sound.sections in
+      gives_skip (unless parts.has.blockages) (λ once.
+      gives_bind (blockages_give parts.design.library words) (λ blockages are.
+      gives_some _ (record {
+        same = sound.same;
+        header = sound.header;
+        sections = record { vias_ = sections.vias_; components_ = sections.components_; pins_ = sections.pins_; blockages_ = are };
       })))
 
   nets_keep : Keeps (nets_form parts words)
@@ -244,8 +262,9 @@ module _ (library : Contents) (parts : DesignParts) (words : Words) (sound : Has
       gives_if (is_at (codes "VIAS") words) vias_keep
       (gives_if (is_at (codes "COMPONENTS") words) components_keep
       (gives_if (is_at (codes "PINS") words) pins_keep
+      (gives_if (is_at (codes "BLOCKAGES") words) blockages_keep
       (gives_if (is_at (codes "SPECIALNETS") words) special_keep
-      (gives_if (is_at (codes "NETS") words) nets_keep header_keeps))))
+      (gives_if (is_at (codes "NETS") words) nets_keep header_keeps)))))
 
 pub no_parts_sound : (library : Contents) → HasSoundParts library (no_parts library)
 no_parts_sound library = record {
@@ -258,5 +277,5 @@ no_parts_sound library = record {
     rows_ = All-nil (IsRow library);
     tracks_ = All-nil (IsTrack library);
   };
-  sections = record { vias_ = no_vias library; components_ = no_components library; pins_ = no_pins library };
+  sections = record { vias_ = no_vias library; components_ = no_components library; pins_ = no_pins library; blockages_ = no_blockages library };
 }

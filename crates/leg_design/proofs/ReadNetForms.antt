@@ -14,9 +14,10 @@ use Rattle.leg_floorplan.specs.Track.{track_at}
 use Rattle.leg_floorplan.specs.Via.{vias_at}
 use Rattle.leg_floorplan.specs.Component.{components_at}
 use Rattle.leg_floorplan.specs.Pin.{pins_at}
+use Rattle.leg_floorplan.specs.Blockage.{blockages_at}
 use Rattle.leg_nets.specs.LonePins.{NetLists}
 use Rattle.leg_block.specs.Records.{NetSaid, wire_count}
-use Rattle.leg_design.specs.Parts.{DesignParts, no_parts, known, divider_form, bus_form, name_form, units_form, die_form, row_form, track_form, vias_form, components_form, pins_form, nets_form, special_form}
+use Rattle.leg_design.specs.Parts.{DesignParts, no_parts, known, divider_form, bus_form, name_form, units_form, die_form, row_form, track_form, vias_form, components_form, pins_form, blockages_form, nets_form, special_form}
 use Rattle.leg_design.specs.Skipped.{past_def_form}
 use Rattle.leg_design.specs.Form.{header_form, def_form_at}
 use Rattle.leg_block.specs.WellFormedNets.{AreInOneNet}
@@ -151,6 +152,11 @@ module _ (parts : DesignParts) (words : Words) (sound : HasNetParts parts) where
         entries = entries_grow (known parts.design) _ (lists_of parts.design.nets parts.design.special) grows sound.entries;
       })))
 
+  blockages_keep : Keeps (blockages_form parts words)
+  unfolding blockages_form
+  blockages_keep =
+      gives_skip (unless parts.has.blockages) (λ once. gives_skip (blockages_at parts.design.library words) (λ blockages. gives_some _ sound))
+
   nets_keep : Keeps (nets_form parts words)
   unfolding nets_form
   nets_keep =
@@ -217,8 +223,9 @@ module _ (parts : DesignParts) (words : Words) (sound : HasNetParts parts) where
       gives_if (is_at (codes "VIAS") words) vias_keep
       (gives_if (is_at (codes "COMPONENTS") words) components_keep
       (gives_if (is_at (codes "PINS") words) pins_keep
+      (gives_if (is_at (codes "BLOCKAGES") words) blockages_keep
       (gives_if (is_at (codes "SPECIALNETS") words) special_keep
-      (gives_if (is_at (codes "NETS") words) nets_keep header_keeps))))
+      (gives_if (is_at (codes "NETS") words) nets_keep header_keeps)))))
 
 pub no_net_parts : (library : Contents) → HasNetParts (no_parts library)
 no_net_parts library = record {

@@ -8,7 +8,7 @@ use Rattle.leg_block.specs.declared.limits.TheConstants.{PART_LIMIT}
 use Rattle.leg_section.specs.Guard.{when, unless}
 use Rattle.leg_nets.specs.LonePins.{NetLists, with_lone_pins}
 use Rattle.leg_block.specs.Records.{DesignContents, terminal_count}
-use Rattle.leg_design.specs.Parts.{DesignParts, no_parts, divider_form, bus_form, name_form, units_form, die_form, row_form, track_form, vias_form, components_form, pins_form, nets_form, special_form}
+use Rattle.leg_design.specs.Parts.{DesignParts, no_parts, divider_form, bus_form, name_form, units_form, die_form, row_form, track_form, vias_form, components_form, pins_form, blockages_form, nets_form, special_form}
 use Rattle.leg_design.specs.Skipped.{past_def_form}
 
 -- a form that comes before the sections
@@ -29,8 +29,9 @@ def_form_at parts words =
     if is_at (codes "VIAS") words then vias_form parts words
     else (if is_at (codes "COMPONENTS") words then components_form parts words
     else (if is_at (codes "PINS") words then pins_form parts words
+    else (if is_at (codes "BLOCKAGES") words then blockages_form parts words
     else (if is_at (codes "SPECIALNETS") words then special_form parts words
-    else (if is_at (codes "NETS") words then nets_form parts words else header_form parts words))))
+    else (if is_at (codes "NETS") words then nets_form parts words else header_form parts words)))))
 
 -- the nets, with the lone pins too
 abbrev pub all_nets : DesignContents → NetLists

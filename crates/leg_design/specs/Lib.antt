@@ -16,6 +16,7 @@ pub use Rattle.leg_floorplan.specs.Component
 pub use Rattle.leg_floorplan.specs.Port
 pub use Rattle.leg_floorplan.specs.PinClauses
 pub use Rattle.leg_floorplan.specs.Pin
+pub use Rattle.leg_floorplan.specs.Blockage
 pub use Rattle.leg_section.specs.Namespace
 pub use Rattle.leg_nets.specs.Terminal
 pub use Rattle.leg_nets.specs.Path

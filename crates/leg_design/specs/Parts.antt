@@ -12,6 +12,7 @@ use Rattle.leg_floorplan.specs.Track.{track_at}
 use Rattle.leg_floorplan.specs.Via.{vias_at}
 use Rattle.leg_floorplan.specs.Component.{components_at}
 use Rattle.leg_floorplan.specs.Pin.{pins_at}
+use Rattle.leg_floorplan.specs.Blockage.{blockages_at}
 use Rattle.leg_nets.specs.Net.{nets_at}
 use Rattle.leg_block.specs.Records.{DesignContents}
 
@@ -24,6 +25,7 @@ pub record Appearances : Type 0 where
   pub vias : Bool
   pub components : Bool
   pub pins : Bool
+  pub blockages : Bool
   pub nets : Bool
   pub special : Bool
 
@@ -39,7 +41,7 @@ no_die = record { x1 = pos 0; y1 = pos 0; x2 = pos 0; y2 = pos 0 }
 -- before the first form
 abbrev pub no_parts : Contents → DesignParts
 no_parts library = record {
-  has = record { name = false; units = false; die = false; vias = false; components = false; pins = false; nets = false; special = false };
+  has = record { name = false; units = false; die = false; vias = false; components = false; pins = false; blockages = false; nets = false; special = false };
   design = record {
     library = library;
     name = [];
@@ -51,6 +53,7 @@ no_parts library = record {
     vias = [];
     components = [];
     pins = [];
+    blockages = [];
     nets = [];
     special = [];
   };
@@ -124,6 +127,12 @@ pins_form parts words = do
   once ← unless parts.has.pins
   pins ← pins_at parts.design.library words
   Some (record { has = record (parts.has) { pins = true }; design = record (parts.design) { pins = pins.0 } }, pins.1)
+
+unfoldable pub blockages_form : DesignParts → Words → Option (DesignParts × Words)
+blockages_form parts words = do
+  once ← unless parts.has.blockages
+  blockages ← blockages_at parts.design.library words
+  Some (record { has = record (parts.has) { blockages = true }; design = record (parts.design) { blockages = blockages.0 } }, blockages.1)
 
 unfoldable pub nets_form : DesignParts → Words → Option (DesignParts × Words)
 nets_form parts words = do

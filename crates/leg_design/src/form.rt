@@ -57,6 +57,8 @@ fn form<'a, A: Allocator + Copy>(
         parts.components_form(alloc, words)
     } else if words.is_at(b"PINS") {
         parts.pins_form(alloc, words)
+    } else if words.is_at(b"BLOCKAGES") {
+        parts.blockages_form(alloc, words)
     } else if words.is_at(b"SPECIALNETS") {
         parts.special_form(alloc, words)
     } else if words.is_at(b"NETS") {

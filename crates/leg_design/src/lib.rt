@@ -14,7 +14,7 @@ mod skipped;
 
 pub use def_text::DefText;
 pub use leg_block::{
-    Axis, Component, Design, ENTRY_LIMIT, Fault, Net, PART_LIMIT, Pin, Port, Row, Status, Terminal,
-    Track, Wire,
+    Axis, Blockage, Component, Design, ENTRY_LIMIT, Fault, Net, PART_LIMIT, Pin, Port, Row, Status,
+    Terminal, Track, Wire,
 };
 pub use read::{def_units, read_def};

@@ -11,7 +11,7 @@ ghost use Rattle.leg_design.specs.Form.{with_all_nets, design_of};
 mod sections;
 
 use crate::header::{design_name, units, word_after};
-use leg_block::{Component, DesignFields, PART_LIMIT, Pin, Row, Track};
+use leg_block::{Blockage, Component, DesignFields, PART_LIMIT, Pin, Row, Track};
 use leg_cells::{Library, Via};
 use leg_floorplan::die::die;
 use leg_floorplan::row::row;
@@ -29,6 +29,7 @@ struct Appearances {
     vias: bool,
     components: bool,
     pins: bool,
+    blockages: bool,
     nets: bool,
     special: bool,
 }
@@ -47,12 +48,14 @@ pub(crate) struct Parts<'a, A: Allocator + Copy> {
     vias: NamedList<'a, Via<'a, A>, A>,
     components: NamedList<'a, Component<'a>, A>,
     pins: NamedList<'a, Pin<'a, A>, A>,
+    blockages: Vec<Blockage<A>, A>,
     nets: NetTable<'a, A>,
     special: NetTable<'a, A>,
 }
 
 impl<'a, A: Allocator + Copy> Model for Parts<'a, A> {
-    ghost use Rattle.std.specs.Prelude.{[], is_some, unwrap_or};
+    ghost use Rattle.std.specs.Prelude.{[], is_some, map, unwrap_or};
+    ghost use Rattle.leg_block.specs.Records.{blockage_said};
     ghost use Rattle.leg_design.specs.Parts.{DesignParts, no_die};
 
     ghost Value = { DesignParts };
@@ -65,6 +68,7 @@ impl<'a, A: Allocator + Copy> Model for Parts<'a, A> {
         vias = p.has.vias;
         components = p.has.components;
         pins = p.has.pins;
+        blockages = p.has.blockages;
         nets = p.has.nets;
         special = p.has.special;
       };
@@ -79,6 +83,7 @@ impl<'a, A: Allocator + Copy> Model for Parts<'a, A> {
         vias = p.vias;
         components = p.components;
         pins = p.pins;
+        blockages = map blockage_said p.blockages.items;
         nets = p.nets;
         special = p.special;
       };
@@ -96,6 +101,7 @@ impl<'a, A: Allocator + Copy> Parts<'a, A> {
                 vias: false,
                 components: false,
                 pins: false,
+                blockages: false,
                 nets: false,
                 special: false,
             },
@@ -109,6 +115,7 @@ impl<'a, A: Allocator + Copy> Parts<'a, A> {
             vias: NamedList::new(alloc),
             components: NamedList::new(alloc),
             pins: NamedList::new(alloc),
+            blockages: Vec::new(alloc),
             nets: NetTable::new(alloc),
             special: NetTable::new(alloc),
         }
@@ -249,6 +256,7 @@ impl<'a, A: Allocator + Copy> Parts<'a, A> {
             vias: self.vias.into_vec(),
             components: self.components.into_vec(),
             pins: self.pins.into_vec(),
+            blockages: self.blockages,
             nets: self.nets.into_vec(),
             special: self.special.into_vec(),
         }

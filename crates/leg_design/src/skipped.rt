@@ -54,14 +54,12 @@ fn past_extension(words: &mut Cursor<'_, '_>) -> Result<(), ReadFault>
 fn no_form(words: &Cursor<'_, '_>) -> ReadFault {
     if words.is_at_end() {
         words.fault(FaultKind::UnexpectedEnd)
-    } else if words.is_at(b"BLOCKAGES") {
-        words.fault(FaultKind::Unsupported)
     } else {
         words.fault(FaultKind::Unexpected)
     }
 }
 
-/// A form without effect. A word that begins no form is `Unexpected`, or `Unsupported` where it is left out by name.
+/// A form without effect. A word that begins no form is `Unexpected`.
 #[tactic(auto, unfolding(crate::specs::Skipped::past_def_form))]
 pub(crate) fn past_form(words: &mut Cursor<'_, '_>) -> Result<(), ReadFault>
     ensures { Reads (λ x. x) result words.new (past_def_form words.old) }

@@ -1,5 +1,5 @@
--- Metal is drawn as an obstruction of a component, as a shape of a terminal or as one of a wire.
-use Rattle.std.proofs.Common.{◌≡◌, ℕ, ◌+◌, ◌⊎◌, inl, inr, List, length, slice_get, Contains, Option, None, Some, refl, sym, ap, ◌∙◌, subst, zero-add, add-zero, arith}
+-- Metal is drawn as an obstruction of a component, as a rectangle of a blockage, as a shape of a terminal or as one of a wire.
+use Rattle.std.proofs.Common.{◌≡◌, ℕ, ◌+◌, ◌⊎◌, inl, inr, List, length, map, slice_get, Contains, Option, None, Some, refl, sym, ap, ◌∙◌, subst, zero-add, add-zero, arith}
 use Rattle.std.proofs.lemmas.List.Elements.{Contains-append_cases}
 use Rattle.leg_geom.specs.declared.place.Place.{Place}
 use Rattle.leg_cells.specs.Records as library
@@ -7,24 +7,26 @@ use Rattle.leg_block.specs.declared.records.Component.{Component}
 use Rattle.leg_block.specs.declared.records.Terminal.{Terminal}
 use Rattle.leg_block.specs.declared.records.Terminal.TheVariants.{Comp, Pin}
 use Rattle.leg_block.specs.declared.records.Wire as records
-use Rattle.leg_block.specs.Records.{DesignContents}
+use Rattle.leg_block.specs.Records.{DesignContents, BlockageSaid}
 use Rattle.leg_block.specs.WellFormedNets.{HasNets}
 use Rattle.leg_flat.specs.declared.owner.Owner.TheVariants.{Obs}
 use Rattle.leg_flat.specs.declared.piece.Piece.TheVariants.{Wire}
 use Rattle.leg_flat.specs.Nets.{number_of_special, terminals_of, wires_of, regular_entry, special_entry, entry_wires}
-use Rattle.leg_flat.specs.Metal.{OnLayer, Metal, belonging, drawn, pins_metal, component_metal, components_metal, ports_outlines, design_pins_metal, wire_outlines, wires_metal, nets_metal, specials_metal, metal_parts, metal_of}
+use Rattle.leg_flat.specs.Metal.{OnLayer, Metal, belonging, drawn, pins_metal, component_metal, components_metal, ports_outlines, design_pins_metal, blockage_metal, blockages_metal, wire_outlines, wires_metal, nets_metal, specials_metal, metal_parts, metal_of}
 use Rattle.leg_flat.specs.Pieces.{IsOfTerminal, IsOfPiece, of_piece}
-use Rattle.leg_flat.specs.Sources.{IsOfComponentObstruction, of_obstruction, of_terminal_shape}
+use Rattle.leg_flat.specs.Sources.{IsOfComponentObstruction, of_obstruction, IsOfBlockage, of_blockage, of_terminal_shape}
 use Rattle.leg_flat.proofs.NetOf.{contains_at}
 use Rattle.leg_flat.proofs.NetDone.{special_of}
-use Rattle.leg_flat.proofs.MetalWalks.{pin_metal, pins_walk, one_component, components_walk, design_pin_metal, design_pins_walk, wire_metal, wires_walk, net_metal, nets_walk, one_special, specials_walk}
+use Rattle.leg_flat.proofs.MetalWalks.{pin_metal, pins_walk, one_component, components_walk, design_pin_metal, design_pins_walk, rect_on, one_blockage, blockages_walk, wire_metal, wires_walk, net_metal, nets_walk, one_special, specials_walk}
 use Rattle.leg_flat.proofs.Given.{comes, given, given_at}
 use Rattle.leg_flat.proofs.Parts.{nothing_in, by_part}
 use Rattle.leg_flat.proofs.PiecePlaces.{regular_wire, special_wire}
 
--- What holds of each obstruction of a component, of each shape of a terminal and of each shape of a wire, holds of all metal.
+-- What holds of each obstruction of a component, of each rectangle of a blockage, of each shape of a terminal and of each shape of
+-- a wire, holds of all metal.
 module _ (design : DesignContents) (has : HasNets design) (Q : Metal → Type 0)
     (obstruction : (c : ℕ) (shape : OnLayer) → IsOfComponentObstruction design c shape → Q (of_obstruction c shape))
+    (blockage : (k : ℕ) (shape : OnLayer) → IsOfBlockage design k shape → Q (of_blockage k shape))
     (terminal : (t : Terminal) (shape : OnLayer) → IsOfTerminal design t shape → Q (of_terminal_shape design t shape))
     (wire : (n w : ℕ) (shape : OnLayer) → IsOfPiece design n (Wire w) shape → Q (of_piece n (length (terminals_of design n) + w) (Wire w) shape)) where
   of_pins : (c : ℕ) (component : Component) (place : Place) (master : library.MasterSaid) (m : Metal) → slice_get design.components c ≡ Some component → component.place ≡ Some place → slice_get design.library.masters component.master ≡ Some master → Contains (pins_metal design c place master.size 0 master.pins) m → Q m
@@ -81,6 +83,29 @@ module _ (design : DesignContents) (has : HasNets design) (Q : Metal → Type 0)
       let shape = contains_at (ports_outlines it.x.ports) from.k from.x from.there in
       subst Q from.is (terminal (Pin it.i) from.x (it.x, it.there, shape))
 
+  of_blockage_at : (k : ℕ) (said : BlockageSaid) (m : Metal) → slice_get design.blockages k ≡ Some said → Contains (one_blockage k said) m → Q m
+  of_blockage_at k said m at there = by said.layer refl there where
+    by : (layer : Option ℕ) → said.layer ≡ layer → Contains (blockage_metal k layer said.rects) m → Q m
+    by None is there = absurd (nothing_in m there)
+    by (Some layer) is there =
+        let rects = map (rect_on layer) said.rects in
+        let from = comes _ rects m there in
+        let rect = comes (rect_on layer) said.rects from.x (contains_at rects from.k from.x from.there) in
+        subst Q from.is (blockage k from.x (record {
+          blockage = said;
+          layer = layer;
+          rect = rect.x;
+          has_blockage = at;
+          has_layer = is;
+          has_rect = contains_at said.rects rect.k rect.x rect.there;
+          is = sym rect.is;
+        }))
+
+  of_blockages : (m : Metal) → Contains (blockages_metal 0 design.blockages) m → Q m
+  of_blockages m there =
+      let it = given_at one_blockage design.blockages _ m (blockages_walk 0 design.blockages) there in
+      of_blockage_at it.i it.x m it.there it.given
+
   of_wires : (n first piece : ℕ) (wires : List records.Wire) (m : Metal) → piece ≡ length (terminals_of design n) + first → ((i : ℕ) (one : records.Wire) → slice_get wires i ≡ Some one → slice_get (wires_of design n) (first + i) ≡ Some one) → Contains (wires_metal design n piece wires) m → Q m
   of_wires n first piece wires m from_piece stand there =
       let it = given (wire_metal design n) piece wires m (subst (λ ms. Contains ms m) (wires_walk design n piece wires) there) in
@@ -108,4 +133,4 @@ module _ (design : DesignContents) (has : HasNets design) (Q : Metal → Type 0)
   pub each_metal : (m : Metal) → Contains (metal_of design) m → Q m
   unfolding metal_of
   each_metal m there =
-      by_part (Q m) (metal_parts design) m (of_components m, (of_design_pins m, (of_nets m, (of_specials m, tt)))) there
+      by_part (Q m) (metal_parts design) m (of_components m, (of_design_pins m, (of_blockages m, (of_nets m, (of_specials m, tt))))) there

@@ -72,5 +72,6 @@ pub metal_has : (design : DesignContents) → IsWellFormed design → (m : Metal
 metal_has design proper =
     each_metal design proper.nets (HasItsPiece design)
     (λ c shape is. refl)
+    (λ k shape is. refl)
     (terminal_has design proper.nets)
     (λ n w shape is. wire_has design proper.nets n w is.0 shape is.1 is.2)

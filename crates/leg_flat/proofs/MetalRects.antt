@@ -2,7 +2,7 @@
 use Rattle.std.proofs.Common.{◌≡◌, ℕ, suc, Bool, true, false, List, [], ◌∷◌, ◌++◌, map, Option, None, Some, slice_get, All, refl}
 use Rattle.std.proofs.lemmas.List.Elements.{All-nil, All-cons, All-head, All-tail, All-same, All-append, All-map}
 use Rattle.leg_lex.specs.Number.{IsNumber}
-use Rattle.leg_geom.specs.Plane.{Spot}
+use Rattle.leg_geom.specs.Plane.{Spot, Sides}
 use Rattle.leg_geom.specs.declared.place.Place.{Place}
 use Rattle.leg_cells.specs.declared.records.Shape.{Shape}
 use Rattle.leg_cells.specs.Measure.{Lengths, IsProper}
@@ -11,20 +11,20 @@ use Rattle.leg_cells.specs.Sound.{IsSoundMaster, IsSound}
 use Rattle.leg_block.specs.declared.records.Wire.{Wire}
 use Rattle.leg_block.specs.declared.records.Wire.TheVariants.{Segment, ViaAt, Patch}
 use Rattle.leg_block.specs.Records.{DesignContents, PortSaid, PinSaid}
-use Rattle.leg_block.specs.WellFormedParts.{IsPosition, IsComponent, IsMetalShape, IsDesignVia, IsPort, IsPin}
+use Rattle.leg_block.specs.WellFormedParts.{IsPosition, IsArea, IsComponent, IsMetalShape, IsDesignVia, IsPort, IsPin, IsBlockage}
 use Rattle.leg_block.specs.WellFormedNets.{IsWire, IsNet}
 use Rattle.leg_block.specs.WellFormed.{IsWellFormed}
 use Rattle.leg_flat.specs.Nets.{number_of_special}
 use Rattle.leg_flat.specs.Outline.Outline.{Shifted}
-use Rattle.leg_flat.specs.Metal.{OnLayer, Belonging, Metal, belonging, drawn, no_size, master_metal, component_metal, components_metal, port_outlines, design_pins_metal, via_outlines, wire_outlines, wires_metal, nets_metal, specials_metal, metal_parts, metal_of}
+use Rattle.leg_flat.specs.Metal.{OnLayer, Belonging, Metal, belonging, drawn, no_size, master_metal, component_metal, components_metal, port_outlines, design_pins_metal, blockage_metal, blockages_metal, via_outlines, wire_outlines, wires_metal, nets_metal, specials_metal, metal_parts, metal_of}
 use Rattle.leg_flat.specs.ProperLibrary.{AreProperShapes, IsProperMaster, IsProperLibrary}
 use Rattle.leg_flat.specs.Steps.AddedMetal.{AreDrawnWithin, IsPlaceWithin}
 use Rattle.leg_flat.proofs.MetalAdded.{walk}
 use Rattle.leg_flat.proofs.Parts.{all_parts}
-use Rattle.leg_flat.proofs.MetalWalks.{pin_metal, pins_walk, one_component, components_walk, design_pin_metal, design_pins_walk, wire_metal, wires_walk, net_metal, nets_walk, one_special, specials_walk, port_drawn, ports_drawn_walk}
+use Rattle.leg_flat.proofs.MetalWalks.{pin_metal, pins_walk, one_component, components_walk, design_pin_metal, design_pins_walk, one_blockage, blockages_walk, wire_metal, wires_walk, net_metal, nets_walk, one_special, specials_walk, port_drawn, ports_drawn_walk}
 use Rattle.leg_flat.proofs.MetalKnown.{all_at, all_follow, master_drawn, via_drawn, placed_within, port_within, drawn_of_area}
 use Rattle.leg_flat.proofs.MetalLines.{wire_within}
-use Rattle.leg_flat.proofs.OutlineRects.{HasRect, ArePlacedImages, IsBox, zero_number, line_has, drawn_has, shifted_has}
+use Rattle.leg_flat.proofs.OutlineRects.{HasRect, ArePlacedImages, IsBox, zero_number, line_has, drawn_has, shifted_has, rectangle_has}
 
 -- metal that is a rectangle
 abbrev pub IsRectOn : OnLayer → Type 0
@@ -59,6 +59,11 @@ record IsMasterOfBoxes (master : MasterSaid) : Type 0 where
 
 metal_proper : (library : Contents) (shapes : List Shape) → All (IsMetalShape library) shapes → AreProperShapes shapes
 metal_proper library shapes all = all_follow (IsMetalShape library) (λ s. IsProper s.rect) (λ s is. is.rect.proper) shapes all
+
+blockage_rects : (k : ℕ) (layer : Option ℕ) (rects : List Sides) → All IsArea rects → All IsRectMetal (blockage_metal k layer rects)
+blockage_rects k None rects are = All-nil IsRectMetal
+blockage_rects k (Some layer) rects are =
+    belonging_rects _ _ (All-map IsRectOn _ rects (all_follow IsArea _ (λ r is. rectangle_has r is) rects are))
 
 module _ (images : ArePlacedImages) where
   drawn_rects : (place : Place) (size : Lengths) (shapes : List Shape) → IsPosition place.at → IsNumber size.width → IsNumber size.height → AreBoxes shapes → All IsRectOn (drawn place size shapes)
@@ -127,6 +132,13 @@ module _ (images : ArePlacedImages) where
         All-same IsRectMetal _ _ (design_pins_walk design 0 design.pins)
         (All-walk (IsPin design.library) IsRectMetal (design_pin_metal design) one_pin_rects 0 design.pins well.pins.each)
 
+    blockages_rects : All IsRectMetal (blockages_metal 0 design.blockages)
+    blockages_rects =
+        All-same IsRectMetal _ _ (blockages_walk 0 design.blockages)
+        (All-walk (IsBlockage design.library) IsRectMetal one_blockage
+        (λ k blockage is. blockage_rects k blockage.layer blockage.rects is.rects)
+        0 design.blockages well.blockages.each)
+
     -- shapes of a via, of the library or of the design
     via_proper : (number : ℕ) (via : ViaSaid) → slice_get (design.library.vias ++ design.vias) number ≡ Some via → AreProperShapes via.shapes
     via_proper number via there =
@@ -162,4 +174,4 @@ module _ (images : ArePlacedImages) where
     pub metal_rects : All IsRectMetal (metal_of design)
     unfolding metal_of
     metal_rects =
-        all_parts IsRectMetal (metal_parts design) (components_rects, (pins_are_rects, (nets_rects, (specials_rects, tt))))
+        all_parts IsRectMetal (metal_parts design) (components_rects, (pins_are_rects, (blockages_rects, (nets_rects, (specials_rects, tt)))))

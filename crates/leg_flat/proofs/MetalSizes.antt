@@ -1,8 +1,8 @@
 -- What is known of a net's wires: they can be drawn, and the numbers of its pieces are small.
-use Rattle.std.proofs.Common.{◌≡◌, ℕ, ◌+◌, ◌<◌, ◌≤◌, Bool, not, List, length, length-append, get_or, slice_get, Option, Some, All, filter, refl, sym, ap, ◌∙◌, zero-add, arith}
+use Rattle.std.proofs.Common.{◌≡◌, ℕ, ◌+◌, ◌<◌, ◌≤◌, Bool, not, List, length, length-append, get_or, map, slice_get, Option, Some, All, filter, refl, sym, ap, ◌∙◌, zero-add, arith}
 use Rattle.std.proofs.lemmas.List.FromFn.{get_or-map-range_with_len, length-map-range_with_len}
 use Rattle.std.proofs.lemmas.List.Sums.{length-filter, count_by-le-length}
-use Rattle.std.proofs.lemmas.Option.{get_or_from_slice_get, slice_get_read, slice_get_within}
+use Rattle.std.proofs.lemmas.Option.{get_or_from_slice_get, slice_get_read, slice_get_within, slice_get-map}
 use Rattle.leg_block.specs.declared.limits.TheConstants.{PART_LIMIT}
 use Rattle.leg_block.specs.declared.records.Terminal.{Terminal}
 use Rattle.leg_block.specs.declared.records.Wire.{Wire}
@@ -21,6 +21,12 @@ use Rattle.leg_flat.proofs.MetalLines.{wire_within}
 -- an element that a loop reads stands at its place
 pub read_at : {X : Type 0} (items xs : List X) (i : ℕ) (x : X) → items ≡ xs → i < length items → x ≡ get_or items i x → slice_get xs i ≡ Some x
 read_at items xs i x same less is = rw (← same) (slice_get_read items (length items) i x refl less is)
+
+-- the same where contracts see each element by what it says
+pub read_said : {X Y : Type 0} (said : X → Y) (items : List X) (xs : List Y) (i : ℕ) (x : X)
+    → map said items ≡ xs → i < length items → x ≡ get_or items i x → slice_get xs i ≡ Some (said x)
+read_said said items xs i x same less is =
+    rw (← same) (slice_get-map said items i ∙ rw (read_at items items i x refl less is) refl)
 
 -- the wires of an entry can be drawn
 pub wires_within : (design : DesignContents) (special : Bool) (nets : List NetSaid) (n : ℕ) (net : NetSaid) (wires : List Wire) → IsSound design.library → All (IsNet design special) nets → slice_get nets n ≡ Some net → wires ≡ net.wires → All IsWireWithin wires

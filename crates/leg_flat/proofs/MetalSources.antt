@@ -5,12 +5,13 @@ use Rattle.leg_block.specs.WellFormed.{IsWellFormed}
 use Rattle.leg_flat.specs.Nets.{terminals_of}
 use Rattle.leg_flat.specs.Metal.{Metal, metal_of}
 use Rattle.leg_flat.specs.Sources.{HasSource}
-use Rattle.leg_flat.specs.Sources.HasSource.{obstruction, terminal, wire}
+use Rattle.leg_flat.specs.Sources.HasSource.{obstruction, blockage, terminal, wire}
 use Rattle.leg_flat.proofs.MetalCases.{each_metal}
 
 pub metal_source : (design : DesignContents) → IsWellFormed design → (m : Metal) → Contains (metal_of design) m → HasSource design m
 metal_source design proper =
     each_metal design proper.nets (HasSource design)
     (λ c shape is. obstruction c shape is refl)
+    (λ k shape is. blockage k shape is refl)
     (λ t shape is. terminal t shape is refl)
     (λ n w shape is. wire n (length (terminals_of design n) + w) w shape is refl)

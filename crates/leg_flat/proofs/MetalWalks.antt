@@ -1,7 +1,7 @@
 -- The metal of each part of a design as what its elements give, one after another.
 use Rattle.std.proofs.Common.{◌≡◌, ℕ, suc, List, [], ◌∷◌, ◌++◌, length, map, Option, None, Some, slice_get, refl, ap, ◌∙◌}
 use Rattle.std.proofs.lemmas.List.{map-append}
-use Rattle.leg_geom.specs.Plane.{Spot}
+use Rattle.leg_geom.specs.Plane.{Spot, Sides}
 use Rattle.leg_geom.specs.declared.place.Place.{Place}
 use Rattle.leg_cells.specs.declared.records.Shape.{Shape}
 use Rattle.leg_cells.specs.Measure.{Lengths}
@@ -9,11 +9,11 @@ use Rattle.leg_cells.specs.Records as library
 use Rattle.leg_block.specs.declared.records.Component.{Component}
 use Rattle.leg_block.specs.declared.records.Terminal.TheVariants.{Comp, Pin}
 use Rattle.leg_block.specs.declared.records.Wire.{Wire}
-use Rattle.leg_block.specs.Records.{DesignContents, PortSaid, PinSaid, NetSaid}
+use Rattle.leg_block.specs.Records.{DesignContents, PortSaid, PinSaid, BlockageSaid, NetSaid}
 use Rattle.leg_flat.specs.declared.owner.Owner.TheVariants.{Net}
 use Rattle.leg_flat.specs.Nets.{number_of_special, terminals_of}
-use Rattle.leg_flat.specs.Outline.Outline.{Drawn, Shifted}
-use Rattle.leg_flat.specs.Metal.{OnLayer, Belonging, Metal, belonging, drawn, of_terminal, pins_metal, component_metal, components_metal, port_outlines, ports_outlines, design_pins_metal, wire_outlines, wires_metal, nets_metal, special_metal, specials_metal}
+use Rattle.leg_flat.specs.Outline.Outline.{Drawn, Shifted, Rectangle}
+use Rattle.leg_flat.specs.Metal.{OnLayer, Belonging, Metal, belonging, drawn, of_terminal, pins_metal, component_metal, components_metal, port_outlines, ports_outlines, design_pins_metal, blockage_metal, blockages_metal, wire_outlines, wires_metal, nets_metal, special_metal, specials_metal}
 use Rattle.leg_flat.proofs.MetalAdded.{walk}
 
 -- each element gives one thing
@@ -34,6 +34,17 @@ shifted_metal at belongs k s =
 
 pub shifted_walk : (at : Spot) (belongs : Belonging) (shapes : List Shape) → belonging belongs (map (λ s. record { layer = s.layer; outline = Shifted at s.rect }) shapes) ≡ walk (shifted_metal at belongs) 0 shapes
 shifted_walk at belongs shapes = walk_map _ _ 0 shapes
+
+-- a rectangle as it is, on a layer
+abbrev pub rect_on : ℕ → Sides → OnLayer
+rect_on layer rect = record { layer = layer; outline = Rectangle rect }
+
+abbrev pub rect_metal : ℕ → Belonging → ℕ → Sides → List Metal
+rect_metal layer belongs k rect = record { metal = rect_on layer rect; belongs = belongs } ∷ []
+
+pub rects_walk : (layer : ℕ) (belongs : Belonging) (rects : List Sides)
+    → belonging belongs (map (rect_on layer) rects) ≡ walk (rect_metal layer belongs) 0 rects
+rects_walk layer belongs rects = walk_map _ _ 0 rects
 
 abbrev pub pin_metal : DesignContents → ℕ → Place → Lengths → ℕ → library.MasterPinSaid → List Metal
 pin_metal design c place size k pin = belonging (of_terminal design (Some c) (Comp c k)) (drawn place size pin.shapes)
@@ -81,6 +92,14 @@ unfolding design_pins_metal
 design_pins_walk design p [] = refl
 design_pins_walk design p (pin ∷ pins) =
     ap (λ z. design_pin_metal design p pin ++ z) (design_pins_walk design (suc p) pins)
+
+abbrev pub one_blockage : ℕ → BlockageSaid → List Metal
+one_blockage k blockage = blockage_metal k blockage.layer blockage.rects
+
+pub blockages_walk : (k : ℕ) (blockages : List BlockageSaid) → blockages_metal k blockages ≡ walk one_blockage k blockages
+unfolding blockages_metal
+blockages_walk k [] = refl
+blockages_walk k (blockage ∷ blockages) = ap (λ z. one_blockage k blockage ++ z) (blockages_walk (suc k) blockages)
 
 abbrev pub wire_metal : DesignContents → ℕ → ℕ → Wire → List Metal
 wire_metal design n piece wire = belonging (record { owner = Net n; component = None; piece = Some piece }) (wire_outlines design wire)

@@ -10,9 +10,9 @@ use Rattle.leg_geom.specs.Line.{Interval, between}
 use Rattle.leg_geom.specs.Orientation.{placed, placed_rect, opposite, IsImage}
 use Rattle.leg_geom.specs.Steps.Intervals.{IsSpan}
 use Rattle.leg_cells.specs.Measure.{Lengths, IsProper}
-use Rattle.leg_block.specs.WellFormedParts.{IsPosition}
+use Rattle.leg_block.specs.WellFormedParts.{IsPosition, IsArea}
 use Rattle.leg_flat.specs.Outline.{Outline, HasPointOf}
-use Rattle.leg_flat.specs.Outline.Outline.{Drawn, Line, Shifted}
+use Rattle.leg_flat.specs.Outline.Outline.{Drawn, Line, Shifted, Rectangle}
 use Rattle.leg_flat.specs.Steps.Bounds.{IsReach, IsWidthWithin, IsLineWithin, IsDrawnWithin}
 use Rattle.leg_flat.proofs.Outlines.{StaysWithin-drawn}
 use Rattle.leg_flat.proofs.OutlineLines.{ends, RunsAlong, RunsAcross, along_up, along_down, sides_of, IsRect-sides_of, same_spot, horizontal_points, vertical_points}
@@ -178,3 +178,17 @@ shifted_has images at r there is = record {
   proper = rect_placed N at (pos 0) (pos 0) r there zero_number zero_number is;
   points = images at N (pos 0) (pos 0) r (rect_of_box r is);
 }
+
+pub rect_of_area : (r : Sides) → IsArea r → IsRect r
+rect_of_area r is = record {
+  x1 = omega (arith, is.x1);
+  y1 = omega (arith, is.y1);
+  x2 = omega (arith, is.x2);
+  y2 = omega (arith, is.y2);
+  wide = is.proper.wide;
+  high = is.proper.high;
+}
+
+-- a rectangle as it is
+pub rectangle_has : (r : Sides) → IsArea r → HasRect (Rectangle r)
+rectangle_has r is = record { rect = r; proper = rect_of_area r is; points = λ p. (λ h. h, λ h. h) }

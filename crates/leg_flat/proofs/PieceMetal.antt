@@ -1,5 +1,5 @@
 -- Each shape of a piece is metal with the numbers of its net and of the piece.
-use Rattle.std.proofs.Common.{◌≡◌, ℕ, ◌+◌, ◌⊎◌, inl, inr, List, ◌++◌, length, slice_get, Contains, Option, None, Some, refl, sym, ap, ◌∙◌, subst, arith}
+use Rattle.std.proofs.Common.{◌≡◌, ℕ, ◌+◌, ◌⊎◌, inl, inr, List, ◌++◌, length, map, slice_get, Contains, Option, None, Some, refl, sym, ap, ◌∙◌, subst, arith}
 use Rattle.std.proofs.lemmas.List.Elements.{Contains-append_left, Contains-append_right}
 use Rattle.leg_block.specs.declared.records.Terminal.{Terminal}
 use Rattle.leg_block.specs.declared.records.Terminal.TheVariants.{Comp, Pin}
@@ -8,18 +8,18 @@ use Rattle.leg_block.specs.Records.{DesignContents, NetSaid}
 use Rattle.leg_block.specs.WellFormed.{IsWellFormed}
 use Rattle.leg_block.specs.WellFormedNets.{HasNets}
 use Rattle.leg_block.proofs.SameTerminal.{among_from}
-use Rattle.leg_flat.specs.declared.owner.Owner.TheVariants.{Net, Obs}
+use Rattle.leg_flat.specs.declared.owner.Owner.TheVariants.{Net, Obs, Blocking}
 use Rattle.leg_flat.specs.declared.piece.Piece.{Piece}
 use Rattle.leg_flat.specs.declared.piece.Piece.TheVariants.{Term, Wire}
 use Rattle.leg_flat.specs.Nets.{terminals_of, pieces_of, regular_entry, special_entry, entry_wires}
 use Rattle.leg_flat.specs.Owner.{net_of, owner_of, piece_of}
-use Rattle.leg_flat.specs.Metal.{OnLayer, Belonging, Metal, belonging, drawn, of_terminal, pins_metal, components_metal, ports_outlines, design_pins_metal, wire_outlines, wires_metal, nets_metal, specials_metal, metal_parts, metal_of}
+use Rattle.leg_flat.specs.Metal.{OnLayer, Belonging, Metal, belonging, drawn, of_terminal, pins_metal, components_metal, ports_outlines, design_pins_metal, blockages_metal, wire_outlines, wires_metal, nets_metal, specials_metal, metal_parts, metal_of}
 use Rattle.leg_flat.specs.Pieces.{IsOfTerminal, IsOfPiece, terminal_component, of_piece}
-use Rattle.leg_flat.specs.Sources.{IsOfComponentObstruction, of_obstruction}
+use Rattle.leg_flat.specs.Sources.{IsOfComponentObstruction, of_obstruction, IsOfBlockage, of_blockage}
 use Rattle.leg_flat.proofs.NetOf.{contains_at}
 use Rattle.leg_flat.proofs.NetTerminals.{special_is}
 use Rattle.leg_flat.proofs.NetPlaces.{in_net}
-use Rattle.leg_flat.proofs.MetalWalks.{pin_metal, pins_walk, one_component, components_walk, design_pin_metal, design_pins_walk, wire_metal, wires_walk, net_metal, nets_walk, one_special, specials_walk}
+use Rattle.leg_flat.proofs.MetalWalks.{pin_metal, pins_walk, one_component, components_walk, design_pin_metal, design_pins_walk, rect_on, one_blockage, blockages_walk, wire_metal, wires_walk, net_metal, nets_walk, one_special, specials_walk}
 use Rattle.leg_flat.proofs.Given.{InSecond, goes, gives, gives_at}
 use Rattle.leg_flat.proofs.Parts.{from_part}
 use Rattle.leg_flat.proofs.PiecePlaces.{IsTerminalPiece, IsWirePiece, piece_cases, wire_cases}
@@ -38,13 +38,17 @@ module _ (design : DesignContents) (m : Metal) where
   unfolding metal_of
   from_pins c = from_part (metal_parts design) 1 _ m refl c
 
+  from_blockages : Contains (blockages_metal 0 design.blockages) m → Contains (metal_of design) m
+  unfolding metal_of
+  from_blockages c = from_part (metal_parts design) 2 _ m refl c
+
   from_nets : Contains (nets_metal design 0 design.nets) m → Contains (metal_of design) m
   unfolding metal_of
-  from_nets c = from_part (metal_parts design) 2 _ m refl c
+  from_nets c = from_part (metal_parts design) 3 _ m refl c
 
   from_specials : Contains (specials_metal design 0 design.special) m → Contains (metal_of design) m
   unfolding metal_of
-  from_specials c = from_part (metal_parts design) 3 _ m refl c
+  from_specials c = from_part (metal_parts design) 4 _ m refl c
 
 module _ (design : DesignContents) where
   -- a terminal's shapes are metal
@@ -79,6 +83,20 @@ module _ (design : DesignContents) where
       let component : Contains (one_component design c is.component) m = rw (is.has_place, is.has_master) whole in
       from_components design m
       (gives_at (one_component design) design.components _ c is.component m (components_walk design 0 design.components) is.has_component component)
+
+  -- the rectangles of a blockage of a layer are metal
+  pub blockage_rect_metal : (k : ℕ) (metal : OnLayer) → IsOfBlockage design k metal → Contains (metal_of design) (of_blockage k metal)
+  blockage_rect_metal k metal is =
+      let belongs : Belonging = record { owner = Blocking k; component = None; piece = None } in
+      let shape = rect_on is.layer is.rect in
+      let all = map (rect_on is.layer) is.blockage.rects in
+      let m = with_belonging belongs shape in
+      let there : Contains all shape = goes (rect_on is.layer) is.blockage.rects is.rect is.has_rect in
+      let shapes : Contains (belonging belongs all) m = goes (with_belonging belongs) all shape there in
+      let one : Contains (one_blockage k is.blockage) m = rw is.has_layer shapes in
+      rw is.is
+      (from_blockages design m
+      (gives_at one_blockage design.blockages _ k is.blockage m (blockages_walk 0 design.blockages) is.has_blockage one))
 
   abbrev of_wire : ℕ → ℕ → Belonging
   of_wire n k = record { owner = Net n; component = None; piece = Some k }

@@ -1,17 +1,19 @@
 -- The metal of a design has as many shapes as are drawn.
-use Rattle.std.proofs.Common.{◌≡◌, ℕ, suc, ◌+◌, List, [], ◌∷◌, length, sum_by, Option, None, Some, slice_get, refl, sym, ap, ◌∙◌, length-append, arith}
+use Rattle.std.proofs.Common.{◌≡◌, ℕ, suc, ◌+◌, List, [], ◌∷◌, length, map, sum_by, Option, None, Some, slice_get, refl, sym, ap, ◌∙◌, length-append, arith}
+use Rattle.std.proofs.lemmas.List.{length-map}
 use Rattle.std.proofs.lemmas.List.Sums.{sum_by-cons}
+use Rattle.leg_geom.specs.Plane.{Sides}
 use Rattle.leg_geom.specs.declared.place.Place.{Place}
 use Rattle.leg_cells.specs.Records as library
 use Rattle.leg_cells.specs.declared.records.Shape.{Shape}
 use Rattle.leg_block.specs.declared.records.Terminal.TheVariants.{Pin}
 use Rattle.leg_block.specs.Records.{DesignContents, PinSaid, NetSaid}
-use Rattle.leg_flat.specs.declared.owner.Owner.TheVariants.{Obs}
+use Rattle.leg_flat.specs.declared.owner.Owner.TheVariants.{Obs, Blocking}
 use Rattle.leg_flat.specs.Nets.{number_of_special, terminals_of, entry_wires, regular_entry}
-use Rattle.leg_flat.specs.Metal.{Belonging, belonging, drawn, of_terminal, pins_metal, component_metal, components_metal, port_outlines, ports_outlines, design_pins_metal, wire_outlines, wires_metal, nets_metal, specials_metal, metal_parts, metal_of}
-use Rattle.leg_flat.specs.Sources.{component_shape_count, component_shapes, port_shape_count, pin_shapes, wire_shapes, shape_count}
+use Rattle.leg_flat.specs.Metal.{Belonging, belonging, drawn, of_terminal, pins_metal, component_metal, components_metal, port_outlines, ports_outlines, design_pins_metal, blockage_metal, blockages_metal, wire_outlines, wires_metal, nets_metal, specials_metal, metal_parts, metal_of}
+use Rattle.leg_flat.specs.Sources.{component_shape_count, component_shapes, port_shape_count, pin_shapes, blockage_shape_count, blockage_shapes, wire_shapes, shape_count}
 use Rattle.leg_flat.proofs.MetalAdded.{walk}
-use Rattle.leg_flat.proofs.MetalWalks.{pin_metal, pins_walk, one_component, components_walk, port_drawn, ports_drawn_walk, design_pin_metal, design_pins_walk, wire_metal, wires_walk, net_metal, nets_walk, one_special, specials_walk}
+use Rattle.leg_flat.proofs.MetalWalks.{pin_metal, pins_walk, one_component, components_walk, port_drawn, ports_drawn_walk, design_pin_metal, design_pins_walk, rect_on, one_blockage, blockages_walk, wire_metal, wires_walk, net_metal, nets_walk, one_special, specials_walk}
 use Rattle.leg_flat.proofs.Counted.{belonging_length, drawn_length}
 use Rattle.leg_flat.proofs.Parts.{whole_length}
 
@@ -78,6 +80,17 @@ pins_count design =
     walked (design_pin_metal design) pin_shapes _ 0 design.pins (design_pins_walk design 0 design.pins)
     (λ p pin. belonging_length (of_terminal design None (Pin p)) (ports_outlines pin.ports) ∙ pin_count pin)
 
+pub blockage_count : (k : ℕ) (layer : Option ℕ) (rects : List Sides) → length (blockage_metal k layer rects) ≡ blockage_shape_count layer (length rects)
+blockage_count k None rects = refl
+blockage_count k (Some layer) rects =
+    let belongs : Belonging = record { owner = Blocking k; component = None; piece = None } in
+    belonging_length belongs (map (rect_on layer) rects) ∙ length-map rects (rect_on layer)
+
+blockages_count : (design : DesignContents) → length (blockages_metal 0 design.blockages) ≡ sum_by blockage_shapes design.blockages
+blockages_count design =
+    walked one_blockage blockage_shapes _ 0 design.blockages (blockages_walk 0 design.blockages)
+    (λ k blockage. blockage_count k blockage.layer blockage.rects)
+
 pub metal_count : (design : DesignContents) → length (metal_of design) ≡ shape_count design
 unfolding metal_of
 metal_count design =
@@ -86,6 +99,7 @@ metal_count design =
       whole_length (metal_parts design),
       components_count design,
       pins_count design,
+      blockages_count design,
       nets_count design,
       specials_count design,
     )

@@ -2,6 +2,7 @@
 -- "Component orientation", "Macro Pin Statement", "Macro Obstruction Statement", "Nets", "Special Nets").
 use Rattle.std.specs.Prelude.{ℕ, suc, ◌+◌, pos, List, [], ◌∷◌, ◌++◌, length, map, Option, None, Some, slice_get}
 use Rattle.std.specs.List.{flat_map}
+use Rattle.leg_geom.specs.Plane.{Sides}
 use Rattle.leg_geom.specs.declared.place.Place.{Place}
 use Rattle.leg_cells.specs.declared.records.Shape.{Shape}
 use Rattle.leg_cells.specs.Measure.{Lengths}
@@ -11,13 +12,13 @@ use Rattle.leg_block.specs.declared.records.Terminal.{Terminal}
 use Rattle.leg_block.specs.declared.records.Terminal.TheVariants.{Comp, Pin}
 use Rattle.leg_block.specs.declared.records.Wire.{Wire}
 use Rattle.leg_block.specs.declared.records.Wire.TheVariants.{Segment, ViaAt, Patch}
-use Rattle.leg_block.specs.Records.{DesignContents, PortSaid, PinSaid, NetSaid}
+use Rattle.leg_block.specs.Records.{DesignContents, PortSaid, PinSaid, BlockageSaid, NetSaid}
 use Rattle.leg_flat.specs.declared.owner.Owner.{Owner}
-use Rattle.leg_flat.specs.declared.owner.Owner.TheVariants.{Net, Obs}
+use Rattle.leg_flat.specs.declared.owner.Owner.TheVariants.{Net, Obs, Blocking}
 use Rattle.leg_flat.specs.Nets.{number_of_special, regular_entry, entry_wires, terminals_of}
 use Rattle.leg_flat.specs.Owner.{owner_of, piece_of}
 use Rattle.leg_flat.specs.Outline.{Outline}
-use Rattle.leg_flat.specs.Outline.Outline.{Drawn, Line, Shifted}
+use Rattle.leg_flat.specs.Outline.Outline.{Drawn, Line, Shifted, Rectangle}
 
 -- a piece of metal on a layer
 pub record OnLayer : Type 0 where
@@ -89,6 +90,19 @@ design_pins_metal design p [] = []
 design_pins_metal design p (pin ∷ pins) =
     belonging (of_terminal design None (Pin p)) (ports_outlines pin.ports) ++ design_pins_metal design (suc p) pins
 
+-- the rectangles of blockage k are metal of its layer, where one is named
+abbrev pub blockage_metal : ℕ → Option ℕ → List Sides → List Metal
+blockage_metal k None rects = []
+blockage_metal k (Some layer) rects =
+    belonging (record { owner = Blocking k; component = None; piece = None })
+    (map (λ rect. record { layer = layer; outline = Rectangle rect }) rects)
+
+-- the blockages in file order, the first being number k
+unfoldable pub blockages_metal : ℕ → List BlockageSaid → List Metal
+blockages_metal k [] = []
+blockages_metal k (blockage ∷ blockages) =
+    blockage_metal k blockage.layer blockage.rects ++ blockages_metal (suc k) blockages
+
 -- a via's shapes, in the order of its definition, from its point
 abbrev pub via_outlines : Option library.ViaSaid → Wire → List OnLayer
 via_outlines (Some via) (ViaAt number at) = map (λ s. record { layer = s.layer; outline = Shifted at s.rect }) via.shapes
@@ -125,11 +139,12 @@ specials_metal design k [] = []
 specials_metal design k (net ∷ nets) =
     special_metal design (number_of_special design k net) net ++ specials_metal design (suc k) nets
 
--- the parts of the metal, in order: components, pins of the design, wires of NETS, wires of SPECIALNETS
+-- the parts of the metal, in order: components, pins of the design, blockages, wires of NETS, wires of SPECIALNETS
 abbrev pub metal_parts : DesignContents → List (List Metal)
 metal_parts design =
     components_metal design 0 design.components
     ∷ design_pins_metal design 0 design.pins
+    ∷ blockages_metal 0 design.blockages
     ∷ nets_metal design 0 design.nets
     ∷ specials_metal design 0 design.special
     ∷ []

@@ -1,17 +1,18 @@
 -- The points of a piece of metal, in database units (LEF/DEF 5.8, "Component orientation", "Regular Wiring Statement",
 -- "Special Wiring Statement"; how a wire ends is lefdef's own rule).
 use Rattle.std.specs.Prelude.{◌≡◌, ◌⊎◌, ℤ, pos, ◌*◌, ◌-ℤ◌, ◌≤ℤ◌, int_lt, if◌then◌else◌, unsigned_abs}
-use Rattle.leg_geom.specs.Plane.{Spot, Sides}
+use Rattle.leg_geom.specs.Plane.{Spot, Sides, HasPoint}
 use Rattle.leg_geom.specs.Orientation.{placed, moved, ComesFrom}
 use Rattle.leg_geom.specs.declared.place.Place.{Place}
 use Rattle.leg_cells.specs.Measure.{Lengths}
 
 -- what metal is drawn as: a rectangle of a box of this size, which is at a place; a line between two points, with a
--- width and how far it reaches beyond each; or a rectangle given from a point
+-- width and how far it reaches beyond each; a rectangle given from a point; or a rectangle
 pub data Outline : Type 0 where
   Drawn : Place → Lengths → Sides → Outline
   Line : Spot → Spot → ℤ → ℤ → ℤ → Outline
   Shifted : Spot → Sides → Outline
+  Rectangle : Sides → Outline
 
 -- how far z lies beyond the end a of a line from a to b, away from b
 abbrev pub beyond : ℤ → ℤ → ℤ → ℤ
@@ -44,3 +45,4 @@ HasPointOf (Drawn place size rect) p = ComesFrom (placed place.at place.orient s
 HasPointOf (Line from to width ext_from ext_to) p =
     IsOfHorizontal from to width ext_from ext_to p ⊎ IsOfVertical from to width ext_from ext_to p
 HasPointOf (Shifted at rect) p = ComesFrom (moved at) rect p
+HasPointOf (Rectangle rect) p = HasPoint rect p

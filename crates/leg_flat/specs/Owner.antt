@@ -1,5 +1,5 @@
--- Whose metal a shape is (lefdef's own rules): a net's, that of a terminal in no net, the power's or the ground's, or that of a
--- component's obstructions.
+-- Whose metal a shape is (lefdef's own rules): a net's, that of a terminal in no net, the power's or the ground's, that of a
+-- component's obstructions, or that of a blockage.
 use Rattle.std.specs.Prelude.{ℕ, suc, if◌then◌else◌, List, [], ◌∷◌, Option, None, Some, option_map, slice_get}
 use Rattle.leg_lex.specs.Words.{◌>>=◌}
 use Rattle.leg_cells.specs.declared.records.Supply.{Supply}
@@ -13,9 +13,10 @@ use Rattle.leg_flat.specs.declared.owner.Owner.{Owner}
 use Rattle.leg_flat.specs.declared.owner.Owner.TheVariants as owners
 use Rattle.leg_flat.specs.Nets.{number_of_special, terminals_of}
 
--- the obstructions of a component
+-- the obstructions of a component, and the rectangles of a blockage
 abbrev pub IsObstruction : Owner → Type 0
 IsObstruction (owners.Obs c) = Unit {0}
+IsObstruction (owners.Blocking k) = Unit {0}
 IsObstruction other = ⊥
 
 -- the place of the first entry that lists the terminal

@@ -9,7 +9,7 @@ ghost use Rattle.leg_flat.specs.Steps.Places.{AreNetsOf};
 ghost use Rattle.leg_flat.specs.Flat.{IsShapeOf, IsFlatOf, IsWithin};
 
 use crate::fault::FlatFault;
-use crate::metal::{add_components, add_design_pins};
+use crate::metal::{add_blockages, add_components, add_design_pins};
 use crate::metal_count::shape_count;
 use crate::metal_wires::{add_nets, add_specials};
 use crate::nets::{Nets, nets_of};
@@ -40,8 +40,8 @@ impl<A: Allocator> Model for Flat<A> {
 
 impl<A: Allocator + Copy> Flat<A> {
     /// The shapes, in order: for each placed component in file order its pins and then its obstructions; the pins of the
-    /// design, port by port; the wires of `NETS`, net by net; the wires of `SPECIALNETS`. A via has the rectangles of its
-    /// definition, in their order.
+    /// design, port by port; the rectangles of the blockages of layers; the wires of `NETS`, net by net; the wires of
+    /// `SPECIALNETS`. A via has the rectangles of its definition, in their order.
     pub fn shapes(&self) -> &[Shape]
         ensures is { result.now ≡ self.now.shapes }
         ensures proper { IsWithin self.now }
@@ -117,6 +117,7 @@ fn shapes_of<A: Allocator + Copy>(
     let mut shapes = Vec::with_capacity(alloc, count)?;
     add_components(&mut shapes, design, nets)?;
     add_design_pins(&mut shapes, design, nets)?;
+    add_blockages(&mut shapes, design)?;
     add_nets(&mut shapes, design, nets)?;
     add_specials(&mut shapes, design, nets)?;
     Ok(shapes)

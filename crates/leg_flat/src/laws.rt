@@ -13,7 +13,7 @@ ghost use Rattle.leg_flat.specs.Metal.{OnLayer, Metal, metal_of};
 ghost use Rattle.leg_flat.specs.ProperLibrary.{IsProperLibrary};
 ghost use Rattle.leg_flat.specs.Owner.{lone_owner, owner_of, piece_of};
 ghost use Rattle.leg_flat.specs.Pieces.{IsOfTerminal, IsOfPiece, HasItsPiece, of_piece, IsEntryOf};
-ghost use Rattle.leg_flat.specs.Sources.{IsOfComponentObstruction, of_obstruction, IsLone, of_terminal_shape, HasSource, shape_count};
+ghost use Rattle.leg_flat.specs.Sources.{IsOfComponentObstruction, of_obstruction, IsOfBlockage, of_blockage, IsLone, of_terminal_shape, HasSource, shape_count};
 
 use crate::proper::library_is_proper;
 use leg_block::Design;
@@ -40,6 +40,12 @@ pub fn obstruction_has_its_metal()
         → Contains (metal_of design) (of_obstruction c metal) }
 {}
 
+/// Each rectangle of a blockage of a layer is metal of that layer, owned by the blockage.
+pub fn blockage_has_its_metal()
+    ensures { (design : DesignContents) (k : ℕ) (metal : OnLayer) → IsOfBlockage design k metal
+        → Contains (metal_of design) (of_blockage k metal) }
+{}
+
 /// Each shape of a terminal is metal of the terminal's owner.
 pub fn terminal_has_its_metal()
     ensures { (design : DesignContents) (terminal : Terminal) (metal : OnLayer) → IsOfTerminal design terminal metal
@@ -54,7 +60,8 @@ pub fn lone_terminal_is_its_own()
     ensures piece { (design : DesignContents) (terminal : Terminal) → IsLone design terminal → piece_of design terminal ≡ None }
 {}
 
-/// There is no metal but the obstructions of components, the shapes of terminals and those of wires, and it is owned so.
+/// There is no metal but the obstructions of components, the rectangles of blockages of layers, the shapes of terminals and
+/// those of wires, and it is owned so.
 pub fn metal_has_a_source()
     ensures { (design : DesignContents) → IsWellFormed design
         → (metal : Metal) → Contains (metal_of design) metal → HasSource design metal }

@@ -1,21 +1,22 @@
-//! The metal of the components of a design and of its pins.
+//! The metal of the components of a design, of its pins and of its blockages.
 
-ghost use Rattle.std.specs.Prelude.{◌≡◌, All, OnOk, None, Some, option_map, slice_get};
-ghost use Rattle.leg_block.specs.Records.{DesignContents};
-ghost use Rattle.leg_block.specs.WellFormedParts.{IsPosition};
+ghost use Rattle.std.specs.Prelude.{◌≡◌, All, OnOk, None, Some, map, option_map, slice_get};
+ghost use Rattle.leg_block.specs.Records.{DesignContents, blockage_said};
+ghost use Rattle.leg_block.specs.WellFormedParts.{IsArea, IsPosition};
 ghost use Rattle.leg_flat.specs.declared.owner.Owner.TheVariants.{Obs};
 ghost use Rattle.leg_cells.specs.Sound.{IsSoundMaster, IsSound};
-ghost use Rattle.leg_flat.specs.Metal.{belonging, drawn, pins_metal, component_metal, components_metal, port_outlines, ports_outlines, design_pins_metal};
+ghost use Rattle.leg_flat.specs.Outline.Outline.{Rectangle};
+ghost use Rattle.leg_flat.specs.Metal.{belonging, drawn, pins_metal, component_metal, components_metal, port_outlines, ports_outlines, design_pins_metal, blockage_metal, blockages_metal};
 ghost use Rattle.leg_flat.specs.Steps.Places.{AreNetsOf};
 ghost use Rattle.leg_flat.specs.Steps.AddedMetal.{AddsMetal, IsPlaceWithin, IsPortWithin, master_of};
 
-use crate::metal_parts::{Belongs, add_drawn, of_component_pin, of_design_pin};
+use crate::metal_parts::{Belongs, add_drawn, add_shape, of_component_pin, of_design_pin};
 use crate::nets::Nets;
 use crate::owner::Owner;
 use crate::shape::Shape;
-use leg_block::{Component, Design, Port};
+use leg_block::{Blockage, Component, Design, Port};
 use leg_cells::Master;
-use leg_geom::Place;
+use leg_geom::{Place, Rect};
 use std::alloc::{AllocError, Allocator};
 
 /// Adds the pins of a component of this macro.
@@ -163,6 +164,57 @@ pub(crate) fn add_design_pins<A: Allocator + Copy>(
     for (p, pin) in design.pins().iter().enumerate() {
         let belongs = of_design_pin(nets, p as u32);
         add_ports(shapes, pin.ports.as_slice(), &belongs)?;
+    }
+    Ok(())
+}
+
+/// Adds rectangles of a layer, each as it is.
+fn add_rects<A: Allocator + Copy>(
+    shapes: &mut Vec<Shape, A>,
+    layer: usize,
+    rects: &[Rect],
+    belongs: &Belongs,
+) -> Result<(), AllocError>
+    requires { All IsArea rects.now }
+    ensures { OnOk result (AddsMetal (belonging belongs.now (map (λ rect. record { layer = layer; outline = Rectangle rect }) rects.now)) shapes.old.items shapes.new.items) }
+{
+    for rect in rects {
+        add_shape(shapes, layer, *rect, belongs)?;
+    }
+    Ok(())
+}
+
+/// Adds a blockage, whose number this is: its rectangles, if it is of a layer.
+fn add_blockage<A: Allocator + Copy>(
+    shapes: &mut Vec<Shape, A>,
+    number: u32,
+    blockage: &Blockage<A>,
+) -> Result<(), AllocError>
+    requires { All IsArea (blockage_said blockage.now).rects }
+    ensures { OnOk result (AddsMetal (blockage_metal number (blockage_said blockage.now).layer (blockage_said blockage.now).rects) shapes.old.items shapes.new.items) }
+{
+    let belongs = Belongs {
+        owner: Owner::Blocking(number),
+        component: None,
+        piece: None,
+    };
+    match blockage {
+        Blockage::LayerRects { layer, rects } => {
+            add_rects(shapes, *layer, rects.as_slice(), &belongs)
+        }
+        Blockage::Placement { .. } => Ok(()),
+    }
+}
+
+/// Adds the blockages of layers, in file order. Those of placement count in the numbers, and have no metal.
+pub(crate) fn add_blockages<A: Allocator + Copy>(
+    shapes: &mut Vec<Shape, A>,
+    design: &Design<'_, A>,
+) -> Result<(), AllocError>
+    ensures { OnOk result (AddsMetal (blockages_metal 0 design.now.blockages) shapes.old.items shapes.new.items) }
+{
+    for (k, blockage) in design.blockages().iter().enumerate() {
+        add_blockage(shapes, k as u32, blockage)?;
     }
     Ok(())
 }

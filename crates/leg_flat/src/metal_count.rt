@@ -3,14 +3,14 @@
 ghost use Rattle.std.specs.Prelude.{◌≡◌, ◌↔◌, ◌<◌, ℕ, length, IsTrue, slice_get};
 ghost use Rattle.leg_geom.specs.declared.place.Place.{Place};
 ghost use Rattle.leg_cells.specs.Measure.{Lengths};
-ghost use Rattle.leg_block.specs.Records.{DesignContents};
+ghost use Rattle.leg_block.specs.Records.{DesignContents, blockage_said};
 ghost use Rattle.leg_block.specs.declared.limits.TheConstants.{PART_LIMIT};
-ghost use Rattle.leg_flat.specs.Metal.{wire_outlines, wires_metal, port_outlines, ports_outlines, pins_metal, component_metal, components_metal, design_pins_metal, nets_metal, specials_metal, metal_of};
+ghost use Rattle.leg_flat.specs.Metal.{wire_outlines, wires_metal, port_outlines, ports_outlines, pins_metal, component_metal, components_metal, design_pins_metal, blockage_metal, blockages_metal, nets_metal, specials_metal, metal_of};
 ghost use Rattle.leg_flat.specs.Steps.ShapeCount.{counted};
 
 use crate::metal::master_numbered;
 use crate::metal_wires::via_numbered;
-use leg_block::{Component, Design, Net, PART_LIMIT, Port, Wire};
+use leg_block::{Blockage, Component, Design, Net, PART_LIMIT, Port, Wire};
 use leg_cells::MasterPin;
 use std::alloc::Allocator;
 
@@ -91,6 +91,27 @@ fn count_design_pins<A: Allocator + Copy>(before: u64, design: &Design<'_, A>) -
     count
 }
 
+/// How many shapes a blockage has: its rectangles, if it is of a layer.
+fn blockage_shapes<A: Allocator>(blockage: &Blockage<A>) -> usize
+    ensures { (k : ℕ) → result ≡ length (blockage_metal k (blockage_said blockage.now).layer (blockage_said blockage.now).rects) }
+{
+    match blockage {
+        Blockage::LayerRects { rects, .. } => rects.as_slice().len(),
+        Blockage::Placement { .. } => 0,
+    }
+}
+
+/// The shapes of the blockages, more than before.
+fn count_blockages<A: Allocator + Copy>(before: u64, design: &Design<'_, A>) -> u64
+    ensures { result ≡ counted before (length (blockages_metal 0 design.now.blockages)) }
+{
+    let mut count = counted(before, 0);
+    for blockage in design.blockages() {
+        count = counted(count, blockage_shapes(blockage));
+    }
+    count
+}
+
 /// How many shapes a wire has.
 pub(crate) fn wire_shapes<A: Allocator + Copy>(design: &Design<'_, A>, wire: &Wire) -> usize
     ensures { result ≡ length (wire_outlines design.now wire.now) }
@@ -133,6 +154,7 @@ pub(crate) fn shape_count<A: Allocator + Copy>(design: &Design<'_, A>) -> u64
 {
     let count = count_components(0, design);
     let count = count_design_pins(count, design);
+    let count = count_blockages(count, design);
     let count = count_nets(count, design, design.nets());
     count_nets(count, design, design.special())
 }

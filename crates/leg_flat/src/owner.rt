@@ -19,13 +19,15 @@ pub enum Owner {
     Ground,
     /// The obstructions of a component, by its number.
     Obs(u32),
+    /// A blockage of a layer, by its number among the blockages of the design.
+    Blocking(u32),
 }
 
 impl Owner {
-    /// Whether these are obstructions. Two of them are not compared with one another.
+    /// Whether these are obstructions of a component or a blockage. Two of them are not compared with one another.
     pub fn is_obstruction(self) -> bool
         ensures { IsTrue result ↔ IsObstruction self }
     {
-        matches!(self, Owner::Obs(_))
+        matches!(self, Owner::Obs(_) | Owner::Blocking(_))
     }
 }

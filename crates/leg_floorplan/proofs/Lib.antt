@@ -5,6 +5,7 @@ pub mod Tracks
 pub mod Vias
 pub mod Components
 pub mod Pins
+pub mod Blockages
 -- .. and that what a form says is well-formed.
 pub mod ReadDie
 pub mod ReadRows
@@ -12,6 +13,7 @@ pub mod ReadTracks
 pub mod ReadVias
 pub mod ReadComponents
 pub mod ReadPins
+pub mod ReadBlockages
 -- Points.
 mod Spots
 -- Of the clauses, the one that is sought.

@@ -7,3 +7,4 @@ pub mod Component
 pub mod Port
 pub mod PinClauses
 pub mod Pin
+pub mod Blockage

@@ -1,4 +1,4 @@
--- The metal of components and of design pins, which wires don't touch.
+-- The metal of components, of design pins and of blockages, which wires don't touch.
 use Rattle.std.proofs.Common.{◌≡◌, ℕ, suc, ◌+◌, List, [], ◌∷◌, ◌++◌, ◌⊎◌, inl, inr, Contains, length, slice_get, Option, None, Some, refl, sym, ap, subst}
 use Rattle.std.proofs.lemmas.List.Elements.{Contains-append_left, Contains-append_cases}
 use Rattle.leg_geom.specs.declared.place.Place.{Place}
@@ -10,7 +10,7 @@ use Rattle.leg_block.specs.declared.records.Wire.{Wire}
 use Rattle.leg_block.specs.Records.{DesignContents, PinSaid, NetSaid}
 use Rattle.leg_flat.specs.declared.owner.Owner.TheVariants.{Net}
 use Rattle.leg_flat.specs.Nets.{terminals_of, regular_entry, entry_wires, number_of_special}
-use Rattle.leg_flat.specs.Metal.{OnLayer, Belonging, Metal, belonging, pins_metal, component_metal, components_metal, design_pins_metal, wire_outlines, wires_metal, nets_metal, specials_metal, metal_of}
+use Rattle.leg_flat.specs.Metal.{OnLayer, Belonging, Metal, belonging, pins_metal, component_metal, components_metal, design_pins_metal, blockages_metal, wire_outlines, wires_metal, nets_metal, specials_metal, metal_of}
 use Rattle.leg_flat.proofs.Parts.{nothing_in, whole, by_part, whole_append}
 use Rattle.leg_grown.specs.Finished.{finished}
 use Rattle.leg_grown.proofs.Places.{comes_from}
@@ -43,11 +43,12 @@ module _ (design : DesignContents) (lists : List (List Wire)) where
   same_design_pins p [] = refl
   same_design_pins p (pin ∷ pins) = rw (same_belonging design lists None (Pin p), same_design_pins (suc p) pins) refl
 
--- the parts of the metal that wires don't touch: components and design pins; and the others
+-- the parts of the metal that wires don't touch: components, design pins and blockages; and the others
 abbrev fixed_parts : DesignContents → List (List Metal)
 fixed_parts design =
     components_metal design 0 design.components
     ∷ design_pins_metal design 0 design.pins
+    ∷ blockages_metal 0 design.blockages
     ∷ []
 
 abbrev pub wire_parts : DesignContents → List (List Metal)
@@ -112,7 +113,7 @@ module _ (design : DesignContents) (m : Metal) where
           | inr later ↦ rest later
         ]
 
-  -- metal is of a component or a design pin, or of a net
+  -- metal is of a component, a design pin or a blockage, or of a net
   pub fixed_or_wire : Contains (metal_of design) m → IsFixed design m ⊎ IsNet m.belongs.owner
   fixed_or_wire there =
       elim (Contains-append_cases (fixed_metal design) (whole (wire_parts design)) m (subst (λ metal. Contains metal m) (fixed_and_wires design) there)) [

@@ -4,10 +4,11 @@ use Rattle.leg_cells.specs.Records.{Contents}
 use Rattle.leg_block.specs.declared.fault.Fault.{Fault}
 use Rattle.leg_block.specs.declared.records.Wire.{Wire}
 use Rattle.leg_block.specs.Records.{DesignContents}
+use Rattle.leg_block.specs.Movable.{IsMovable}
 use Rattle.leg_geom.specs.Plane.{Sides}
 use Rattle.leg_place.specs.Box.{StandsIn}
 use Rattle.leg_place.specs.Faults.{Holds}
-use Rattle.leg_place.specs.Faults.Holds.{unplaced, outside, off_site, overlap}
+use Rattle.leg_place.specs.Faults.Holds.{unplaced, outside, off_site, overlap, blocked}
 use Rattle.leg_grown.specs.Finished.{finished}
 
 module _ (library : Contents) (design : DesignContents) (lists : List (List Wire)) where
@@ -19,6 +20,28 @@ module _ (library : Contents) (design : DesignContents) (lists : List (List Wire
 
   stands_before : (c : ℕ) (box : Sides) → StandsIn library done c box → StandsIn library design c box
   stands_before c box h = record { component = h.component; there = h.there; placed = h.placed }
+
+  movable_then : (c : ℕ) → IsMovable design c → IsMovable done c
+  movable_then c h = record {
+    component = h.component;
+    there = h.there;
+    status = h.status;
+    master = h.master;
+    is_master = h.is_master;
+    number = h.number;
+    site = h.site;
+  }
+
+  movable_before : (c : ℕ) → IsMovable done c → IsMovable design c
+  movable_before c h = record {
+    component = h.component;
+    there = h.there;
+    status = h.status;
+    master = h.master;
+    is_master = h.is_master;
+    number = h.number;
+    site = h.site;
+  }
 
   pub placement_then : (fault : Fault) → Holds library design fault → Holds library done fault
   placement_then fault (unplaced h) = unplaced (record { component = h.component; there = h.there; unplaced = h.unplaced })
@@ -42,6 +65,14 @@ module _ (library : Contents) (design : DesignContents) (lists : List (List Wire
     stands_b = stands_then b h.box_b h.stands_b;
     shared = h.shared;
   })
+  placement_then fault (blocked {c = c} h) = blocked (record {
+    movable = movable_then c h.movable;
+    box = h.box;
+    stands = stands_then c h.box h.stands;
+    rect = h.rect;
+    blocks = h.blocks;
+    shared = h.shared;
+  })
 
   pub placement_before : (fault : Fault) → Holds library done fault → Holds library design fault
   placement_before fault (unplaced h) = unplaced (record { component = h.component; there = h.there; unplaced = h.unplaced })
@@ -63,5 +94,13 @@ module _ (library : Contents) (design : DesignContents) (lists : List (List Wire
     box_b = h.box_b;
     stands_a = stands_before a h.box_a h.stands_a;
     stands_b = stands_before b h.box_b h.stands_b;
+    shared = h.shared;
+  })
+  placement_before fault (blocked {c = c} h) = blocked (record {
+    movable = movable_before c h.movable;
+    box = h.box;
+    stands = stands_before c h.box h.stands;
+    rect = h.rect;
+    blocks = h.blocks;
     shared = h.shared;
   })

@@ -7,18 +7,18 @@ use Rattle.leg_geom.specs.declared.place.Place.{Place}
 use Rattle.leg_geom.proofs.Gaps.{ShareSquare-symmetric}
 use Rattle.leg_block.specs.Records.{DesignContents}
 use Rattle.leg_block.specs.declared.fault.Fault.{Fault}
-use Rattle.leg_block.specs.declared.fault.Fault.TheVariants.{Unplaced, Outside, OffSite, Overlap, Short, TooNear, OpenNet}
+use Rattle.leg_block.specs.declared.fault.Fault.TheVariants.{Unplaced, Outside, OffSite, Overlap, Blocked, Short, TooNear, OpenNet}
 use Rattle.leg_block.specs.declared.records.Component.{Component}
 use Rattle.leg_place.specs.Box.{placed_box, StandsIn}
-use Rattle.leg_place.specs.Faults.{IsUnplaced, IsOutside, Holds}
-use Rattle.leg_place.specs.Faults.Holds.{unplaced, outside, off_site, overlap}
+use Rattle.leg_place.specs.Faults.{IsUnplaced, IsOutside, IsBlocked, Holds}
+use Rattle.leg_place.specs.Faults.Holds.{unplaced, outside, off_site, overlap, blocked}
 use Rattle.leg_place.specs.Sites.{IsOffSite}
 use Rattle.leg_block.specs.Movable.{IsMovable}
 use Rattle.leg_sites.specs.declared.candidate.Candidate.{Candidate}
 use Rattle.leg_legal.specs.Free.{IsSettled, IsFree}
 use Rattle.leg_legal.specs.Run.{placed_at, moved_to}
 use Rattle.leg_legal.proofs.Elements.{contains_at}
-use Rattle.leg_legal.proofs.MovedTo.{elsewhere, is_here, box_here, box_elsewhere, settled_before, taken_before}
+use Rattle.leg_legal.proofs.MovedTo.{elsewhere, is_here, box_here, box_elsewhere, movable_before, settled_before, taken_before}
 use Rattle.leg_legal.proofs.OnRow.{HasSoundRows, stands_on_row}
 
 -- a violation concerns only components that are settled
@@ -27,6 +27,7 @@ ConcernsSettled design done (Unplaced c) = IsSettled design done c
 ConcernsSettled design done (Outside c) = IsSettled design done c
 ConcernsSettled design done (OffSite c) = IsSettled design done c
 ConcernsSettled design done (Overlap a b) = IsSettled design done a × IsSettled design done b
+ConcernsSettled design done (Blocked c) = IsSettled design done c
 ConcernsSettled design done (Short a b) = ⊥
 ConcernsSettled design done (TooNear a b) = ⊥
 ConcernsSettled design done (OpenNet n k) = ⊥
@@ -79,6 +80,12 @@ module _ (now : DesignContents) (sound : HasSoundRows now) (done : List ℕ) (c 
   alone_here d box other apart settled stands_c stands_d shared =
       let is : box ≡ placed_box free.stands.master.size place = box_here now c component place at free.stands.master box is_master stands_c in
       free.clear.alone other (taken_before now c component place at movable done d other apart settled stands_d) (rw is at shared)
+
+  -- no placement blockage does
+  clear_here : IsBlocked now.library after c → ⊥
+  clear_here h =
+      let is : h.box ≡ placed_box free.stands.master.size place = box_here now c component place at free.stands.master h.box is_master h.stands in
+      free.clear.alone h.rect (inr h.blocks) (rw is at (ShareSquare-symmetric h.box h.rect h.shared))
 
   none_after : (fault : Fault) → Holds now.library after fault → ConcernsSettled after more fault → ⊥
   none_after v (unplaced {c = d} h) settled =
@@ -134,6 +141,21 @@ module _ (now : DesignContents) (sound : HasSoundRows now) (done : List ℕ) (c 
               }))
               (settled_before now c component place at movable done a a_apart settled.0, settled_before now c component place at movable done b b_apart settled.1)
         ]
+      ]
+  none_after v (blocked {c = d} h) settled =
+      elim (cases_eq d c) [
+        | inl same ↦ clear_here (rw same at h)
+        | inr apart ↦
+            before.none (Blocked d)
+            (blocked (record {
+              movable = movable_before now c component place at movable d h.movable;
+              box = h.box;
+              stands = box_elsewhere now c component place at d h.box apart h.stands;
+              rect = h.rect;
+              blocks = h.blocks;
+              shared = h.shared;
+            }))
+            (settled_before now c component place at movable done d apart settled)
       ]
 
   pub settled_more : NoneSettled (moved_to now c component place) (done ++ c ∷ [])

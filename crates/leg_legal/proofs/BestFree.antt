@@ -1,17 +1,18 @@
 -- The best free position of a component, or that none is free: each position can be told free or not, and they are finitely many.
-use Rattle.std.proofs.Common.{◌≡◌, ◌⊎◌, ◌↔◌, ℕ, zero, suc, ◌+◌, ◌*◌, ◌<◌, ◌≤◌, pos, ◌+ℤ◌, ◌*ℤ◌, ◌≤ℤ◌, unsigned_abs, Bool, true, false, IsTrue, Option, None, Some, List, length, slice_get, inl, inr, refl, sym, ap, subst, ◌∙◌, arith}
+use Rattle.std.proofs.Common.{◌≡◌, ◌⊎◌, ◌↔◌, ℕ, zero, suc, ◌+◌, ◌*◌, ◌<◌, ◌≤◌, pos, ◌+ℤ◌, ◌*ℤ◌, ◌≤ℤ◌, unsigned_abs, Bool, true, false, IsTrue, Option, None, Some, List, length, slice_get, Contains, inl, inr, refl, sym, ap, subst, ◌∙◌, arith}
 use Rattle.std.proofs.Math.IntN.{pos-*ℤ-pos}
 use Rattle.std.specs.Cmp.{both_ways}
 use Rattle.std.proofs.lemmas.Bool.{cases_lt, cases_eq, cases_order, false≢true}
 use Rattle.std.proofs.lemmas.Int.{ints, by_lt_z}
 use Rattle.std.proofs.lemmas.Option.{same_Some, slice_get_within}
 use Rattle.leg_geom.specs.Plane.{Sides, ShareSquare}
+use Rattle.leg_geom.proofs.Gaps.{ShareSquare-symmetric}
 use Rattle.leg_geom.specs.declared.orient.Orient.{Orient}
 use Rattle.leg_geom.specs.declared.place.Place.{Place}
 use Rattle.leg_cells.specs.declared.records.Site.{Site}
 use Rattle.leg_cells.specs.Measure.{Lengths, HasArea, IsExtent}
 use Rattle.leg_cells.specs.Records.{MasterSaid}
-use Rattle.leg_block.specs.Records.{DesignContents}
+use Rattle.leg_block.specs.Records.{DesignContents, placement_rects}
 use Rattle.leg_block.specs.declared.records.Row.{Row}
 use Rattle.leg_place.specs.Box.{placed_box, StandsIn}
 use Rattle.leg_sites.specs.BestPosition.{IsTurned, IsNoWorse, IsBestOf, IsBetterOf}
@@ -34,7 +35,7 @@ use Rattle.leg_legal.proofs.Decisions.{HoldsOrNot, either_or_not, never_or_not, 
 use Rattle.leg_legal.proofs.Squares.{share_or_not, missing_or_all}
 use Rattle.leg_legal.proofs.Orientations.{turned_or_not, taken_orient}
 use Rattle.leg_legal.proofs.RowTests.{row_for_or_not}
-use Rattle.leg_legal.proofs.FaultTests.{box_or_not, one_box}
+use Rattle.leg_legal.proofs.FaultTests.{box_or_not, one_box, meets_or_not}
 use Rattle.leg_legal.proofs.FreePlaces.{flag_of}
 
 -- of two positions one is no worse
@@ -166,18 +167,23 @@ module _ (design : DesignContents) (done : List ℕ) where
       elim (missing_or_all design.die box) [
         | inl missing ↦ inr (λ c. missing.outside (c.inside missing.square missing.inside))
         | inr inside ↦ elim (some_below (IsInTheWay box) (in_the_way_or_not box) (length design.components)) [
-          | inl (d, below, w) ↦ inr (λ c. c.alone w.other (record { d = d; settled = w.settled; stands = w.stands }) w.shared)
-          | inr none ↦ inl (record {
-            inside = inside;
-            alone = λ other taken shared.
-                none (
-                  taken.d,
-                  slice_get_within design.components taken.d taken.stands.component taken.stands.there,
-                  record { settled = taken.settled; other = other; stands = taken.stands; shared = shared },
-                );
-          })
+          | inl (d, below, w) ↦ inr (λ c. c.alone w.other (inl (record { d = d; settled = w.settled; stands = w.stands })) w.shared)
+          | inr none ↦ elim (meets_or_not design box) [
+            | inl (rect, blocks, shared) ↦ inr (λ c. c.alone rect (inr blocks) (ShareSquare-symmetric box rect shared))
+            | inr never ↦ inl (record { inside = inside; alone = none_shares box none never })
+          ]
         ]
-      ]
+      ] where
+        none_shares : (box : Sides) → ((d : ℕ) × (d < length design.components) × IsInTheWay box d → ⊥)
+            → ((rect : Sides) × Contains (placement_rects design.blockages) rect × ShareSquare box rect → ⊥)
+            → (other : Sides) → IsTaken design done other → ShareSquare other box → ⊥
+        none_shares box none never other (inl taken) shared =
+            none (
+              taken.d,
+              slice_get_within design.components taken.d taken.stands.component taken.stands.there,
+              record { settled = taken.settled; other = other; stands = taken.stands; shared = shared },
+            )
+        none_shares box none never other (inr blocks) shared = never (other, blocks, ShareSquare-symmetric other box shared)
 
 -- the positions of a movable component
 module _ (design : DesignContents) (sound : HasSoundRows design) (sized : HasMacroSizes design.library) (done : List ℕ) (c : ℕ) (m : IsMovable design c) where

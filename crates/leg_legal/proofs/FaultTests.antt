@@ -1,19 +1,19 @@
 -- Whether a violation of placement holds, and whether it concerns only components that stay.
 use Rattle.leg_block.specs.Movable.{IsMovable}
-use Rattle.std.proofs.Common.{◌≡◌, ℕ, Option, None, Some, slice_get, inl, inr, refl, sym, ◌∙◌, arith}
+use Rattle.std.proofs.Common.{◌≡◌, ℕ, Option, None, Some, slice_get, Contains, inl, inr, refl, sym, ◌∙◌, arith}
 use Rattle.std.proofs.lemmas.Option.{same_Some, none-some}
-use Rattle.leg_geom.specs.Plane.{Sides}
+use Rattle.leg_geom.specs.Plane.{Sides, ShareSquare}
 use Rattle.leg_geom.specs.declared.place.Place.{Place}
 use Rattle.leg_cells.specs.Records.{MasterSaid}
-use Rattle.leg_block.specs.Records.{DesignContents}
+use Rattle.leg_block.specs.Records.{DesignContents, placement_rects}
 use Rattle.leg_block.specs.declared.records.Component.{Component}
 use Rattle.leg_block.specs.declared.fault.Fault.{Fault}
-use Rattle.leg_block.specs.declared.fault.Fault.TheVariants.{Unplaced, Outside, OffSite, Overlap, Short, TooNear, OpenNet}
+use Rattle.leg_block.specs.declared.fault.Fault.TheVariants.{Unplaced, Outside, OffSite, Overlap, Blocked, Short, TooNear, OpenNet}
 use Rattle.leg_place.specs.Box.{box_of, StandsIn}
-use Rattle.leg_place.specs.Faults.{IsUnplaced, IsOutside, DoOverlap, Holds}
-use Rattle.leg_place.specs.Faults.Holds.{unplaced, outside, off_site, overlap}
+use Rattle.leg_place.specs.Faults.{IsUnplaced, IsOutside, DoOverlap, IsBlocked, Holds}
+use Rattle.leg_place.specs.Faults.Holds.{unplaced, outside, off_site, overlap, blocked}
 use Rattle.leg_place.specs.Sites.{IsOnRow, IsOffSite}
-use Rattle.leg_place.proofs.PlaceFaults.{kind_below, unplaced_there, outside_there, off_site_there, overlap_there}
+use Rattle.leg_place.proofs.PlaceFaults.{kind_below, unplaced_there, outside_there, off_site_there, overlap_there, blocked_there}
 use Rattle.leg_legal.specs.Refusals.{ConcernsStaying, HoldsOfStaying}
 use Rattle.leg_legal.proofs.OnRow.{HasSoundRows}
 use Rattle.leg_block.proofs.MovableOrNot.{movable_or_not}
@@ -77,6 +77,25 @@ module _ (design : DesignContents) where
                   let b_is : o.box_b ≡ box_b = one_box b o.box_b box_b o.stands_b stands_b in
                   rw (a_is, b_is) at o.shared))
             ]
+          ]
+        ]
+      ]
+
+  -- a rectangle of a placement blockage shares a unit square with the box, or none does
+  pub meets_or_not : (box : Sides) → HoldsOrNot ((rect : Sides) × Contains (placement_rects design.blockages) rect × ShareSquare box rect)
+  meets_or_not box = some_element (ShareSquare box) (placement_rects design.blockages) (λ rect has. share_or_not box rect)
+
+  blocked_or_not : (c : ℕ) → HoldsOrNot (IsBlocked design.library design c)
+  blocked_or_not c =
+      elim (movable_or_not design c) [
+        | inr stays ↦ inr (λ b. stays b.movable)
+        | inl movable ↦ elim (box_or_not c) [
+          | inr none ↦ inr (λ b. none (b.box, b.stands))
+          | inl (box, stands) ↦ elim (meets_or_not box) [
+            | inl (rect, blocks, shared) ↦ inl (record { movable = movable; box = box; stands = stands; rect = rect; blocks = blocks; shared = shared })
+            | inr never ↦ inr (λ b. never (
+                let same : b.box ≡ box = one_box c b.box box b.stands stands in
+                (b.rect, b.blocks, rw same at b.shared)))
           ]
         ]
       ]
@@ -147,6 +166,7 @@ module _ (design : DesignContents) where
     holds_or_not (Outside c) = by_other (λ h. outside h) (outside_there design.library design c) (outside_or_not c)
     holds_or_not (OffSite c) = by_other (λ h. off_site h) (off_site_there design.library design c) (off_site_or_not c)
     holds_or_not (Overlap a b) = by_other (λ h. overlap h) (overlap_there design.library design a b) (overlap_or_not a b)
+    holds_or_not (Blocked c) = by_other (λ h. blocked h) (blocked_there design.library design c) (blocked_or_not c)
     holds_or_not (Short a b) = inr (λ h. let below = kind_below design.library design (Short a b) h in omega arith)
     holds_or_not (TooNear a b) = inr (λ h. let below = kind_below design.library design (TooNear a b) h in omega arith)
     holds_or_not (OpenNet n k) = inr (λ h. let below = kind_below design.library design (OpenNet n k) h in omega arith)
@@ -160,6 +180,7 @@ module _ (design : DesignContents) where
     concerns_or_not (Outside c) = stays_or_not c
     concerns_or_not (OffSite c) = stays_or_not c
     concerns_or_not (Overlap a b) = both_or_not (stays_or_not a) (stays_or_not b)
+    concerns_or_not (Blocked c) = stays_or_not c
     concerns_or_not (Short a b) = inr (λ never. never)
     concerns_or_not (TooNear a b) = inr (λ never. never)
     concerns_or_not (OpenNet n k) = inr (λ never. never)

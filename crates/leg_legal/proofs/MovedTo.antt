@@ -95,4 +95,5 @@ module _ (now : DesignContents) (c : ℕ) (component : Component) (place : Place
 
     -- and its box was taken
     pub taken_before : (done : List ℕ) (d : ℕ) (box : Sides) → (d ≡ c → ⊥) → IsSettled (moved_to now c component place) (done ++ c ∷ []) d → StandsIn now.library (moved_to now c component place) d box → IsTaken now done box
-    taken_before done d box apart settled stands = record { d = d; settled = settled_before done d apart settled; stands = box_elsewhere d box apart stands }
+    taken_before done d box apart settled stands =
+        inl (record { d = d; settled = settled_before done d apart settled; stands = box_elsewhere d box apart stands })

@@ -12,7 +12,7 @@ use Rattle.leg_block.specs.Violation.{IsListOf}
 use Rattle.leg_block.specs.declared.records.Component.{Component}
 use Rattle.leg_place.specs.Box.{StandsIn}
 use Rattle.leg_place.specs.Faults.{Holds, IsLegallyPlaced}
-use Rattle.leg_place.specs.Faults.Holds.{unplaced, outside, off_site, overlap}
+use Rattle.leg_place.specs.Faults.Holds.{unplaced, outside, off_site, overlap, blocked}
 use Rattle.leg_sites.specs.declared.candidate.Candidate.{Candidate}
 use Rattle.leg_legal.specs.declared.fault.LegalFault.{LegalFault}
 use Rattle.leg_legal.specs.declared.fault.LegalFault.TheVariants.{FixedIllegal, NoSite, NoRoom, Memory}
@@ -107,6 +107,7 @@ module _ (before : DesignContents) (components : List Component)
         stands_b = stands_still b h.box_b still.1 h.stands_b;
         shared = h.shared;
       })
+  holds_still v (blocked h) still = absurd (still h.movable)
 
 -- so a design with such a violation is not legally placed by moving others
 never_legal : (before after : DesignContents) → IsSameButForPlaces before after → IsLegallyPlaced after → NoneStaying before

@@ -7,7 +7,7 @@ use Rattle.std.proofs.lemmas.Option.{same_Some}
 use Rattle.leg_geom.specs.declared.place.Place.{Place}
 use Rattle.leg_block.specs.Records.{DesignContents}
 use Rattle.leg_block.specs.declared.fault.Fault.{Fault}
-use Rattle.leg_block.specs.declared.fault.Fault.TheVariants.{Unplaced, Outside, OffSite, Overlap, Short, TooNear, OpenNet}
+use Rattle.leg_block.specs.declared.fault.Fault.TheVariants.{Unplaced, Outside, OffSite, Overlap, Blocked, Short, TooNear, OpenNet}
 use Rattle.leg_block.specs.declared.records.Component.{Component}
 use Rattle.leg_sweep.proofs.Lists.{Contains-nil}
 use Rattle.leg_block.specs.Movable.{IsMovable}
@@ -110,6 +110,8 @@ staying_only design (OffSite c) (inr has) = absurd (Contains-nil c has)
 staying_only design (Overlap a b) (inl stays_a, inl stays_b) = (stays_a, stays_b)
 staying_only design (Overlap a b) (inl stays_a, inr has) = absurd (Contains-nil b has)
 staying_only design (Overlap a b) (inr has, settled) = absurd (Contains-nil a has)
+staying_only design (Blocked c) (inl stays) = stays
+staying_only design (Blocked c) (inr has) = absurd (Contains-nil c has)
 staying_only design (Short a b) s = s
 staying_only design (TooNear a b) s = s
 staying_only design (OpenNet n k) s = s

@@ -8,7 +8,7 @@ use Rattle.leg_block.specs.Records.{DesignContents}
 use Rattle.leg_block.specs.declared.fault.Fault.{Fault}
 use Rattle.leg_block.specs.Violation.{IsListOf}
 use Rattle.leg_place.specs.Faults.{Holds}
-use Rattle.leg_place.specs.Faults.Holds.{unplaced, outside, off_site, overlap}
+use Rattle.leg_place.specs.Faults.Holds.{unplaced, outside, off_site, overlap, blocked}
 use Rattle.leg_place.specs.Among.{TellsMarked, HoldsAmong}
 use Rattle.leg_block.specs.Movable.{IsMovable}
 use Rattle.leg_legal.specs.Refusals.{ConcernsStaying, HoldsOfStaying}
@@ -65,6 +65,7 @@ module _ (design : DesignContents) where
       (are.each a (slice_get_within design.components a h.stands_a.component h.stands_a.there)).0 told.0,
       (are.each b (slice_get_within design.components b h.stands_b.component h.stands_b.there)).0 told.1,
     )
+    staying_of v (blocked {c = c} h) told = (are.each c (slice_get_within design.components c h.stands.component h.stands.there)).0 told
 
     marked_of : (v : Fault) → Holds design.library design v → ConcernsStaying design v → TellsMarked marks v
     marked_of v (unplaced {c = c} h) stays = (are.each c (slice_get_within design.components c h.component h.there)).1 stays
@@ -74,6 +75,7 @@ module _ (design : DesignContents) where
       (are.each a (slice_get_within design.components a h.stands_a.component h.stands_a.there)).1 stays.0,
       (are.each b (slice_get_within design.components b h.stands_b.component h.stands_b.there)).1 stays.1,
     )
+    marked_of v (blocked {c = c} h) stays = (are.each c (slice_get_within design.components c h.stands.component h.stands.there)).1 stays
 
     -- so the list of the ones is that of the others
     pub staying_list : (faults : List Fault) → IsListOf (HoldsAmong design.library design marks) faults → IsListOf (HoldsOfStaying design) faults

@@ -12,7 +12,7 @@ use Rattle.leg_block.specs.declared.records.Status.{Status}
 use Rattle.leg_block.specs.declared.records.Status.TheVariants as status
 use Rattle.leg_block.specs.declared.records.Component.{Component}
 use Rattle.leg_place.specs.Faults.{Holds, IsLegallyPlaced}
-use Rattle.leg_place.specs.Faults.Holds.{unplaced, outside, off_site, overlap}
+use Rattle.leg_place.specs.Faults.Holds.{unplaced, outside, off_site, overlap, blocked}
 use Rattle.leg_block.specs.Movable.{MayMove, IsMovable}
 use Rattle.leg_legal.specs.Free.{IsSettled}
 use Rattle.leg_legal.specs.Turns.{IsOrderOfTaking}
@@ -43,6 +43,7 @@ module _ (before after : DesignContents) (order : List ℕ) (is_order : IsOrderO
   all_concerned v (outside {c = c} h) = all_settled c
   all_concerned v (off_site {c = c} h) = all_settled c
   all_concerned v (overlap {a = a} {b = b} h) = (all_settled a, all_settled b)
+  all_concerned v (blocked {c = c} h) = all_settled c
 
   -- where no violation holds among what stays, the end of the run is legally placed
   pub run_legal : HasSoundRows before → NoneStaying before → IsLegallyPlaced after

@@ -2,14 +2,14 @@
 use Rattle.std.proofs.Common.{◌≡◌, ◌≢◌, ◌↔◌, ℕ, ◌+◌, ◌<◌, ◌≤◌, List, [], ◌∷◌, ◌++◌, take, drop, length, get_or, AllPairs, Contains, Some, slice_get, refl, sym, ap, subst, append_assoc, ◌∙◌, inl, inr, arith}
 use Rattle.std.proofs.Math.ListN.{get_or-map}
 use Rattle.std.proofs.lemmas.Bool.{cases_lt, cases_eq}
-use Rattle.std.proofs.lemmas.List.{take_more, take_all, take-append-drop, length-map, length-append, get_or_append_left}
-use Rattle.std.proofs.lemmas.List.Elements.{All-take, All-push, All-nil, Contains-push, Contains-push_cases, Contains-append_left}
+use Rattle.std.proofs.lemmas.List.{take_more, take_all, take-append-drop, length-map, length-append, append-nil, get_or_append_left}
+use Rattle.std.proofs.lemmas.List.Elements.{All-take, All-push, All-nil, Contains-push, Contains-push_cases, Contains-append_left, Contains-append_right, Contains-append_cases}
 use Rattle.std.proofs.lemmas.Option.{same_Some, slice_get_within}
 use Rattle.leg_sweep.proofs.Lists.{Contains-nil}
 use Rattle.leg_geom.specs.Plane.{Sides}
 use Rattle.leg_geom.specs.declared.place.Place.{Place}
 use Rattle.leg_cells.specs.Records.{MasterSaid}
-use Rattle.leg_block.specs.Records.{DesignContents}
+use Rattle.leg_block.specs.Records.{DesignContents, placement_rects}
 use Rattle.leg_block.specs.WellFormedParts.{IsPosition}
 use Rattle.leg_block.specs.declared.records.Component.{Component}
 use Rattle.leg_place.specs.Box.{box_of, placed_box, StandsIn}
@@ -20,13 +20,13 @@ use Rattle.leg_legal.specs.declared.fault.LegalFault.TheVariants.{FixedIllegal, 
 use Rattle.leg_legal.specs.declared.taken.Taken.{Taken}
 use Rattle.leg_legal.specs.declared.turns.TurnKey.{TurnKey}
 use Rattle.leg_block.specs.Movable.{IsMovable}
-use Rattle.leg_legal.specs.Free.{IsSettled, IsTaken, IsFree, TakesBest}
+use Rattle.leg_legal.specs.Free.{IsSettled, HasSettled, IsTaken, IsFree, TakesBest}
 use Rattle.leg_legal.specs.Run.{placed_at, moved_to, Run}
 use Rattle.leg_legal.specs.Run.Run.{none, one}
 use Rattle.leg_legal.specs.Steps.PlacedAll.{CanTake, placed_all}
 use Rattle.leg_legal.specs.Steps.Seats.{IsFreeOf}
 use Rattle.leg_legal.specs.Steps.TurnKeys.{IsKeyOf, numbers, AreInOrder}
-use Rattle.leg_legal.specs.Steps.Taking.{IsStayingIn, IsStayingBelow, KnowStaying, KnowTaken, IsSeated, HasNoSeat, IsSeatFault, IsTakingFault, IsUnderWay, AreAllTaken, IsStuckAt}
+use Rattle.leg_legal.specs.Steps.Taking.{IsStayingIn, IsStayingBelow, KnowStaying, KnowBlockages, KnowTaken, IsSeated, HasNoSeat, IsSeatFault, IsTakingFault, IsUnderWay, AreAllTaken, IsStuckAt}
 use Rattle.leg_legal.proofs.MovedTo.{here, elsewhere, box_here, movable_before, taken_before}
 use Rattle.leg_legal.proofs.SoFar.{AreMovable, IsSoFar, so_far, earlier_movable, last_movable, last_fresh}
 use Rattle.leg_legal.proofs.TheOrder.{order_movable}
@@ -85,23 +85,41 @@ module _ (design : DesignContents) where
     );
   }
 
-  -- those of all are taken before any component's turn has come
-  pub staying_all : (free : RowLists) → KnowStaying design (length design.components) free → KnowTaken design design [] free
-  staying_all free k = record {
-    boxes = k.boxes;
+  -- the rectangles of blockages, after the boxes of all that stay
+  pub blockages_none : (free : RowLists) → KnowStaying design (length design.components) free → KnowBlockages design [] free
+  blockages_none free k = record { boxes = k.boxes; known = rw (append-nil k.boxes) k.known; staying = k.staying }
+
+  pub blockages_more : (free after : RowLists) (rects more : List Sides) → (k : KnowBlockages design rects free)
+      → AreKnown design ((k.boxes ++ rects) ++ more) after → KnowBlockages design (rects ++ more) after
+  blockages_more free after rects more k known = record { boxes = k.boxes; known = rw append_assoc at known; staying = k.staying }
+
+  -- those of all placement blockages are taken before any component's turn has come
+  pub blockages_all : (free : RowLists) → KnowBlockages design (placement_rects design.blockages) free → KnowTaken design design [] free
+  blockages_all free k = record {
+    boxes = k.boxes ++ placement_rects design.blockages;
     known = k.known;
-    taken = λ box. (
-      λ has. let s = (k.staying box).0 has in record { d = s.d; settled = inl s.staying.stays; stands = s.staying.stands },
-      λ t. elim t.settled [
+    taken = λ box. (is_taken box, in_boxes box);
+  }
+    where
+      is_taken : (box : Sides) → Contains (k.boxes ++ placement_rects design.blockages) box → IsTaken design [] box
+      is_taken box has = elim (Contains-append_cases k.boxes (placement_rects design.blockages) box has) [
+        | inl stays ↦ let s = (k.staying box).0 stays in inl (record { d = s.d; settled = inl s.staying.stays; stands = s.staying.stands })
+        | inr blocks ↦ inr blocks
+      ]
+
+      in_front : (box : Sides) → HasSettled design [] box → Contains k.boxes box
+      in_front box t = elim t.settled [
         | inl stays ↦ (k.staying box).1 (record {
           d = t.d;
           below = slice_get_within design.components t.d t.stands.component t.stands.there;
           staying = record { stays = stays; stands = t.stands };
         })
         | inr has ↦ absurd (Contains-nil t.d has)
-      ],
-    );
-  }
+      ]
+
+      in_boxes : (box : Sides) → IsTaken design [] box → Contains (k.boxes ++ placement_rects design.blockages) box
+      in_boxes box (inl t) = Contains-append_left k.boxes (placement_rects design.blockages) box (in_front box t)
+      in_boxes box (inr blocks) = Contains-append_right k.boxes (placement_rects design.blockages) box blocks
 
 -- the first of elements in order
 pairs_front : {X : Type 0} (R : X → X → Type 0) (xs ys : List X) → AllPairs R (xs ++ ys) → AllPairs R xs
@@ -244,7 +262,7 @@ module _ (design : DesignContents) (done : List ℕ) (now : DesignContents) (run
     settled_after d (inr has) = inr (Contains-append_left done (c ∷ []) d has)
 
     taken_after : (box : Sides) → IsTaken now done box → IsTaken moved (done ++ c ∷ []) box
-    taken_after box t = record {
+    taken_after box (inl t) = inl (record {
       d = t.d;
       settled = settled_after t.d t.settled;
       stands = record {
@@ -252,7 +270,21 @@ module _ (design : DesignContents) (done : List ℕ) (now : DesignContents) (run
         there = elsewhere now c component place there_now t.d (other_settled t.d t.settled) ∙ t.stands.there;
         placed = t.stands.placed;
       };
-    }
+    })
+    taken_after box (inr blocks) = inr blocks
+
+    in_boxes : (box : Sides) → IsTaken moved (done ++ c ∷ []) box → Contains (known.boxes ++ rect ∷ []) box
+    in_boxes box (inl t) =
+        elim (cases_eq t.d c) [
+          | inl same ↦
+              let in_box : StandsIn now.library moved c box = rw same at t.stands in
+              let is : box ≡ rect = box_here now c component place there_now master box is_master in_box in
+              rw is (Contains-push known.boxes rect)
+          | inr apart ↦
+              Contains-append_left known.boxes (rect ∷ []) box
+              ((known.taken box).1 (taken_before now c component place there_now movable_now done t.d box apart t.settled t.stands))
+        ]
+    in_boxes box (inr blocks) = Contains-append_left known.boxes (rect ∷ []) box ((known.taken box).1 (inr blocks))
 
     pub known_more : KnowTaken design (moved_to now c s.best.free.stands.component place) (done ++ c ∷ []) after
     known_more = record {
@@ -261,17 +293,9 @@ module _ (design : DesignContents) (done : List ℕ) (now : DesignContents) (run
       taken = λ box. (
         λ has. elim (Contains-push_cases known.boxes rect box has) [
           | inl earlier ↦ taken_after box ((known.taken box).0 earlier)
-          | inr same ↦ record { d = c; settled = inr (Contains-push done c); stands = stands_here box same }
+          | inr same ↦ inl (record { d = c; settled = inr (Contains-push done c); stands = stands_here box same })
         ],
-        λ t. elim (cases_eq t.d c) [
-          | inl same ↦
-              let in_box : StandsIn now.library moved c box = rw same at t.stands in
-              let is : box ≡ rect = box_here now c component place there_now master box is_master in_box in
-              rw is (Contains-push known.boxes rect)
-          | inr apart ↦
-              Contains-append_left known.boxes (rect ∷ []) box
-              ((known.taken box).1 (taken_before now c component place there_now movable_now done t.d box apart t.settled t.stands))
-        ],
+        in_boxes box,
       );
     }
 

@@ -2,7 +2,7 @@
 use Rattle.std.specs.Prelude.{◌⊎◌, ℕ, List, Contains}
 use Rattle.leg_geom.specs.Plane.{Sides}
 use Rattle.leg_geom.specs.declared.place.Place.{Place}
-use Rattle.leg_block.specs.Records.{DesignContents}
+use Rattle.leg_block.specs.Records.{DesignContents, placement_rects}
 use Rattle.leg_place.specs.Box.{StandsIn, placed_box}
 use Rattle.leg_sites.specs.declared.candidate.Candidate.{Candidate}
 use Rattle.leg_sites.specs.Known.{IsClear}
@@ -15,10 +15,14 @@ abbrev pub IsSettled : DesignContents → List ℕ → ℕ → Type 0
 IsSettled design done d = (¬ IsMovable design d) ⊎ Contains done d
 
 -- a component is in this box and will stay there
-pub record IsTaken (design : DesignContents) (done : List ℕ) (box : Sides) : Type 0 where
+pub record HasSettled (design : DesignContents) (done : List ℕ) (box : Sides) : Type 0 where
   pub d : ℕ
   pub settled : IsSettled design done d
   pub stands : StandsIn design.library design d box
+
+-- the box is taken: a component will stay there, or it is a rectangle of a placement blockage
+abbrev pub IsTaken : DesignContents → List ℕ → Sides → Type 0
+IsTaken design done box = HasSettled design done box ⊎ Contains (placement_rects design.blockages) box
 
 -- With this place component c is at the position, and its box is clear: it lies in the die, and shares no unit square with
 -- one that is taken.

@@ -5,7 +5,7 @@ use Rattle.leg_cells.specs.declared.records.Site.{Site}
 use Rattle.leg_cells.specs.Measure.{Lengths}
 use Rattle.leg_block.specs.Records.{DesignContents}
 use Rattle.leg_block.specs.declared.fault.Fault.{Fault}
-use Rattle.leg_block.specs.declared.fault.Fault.TheVariants.{Unplaced, Outside, OffSite, Overlap, Short, TooNear, OpenNet}
+use Rattle.leg_block.specs.declared.fault.Fault.TheVariants.{Unplaced, Outside, OffSite, Overlap, Blocked, Short, TooNear, OpenNet}
 use Rattle.leg_block.specs.declared.records.Row.{Row}
 use Rattle.leg_block.specs.Violation.{IsListOf}
 use Rattle.leg_place.specs.Faults.{Holds, IsLegallyPlaced}
@@ -23,6 +23,7 @@ ConcernsStaying design (Unplaced c) = ¬ IsMovable design c
 ConcernsStaying design (Outside c) = ¬ IsMovable design c
 ConcernsStaying design (OffSite c) = ¬ IsMovable design c
 ConcernsStaying design (Overlap a b) = (¬ IsMovable design a) × (¬ IsMovable design b)
+ConcernsStaying design (Blocked c) = ¬ IsMovable design c
 ConcernsStaying design (Short a b) = ⊥
 ConcernsStaying design (TooNear a b) = ⊥
 ConcernsStaying design (OpenNet n k) = ⊥

@@ -6,11 +6,12 @@ ghost use Rattle.leg_cells.specs.Sound.{IsSound};
 ghost use Rattle.leg_block.specs.Records.{DesignContents};
 ghost use Rattle.leg_block.specs.WellFormed.{IsWellFormed};
 ghost use Rattle.leg_block.specs.Movable.{IsMovable};
+ghost use Rattle.leg_block.specs.declared.fault.Fault.TheVariants.{Blocked};
 ghost use Rattle.leg_place.specs.Faults.{IsLegallyPlaced};
 ghost use Rattle.leg_legal.specs.FreePlaces.{HasMacroSizes, IsFreePlace, HasFreePosition};
 ghost use Rattle.leg_legal.specs.Run.{IsLegalised};
 ghost use Rattle.leg_legal.specs.Moves.{AreMoves};
-ghost use Rattle.leg_legal.specs.Refusals.{IsStuck, IsRefusal};
+ghost use Rattle.leg_legal.specs.Refusals.{HoldsOfStaying, IsStuck, IsRefusal};
 ghost use Rattle.leg_legal.specs.Outcome.{HasOutcome};
 ghost use Rattle.leg_legal.specs.declared.fault.LegalFault.TheVariants.{Memory};
 
@@ -46,6 +47,11 @@ pub fn design_is_refused_in_one_way<A: Allocator>(fault: &LegalFault<A>, other: 
 pub fn refused_design_is_not_legalised<A: Allocator>(fault: &LegalFault<A>)
     ensures { (design after : DesignContents) → IsRefusal design fault.now → fault.now ≢ Memory
         → IsLegalised design after → ¬ IsLegallyPlaced after }
+{}
+
+/// A component that stays may stand in a placement blockage: of components that stay, no violation of that kind holds.
+pub fn component_that_stays_is_not_blocked()
+    ensures { (design : DesignContents) (c : ℕ) → ¬ HoldsOfStaying design (Blocked c) }
 {}
 
 /// A movable component's free positions, which are told by numbers of sites, are its free places, which are told by unit

@@ -10,6 +10,7 @@ ghost use Rattle.leg_legal.specs.Moves.{AreMoves};
 ghost use Rattle.leg_legal.specs.Refusals.{AreSuited, IsRefusal};
 ghost use Rattle.leg_legal.specs.Steps.Chosen.{AreRun, IsRunFault, AreChosen};
 
+use crate::blockages::take_blockages;
 use crate::distances::moves_of;
 use crate::fault::LegalFault;
 use crate::moves::Moves;
@@ -29,7 +30,9 @@ use std::alloc::Allocator;
 /// own rules). A movable component is `PLACED` or without a place, and its macro has a site. They are taken the wider
 /// macro first, then the one that starts further to the left, then in file order. Each gets the free position on the
 /// rows of its site that is least by the distance from its start, then by whether its orientation changes, the number
-/// of the row and that of the site. A design that is legally placed comes back as it is, with all moves 0.
+/// of the row and that of the site. A position is free where the component lies in the die, and shares no unit square
+/// with one that stays or has been taken before it, nor with a placement blockage. A design that is legally placed comes
+/// back as it is, with all moves 0.
 ///
 /// The library is the one that the design was read with. On each refusal the design comes back unchanged: `FixedIllegal`
 /// where components that stay break rules among themselves, else `NoSite` for the first movable component that fits no
@@ -110,5 +113,6 @@ fn take_all<A: Allocator + Copy>(
     let keys = order_of_taking(alloc, design)?;
     let mut free = FreeRows::of_design(alloc, design)?;
     take_staying(design, &mut free)?;
+    take_blockages(design, &mut free)?;
     take_in_turn(alloc, design, &mut free, keys.as_slice())
 }

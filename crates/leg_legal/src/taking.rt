@@ -47,7 +47,7 @@ pub(crate) fn take_staying<A: Allocator + Copy>(
     free: &mut FreeRows<A>,
 ) -> Result<(), AllocError>
     requires { AreKnown design.now [] free.old }
-    ensures { OnOk result (KnowTaken design.now design.now [] free.new) }
+    ensures { OnOk result (KnowStaying design.now (length design.now.components) free.new) }
 {
     for i in 0..design.components().len() {
         take_if_staying(design, free, i)?;

@@ -12,7 +12,7 @@ pub(crate) fn advice_of(word: &[u8]) -> &'static [u8]
     } else if word == b"UNROUTABLE".as_slice() {
         b"no way is left for this net, since wires that were laid before stay: route what tools/ease-routing makes of the block, with --first and the name of this net if that is not enough (docs/RECIPES.md)"
     } else if word == b"NOROOM".as_slice() {
-        b"no free sites were left for this component at its turn: take out fillers (tools/drop-fillers), or give the block more rows"
+        b"no free sites were left for this component at its turn: take out fillers (tools/drop-fillers) or placement blockages, or give the block more rows"
     } else if word == b"NOSITE".as_slice() {
         b"this component fits on no row: its macro has to be as high as its SITE and a whole number of sites wide, and a ROW has to have that site"
     } else if word == b"FIXEDILLEGAL".as_slice() {

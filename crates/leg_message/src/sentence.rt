@@ -27,12 +27,12 @@ pub(crate) fn sentence_of(kind: FaultKind) -> &'static [u8]
         FaultKind::DuplicateName =>
             b"a name of this line was defined before: rename or remove one of the two (tools/from-qflow joins entries of SPECIALNETS)",
         FaultKind::Unsupported =>
-            b"a form of this line is not supported, since it would change metal or a rule that is judged: see docs/FORMATS.md (tools/plain-vias rewrites generated vias)",
+            b"a form of this line is not supported, since it would change metal or a rule that is judged: see docs/FORMATS.md (tools/plain-vias rewrites generated vias; a blockage may have + PUSHDOWN and RECT, but not + SOFT, + PARTIAL, + EXCEPTPGNET, POLYGON and the like)",
         FaultKind::Diagonal => b"a wire of this line is neither horizontal nor vertical",
         FaultKind::ViaLayer => b"a via of this line does not have the layer of its path",
         FaultKind::PinTwice => b"a terminal of this line is in another net already",
         FaultKind::TooMany =>
-            b"one entry too many: a DEF has at most 200,000 components, 200,000 pins and 200,000 nets, and these at most 4,000,000 terminals and 4,000,000 wires",
+            b"one entry too many: a DEF has at most 200,000 components, 200,000 pins, 200,000 nets and 200,000 blockages, its nets at most 4,000,000 terminals and 4,000,000 wires, and its blockages at most 4,000,000 rectangles",
         FaultKind::BadRow =>
             b"a row of this line is not supported: it needs DO n BY 1, the width of its site as the step in x, and N, S, FN or FS",
         FaultKind::BadVia =>

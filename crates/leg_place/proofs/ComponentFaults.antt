@@ -8,9 +8,9 @@ use Rattle.leg_block.specs.declared.fault.Fault.TheVariants as faults
 use Rattle.leg_block.specs.Violation.{kind_number, numbers_of}
 use Rattle.leg_block.proofs.FaultNumbers.{same_fault, no_second_number}
 use Rattle.leg_place.specs.declared.component_fault.ComponentFault.{ComponentFault}
-use Rattle.leg_place.specs.declared.component_fault.ComponentFault.TheVariants.{Unplaced, Outside, OffSite}
+use Rattle.leg_place.specs.declared.component_fault.ComponentFault.TheVariants.{Unplaced, Outside, OffSite, Blocked}
 use Rattle.leg_place.specs.Faults.{Holds}
-use Rattle.leg_place.specs.Faults.Holds.{unplaced, outside, off_site, overlap}
+use Rattle.leg_place.specs.Faults.Holds.{unplaced, outside, off_site, overlap, blocked}
 use Rattle.leg_place.specs.Among.{IsMarked, TellsMarked}
 use Rattle.leg_place.specs.Steps.ComponentFault.{fault_of}
 
@@ -30,12 +30,19 @@ pub of_component : (kind : ComponentFault) (c : ℕ) → (kind_number (fault_of 
 of_component Unplaced c = (refl, refl)
 of_component Outside c = (refl, refl)
 of_component OffSite c = (refl, refl)
+of_component Blocked c = (refl, refl)
+
+-- a violation of a component in a placement blockage names no second number
+blocked_alone : (v : Fault) → kind_number v ≡ number_of_kind Blocked → (numbers_of v).1 ≡ 0
+blocked_alone (faults.Blocked c) same = refl
+blocked_alone other same = absurd (omega (arith, same))
 
 -- each violation of the kind is that of the component that it names
 pub is_of_component : (kind : ComponentFault) (v : Fault) → kind_number v ≡ number_of_kind kind → v ≡ fault_of kind (numbers_of v).0
 is_of_component Unplaced v same = same_fault v (faults.Unplaced (numbers_of v).0) same refl (no_second_number v (omega (arith, same)))
 is_of_component Outside v same = same_fault v (faults.Outside (numbers_of v).0) same refl (no_second_number v (omega (arith, same)))
 is_of_component OffSite v same = same_fault v (faults.OffSite (numbers_of v).0) same refl (no_second_number v (omega (arith, same)))
+is_of_component Blocked v same = same_fault v (faults.Blocked (numbers_of v).0) same refl (blocked_alone v same)
 
 -- and an overlap that of its two
 pub is_overlap : (v : Fault) → kind_number v ≡ overlap_kind → v ≡ faults.Overlap (numbers_of v).0 (numbers_of v).1
@@ -46,6 +53,7 @@ pub tells_marked : (kind : ComponentFault) (marks : List Bool) (c : ℕ) → Tel
 tells_marked Unplaced marks c = (λ h. h, λ h. h)
 tells_marked Outside marks c = (λ h. h, λ h. h)
 tells_marked OffSite marks c = (λ h. h, λ h. h)
+tells_marked Blocked marks c = (λ h. h, λ h. h)
 
 -- a violation of placement is asked of one component, or is an overlap
 pub component_or_overlap : (library : Contents) (design : DesignContents) (v : Fault) → Holds library design v
@@ -54,6 +62,7 @@ component_or_overlap library design v (unplaced h) = inl (Unplaced, refl)
 component_or_overlap library design v (outside h) = inl (Outside, refl)
 component_or_overlap library design v (off_site h) = inl (OffSite, refl)
 component_or_overlap library design v (overlap h) = inr refl
+component_or_overlap library design v (blocked h) = inl (Blocked, refl)
 
 -- a number is that of such a kind, or of none of them
 pub kind_or_none : (number : ℕ) → ((kind : ComponentFault) × (number ≡ number_of_kind kind)) ⊎ ((kind : ComponentFault) → number ≢ number_of_kind kind)
@@ -64,12 +73,16 @@ kind_or_none number =
         | inl is ↦ inl (Outside, is)
         | inr not_outside ↦ elim (cases_eq number (number_of_kind OffSite)) [
           | inl is ↦ inl (OffSite, is)
-          | inr not_off_site ↦ inr (none_of not_unplaced not_outside not_off_site)
+          | inr not_off_site ↦ elim (cases_eq number (number_of_kind Blocked)) [
+            | inl is ↦ inl (Blocked, is)
+            | inr not_blocked ↦ inr (none_of not_unplaced not_outside not_off_site not_blocked)
+          ]
         ]
       ]
     ] where
       none_of : number ≢ number_of_kind Unplaced → number ≢ number_of_kind Outside → number ≢ number_of_kind OffSite
-          → (kind : ComponentFault) → number ≢ number_of_kind kind
-      none_of not_unplaced not_outside not_off_site Unplaced = not_unplaced
-      none_of not_unplaced not_outside not_off_site Outside = not_outside
-      none_of not_unplaced not_outside not_off_site OffSite = not_off_site
+          → number ≢ number_of_kind Blocked → (kind : ComponentFault) → number ≢ number_of_kind kind
+      none_of not_unplaced not_outside not_off_site not_blocked Unplaced = not_unplaced
+      none_of not_unplaced not_outside not_off_site not_blocked Outside = not_outside
+      none_of not_unplaced not_outside not_off_site not_blocked OffSite = not_off_site
+      none_of not_unplaced not_outside not_off_site not_blocked Blocked = not_blocked

@@ -10,6 +10,8 @@ mod CoveredSpans
 mod Shift
 mod RowSites
 mod OnRows
+-- Placement blockages
+mod MetRects
 -- The list of violations
 mod Listing
 mod Overlaps
@@ -18,3 +20,4 @@ mod Misplaced
 pub mod PlaceFaults
 pub mod ComponentFaults
 pub mod OnSites
+pub mod BlockageRects

@@ -6,12 +6,12 @@ use Rattle.std.proofs.lemmas.Option.{slice_get_within, slice_get-get_or}
 use Rattle.leg_cells.specs.Records.{Contents}
 use Rattle.leg_block.specs.Records.{DesignContents}
 use Rattle.leg_block.specs.declared.fault.Fault.{Fault}
-use Rattle.leg_block.specs.declared.fault.Fault.TheVariants.{Unplaced, Outside, OffSite, Overlap, Short}
+use Rattle.leg_block.specs.declared.fault.Fault.TheVariants.{Unplaced, Outside, OffSite, Overlap, Blocked, Short}
 use Rattle.leg_block.specs.Violation.{kind_number, numbers_of, IsListOf}
 use Rattle.leg_place.specs.Sites.{IsOffSite}
-use Rattle.leg_place.specs.Faults.{IsUnplaced, IsOutside, DoOverlap, Holds}
+use Rattle.leg_place.specs.Faults.{IsUnplaced, IsOutside, DoOverlap, IsBlocked, Holds}
 use Rattle.leg_place.specs.Among.{IsMarked, TellsMarked, HoldsAmong}
-use Rattle.leg_place.specs.Faults.Holds.{unplaced, outside, off_site, overlap}
+use Rattle.leg_place.specs.Faults.Holds.{unplaced, outside, off_site, overlap, blocked}
 
 -- a list of the violations for which one property holds is that of another one, which holds of the same
 pub same_list : (P Q : Fault → Type 0) → ((v : Fault) → P v → Q v) → ((v : Fault) → Q v → P v) → (found : List Fault) → IsListOf P found → IsListOf Q found
@@ -28,6 +28,7 @@ module _ (library : Contents) (design : DesignContents) where
   kind_below v (outside h) = omega arith
   kind_below v (off_site h) = omega arith
   kind_below v (overlap h) = omega arith
+  kind_below v (blocked h) = omega arith
 
   -- and tells components of the design
   pub component_below : (v : Fault) → Holds library design v → (numbers_of v).0 < length design.components
@@ -35,6 +36,7 @@ module _ (library : Contents) (design : DesignContents) where
   component_below v (outside {c = c} h) = slice_get_within design.components c h.stands.component h.stands.there
   component_below v (off_site {c = c} h) = slice_get_within design.components c h.component h.there
   component_below v (overlap {a = a} h) = slice_get_within design.components a h.stands_a.component h.stands_a.there
+  component_below v (blocked {c = c} h) = slice_get_within design.components c h.stands.component h.stands.there
 
   -- what holds where a violation of one component does
   pub unplaced_there : (c : ℕ) → Holds library design (Unplaced c) → IsUnplaced design c
@@ -45,6 +47,9 @@ module _ (library : Contents) (design : DesignContents) where
 
   pub off_site_there : (c : ℕ) → Holds library design (OffSite c) → IsOffSite library design c
   off_site_there c (off_site h) = h
+
+  pub blocked_there : (c : ℕ) → Holds library design (Blocked c) → IsBlocked library design c
+  blocked_there c (blocked h) = h
 
   -- both components that an overlap tells are there
   pub overlap_there : (a b : ℕ) → Holds library design (Overlap a b) → DoOverlap library design a b
@@ -60,6 +65,7 @@ module _ (library : Contents) (design : DesignContents) where
       each a (slice_get_within design.components a h.stands_a.component h.stands_a.there),
       each b (slice_get_within design.components b h.stands_b.component h.stands_b.there),
     )
+    all_told v (blocked {c = c} h) = each c (slice_get_within design.components c h.stands.component h.stands.there)
 
   -- each mark of as many as there are components
   pub marked_by_all : (c : ℕ) → c < length design.components → IsMarked (replicate (length design.components) true) c

@@ -4,7 +4,7 @@ use Rattle.std.specs.Prelude.{◌≡◌, ℕ, Bool, true, List, Some, slice_get}
 use Rattle.leg_cells.specs.Records.{Contents}
 use Rattle.leg_block.specs.Records.{DesignContents}
 use Rattle.leg_block.specs.declared.fault.Fault.{Fault}
-use Rattle.leg_block.specs.declared.fault.Fault.TheVariants.{Unplaced, Outside, OffSite, Overlap, Short, TooNear, OpenNet}
+use Rattle.leg_block.specs.declared.fault.Fault.TheVariants.{Unplaced, Outside, OffSite, Overlap, Blocked, Short, TooNear, OpenNet}
 use Rattle.leg_place.specs.Faults.{Holds}
 
 -- component c is marked
@@ -17,6 +17,7 @@ TellsMarked marks (Unplaced c) = IsMarked marks c
 TellsMarked marks (Outside c) = IsMarked marks c
 TellsMarked marks (OffSite c) = IsMarked marks c
 TellsMarked marks (Overlap a b) = IsMarked marks a × IsMarked marks b
+TellsMarked marks (Blocked c) = IsMarked marks c
 TellsMarked marks (Short a b) = ⊥
 TellsMarked marks (TooNear a b) = ⊥
 TellsMarked marks (OpenNet n k) = ⊥

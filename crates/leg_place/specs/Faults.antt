@@ -1,12 +1,13 @@
 -- What is not legal about the placement of components (lefdef's own rules): without a place, outside the die, off the sites of the
--- rows, and overlapping. A component is the box of its macro, whose unit squares count.
-use Rattle.std.specs.Prelude.{◌≡◌, ℕ, ◌<◌, None, Some, slice_get}
+-- rows, overlapping, and in a placement blockage. A component is the box of its macro, whose unit squares count.
+use Rattle.std.specs.Prelude.{◌≡◌, ℕ, ◌<◌, None, Some, Contains, slice_get}
 use Rattle.leg_geom.specs.Plane.{Spot, Sides, HasSquare, ShareSquare}
 use Rattle.leg_cells.specs.Records.{Contents}
-use Rattle.leg_block.specs.Records.{DesignContents}
+use Rattle.leg_block.specs.Records.{DesignContents, placement_rects}
+use Rattle.leg_block.specs.Movable.{IsMovable}
 use Rattle.leg_block.specs.declared.records.Component.{Component}
 use Rattle.leg_block.specs.declared.fault.Fault.{Fault}
-use Rattle.leg_block.specs.declared.fault.Fault.TheVariants.{Unplaced, Outside, OffSite, Overlap}
+use Rattle.leg_block.specs.declared.fault.Fault.TheVariants.{Unplaced, Outside, OffSite, Overlap, Blocked}
 use Rattle.leg_place.specs.Box.{StandsIn}
 use Rattle.leg_place.specs.Sites.{IsOffSite}
 
@@ -33,12 +34,22 @@ pub record DoOverlap (library : Contents) (design : DesignContents) (a b : ℕ) 
   pub stands_b : StandsIn library design b box_b
   pub shared : ShareSquare box_a box_b
 
+-- component c, which may be moved, has a place where it shares a unit square with a rectangle of a placement blockage
+pub record IsBlocked (library : Contents) (design : DesignContents) (c : ℕ) : Type 0 where
+  pub movable : IsMovable design c
+  pub box : Sides
+  pub stands : StandsIn library design c box
+  pub rect : Sides
+  pub blocks : Contains (placement_rects design.blockages) rect
+  pub shared : ShareSquare box rect
+
 -- a violation of placement holds
 pub data Holds (library : Contents) (design : DesignContents) : Fault → Type 0 where
   unplaced : {c : ℕ} → IsUnplaced design c → Holds library design (Unplaced c)
   outside : {c : ℕ} → IsOutside library design c → Holds library design (Outside c)
   off_site : {c : ℕ} → IsOffSite library design c → Holds library design (OffSite c)
   overlap : {a b : ℕ} → DoOverlap library design a b → Holds library design (Overlap a b)
+  blocked : {c : ℕ} → IsBlocked library design c → Holds library design (Blocked c)
 
 -- no violation of placement holds
 abbrev pub IsLegallyPlaced : DesignContents → Type 0

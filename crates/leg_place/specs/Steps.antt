@@ -3,3 +3,4 @@ pub mod ComponentFault
 pub mod ListPrefix
 pub mod SiteSpan
 pub mod RowSpans
+pub mod Floorplan

@@ -1,12 +1,14 @@
-//! Violations of one component by itself: it has no place, lies outside the die, or is off the sites of the rows.
+//! Violations of one component by itself: it has no place, lies outside the die, is off the sites of the rows, or lies in a
+//! placement blockage.
 
 ghost use Rattle.std.specs.Prelude.{◌≡◌, ◌<◌, ◌↔◌, length, IsTrue};
 ghost use Rattle.leg_place.specs.Faults.{IsUnplaced, IsOutside, Holds};
-ghost use Rattle.leg_place.specs.Steps.RowSpans.{AreRowSpans};
+ghost use Rattle.leg_place.specs.Steps.Floorplan.{IsFloorplan};
 ghost use Rattle.leg_place.specs.Steps.ComponentFault.{fault_of};
 
+use crate::floorplan::Floorplan;
 use crate::placed_box::box_of;
-use crate::site_span::SiteSpan;
+use crate::placement_blockages::is_blocked;
 use crate::sites::is_off_site;
 use leg_block::{Design, Fault};
 use std::alloc::Allocator;
@@ -17,6 +19,7 @@ pub(crate) enum ComponentFault {
     Unplaced,
     Outside,
     OffSite,
+    Blocked,
 }
 
 impl ComponentFault {
@@ -28,24 +31,26 @@ impl ComponentFault {
             ComponentFault::Unplaced => Fault::Unplaced(component),
             ComponentFault::Outside => Fault::Outside(component),
             ComponentFault::OffSite => Fault::OffSite(component),
+            ComponentFault::Blocked => Fault::Blocked(component),
         }
     }
 
-    /// Whether it holds. The sites of the rows are given as `row_spans` gives them.
+    /// Whether it holds. The floorplan is that of the design.
     pub(crate) fn holds<A: Allocator + Copy>(
         self,
         design: &Design<'_, A>,
-        rows: &[SiteSpan],
+        floorplan: &Floorplan<A>,
         component: usize,
     ) -> bool
         requires there { component < length design.now.components }
-        requires rows { AreRowSpans design.now.library design.now.rows rows.now }
+        requires floorplan { IsFloorplan design.now floorplan.now }
         ensures { IsTrue result ↔ Holds design.now.library design.now (fault_of self component) }
     {
         match self {
             ComponentFault::Unplaced => is_unplaced(design, component),
             ComponentFault::Outside => is_outside(design, component),
-            ComponentFault::OffSite => is_off_site(design, rows, component),
+            ComponentFault::OffSite => is_off_site(design, &floorplan.rows, component),
+            ComponentFault::Blocked => is_blocked(design, &floorplan.blockages, component),
         }
     }
 }

@@ -4,21 +4,20 @@ ghost use Rattle.std.specs.Prelude.{◌≡◌, ◌+◌, IfOk, OnOk};
 ghost use Rattle.leg_block.specs.Violation.{kind_number, IsListOf};
 ghost use Rattle.leg_place.specs.Faults.{Holds};
 ghost use Rattle.leg_place.specs.Among.{HoldsAmong};
-ghost use Rattle.leg_place.specs.Steps.RowSpans.{AreRowSpans};
 ghost use Rattle.leg_place.specs.Steps.ComponentFault.{fault_of};
+ghost use Rattle.leg_place.specs.Steps.Floorplan.{IsFloorplan};
 ghost use Rattle.leg_place.specs.Steps.ListPrefix.{IsListBefore};
 
 use crate::component_fault::ComponentFault;
+use crate::floorplan::Floorplan;
 use crate::marks::{all_marked, is_marked};
 use crate::overlap::push_overlaps;
-use crate::row_spans::row_spans;
-use crate::site_span::SiteSpan;
 use leg_block::{Design, Fault};
 use leg_cells::Library;
 use std::alloc::{AllocError, Allocator};
 
-/// The components without a place, those outside the die, those off the sites of the rows, and the pairs of components
-/// that overlap: all that hold, each once, in order (lefdef's own rules).
+/// The components without a place, those outside the die, those off the sites of the rows, the pairs of components that
+/// overlap, and the movable components in placement blockages: all that hold, each once, in order (lefdef's own rules).
 ///
 /// The design was read with this library. It fails only when out of memory.
 pub fn place_faults<A: Allocator + Copy>(
@@ -47,30 +46,31 @@ pub fn place_faults_among<A: Allocator + Copy>(
     requires { library.now ≡ design.now.library }
     ensures { IfOk result (λ found. IsListOf (HoldsAmong library.now design.now marks.now) found.items) }
 {
-    let rows = row_spans(alloc, design)?;
+    let plan = Floorplan::of_design(alloc, design)?;
     let mut found = Vec::new(alloc);
-    push_each(design, &rows, marks, ComponentFault::Unplaced, &mut found)?;
-    push_each(design, &rows, marks, ComponentFault::Outside, &mut found)?;
-    push_each(design, &rows, marks, ComponentFault::OffSite, &mut found)?;
+    push_each(design, &plan, marks, ComponentFault::Unplaced, &mut found)?;
+    push_each(design, &plan, marks, ComponentFault::Outside, &mut found)?;
+    push_each(design, &plan, marks, ComponentFault::OffSite, &mut found)?;
     push_overlaps(alloc, design, marks, &mut found)?;
+    push_each(design, &plan, marks, ComponentFault::Blocked, &mut found)?;
     Ok(found)
 }
 
 /// Adds the violations of a kind that is asked of one component, as far as they name marked ones, to those of the kinds
-/// before it. The sites of the rows are given as `row_spans` gives them.
+/// before it. The floorplan is that of the design.
 fn push_each<A: Allocator + Copy>(
     design: &Design<'_, A>,
-    rows: &[SiteSpan],
+    floorplan: &Floorplan<A>,
     marks: &[bool],
     kind: ComponentFault,
     found: &mut Vec<Fault, A>,
 ) -> Result<(), AllocError>
-    requires rows { AreRowSpans design.now.library design.now.rows rows.now }
+    requires floorplan { IsFloorplan design.now floorplan.now }
     requires before { IsListBefore design.now.library design.now marks.now (kind_number (fault_of kind 0)) 0 found.old.items }
     ensures { OnOk result (IsListBefore design.now.library design.now marks.now (kind_number (fault_of kind 0) + 1) 0 found.new.items) }
 {
     for i in 0..design.components().len() {
-        if is_marked(marks, i) && kind.holds(design, rows, i) {
+        if is_marked(marks, i) && kind.holds(design, floorplan, i) {
             found.push(kind.fault(i as u32))?;
         }
     }

@@ -1,17 +1,19 @@
 //! What is not legal about the placement of components: without a place, outside the die, off the sites of the rows,
-//! and overlapping.
+//! overlapping, and in placement blockages.
 //!
-//! `place_faults` lists exactly the violations of these four kinds, each once, in order, and `place_faults_among` those of
+//! `place_faults` lists exactly the violations of these five kinds, each once, in order, and `place_faults_among` those of
 //! some components alone. `is_placed` returns whether there are any. `box_of` and `placed_size` give the box in which a
 //! component lies.
 #![tactic(auto)]
 
 mod component_fault;
 mod faults;
+mod floorplan;
 mod marks;
 mod overlap;
 mod placed;
 mod placed_box;
+mod placement_blockages;
 mod row_spans;
 mod site_span;
 mod sites;

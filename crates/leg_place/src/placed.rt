@@ -2,13 +2,12 @@
 
 ghost use Rattle.std.specs.Prelude.{◌≡◌, ◌<◌, ◌↔◌, length, IsTrue, IfOk};
 ghost use Rattle.leg_place.specs.Faults.{IsLegallyPlaced};
-ghost use Rattle.leg_place.specs.Steps.RowSpans.{AreRowSpans};
+ghost use Rattle.leg_place.specs.Steps.Floorplan.{IsFloorplan};
 ghost use Rattle.leg_place.specs.Steps.ListPrefix.{IsMisplaced, IsOneMisplaced};
 
 use crate::component_fault::ComponentFault;
+use crate::floorplan::Floorplan;
 use crate::overlap::do_some_overlap;
-use crate::row_spans::row_spans;
-use crate::site_span::SiteSpan;
 use leg_block::Design;
 use leg_cells::Library;
 use std::alloc::{AllocError, Allocator};
@@ -25,21 +24,22 @@ pub fn is_placed<A: Allocator + Copy>(
     requires { library.now ≡ design.now.library }
     ensures { IfOk result (λ placed. IsTrue placed ↔ IsLegallyPlaced design.now) }
 {
-    let rows = row_spans(alloc, design)?;
-    if is_one_misplaced(design, &rows) {
+    let floorplan = Floorplan::of_design(alloc, design)?;
+    if is_one_misplaced(design, &floorplan) {
         return Ok(false);
     }
     let overlap = do_some_overlap(alloc, design)?;
     Ok(!overlap)
 }
 
-/// Whether some component has no place, is outside the die, or is off the sites of the rows.
-fn is_one_misplaced<A: Allocator + Copy>(design: &Design<'_, A>, rows: &[SiteSpan]) -> bool
-    requires { AreRowSpans design.now.library design.now.rows rows.now }
+/// Whether some component has no place, is outside the die, is off the sites of the rows, or may be moved and is in a
+/// placement blockage. The floorplan is that of the design.
+fn is_one_misplaced<A: Allocator + Copy>(design: &Design<'_, A>, floorplan: &Floorplan<A>) -> bool
+    requires { IsFloorplan design.now floorplan.now }
     ensures { IsTrue result ↔ IsOneMisplaced design.now.library design.now (length design.now.components) }
 {
     for i in 0..design.components().len() {
-        if is_misplaced(design, rows, i) {
+        if is_misplaced(design, floorplan, i) {
             return true;
         }
     }
@@ -49,14 +49,15 @@ fn is_one_misplaced<A: Allocator + Copy>(design: &Design<'_, A>, rows: &[SiteSpa
 /// Whether this component is so.
 fn is_misplaced<A: Allocator + Copy>(
     design: &Design<'_, A>,
-    rows: &[SiteSpan],
+    floorplan: &Floorplan<A>,
     number: usize,
 ) -> bool
     requires there { number < length design.now.components }
-    requires rows { AreRowSpans design.now.library design.now.rows rows.now }
+    requires floorplan { IsFloorplan design.now floorplan.now }
     ensures { IsTrue result ↔ IsMisplaced design.now.library design.now number }
 {
-    ComponentFault::Unplaced.holds(design, rows, number)
-        || ComponentFault::Outside.holds(design, rows, number)
-        || ComponentFault::OffSite.holds(design, rows, number)
+    ComponentFault::Unplaced.holds(design, floorplan, number)
+        || ComponentFault::Outside.holds(design, floorplan, number)
+        || ComponentFault::OffSite.holds(design, floorplan, number)
+        || ComponentFault::Blocked.holds(design, floorplan, number)
 }

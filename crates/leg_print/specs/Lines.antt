@@ -6,7 +6,7 @@ use Rattle.leg_lex.specs.Words.{◌>>=◌}
 use Rattle.leg_geom.specs.Plane.{Sides}
 use Rattle.leg_block.specs.Records.{DesignContents}
 use Rattle.leg_block.specs.declared.fault.Fault.{Fault}
-use Rattle.leg_block.specs.declared.fault.Fault.TheVariants.{Unplaced, Outside, OffSite, Overlap, Short, TooNear, OpenNet}
+use Rattle.leg_block.specs.declared.fault.Fault.TheVariants.{Unplaced, Outside, OffSite, Overlap, Blocked, Short, TooNear, OpenNet}
 use Rattle.leg_flat.specs.declared.piece.Piece.{Piece}
 use Rattle.leg_flat.specs.declared.shape.Shape.{Shape}
 use Rattle.leg_flat.specs.Flat.{FlatSaid}
@@ -46,6 +46,7 @@ violation_line design flat (Outside c) = codes "OUTSIDE " ++ component_name desi
 violation_line design flat (OffSite c) = codes "OFFSITE " ++ component_name design c ++ codes "\n"
 violation_line design flat (Overlap a b) =
     codes "OVERLAP " ++ component_name design a ++ codes " " ++ component_name design b ++ codes "\n"
+violation_line design flat (Blocked c) = codes "BLOCKED " ++ component_name design c ++ codes "\n"
 violation_line design flat (Short i j) = pair_line design (codes "SHORT") (shape_at flat i) (shape_at flat j)
 violation_line design flat (TooNear i j) = pair_line design (codes "TOONEAR") (shape_at flat i) (shape_at flat j)
 violation_line design flat (OpenNet n k) = open_line design n (piece_at flat n k)

@@ -8,7 +8,7 @@ use Rattle.leg_block.specs.declared.records.Terminal.{Terminal}
 use Rattle.leg_block.specs.declared.records.Terminal.TheVariants.{Comp, Pin}
 use Rattle.leg_block.specs.Records.{DesignContents, PinSaid, NetSaid}
 use Rattle.leg_flat.specs.declared.owner.Owner.{Owner}
-use Rattle.leg_flat.specs.declared.owner.Owner.TheVariants.{Net, Lone, Power, Ground, Obs}
+use Rattle.leg_flat.specs.declared.owner.Owner.TheVariants.{Net, Lone, Power, Ground, Obs, Blocking}
 use Rattle.leg_flat.specs.declared.piece.Piece.{Piece}
 use Rattle.leg_flat.specs.declared.piece.Piece.TheVariants.{Term, Wire}
 use Rattle.leg_flat.specs.Owner.{master_pin}
@@ -52,12 +52,14 @@ abbrev pub terminal_text : DesignContents → Terminal → List ℕ
 terminal_text design (Comp c k) = component_name design c ++ codes " " ++ component_pin_name design c k
 terminal_text design (Pin p) = codes "PIN " ++ design_pin_name design p
 
+-- blockages are counted from 1
 abbrev pub owner_text : DesignContents → Owner → List ℕ
 owner_text design (Net n) = codes "NET " ++ net_name design n
 owner_text design (Lone terminal) = codes "TERM " ++ terminal_text design terminal
 owner_text design Power = codes "POWER"
 owner_text design Ground = codes "GROUND"
 owner_text design (Obs c) = codes "OBS " ++ component_name design c
+owner_text design (Blocking k) = codes "BLOCKAGE " ++ decimal (suc k)
 
 -- wires are counted from 1
 abbrev pub piece_text : DesignContents → Piece → List ℕ

@@ -6,6 +6,7 @@ pub mod Tracks
 pub mod Vias
 pub mod Components
 pub mod Pins
+pub mod Blockages
 pub mod Nets
 pub mod Wires
 pub mod Sections

@@ -3,6 +3,7 @@
 ghost use Rattle.std.specs.Prelude.{◌≡◌, IfOk};
 ghost use Rattle.leg_print.specs.Text.Whole.{design_text};
 
+use crate::blockages::push_blockages;
 use crate::components::push_components;
 use crate::header::push_header;
 use crate::nets::push_nets;
@@ -35,6 +36,7 @@ pub fn print_def<A: Allocator + Copy>(
     push_vias(&mut text, design, design.vias())?;
     push_components(&mut text, design, design.components())?;
     push_pins(&mut text, design, design.pins())?;
+    push_blockages(&mut text, design, design.blockages())?;
     push_nets(&mut text, design, true, design.special())?;
     push_nets(&mut text, design, false, design.nets())?;
     push_section_end(&mut text, b"DESIGN")?;

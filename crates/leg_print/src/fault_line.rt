@@ -53,6 +53,7 @@ fn push_violation<A: Allocator + Copy>(
         Fault::Outside(c) => push_component(text, design, b"OUTSIDE ", c),
         Fault::OffSite(c) => push_component(text, design, b"OFFSITE ", c),
         Fault::Overlap(a, b) => push_overlap(text, design, a, b),
+        Fault::Blocked(c) => push_component(text, design, b"BLOCKED ", c),
         Fault::Short(i, j) => push_pair(
             text,
             design,

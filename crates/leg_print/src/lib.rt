@@ -1,6 +1,7 @@
 //! What is printed of a design: its text as a DEF, the lines of its violations, and its wirelength.
 #![tactic(auto)]
 
+mod blockages;
 mod clauses;
 mod components;
 mod design_text;

@@ -153,7 +153,7 @@ pub(crate) fn terminal_names<'d, A: Allocator + Copy>(
     }
 }
 
-/// Adds whose metal a shape is.
+/// Adds whose metal a shape is. Blockages are counted from 1.
 pub(crate) fn push_owner<A: Allocator + Copy>(
     text: &mut Vec<u8, A>,
     design: &Design<'_, A>,
@@ -170,6 +170,11 @@ pub(crate) fn push_owner<A: Allocator + Copy>(
         Owner::Power => push_first(text, b"POWER"),
         Owner::Ground => push_first(text, b"GROUND"),
         Owner::Obs(component) => push_parts(text, &[b"OBS ", component_name(design, *component)]),
+        Owner::Blocking(blockage) => {
+            let mut digits = Buffer::new();
+            let count = digits.format(u64::from(*blockage) + 1);
+            push_parts(text, &[b"BLOCKAGE ", count.as_bytes()])
+        }
     }
 }
 

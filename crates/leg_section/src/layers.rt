@@ -54,7 +54,7 @@ pub fn is_routing<A: Allocator + Copy>(library: &Library<'_, A>, number: usize) 
 }
 
 /// Whether the layer of this number carries metal.
-fn has_metal<A: Allocator + Copy>(library: &Library<'_, A>, number: usize) -> bool
+pub fn has_metal<A: Allocator + Copy>(library: &Library<'_, A>, number: usize) -> bool
     ensures { result ≡ has_metal library.now number }
 {
     match library.layers().get(number) {

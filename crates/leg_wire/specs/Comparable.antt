@@ -9,8 +9,8 @@ pub record AreOfOneComponent (a b : Shape) : Type 0 where
   pub of_a : a.component ≡ Some component
   pub of_b : b.component ≡ Some component
 
--- Two shapes are comparable if they lie on one layer, have different owners, are not of one component, and are not both
--- obstructions.
+-- Two shapes are comparable if they lie on one layer, have different owners, are not of one component, and are not both of
+-- obstructions or blockages.
 pub record AreComparable (a b : Shape) : Type 0 where
   pub layer : a.layer ≡ b.layer
   pub owners : a.owner ≢ b.owner

@@ -6,7 +6,7 @@ ghost use Rattle.leg_wire.specs.Comparable.{AreOfOneComponent, AreComparable};
 use leg_flat::Shape;
 
 /// Whether the shapes are compared with one another: they lie on one layer, have different owners, are not of one
-/// component, and are not both obstructions.
+/// component, and are not both of obstructions or blockages.
 pub(crate) fn are_comparable(a: &Shape, b: &Shape) -> bool
     ensures { IsTrue result ↔ AreComparable a.now b.now }
 {

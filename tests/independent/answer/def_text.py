@@ -1,7 +1,7 @@
 """Reads a DEF text as a design over a library."""
 from . import geometry
 from .lef_text import joined_layers
-from .model import Component, Design, DesignPin, Net, Port, Row, Tracks, Via, numbers_of
+from .model import Blockage, Component, Design, DesignPin, Net, Port, Row, Tracks, Via, numbers_of
 from .wiring_text import read_wiring
 from .words import Cursor, NotRead, words_of
 
@@ -37,12 +37,14 @@ class DefReader:
         self.rows, self.tracks, self.own_vias = [], [], []
         self.components, self.component_numbers = [], {}
         self.pins, self.pin_numbers = [], {}
+        self.blockages = []
         self.nets = {'NETS': [], 'SPECIALNETS': []}
 
     def read(self):
         """Reads the whole text."""
         forms = {'ROW': self.read_row, 'TRACKS': self.read_tracks, 'DIEAREA': self.read_die, 'VIAS': self.read_section,
-                 'COMPONENTS': self.read_section, 'PINS': self.read_section, 'SPECIALNETS': self.read_section, 'NETS': self.read_section}
+                 'COMPONENTS': self.read_section, 'PINS': self.read_section, 'BLOCKAGES': self.read_section,
+                 'SPECIALNETS': self.read_section, 'NETS': self.read_section}
         words = {'DESIGN': 'name', 'DIVIDERCHAR': 'divider', 'BUSBITCHARS': 'bus_bits'}
         while not self.text.takes('END'):
             word = self.text.keyword()
@@ -61,7 +63,7 @@ class DefReader:
         self.text.expect('DESIGN')
         self.append_pins()
         return Design(self.library, rows=self.rows, tracks=self.tracks, vias=self.own_vias, components=self.components, pins=self.pins,
-                      special_nets=self.nets['SPECIALNETS'], nets=self.nets['NETS'], **self.found)
+                      blockages=self.blockages, special_nets=self.nets['SPECIALNETS'], nets=self.nets['NETS'], **self.found)
 
     def point(self):
         """Reads `( int int )`."""
@@ -115,7 +117,7 @@ class DefReader:
     def read_section(self, section):
         """Reads a section behind its first word."""
         entries = {'VIAS': self.read_via, 'COMPONENTS': self.read_component, 'PINS': self.read_pin,
-                   'SPECIALNETS': self.read_net, 'NETS': self.read_net}
+                   'BLOCKAGES': self.read_blockage, 'SPECIALNETS': self.read_net, 'NETS': self.read_net}
         self.text.whole_number()
         self.text.expect(';')
         while self.text.takes('-'):
@@ -182,6 +184,21 @@ class DefReader:
         if word == 'LAYER':
             return port._replace(shapes=port.shapes + tuple(self.rectangle_on_layer()))
         return port._replace(status=word, place=self.point(), orientation=self.orientation())
+
+    def read_blockage(self, _):
+        """Reads an entry of BLOCKAGES behind its mark, and leaves it out if its layer has no metal."""
+        layer = None
+        if not self.text.takes('PLACEMENT'):
+            self.text.expect('LAYER')
+            layer = self.layers[self.text.next()]
+        while self.text.takes('+'):
+            self.text.expect('PUSHDOWN')
+        rects = []
+        while not rects or not self.text.takes(';'):
+            self.text.expect('RECT')
+            rects.append(self.rectangle())
+        if layer is None or self.library.layers[layer].has_metal():
+            self.blockages.append(Blockage(layer, tuple(rects)))
 
     def read_net(self, section):
         """Reads an entry of NETS or SPECIALNETS behind its mark."""

@@ -19,11 +19,6 @@ class NotLegalised(Exception):
         self.lines = lines
 
 
-def is_movable(design, number):
-    """Whether a component is placed anew where the design is not legally placed."""
-    return design.components[number].status in ('PLACED', 'UNPLACED') and design.macro_of(number).site is not None
-
-
 def start_of(design, number):
     """Returns the point from which the move of a component is measured."""
     return design.components[number].place or design.die[:2]
@@ -33,13 +28,15 @@ def legalised(design):
     """Returns the legalised design, or raises NotLegalised."""
     if not placement.faults(design):
         return Legalised(design, [0] * len(design.components))
-    movable = [number for number in range(len(design.components)) if is_movable(design, number)]
+    movable = [number for number in range(len(design.components)) if design.is_movable(number)]
     refuse_staying_faults(design, set(movable))
     refuse_without_site(design, movable)
     sites = FreeSites(design)
     for number, box in enumerate(placement.boxes(design)):
-        if box and not is_movable(design, number):
+        if box and not design.is_movable(number):
             sites.take(box)
+    for rect in design.placement_rects():
+        sites.take(rect)
     components = list(design.components)
     distances = [0] * len(components)
     order = sorted(movable, key=lambda it: (-design.macro_of(it).width, start_of(design, it)[0], it))

@@ -116,6 +116,9 @@ def metal(design):
     for number in range(len(design.pins)):
         owner = listed.get((None, number)) or ('TERM', None, number)
         shapes += [MetalShape(*it, owner, None) for it in terminal_shapes(design, (None, number))]
+    for number, blockage in enumerate(design.blockages):
+        if blockage.layer is not None:
+            shapes += [MetalShape(blockage.layer, rect, ('BLOCKAGE', number), None) for rect in blockage.rects]
     names = numbers_of(design.nets)
     for number, net in enumerate(design.nets):
         shapes += [MetalShape(*it, ('NET', number), None) for wire in net.wires for it in wire_shapes(wire)]
@@ -136,6 +139,8 @@ def owner_words(design, owner):
         return f'TERM {terminal_name(design, owner[1:])}'
     if kind == 'OBS':
         return f'OBS {design.components[owner[1]].name}'
+    if kind == 'BLOCKAGE':
+        return f'BLOCKAGE {owner[1] + 1}'
     return kind
 
 

@@ -117,6 +117,12 @@ class DesignPin(NamedTuple):
     ports: Tuple[Port, ...]
 
 
+class Blockage(NamedTuple):
+    """An entry of BLOCKAGES: the layer is None for a placement blockage."""
+    layer: Optional[int]
+    rects: Tuple[Rect, ...]
+
+
 class Segment(NamedTuple):
     """A segment of a wire, with its extension past each end."""
     layer: int
@@ -161,12 +167,21 @@ class Design(NamedTuple):
     vias: List[Via]
     components: List[Component]
     pins: List[DesignPin]
+    blockages: List[Blockage]
     special_nets: List[Net]
     nets: List[Net]
 
     def macro_of(self, component):
         """Returns the macro of the component with this number."""
         return self.library.macros[self.components[component].macro]
+
+    def is_movable(self, component):
+        """Whether the component with this number is placed anew where the design is not legally placed."""
+        return self.components[component].status in ('PLACED', 'UNPLACED') and self.macro_of(component).site is not None
+
+    def placement_rects(self):
+        """Returns the rectangles of all placement blockages."""
+        return [rect for blockage in self.blockages if blockage.layer is None for rect in blockage.rects]
 
 
 def numbers_of(items):

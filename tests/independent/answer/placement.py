@@ -1,4 +1,4 @@
-"""The violations of placement: Unplaced, Outside, OffSite and Overlap."""
+"""The violations of placement: Unplaced, Outside, OffSite, Overlap and Blocked."""
 from . import geometry
 from .geometry import MIRRORED
 
@@ -41,6 +41,11 @@ def is_off_sites(design, rows_at, number, box):
     return not any(is_on_sites(macro, orientation, box, row, site) for row in rows_at.get((macro.site, box[1]), ()))
 
 
+def is_blocked(design, rects, number, box):
+    """Whether a placed component violates Blocked; rects has those of placement blockages."""
+    return design.is_movable(number) and any(geometry.overlap(box, rect) for rect in rects)
+
+
 def faults(design):
     """Returns the violations of placement in order, each its kind and the numbers of its components."""
     rows_at = {}
@@ -54,7 +59,9 @@ def faults(design):
     near = geometry.near_pairs([box for _, box in placed], 0)
     pairs = [(a, b) for a, b in near if geometry.overlap(placed[a][1], placed[b][1])]
     overlaps = [('OVERLAP', placed[a][0], placed[b][0]) for a, b in sorted(pairs)]
-    return unplaced + outside + off + overlaps
+    rects = design.placement_rects()
+    blocked = [('BLOCKED', number) for number, box in placed if is_blocked(design, rects, number, box)]
+    return unplaced + outside + off + overlaps + blocked
 
 
 def fault_lines(design, found):

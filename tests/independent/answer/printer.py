@@ -15,6 +15,7 @@ def design_text(design):
     lines += section('VIAS', [via_entry(design, via) for via in design.vias])
     lines += section('COMPONENTS', [component_entry(design, component) for component in design.components])
     lines += section('PINS', [pin_entry(design, pin) for pin in design.pins])
+    lines += section('BLOCKAGES', [blockage_entry(design, blockage) for blockage in design.blockages])
     lines += section('SPECIALNETS', [net_entry(design, net, True) for net in design.special_nets])
     lines += section('NETS', [net_entry(design, net, False) for net in design.nets])
     lines.append('END DESIGN')
@@ -67,6 +68,11 @@ def pin_entry(design, pin):
         words += [f'+ LAYER {design.library.layers[layer].name} {corners(rect)}' for layer, rect in port.shapes]
         words += [place_words(port)] if port.place else []
     return ' '.join([*words, ';'])
+
+
+def blockage_entry(design, blockage):
+    words = ['PLACEMENT'] if blockage.layer is None else ['LAYER', design.library.layers[blockage.layer].name]
+    return ' '.join(['-', *words, *(f'RECT {corners(rect)}' for rect in blockage.rects), ';'])
 
 
 def net_entry(design, net, special):

@@ -2,13 +2,15 @@
 from . import geometry
 from .metal import owner_words
 
+OBSTRUCTIONS = ('OBS', 'BLOCKAGE')
+
 
 def comparable(a, b):
     """Whether two shapes can be short or too near."""
     if a.layer != b.layer or a.owner == b.owner:
         return False
     of_one = a.component is not None and a.component == b.component
-    return not of_one and not (a.owner[0] == 'OBS' and b.owner[0] == 'OBS')
+    return not of_one and not (a.owner[0] in OBSTRUCTIONS and b.owner[0] in OBSTRUCTIONS)
 
 
 def fault_of(layers, a, b):

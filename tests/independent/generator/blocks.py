@@ -3,6 +3,7 @@ from typing import List, NamedTuple, Tuple
 
 from answer.model import Design
 from . import floorplan as plans
+from .blockages import blockages
 from .cells import cells
 from .def_writer import DefWriter
 from .lef_writer import LefWriter
@@ -46,8 +47,9 @@ def design_of(dice, plan, library):
     nets = [net._replace(wires=maker.wires(False, share(dice, plan, number))) for number, net in enumerate(netlist.nets)]
     special = [net._replace(wires=maker.wires(True, share(dice, plan, number))) for number, net in enumerate(netlist.special_nets)]
     words = [dice.one_of((None, '"/"', '"|"')), dice.one_of((None, '"[]"', '"<>"'))]
-    return Design(library, dice.one_of(('top', 'block', 'a-b_c[1]', 'a;')), *words, plan.units, area.die, area.rows, area.tracks, vias,
-                  components, netlist.pins, special, nets)
+    design = Design(library, dice.one_of(('top', 'block', 'a-b_c[1]', 'a;')), *words, plan.units, area.die, area.rows, area.tracks, vias,
+                  components, netlist.pins, [], special, nets)
+    return design._replace(blockages=blockages(dice, plan, design))
 
 
 def share(dice, plan, number):

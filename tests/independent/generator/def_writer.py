@@ -16,6 +16,7 @@ class DefWriter:
 
     def __init__(self, dice, plan, design):
         self.dice = dice
+        self.has_blockages = plan.has_blockages
         self.design = design
         self.layers = design.library.layers
         self.odd = dice.one_of((0.0, 0.05, 0.2))
@@ -29,6 +30,7 @@ class DefWriter:
         parts = [self.section('VIAS', [self.via(via) for via in design.vias]),
                  self.section('COMPONENTS', [self.component(it) for it in design.components]),
                  self.section('PINS', [self.pin(it) for it in design.pins])]
+        parts += [self.blockages()] if self.has_blockages else []
         both = [self.section('SPECIALNETS', [self.net(it, True) for it in design.special_nets]),
                 self.section('NETS', [self.net(it, False) for it in design.nets])]
         # (vias, components and pins stand before the nets, which name them)
@@ -133,6 +135,23 @@ class DefWriter:
         """Returns the clause of a shape of a port."""
         middle = self.dice.one_of((' SPACING 3', ' DESIGNRULEWIDTH 4')) if self.dice.chance(self.odd) else ''
         return f'+ {self.key("LAYER")} {self.layers[layer].name}{middle} {self.corners(rect)}'
+
+    def blockages(self):
+        """Returns the section BLOCKAGES, with entries on layers without metal in some cases."""
+        entries = [self.blockage(it) for it in self.design.blockages]
+        bare = [layer.name for layer in self.layers if not layer.has_metal()]
+        for _ in range(self.dice.below(3) if bare and self.dice.chance(0.5) else 0):
+            words = f'- {self.key("LAYER")} {self.dice.one_of(bare)} RECT ( 0 0 ) ( 9 9 ) ;'
+            entries.insert(self.dice.below(len(entries) + 1), words)
+        if not entries and self.dice.chance(0.5):
+            return ['BLOCKAGES 0 ;', 'END BLOCKAGES']
+        return self.section('BLOCKAGES', entries)
+
+    def blockage(self, blockage):
+        """Returns an entry of BLOCKAGES."""
+        words = self.key('PLACEMENT') if blockage.layer is None else f'{self.key("LAYER")} {self.layers[blockage.layer].name}'
+        pushed = [f'+ {self.key("PUSHDOWN")}' for _ in range(self.dice.between(1, 2) if self.dice.chance(0.2) else 0)]
+        return ' '.join(['-', words, *pushed, *(f'{self.key("RECT")} {self.corners(rect)}' for rect in blockage.rects), ';'])
 
     def net(self, net, special):
         """Returns an entry of NETS or SPECIALNETS."""

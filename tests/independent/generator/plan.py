@@ -15,6 +15,8 @@ NOT_ROUTED = COMMANDS[:4]
 # One block of so many is one of these in turn, and is asked these commands.
 LARGE_EVERY = 50
 LARGE = ('components', 'metal', 'routes')
+# Blocks from this number on have blockages; the block of this number and n has the family and the count of block n.
+WITH_BLOCKAGES = 1000000
 LARGE_COMMANDS = {'components': NOT_ROUTED, 'metal': NOT_ROUTED, 'routes': ('check', 'measure', 'route', 'flow')}
 
 
@@ -24,7 +26,7 @@ class Plan:
     tidy: pins lie on the tracks, and wires fit between them. legal: components are legally placed. thin: the block is routed, and
     some wires are taken away again. sound: directions alternate, vias join all routing layers, and all macros fit their sites.
     corners: pins of the design and wires are squares that share corners. far: the block lies far from the origin. too_many: there
-    are more tracks than the grid may have.
+    are more tracks than the grid may have. layer_blockages: how many of the blockages are of a layer, in so many cases of 1.
     """
 
     def __init__(self, dice):
@@ -52,6 +54,7 @@ class Plan:
         self.tidy = dice.chance(0.7)
         self.legal = dice.chance(0.5)
         self.thin = self.corners = False
+        self.has_blockages, self.blockages, self.layer_blockages = False, 0, 0.0
         self.rails = dice.chance(0.4)
         self.sound = dice.chance(0.5)
         self.odd_names = dice.chance(0.15)
@@ -69,12 +72,27 @@ class Plan:
         self.sites = dice.between(1, 2)
         self.obstructions = dice.below(2)
 
+    def block(self, dice):
+        """Gives it blockages, and room for components beside them."""
+        self.has_blockages = True
+        self.layer_blockages = dice.one_of((0.0, 0.5, 0.5, 0.8, 1.0))
+        self.blockages = 150 if self.family.startswith('large') else 40 if dice.chance(0.05) else dice.one_of((0, 1, 1, 2, 3, 5, 12))
+        self.room += dice.one_of((0, 0.5, 1.0))
+
 
 def plan_of(number):
     """Returns the plan of the block with this number, and the dice for the rest of it."""
     dice = Dice(number)
+    plan = plan_by_turn(number % WITH_BLOCKAGES, dice)
+    if number >= WITH_BLOCKAGES:
+        plan.block(dice)
+    return plan, dice
+
+
+def plan_by_turn(number, dice):
+    """Returns the plan of this number but for blockages."""
     if number % LARGE_EVERY == 0:
-        return large_plan(LARGE[number // LARGE_EVERY % len(LARGE)], dice), dice
+        return large_plan(LARGE[number // LARGE_EVERY % len(LARGE)], dice)
     plan = Plan(dice)
     plan.family = FAMILIES[number % len(FAMILIES)]
     plan.count = count = count_of(plan.family, number // len(FAMILIES))
@@ -83,7 +101,7 @@ def plan_of(number):
     SIZED[plan.family](plan, count, dice)
     if count > MOST_ROUTED:
         plan.commands = NOT_ROUTED
-    return plan, dice
+    return plan
 
 
 def count_of(family, turn):

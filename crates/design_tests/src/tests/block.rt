@@ -1,9 +1,9 @@
 //! A design with a form of every kind, each field of its record written down by hand.
 
 use super::frame::{has_sides, is_at, is_shape, says};
-use leg_block::{Axis, Component, Design, Pin, Port, Row, Status, Track};
+use leg_block::{Axis, Blockage, Component, Design, Pin, Port, Row, Status, Track};
 use leg_cells::Via;
-use leg_geom::Orient;
+use leg_geom::{Orient, Rect};
 use leg_lex::Name;
 use std::alloc::Global;
 
@@ -29,6 +29,11 @@ PINS 2 ;
 - p + NET n9 + DIRECTION INPUT + USE SIGNAL + LAYER m1 SPACING 3 ( 100 0 ) ( 0 100 ) + LAYER mark ( 0 0 ) ( 1 1 ) + PLACED ( 3 4 ) S + PORT + LAYER m2 ( 0 0 ) ( 5 6 ) ;
 - q ;
 END PINS
+BLOCKAGES 3 ;
+- LAYER m2 + PUSHDOWN RECT ( 9 8 ) ( 1 2 ) RECT ( 0 0 ) ( 1 1 ) ;
+- LAYER mark RECT ( 0 0 ) ( 1 1 ) ;
+- PLACEMENT RECT ( -5 -6 ) ( 700 800 ) ;
+END BLOCKAGES
 END DESIGN
 "
 }
@@ -187,4 +192,43 @@ fn has_pins(design: &Design<'_, Global>) -> bool {
 #[test]
 fn reads_pins(rt: HostRuntime) {
     assert!(rt; says(rt.alloc(), block(), has_pins));
+}
+
+fn has_two_rects(rects: &[Rect], first: [i64; 4], second: [i64; 4]) -> bool {
+    match rects {
+        [a, b] => has_sides(a, first) && has_sides(b, second),
+        _ => false,
+    }
+}
+
+fn is_on_layer(blockage: &Blockage<Global>, number: usize) -> bool {
+    match blockage {
+        Blockage::LayerRects { layer, rects } => {
+            *layer == number && has_two_rects(rects.as_slice(), [1, 2, 9, 8], [0, 0, 1, 1])
+        }
+        Blockage::Placement { .. } => false,
+    }
+}
+
+fn is_of_placement(blockage: &Blockage<Global>, sides: [i64; 4]) -> bool {
+    match blockage {
+        Blockage::LayerRects { .. } => false,
+        Blockage::Placement { rects } => match rects.as_slice() {
+            [rect] => has_sides(rect, sides),
+            _ => false,
+        },
+    }
+}
+
+// That of the layer without metal is left out.
+fn has_blockages(design: &Design<'_, Global>) -> bool {
+    match design.blockages() {
+        [first, second] => is_on_layer(first, 2) && is_of_placement(second, [-5, -6, 700, 800]),
+        _ => false,
+    }
+}
+
+#[test]
+fn reads_blockages(rt: HostRuntime) {
+    assert!(rt; says(rt.alloc(), block(), has_blockages));
 }

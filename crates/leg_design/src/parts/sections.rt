@@ -2,9 +2,10 @@
 
 ghost use Rattle.std.specs.Prelude.{◌≡◌};
 ghost use Rattle.leg_lex.specs.Words.{Reads};
-ghost use Rattle.leg_design.specs.Parts.{known, vias_form, components_form, pins_form, nets_form, special_form};
+ghost use Rattle.leg_design.specs.Parts.{known, vias_form, components_form, pins_form, blockages_form, nets_form, special_form};
 
 use crate::parts::{Parts, once};
+use leg_floorplan::blockage::blockages;
 use leg_floorplan::component::components;
 use leg_floorplan::pin::pins;
 use leg_floorplan::via::vias;
@@ -60,6 +61,22 @@ impl<'a, A: Allocator + Copy> Parts<'a, A> {
         let pins = pins(alloc, self.library, words)?;
         drop(replace(&mut self.pins, pins));
         self.has.pins = true;
+        Ok(())
+    }
+
+    /// The section `BLOCKAGES`, once.
+    #[tactic(auto, unfolding(crate::specs::Parts::blockages_form))]
+    pub(crate) fn blockages_form(
+        &mut self,
+        alloc: A,
+        words: &mut Cursor<'_, 'a>,
+    ) -> Result<(), ReadFault>
+        ensures { Reads (λ _. self.new) result words.new (blockages_form self.old words.old) }
+    {
+        once(self.has.blockages, words)?;
+        let blockages = blockages(alloc, self.library, words)?;
+        drop(replace(&mut self.blockages, blockages));
+        self.has.blockages = true;
         Ok(())
     }
 

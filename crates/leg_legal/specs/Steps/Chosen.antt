@@ -19,7 +19,7 @@ pub record AreRun (design : DesignContents) (taken : List Taken) : Type 0 where
   pub run : Run design order (placed_all design taken)
 
 -- when the turn of component c came, no position was free for it
-pub record IsBlocked (design : DesignContents) (c : ℕ) : Type 0 where
+pub record HasNoRoom (design : DesignContents) (c : ℕ) : Type 0 where
   pub order : List ℕ
   pub is_order : IsOrderOfTaking design order
   pub stuck : IsStuckAt design order c
@@ -28,7 +28,7 @@ pub record IsBlocked (design : DesignContents) (c : ℕ) : Type 0 where
 abbrev pub IsRunFault : {A : Type 0} → DesignContents → LegalFault A → Type 0
 IsRunFault design (FixedIllegal faults) = ⊥
 IsRunFault design (NoSite c) = ⊥
-IsRunFault design (NoRoom c) = IsBlocked design c
+IsRunFault design (NoRoom c) = HasNoRoom design c
 IsRunFault design Memory = Unit {0}
 
 -- with these places the design is legalised

@@ -1,5 +1,5 @@
 -- The components that have taken their places so far, and the boxes that these leave no room in.
-use Rattle.std.specs.Prelude.{◌≡◌, ◌↔◌, ℕ, ◌<◌, ◌++◌, ◌∷◌, [], List, take, All, Contains}
+use Rattle.std.specs.Prelude.{◌≡◌, ◌↔◌, ℕ, ◌<◌, ◌++◌, ◌∷◌, [], List, length, take, All, Contains}
 use Rattle.leg_geom.specs.Plane.{Sides}
 use Rattle.leg_geom.specs.declared.place.Place.{Place}
 use Rattle.leg_block.specs.Records.{DesignContents}
@@ -34,7 +34,13 @@ pub record KnowStaying (design : DesignContents) (end : ℕ) (free : RowLists) :
   pub known : AreKnown design boxes free
   pub staying : (box : Sides) → Contains boxes box ↔ IsStayingBelow design end box
 
--- the lists are those that the boxes have left in which the settled components are
+-- the lists are those that the boxes of all components that stay and these rectangles have left
+pub record KnowBlockages (design : DesignContents) (rects : List Sides) (free : RowLists) : Type 0 where
+  pub boxes : List Sides
+  pub known : AreKnown design (boxes ++ rects) free
+  pub staying : (box : Sides) → Contains boxes box ↔ IsStayingBelow design (length design.components) box
+
+-- the lists are those that the boxes have left that are taken
 pub record KnowTaken (design now : DesignContents) (done : List ℕ) (free : RowLists) : Type 0 where
   pub boxes : List Sides
   pub known : AreKnown design boxes free

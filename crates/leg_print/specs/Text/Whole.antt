@@ -6,13 +6,14 @@ use Rattle.leg_text.specs.Spaced.{line}
 use Rattle.leg_cells.specs.Records.{ViaSaid}
 use Rattle.leg_block.specs.declared.records.Row.{Row}
 use Rattle.leg_block.specs.declared.records.Component.{Component}
-use Rattle.leg_block.specs.Records.{DesignContents, TrackSaid, PinSaid, NetSaid}
+use Rattle.leg_block.specs.Records.{DesignContents, TrackSaid, PinSaid, BlockageSaid, NetSaid}
 use Rattle.leg_print.specs.Text.Header.{header_text}
 use Rattle.leg_print.specs.Text.Rows.{row_words}
 use Rattle.leg_print.specs.Text.Tracks.{track_words}
 use Rattle.leg_print.specs.Text.Vias.{via_words}
 use Rattle.leg_print.specs.Text.Components.{component_words}
 use Rattle.leg_print.specs.Text.Pins.{pin_words}
+use Rattle.leg_print.specs.Text.Blockages.{blockage_words}
 use Rattle.leg_print.specs.Text.Nets.{net_text}
 use Rattle.leg_print.specs.Text.Sections.{section_text, end_words}
 
@@ -32,6 +33,10 @@ components_text design components =
 abbrev pub pins_text : DesignContents → List PinSaid → List ℕ
 pins_text design pins = section_text (codes "PINS") (λ pin. line (pin_words design pin)) pins
 
+abbrev pub blockages_text : DesignContents → List BlockageSaid → List ℕ
+blockages_text design blockages =
+    section_text (codes "BLOCKAGES") (λ blockage. line (blockage_words design blockage)) blockages
+
 abbrev pub net_section : Bool → List ℕ
 net_section false = codes "NETS"
 net_section true = codes "SPECIALNETS"
@@ -44,5 +49,5 @@ unfoldable pub design_text : DesignContents → List ℕ
 design_text design =
     header_text design ++ rows_text design design.rows ++ tracks_text design design.tracks
     ++ vias_text design design.vias ++ components_text design design.components
-    ++ pins_text design design.pins ++ nets_text design true design.special
-    ++ nets_text design false design.nets ++ line (end_words (codes "DESIGN"))
+    ++ pins_text design design.pins ++ blockages_text design design.blockages
+    ++ nets_text design true design.special ++ nets_text design false design.nets ++ line (end_words (codes "DESIGN"))

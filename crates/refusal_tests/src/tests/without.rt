@@ -51,6 +51,7 @@ fn has_its_parts<A: Allocator + Copy>(design: &Design<'_, A>) -> bool {
         && design.vias().is_empty()
         && design.components().len() == 2
         && design.pins().is_empty()
+        && design.blockages().is_empty()
         && design.nets().len() == 1
         && design.special().is_empty()
 }

@@ -1,7 +1,6 @@
 -- At the end they all are.
 use Rattle.std.proofs.Common.{◌≡◌, length, arith}
-use Rattle.leg_legal.specs.Steps.Taking.{KnowStaying}
-use Rattle.leg_legal.proofs.UnderWay.{staying_none, staying_all}
+use Rattle.leg_legal.proofs.UnderWay.{staying_none}
 use Rattle.leg_legal.proofs.taking.take_staying.Goals as goal
 
 pub loop-i-init : goal.loop-i-init
@@ -10,5 +9,4 @@ loop-i-init g c = staying_none c.args.design.now c.args.free.now c.requires
 pub returns : goal.returns
 returns g c =
     let last : c.loop-i.i ≡ length c.args.design.now.components = rw (← c.components-i-end.ensures.is) (omega arith) in
-    let all : KnowStaying c.args.design.now (length c.args.design.now.components) c.loop-i.free = rw (← last) c.loop-i.invariant in
-    staying_all c.args.design.now c.loop-i.free all
+    rw (← last) c.loop-i.invariant

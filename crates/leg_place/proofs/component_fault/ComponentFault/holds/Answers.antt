@@ -1,6 +1,6 @@
 -- A violation of a component holds where the test of its kind says so.
-use Rattle.leg_place.specs.Faults.Holds.{unplaced, outside, off_site}
-use Rattle.leg_place.proofs.PlaceFaults.{unplaced_there, outside_there, off_site_there}
+use Rattle.leg_place.specs.Faults.Holds.{unplaced, outside, off_site, blocked}
+use Rattle.leg_place.proofs.PlaceFaults.{unplaced_there, outside_there, off_site_there, blocked_there}
 use Rattle.leg_place.proofs.component_fault.ComponentFault.holds.Goals as goal
 
 pub returns-in-Unplaced : goal.returns-in-Unplaced
@@ -17,3 +17,8 @@ pub returns-in-OffSite : goal.returns-in-OffSite
 returns-in-OffSite g c =
     let design = c.args.design.now in
     rw c.in-OffSite.is (λ t. off_site (c.is_off_site.ensures.0 t), λ h. c.is_off_site.ensures.1 (off_site_there design.library design c.args.component h))
+
+pub returns-in-Blocked : goal.returns-in-Blocked
+returns-in-Blocked g c =
+    let design = c.args.design.now in
+    rw c.in-Blocked.is (λ t. blocked (c.is_blocked.ensures.0 t), λ h. c.is_blocked.ensures.1 (blocked_there design.library design c.args.component h))

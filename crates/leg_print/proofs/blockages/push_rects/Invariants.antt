@@ -1,0 +1,8 @@
+use Rattle.std.proofs.Common.{◌≡◌, ◌++◌, take}
+use Rattle.std.specs.List.{flat_map}
+use Rattle.leg_text.specs.Spaced.{spaced}
+use Rattle.leg_print.specs.Text.Blockages.{rect_words}
+use Rattle.leg_print.proofs.blockages.push_rects.Given as goal
+
+abbrev pub invariant-loop-rect : goal.invariant-loop-rect
+invariant-loop-rect g l = l.text.items ≡ l.fn.text.items ++ spaced (flat_map rect_words (take l.rect-index l.rects))
