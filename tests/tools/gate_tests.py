@@ -185,6 +185,20 @@ class GateTests(Room):
                 self.assertEqual((status, 'early' in lines), (0, begins), lines)
                 os.remove(os.path.join(self.room, 'begun'))
 
+    def test_wrong_bodies_are_tried_part_by_part(self):
+        self.file('tests/edits/gate', '# words\nlow/some f\nlow/more f\nleast/a b\n# others\nhigh/other g::h\n')
+        self.script('tests/edits/run', SUITE + 'case "$*" in *low*) touch "$ROOM/begun" ;; esac\n')
+        waits = 'for i in 1 2 3 4 5 6 7 8; do [ -e "$ROOM/begun" ] || sleep 0.5; done\n[ ! -e "$ROOM/begun" ] || echo early\n'
+        self.script('commands/rt', f"{RT}echo 'rt: low proved'\necho 'rt: least proved'\n{waits}echo 'rt: high proved'\n{PASSED}")
+        status, lines = self.run_gate()
+        self.assertEqual((status, 'early' in lines, lines[-1]), (0, True, f'{103 + 3 * len(PARTS)} passed, 0 failed'), lines)
+        told = [line for line in lines if line.startswith('== tests/edits/run --gate')]
+        self.assertEqual(told, ['== tests/edits/run --gate --jobs 1 least low', '== tests/edits/run --gate high'])
+        for words in ('*low*', '*high*'):
+            self.script('tests/edits/run', SUITE + f'case "$*" in {words}) exit 1 ;; esac\n')
+            status, lines = self.run_gate()
+            self.assertEqual((status, lines[-1].split(', ')[1]), (1, '1 failed'), lines)
+
     def test_the_program_that_it_proved_is_not_built_again(self):
         self.run_gate()
         called = self.started('lefdef', 'check')
