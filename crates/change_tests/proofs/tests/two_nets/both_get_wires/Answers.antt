@@ -1,7 +1,9 @@
 -- What the nets of one reading have, those of the other may get.
-use Rattle.std.proofs.Common.{◌≡◌, ◌∙◌, [], length, refl, sym, ap, arith}
+use Rattle.std.proofs.Common.{◌≡◌, ◌∙◌, false, List, [], length, All, refl, sym, ap, subst, arith}
 use Rattle.std.proofs.lemmas.List.{length-map}
+use Rattle.leg_cells.specs.Records.{Contents, ViaSaid}
 use Rattle.leg_block.specs.Records.{wire_count}
+use Rattle.leg_block.specs.WellFormedNets.{IsWire}
 use Rattle.change_tests.proofs.MoreWires.{wire_count_more}
 use Rattle.change_tests.proofs.tests.two_nets.both_get_wires.Goals as goal
 
@@ -16,3 +18,11 @@ with_all_wires-requires-clause-few g c =
     let count : wire_count c.args.design.nets ≡ 2 = c.if-not-has_two_wires.ensures.wires refl in
     let more : wire_count c.args.again.now.nets ≡ 2 = c.if-not-has_two_wires-2.ensures.wires refl in
     rw (c.in_ok-lists.ensures.are, special) (omega (arith, wire_count_more c.args.design.nets c.args.again.now.nets))
+
+pub with_all_wires-requires-clause-spelled : goal.with_all_wires-requires-clause-spelled
+with_all_wires-requires-clause-spelled g c =
+    let library : c.args.again.now.library ≡ c.args.design.library = sym c.library.ensures.is ∙ c.if-not-fits.ensures.0 refl in
+    let vias : c.args.again.now.vias ≡ c.args.design.vias = c.if-not-has_two_wires-2.ensures.vias refl ∙ sym (c.if-not-has_two_wires.ensures.vias refl) in
+    let lists = c.in_ok-lists.lists.items in
+    let there = subst (λ (l : Contents). All (λ w. All (IsWire l c.args.again.now.vias false) w.items) lists) library c.in_ok-lists.ensures.spelled in
+    subst (λ (v : List ViaSaid). All (λ w. All (IsWire c.args.design.library v false) w.items) lists) vias there
