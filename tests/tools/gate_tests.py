@@ -187,13 +187,15 @@ class GateTests(Room):
 
     def test_wrong_bodies_are_tried_part_by_part(self):
         self.file('tests/edits/gate', '# words\nlow/some f\nlow/more f\nleast/a b\n# others\nhigh/other g::h\n')
-        self.script('tests/edits/run', SUITE + 'case "$*" in *low*) touch "$ROOM/begun" ;; esac\n')
+        self.script('tests/edits/run', SUITE + 'echo "$*" >>"$ROOM/words"\ncase "$*" in *low*) touch "$ROOM/begun" ;; esac\n')
         waits = 'for i in 1 2 3 4 5 6 7 8; do [ -e "$ROOM/begun" ] || sleep 0.5; done\n[ ! -e "$ROOM/begun" ] || echo early\n'
         self.script('commands/rt', f"{RT}echo 'rt: low proved'\necho 'rt: least proved'\n{waits}echo 'rt: high proved'\n{PASSED}")
         status, lines = self.run_gate()
         self.assertEqual((status, 'early' in lines, lines[-1]), (0, True, f'{103 + 3 * len(PARTS)} passed, 0 failed'), lines)
         told = [line for line in lines if line.startswith('== tests/edits/run --gate')]
-        self.assertEqual(told, ['== tests/edits/run --gate --jobs 1 least low', '== tests/edits/run --gate high'])
+        self.assertEqual(told, ['== tests/edits/run --gate least low', '== tests/edits/run --gate high'])
+        with open(os.path.join(self.room, 'words'), encoding='utf-8') as file:
+            self.assertEqual(file.read().splitlines()[:2], ['--gate least low --jobs 1', '--gate high'])
         for words in ('*low*', '*high*'):
             self.script('tests/edits/run', SUITE + f'case "$*" in {words}) exit 1 ;; esac\n')
             status, lines = self.run_gate()
