@@ -112,7 +112,7 @@ impl<'a, A: Allocator> Model for Pin<'a, A> {
 /// Rectangles that are to be kept free (LEF/DEF 5.8, "Blockages"). Contracts see one by its record, `blockage_said`.
 #[derive(Drop)]
 pub enum Blockage<A: Allocator> {
-    /// Rectangles of a layer that carries metal, which no net's metal may meet.
+    /// Rectangles on a layer with metal. They are judged as obstructions of components are, with an owner of their own.
     LayerRects { layer: usize, rects: Items<Rect, A> },
     /// Rectangles in which no movable component may stand.
     Placement { rects: Items<Rect, A> },
