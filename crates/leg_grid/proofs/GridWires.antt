@@ -1,5 +1,5 @@
 -- The wires of nodes and steps of the grid are such as a DEF can spell.
-use Rattle.std.proofs.Common.{◌≡◌, ◌≢◌, ℕ, suc, zero, ◌⊎◌, inl, inr, ℤ, pos, ◌-ℤ◌, ◌≤ℤ◌, ◌<ℤ◌, ◌≤◌, unsigned_abs, false, true, Bool, ◌||◌, IsTrue, List, [], ◌∷◌, ◌++◌, Option, None, Some, slice_get, refl, sym, ap, ◌∙◌, arith}
+use Rattle.std.proofs.Common.{◌≡◌, ◌≢◌, ℕ, suc, zero, ◌⊎◌, inl, inr, ℤ, pos, ◌-ℤ◌, ◌≤ℤ◌, ◌<ℤ◌, false, true, Bool, ◌||◌, IsTrue, List, [], ◌∷◌, ◌++◌, Option, None, Some, slice_get, refl, sym, ap, ◌∙◌, arith}
 use Rattle.std.specs.Ordering.{int_eq}
 use Rattle.std.proofs.lemmas.Int.{ints}
 use Rattle.std.proofs.lemmas.Option.{same_Some}
@@ -122,7 +122,7 @@ module _ (design : DesignContents) (a : Node) (wire : Wire) (a_at : IsPosition a
       let some = h.some in
       let within = h.within in
       rw adds.is (refl, rw wide refl, a_at, area (half adds.width) some within) where
-        area : (z : ℤ) → pos 1 ≤ℤ z → unsigned_abs z ≤ 200000000 → IsArea (record { x1 = pos 0 -ℤ z; y1 = pos 0 -ℤ z; x2 = z; y2 = z })
+        area : (z : ℤ) → pos 1 ≤ℤ z → IsNumber z → IsArea (record { x1 = pos 0 -ℤ z; y1 = pos 0 -ℤ z; x2 = z; y2 = z })
         area z some within = record { x1 = omega (arith, ints); y1 = omega (arith, ints); x2 = omega (arith, ints); y2 = omega (arith, ints); proper = record { wide = omega (arith, ints); high = omega (arith, ints) } }
 
   get_left : (xs ys : List ViaSaid) (k : ℕ) (via : ViaSaid) → slice_get xs k ≡ Some via → slice_get (xs ++ ys) k ≡ Some via

@@ -1,9 +1,11 @@
 -- How far the metal of slots reaches.
-use Rattle.std.proofs.Common.{◌≡◌, ℕ, zero, suc, ◌+◌, ◌-◌, ◌<◌, ◌≤◌, ◌⊎◌, inl, inr, ℤ, pos, ◌-ℤ◌, ◌≤ℤ◌, ◌<ℤ◌, unsigned_abs, List, All, get_or, Option, None, Some, slice_get, FitsSigned, w64, arith}
+use Rattle.std.proofs.Common.{◌≡◌, ℕ, zero, suc, ◌+◌, ◌-◌, ◌<◌, ◌≤◌, ◌⊎◌, inl, inr, ℤ, pos, ◌-ℤ◌, ◌≤ℤ◌, ◌<ℤ◌, List, All, get_or, Option, None, Some, slice_get, FitsSigned, w64, arith}
 use Rattle.std.proofs.lemmas.Int.{ints}
 use Rattle.std.specs.Int.{int_max}
 use Rattle.std.specs.Option.{unwrap_or}
-use Rattle.leg_geom.specs.Plane.{Sides}
+use Rattle.leg_lex.specs.declared.limits.TheConstants.{NUMBER_LIMIT}
+use Rattle.leg_lex.specs.Number.{IsNumber}
+use Rattle.leg_geom.specs.Plane.{Sides, IsCoordinate}
 use Rattle.leg_cells.specs.declared.records.Shape.{Shape}
 use Rattle.leg_grid.specs.Steps.Reaches.{IsDistance, IsReach, ReachesAll, IsWider, ReachesShape}
 use Rattle.leg_grid.specs.Steps.SlotRanges.{ArePlaces}
@@ -69,10 +71,10 @@ pub record IsWidened (a b m : ℤ) : Type 0 where
 greater : (a b m : ℤ) → m ≡ int_max a b → (a ≤ℤ m) × (b ≤ℤ m) × ((m ≡ a) ⊎ (m ≡ b))
 greater a b m is = grind (arith, ints)
 
-most_of : (a b m : ℤ) → m ≡ int_max a b → a ≤ℤ pos 200000000 → b ≤ℤ pos 200000000 → m ≤ℤ pos 200000000
+most_of : (a b m : ℤ) → m ≡ int_max a b → a ≤ℤ pos NUMBER_LIMIT → b ≤ℤ pos NUMBER_LIMIT → m ≤ℤ pos NUMBER_LIMIT
 most_of a b m is first second = elim (greater a b m is).2 [ inl same ↦ omega (arith, ints, same, first) | inr same ↦ omega (arith, ints, same, second) ]
 
-pub widened : (a b m : ℤ) → IsDistance a → unsigned_abs b ≤ 200000000 → m ≡ int_max a b → IsWidened a b m
+pub widened : (a b m : ℤ) → IsDistance a → IsNumber b → m ≡ int_max a b → IsWidened a b m
 widened a b m proper within is =
     let least = proper.least in
     let both = greater a b m is in
@@ -86,11 +88,11 @@ widened a b m proper within is =
 pub distance_fits : (m : ℤ) → IsDistance m → FitsSigned w64 m
 distance_fits m is = let least = is.least in let most = is.most in omega (arith, ints)
 
-pub number_fits : (z : ℤ) → unsigned_abs z ≤ 200000000 → FitsSigned w64 z
+pub number_fits : (z : ℤ) → IsNumber z → FitsSigned w64 z
 number_fits z within = omega (arith, ints)
 
-pub coordinate_fits : (z : ℤ) → unsigned_abs z ≤ 1000000000 → FitsSigned w64 z
+pub coordinate_fits : (z : ℤ) → IsCoordinate z → FitsSigned w64 z
 coordinate_fits z within = omega (arith, ints)
 
-pub turned : (z : ℤ) → unsigned_abs z ≤ 200000000 → unsigned_abs (pos 0 -ℤ z) ≤ 200000000
+pub turned : (z : ℤ) → IsNumber z → IsNumber (pos 0 -ℤ z)
 turned z within = omega (arith, ints)

@@ -1,6 +1,7 @@
 -- Patches that are open.
-use Rattle.std.proofs.Common.{◌≡◌, ℕ, suc, zero, ◌<◌, ◌≤◌, ◌↔◌, ℤ, pos, negsuc, ◌+ℤ◌, ◌≤ℤ◌, ◌<ℤ◌, unsigned_abs, [], ◌∷◌, Contains, get_or, refl, subst, arith}
+use Rattle.std.proofs.Common.{◌≡◌, ℕ, suc, zero, ◌<◌, ◌↔◌, ℤ, pos, negsuc, ◌+ℤ◌, ◌≤ℤ◌, ◌<ℤ◌, [], ◌∷◌, Contains, get_or, refl, subst, arith}
 use Rattle.std.proofs.lemmas.Int.{ints}
+use Rattle.leg_lex.specs.Number.{IsNumber}
 use Rattle.leg_geom.specs.Plane.{Spot, Sides, HasPoint}
 use Rattle.leg_geom.specs.Orientation.{placed, StaysWithin}
 use Rattle.leg_geom.specs.declared.orient.Orient.TheVariants.{N}
@@ -20,7 +21,7 @@ use Rattle.leg_grid.specs.Steps.Squares.{IsSmall}
 -- half of a width is above 0, and is a number that a DEF may have
 pub record IsHalf (h : ℤ) : Type 0 where
   pub some : pos 1 ≤ℤ h
-  pub within : unsigned_abs h ≤ 200000000
+  pub within : IsNumber h
 
 pub half_is : (width : ℤ) → IsWidth width → IsHalf (half width)
 half_is (pos a) is =

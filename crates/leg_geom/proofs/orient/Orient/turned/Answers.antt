@@ -1,12 +1,13 @@
-use Rattle.std.proofs.Common.{◌≡◌, ◌≤◌, ℤ, ◌-ℤ◌, unsigned_abs, FitsSigned, w64, to_z, of_z, refl, ◌∙◌, arith}
+use Rattle.std.proofs.Common.{◌≡◌, ◌≤◌, ◌*◌, ℤ, ◌-ℤ◌, unsigned_abs, FitsSigned, w64, to_z, of_z, refl, ◌∙◌, arith}
 use Rattle.std.proofs.lemmas.Int.{to_z-of_z, fits_signed_from_abs}
+use Rattle.leg_geom.specs.declared.limits.TheConstants.{COORDINATE_LIMIT}
 use Rattle.leg_geom.proofs.orient.Orient.turned.Goals as goal
 
 -- a coordinate taken from a side of the box fits, and is what the machine's subtraction gives
-minus_fits : (a b p : ℤ) → FitsSigned w64 a → FitsSigned w64 b → b ≡ p → unsigned_abs (a -ℤ p) ≤ 2000000000 → FitsSigned w64 (to_z w64 (of_z w64 a) -ℤ to_z w64 (of_z w64 b))
+minus_fits : (a b p : ℤ) → FitsSigned w64 a → FitsSigned w64 b → b ≡ p → unsigned_abs (a -ℤ p) ≤ 2 * COORDINATE_LIMIT → FitsSigned w64 (to_z w64 (of_z w64 a) -ℤ to_z w64 (of_z w64 b))
 minus_fits a b p fa fb e small = rw (to_z-of_z w64 a fa, to_z-of_z w64 b fb, e) (fits_signed_from_abs w64 (a -ℤ p) (omega arith))
 
-minus_is : (a b p : ℤ) → FitsSigned w64 a → FitsSigned w64 b → b ≡ p → unsigned_abs (a -ℤ p) ≤ 2000000000 → to_z w64 (of_z w64 (to_z w64 (of_z w64 a) -ℤ to_z w64 (of_z w64 b))) ≡ a -ℤ p
+minus_is : (a b p : ℤ) → FitsSigned w64 a → FitsSigned w64 b → b ≡ p → unsigned_abs (a -ℤ p) ≤ 2 * COORDINATE_LIMIT → to_z w64 (of_z w64 (to_z w64 (of_z w64 a) -ℤ to_z w64 (of_z w64 b))) ≡ a -ℤ p
 minus_is a b p fa fb e small =
     to_z-of_z w64 _ (minus_fits a b p fa fb e small) ∙ rw (to_z-of_z w64 a fa, to_z-of_z w64 b fb, e) refl
 

@@ -1,26 +1,27 @@
-use Rattle.std.proofs.Common.{◌≡◌, ◌≤◌, ℤ, ◌+ℤ◌, unsigned_abs, FitsSigned, w64, to_z, of_z, ap, arith}
+use Rattle.std.proofs.Common.{◌≡◌, ◌≤◌, ◌*◌, ℤ, ◌+ℤ◌, unsigned_abs, FitsSigned, w64, to_z, of_z, ap, arith}
 use Rattle.std.proofs.lemmas.Int.{ints, to_z-of_z, fits_signed_from_abs}
-use Rattle.leg_geom.specs.Plane.{Spot}
+use Rattle.leg_geom.specs.declared.limits.TheConstants.{COORDINATE_LIMIT}
+use Rattle.leg_geom.specs.Plane.{Spot, IsCoordinate}
 use Rattle.leg_geom.specs.Orientation.{turned}
 use Rattle.leg_geom.proofs.Points.{same_spot}
 use Rattle.leg_geom.proofs.place.Place.point.Goals as goal
 
 -- what is added to a coordinate, where the sum is within the limit
-added_within : (a b : ℤ) → unsigned_abs a ≤ 1000000000 → unsigned_abs (a +ℤ b) ≤ 1000000000 → unsigned_abs b ≤ 2000000000
+added_within : (a b : ℤ) → IsCoordinate a → IsCoordinate (a +ℤ b) → unsigned_abs b ≤ 2 * COORDINATE_LIMIT
 added_within a b la lm = omega (arith, ints)
 
 -- the machine's sum of two numbers, by the numbers
-moved_is : (l t a b : ℤ) → l ≡ a → t ≡ b → unsigned_abs a ≤ 1000000000 → unsigned_abs (a +ℤ b) ≤ 1000000000 → to_z w64 (of_z w64 l) +ℤ to_z w64 (of_z w64 t) ≡ a +ℤ b
+moved_is : (l t a b : ℤ) → l ≡ a → t ≡ b → IsCoordinate a → IsCoordinate (a +ℤ b) → to_z w64 (of_z w64 l) +ℤ to_z w64 (of_z w64 t) ≡ a +ℤ b
 moved_is l t a b el et la lm =
     let small = added_within a b la lm in
     let fa : FitsSigned w64 a = fits_signed_from_abs w64 a (omega arith) in
     let fb : FitsSigned w64 b = fits_signed_from_abs w64 b (omega arith) in
     rw (el, et, to_z-of_z w64 a fa, to_z-of_z w64 b fb)
 
-moved_fits : (l t a b : ℤ) → l ≡ a → t ≡ b → unsigned_abs a ≤ 1000000000 → unsigned_abs (a +ℤ b) ≤ 1000000000 → FitsSigned w64 (to_z w64 (of_z w64 l) +ℤ to_z w64 (of_z w64 t))
+moved_fits : (l t a b : ℤ) → l ≡ a → t ≡ b → IsCoordinate a → IsCoordinate (a +ℤ b) → FitsSigned w64 (to_z w64 (of_z w64 l) +ℤ to_z w64 (of_z w64 t))
 moved_fits l t a b el et la lm = rw (moved_is l t a b el et la lm) (fits_signed_from_abs w64 (a +ℤ b) (omega arith))
 
-moved_within : (l t a b : ℤ) → l ≡ a → t ≡ b → unsigned_abs a ≤ 1000000000 → unsigned_abs (a +ℤ b) ≤ 1000000000 → unsigned_abs (to_z w64 (of_z w64 (to_z w64 (of_z w64 l) +ℤ to_z w64 (of_z w64 t)))) ≤ 1000000000
+moved_within : (l t a b : ℤ) → l ≡ a → t ≡ b → IsCoordinate a → IsCoordinate (a +ℤ b) → IsCoordinate (to_z w64 (of_z w64 (to_z w64 (of_z w64 l) +ℤ to_z w64 (of_z w64 t))))
 moved_within l t a b el et la lm = rw (to_z-of_z w64 _ (moved_fits l t a b el et la lm), moved_is l t a b el et la lm) lm
 
 pub turned-x-requires-clause-x : goal.turned-x-requires-clause-x

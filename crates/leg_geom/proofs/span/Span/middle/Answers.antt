@@ -1,27 +1,27 @@
-use Rattle.std.proofs.Common.{◌≡◌, ◌≤◌, ℤ, pos, ◌+ℤ◌, unsigned_abs, FitsSigned, w64, to_z, of_z, ◌∙◌, arith}
+use Rattle.std.proofs.Common.{◌≡◌, ℤ, pos, ◌+ℤ◌, FitsSigned, w64, to_z, of_z, ◌∙◌, arith}
 use Rattle.std.proofs.lemmas.Int.{ints, to_z-of_z, fits_signed_from_abs}
 use Rattle.std.specs.Int.{int_div_euclid}
-use Rattle.leg_geom.specs.Plane.{IsHalfway, halfway}
+use Rattle.leg_geom.specs.Plane.{IsCoordinate, IsHalfway, halfway}
 use Rattle.leg_geom.proofs.span.Span.middle.Goals as goal
 
 -- the sum of two coordinates fits
-sum_fits : (a b : ℤ) → unsigned_abs a ≤ 1000000000 → unsigned_abs b ≤ 1000000000 → FitsSigned w64 (a +ℤ b)
+sum_fits : (a b : ℤ) → IsCoordinate a → IsCoordinate b → FitsSigned w64 (a +ℤ b)
 sum_fits a b la lb = fits_signed_from_abs w64 (a +ℤ b) (omega (arith, ints))
 
-sum_is : (a b : ℤ) → unsigned_abs a ≤ 1000000000 → unsigned_abs b ≤ 1000000000 → to_z w64 (of_z w64 a) +ℤ to_z w64 (of_z w64 b) ≡ a +ℤ b
+sum_is : (a b : ℤ) → IsCoordinate a → IsCoordinate b → to_z w64 (of_z w64 a) +ℤ to_z w64 (of_z w64 b) ≡ a +ℤ b
 sum_is a b la lb =
     let fa : FitsSigned w64 a = fits_signed_from_abs w64 a (omega arith) in
     let fb : FitsSigned w64 b = fits_signed_from_abs w64 b (omega arith) in
     rw (to_z-of_z w64 a fa, to_z-of_z w64 b fb)
 
 -- half of the machine's sum is the middle
-half_is : (a b r : ℤ) → unsigned_abs a ≤ 1000000000 → unsigned_abs b ≤ 1000000000 → r ≡ int_div_euclid (to_z w64 (of_z w64 (to_z w64 (of_z w64 a) +ℤ to_z w64 (of_z w64 b)))) (pos 2) → r ≡ halfway a b
+half_is : (a b r : ℤ) → IsCoordinate a → IsCoordinate b → r ≡ int_div_euclid (to_z w64 (of_z w64 (to_z w64 (of_z w64 a) +ℤ to_z w64 (of_z w64 b)))) (pos 2) → r ≡ halfway a b
 half_is a b r la lb e = rw (sum_is a b la lb, to_z-of_z w64 (a +ℤ b) (sum_fits a b la lb)) at e
 
 IsHalfway-halfway : (a b : ℤ) → IsHalfway a b (halfway a b)
 IsHalfway-halfway a b = record { below = grind (arith, ints); near = grind (arith, ints) }
 
-within_ends : (a b h : ℤ) → unsigned_abs a ≤ 1000000000 → unsigned_abs b ≤ 1000000000 → IsHalfway a b h → unsigned_abs h ≤ 1000000000
+within_ends : (a b h : ℤ) → IsCoordinate a → IsCoordinate b → IsHalfway a b h → IsCoordinate h
 within_ends a b h la lb m = omega (arith, ints)
 
 pub overflow_add-self-inside : goal.overflow_add-self-inside
