@@ -62,16 +62,16 @@ class WordTests(unittest.TestCase):
         self.assertEqual([text.line(at) for at in range(4)], [2, 2, 3, 4])
 
     def test_whole_numbers(self):
-        text = Words('text', '0 -0 +7 0000000000000000000000000012 -200000000 ' + '0' * 6000 + '1')
-        self.assertEqual([text.whole() for _ in range(6)], [0, 0, 7, 12, -200000000, 1])
-        for word in ('200000001', '-200000001', '9' * 6000, '1.0', '--1', '1e3', '', '+', '\u0661', '1_0'):
+        text = Words('text', '0 -0 +7 0000000000000000000000000012 -2000000000 ' + '0' * 6000 + '1')
+        self.assertEqual([text.whole() for _ in range(6)], [0, 0, 7, 12, -2000000000, 1])
+        for word in ('2000000001', '-2000000001', '9' * 6000, '1.0', '--1', '1e3', '', '+', '\u0661', '1_0'):
             with self.subTest(word=word):
                 self.assertRaises(Refused, Words('text', f'{word} ;').whole)
 
     def test_lengths_in_millionths_of_a_micron(self):
-        text = Words('text', '0.005 .5 5. -0 +1.2500000000 -200000000 ' + '0' * 6000 + '1')
-        self.assertEqual([text.length() for _ in range(7)], [5000, 500000, 5000000, 0, 1250000, -200000000000000, 1000000])
-        for word in ('1e3', '.', '-', '0.0000001', '200000000.000001', '9' * 6000, '1.2.3', ';'):
+        text = Words('text', '0.005 .5 5. -0 +1.2500000000 -2000000000 ' + '0' * 6000 + '1')
+        self.assertEqual([text.length() for _ in range(7)], [5000, 500000, 5000000, 0, 1250000, -2000000000000000, 1000000])
+        for word in ('1e3', '.', '-', '0.0000001', '2000000000.000001', '9' * 6000, '1.2.3', ';'):
             with self.subTest(word=word):
                 self.assertRaises(Refused, Words('text', f'{word} ;').length)
 

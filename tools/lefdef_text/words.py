@@ -8,8 +8,8 @@ WORD = re.compile(r'#[^\n]*|("(?:[^"\\]|\\"|\\(?!"))*"|[^\s#"]\S*(?=;(?:\s|\Z))|
 WHOLE = re.compile(r'[+-]?[0-9]+')
 LENGTH = re.compile(r'([+-]?)([0-9]*)\.?([0-9]*)')
 MARKS = frozenset(';()+-*')
-GREATEST_NUMBER = 200_000_000
-GREATEST_LENGTH = 2 * 10 ** 14
+GREATEST_NUMBER = 2_000_000_000
+GREATEST_LENGTH = 2 * 10 ** 15
 
 
 class Refused(Exception):
@@ -119,7 +119,7 @@ class Words:
             self.unexpected('a length of at most six decimals')
         millionths = value_of(found[2]) * 10 ** 6 + int(decimals.ljust(6, '0'))
         if millionths > GREATEST_LENGTH:
-            self.refuse(f'{word[:40]} is beyond 200 metres')
+            self.refuse(f'{word[:40]} is beyond 2,000 metres')
         return -millionths if found[1] == '-' else millionths
 
     def point(self, number):

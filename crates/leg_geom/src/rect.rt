@@ -145,12 +145,10 @@ impl Rect {
     }
 
     /// The least squared distance of a point of this rectangle and a point of the other, in square database units.
-    pub fn gap2(&self, other: &Rect) -> i64
+    pub fn gap2(&self, other: &Rect) -> i128
         ensures { (n : ℕ) × (result ≡ pos n) × IsSquareGap self.now other.now n }
     {
-        let x = self.x_gap(other);
-        let y = self.y_gap(other);
-        (x * x + y * y) as i64
+        squared(self.x_gap(other)) + squared(self.y_gap(other))
     }
 
     /// The point in the middle, each coordinate rounded down, towards minus infinity.
@@ -160,4 +158,13 @@ impl Rect {
     {
         Point::known(self.x.middle(), self.y.middle())
     }
+}
+
+/// The square of a gap.
+fn squared(gap: u64) -> i128
+    requires { gap ≤ 2 * COORDINATE_LIMIT }
+    ensures { result ≡ pos (gap * gap) }
+{
+    let gap = i128::from(gap);
+    gap * gap
 }

@@ -9,7 +9,7 @@ use crate::number::within;
 use std::marker::Model;
 
 /// How many millionths of a micron a micron has.
-const MILLIONTHS_IN_MICRON: u64 = 1_000_000;
+const MILLIONTHS_IN_MICRON: u128 = 1_000_000;
 
 /// A length in millionths of a micron, at most `MILLIONTHS_LIMIT` in absolute value. Contracts see it as
 /// that number.
@@ -65,10 +65,11 @@ impl Micron {
         ensures { AreUnits self n result }
     {
         let Micron { millionths } = self;
-        let scaled = millionths.unsigned_abs() * u64::from(n);
+        let scaled = u128::from(millionths.unsigned_abs()) * u128::from(n);
         if scaled % MILLIONTHS_IN_MICRON != 0 {
             return Err(NumFault::NotOnUnit);
         }
-        within(NUMBER_LIMIT, millionths < 0, scaled / MILLIONTHS_IN_MICRON)
+        let units = (scaled / MILLIONTHS_IN_MICRON) as u64;
+        within(NUMBER_LIMIT, millionths < 0, units)
     }
 }

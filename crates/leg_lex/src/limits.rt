@@ -4,10 +4,10 @@
 pub const TEXT_LIMIT: u64 = 268_435_456;
 
 /// A whole number of a DEF, and a length in database units, is at most this, whatever its sign.
-pub const NUMBER_LIMIT: u64 = 200_000_000;
+pub const NUMBER_LIMIT: u64 = 2_000_000_000;
 
 /// A length of a LEF is at most this many millionths of a micron, whatever its sign.
-pub const MILLIONTHS_LIMIT: u64 = 200_000_000_000_000;
+pub const MILLIONTHS_LIMIT: u64 = 2_000_000_000_000_000;
 
 /// A DEF has at most this many database units a micron.
 pub const UNITS_LIMIT: u32 = 20_000;

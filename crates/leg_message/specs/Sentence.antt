@@ -11,7 +11,7 @@ sentence_of kinds.UnclosedString = codes "a quoted word begins in this line and 
 sentence_of kinds.UnexpectedEnd = codes "the text ends too early: after its last word, in this line, an END, a ; or a whole form is missing"
 sentence_of kinds.Unexpected = codes "a word of this line is not allowed where it is, or a statement is missing from the form that ends here"
 sentence_of kinds.BadNumber = codes "a word of this line is not the number that is needed there: a DEF has whole numbers (-320, not -320.0; tools/from-qflow rewrites them), a LEF at most six decimals"
-sentence_of kinds.TooLarge = codes "a number of this line is out of range: at most 200,000,000 in absolute value (microns in a LEF, database units in a DEF), UNITS from 1 to 20,000, and not negative or 0 where that has no meaning"
+sentence_of kinds.TooLarge = codes "a number of this line is out of range: at most 2,000,000,000 in absolute value (microns in a LEF, database units in a DEF), UNITS from 1 to 20,000, and not negative or 0 where that has no meaning"
 sentence_of kinds.EmptyRect = codes "a rectangle, a size or a wire of this line has no area: a side of it is 0 or negative"
 sentence_of kinds.UnknownName = codes "a name of this line was not defined before it: check its spelling, in which capitals count, and whether the LEF that defines it is given, before those that use it"
 sentence_of kinds.DuplicateName = codes "a name of this line was defined before: rename or remove one of the two (tools/from-qflow joins entries of SPECIALNETS)"
@@ -28,6 +28,6 @@ sentence_of kinds.Memory = codes "out of memory"
 -- a length that isn't one in database units
 abbrev pub scale_sentence_of : ScaleKind → List ℕ
 scale_sentence_of scale.NotOnUnit = codes "is not a whole number of database units"
-scale_sentence_of scale.TooLarge = codes "is more than 200,000,000 database units"
+scale_sentence_of scale.TooLarge = codes "is more than 2,000,000,000 database units"
 scale_sentence_of scale.OddWidth = codes "is an odd number of database units, and the width of a routing layer is even, so that its wires have a middle line"
 scale_sentence_of scale.Memory = codes "is not known"

@@ -6,7 +6,7 @@ use leg_lex::{MILLIONTHS_LIMIT, NUMBER_LIMIT, TEXT_LIMIT, UNITS_LIMIT};
 
 const _: () = prove!(TEXT_LIMIT == 268_435_456);
 
-const _: () = prove!(NUMBER_LIMIT == 200_000_000 && MILLIONTHS_LIMIT == 200_000_000_000_000);
+const _: () = prove!(NUMBER_LIMIT == 2_000_000_000 && MILLIONTHS_LIMIT == 2_000_000_000_000_000);
 
 const _: () = prove!(UNITS_LIMIT == 20_000);
 

@@ -19,7 +19,7 @@ pub(crate) fn sentence_of(kind: FaultKind) -> &'static [u8]
         FaultKind::BadNumber =>
             b"a word of this line is not the number that is needed there: a DEF has whole numbers (-320, not -320.0; tools/from-qflow rewrites them), a LEF at most six decimals",
         FaultKind::TooLarge =>
-            b"a number of this line is out of range: at most 200,000,000 in absolute value (microns in a LEF, database units in a DEF), UNITS from 1 to 20,000, and not negative or 0 where that has no meaning",
+            b"a number of this line is out of range: at most 2,000,000,000 in absolute value (microns in a LEF, database units in a DEF), UNITS from 1 to 20,000, and not negative or 0 where that has no meaning",
         FaultKind::EmptyRect =>
             b"a rectangle, a size or a wire of this line has no area: a side of it is 0 or negative",
         FaultKind::UnknownName =>
@@ -49,7 +49,7 @@ pub(crate) fn scale_sentence_of(kind: ScaleKind) -> &'static [u8]
 {
     match kind {
         ScaleKind::NotOnUnit => b"is not a whole number of database units",
-        ScaleKind::TooLarge => b"is more than 200,000,000 database units",
+        ScaleKind::TooLarge => b"is more than 2,000,000,000 database units",
         ScaleKind::OddWidth =>
             b"is an odd number of database units, and the width of a routing layer is even, so that its wires have a middle line",
         ScaleKind::Memory => b"is not known",

@@ -1,5 +1,5 @@
 -- An index that grows, and whose last rectangles are grouped.
-use Rattle.std.proofs.Common.{◌≡◌, ℕ, zero, suc, ◌-◌, ◌^◌, ◌≤◌, ◌<◌, List, [], ◌∷◌, ◌++◌, length, take, drop, get_or, Some, slice_get, All, AllPairs, Contains, inl, inr, refl, sym, ap, subst, ◌∙◌, arith, length-append, take-append-drop}
+use Rattle.std.proofs.Common.{◌≡◌, ℕ, zero, suc, ◌-◌, ◌^◌, ◌≤◌, ◌<◌, List, [], ◌∷◌, ◌++◌, length, take, drop, get_or, Some, slice_get, All, AllPairs, Contains, inl, inr, refl, sym, subst, arith, length-append, take-append-drop}
 use Rattle.std.proofs.lemmas.Bool.{cases_lt}
 use Rattle.std.proofs.lemmas.List.{take-append-le, take-take, take_all, length-take-le, get_or-take}
 use Rattle.std.proofs.lemmas.List.Concat.{flat_map-append}
@@ -10,9 +10,9 @@ use Rattle.leg_sweep.specs.declared.bounds.Bounds.{Bounds}
 use Rattle.leg_sweep.specs.declared.node.Content.{Content}
 use Rattle.leg_sweep.specs.declared.node.Content.TheVariants.{Group, Rect}
 use Rattle.leg_sweep.specs.declared.node.Node.{Node}
-use Rattle.leg_sweep.specs.Steps.Bounds.{sides_of, IsWithin}
-use Rattle.leg_sweep.specs.NearNumbers.{number_in}
-use Rattle.leg_sweep.specs.Steps.Nodes.{numbers_of, IsRightAt, IsRight, AreNodesFrom}
+use Rattle.leg_sweep.specs.Steps.Bounds.{bounds_around, IsWithin}
+use Rattle.leg_sweep.specs.NearNumbers.{number_in, numbers_of}
+use Rattle.leg_sweep.specs.Steps.Nodes.{HasBoundsOf, IsRightAt, IsRight, AreNodesFrom}
 use Rattle.leg_sweep.specs.Steps.Index.{IsCut, IsIndex}
 use Rattle.leg_sweep.proofs.Lists.{AllPairs-append}
 use Rattle.leg_sweep.proofs.NearNodes.{forest_append}
@@ -30,7 +30,7 @@ get_last (x ∷ xs) rect = get_last xs rect
 -- a node is right where others come behind its rectangle
 right_before : (xs ys : List Sides) (bounds : Bounds) (content : Content) → IsRightAt xs bounds content → IsRightAt (xs ++ ys) bounds content
 right_before xs ys bounds (Group members) right = right
-right_before xs ys bounds (Rect number) right = (get_before xs ys number (sides_of bounds) right.0, right.1)
+right_before xs ys bounds (Rect number) right = record { rect = right.rect; there = get_before xs ys number right.rect right.there; proper = right.proper; are = right.are }
 
 rights_before : (xs ys : List Sides) (nodes : List Node) → All (IsRight xs) nodes → All (IsRight (xs ++ ys)) nodes
 rights_before xs ys nodes right = All-weaker (IsRight xs) (IsRight (xs ++ ys)) (λ node is. right_before xs ys node.bounds node.content is) nodes right
@@ -53,12 +53,11 @@ nodes_joined rects first front back within a b = record {
 }
 
 -- one more rectangle
-nodes_grown : (rects : List Sides) (nodes : List Node) (rect : Sides) (bounds : Bounds) → AreNodesFrom rects 0 nodes → sides_of bounds ≡ rect → IsRect rect
+nodes_grown : (rects : List Sides) (nodes : List Node) (rect : Sides) (bounds : Bounds) → AreNodesFrom rects 0 nodes → bounds ≡ bounds_around rect 0 → IsRect rect
     → AreNodesFrom (rects ++ rect ∷ []) 0 (nodes ++ (record { bounds = bounds; content = Rect (length rects) }) ∷ [])
 nodes_grown rects nodes rect bounds a is proper =
     let node : Node = record { bounds = bounds; content = Rect (length rects) } in
-    let there : slice_get (rects ++ rect ∷ []) (length rects) ≡ Some (sides_of bounds) = get_last rects rect ∙ ap Some (sym is) in
-    let right : IsRight (rects ++ rect ∷ []) node = (there, subst (λ (s : Sides). IsRect s) (sym is) proper) in
+    let right : HasBoundsOf (rects ++ rect ∷ []) (length rects) bounds = record { rect = rect; there = get_last rects rect; proper = proper; are = is } in
     record {
       forest = forest_append nodes (node ∷ []) a.forest (omega arith, All-nil (λ (member : Node). IsWithin member.bounds bounds), tt);
       right = All-append (IsRight (rects ++ rect ∷ [])) nodes (node ∷ []) (rights_before rects (rect ∷ []) nodes a.right)
@@ -78,7 +77,7 @@ cut_grown rects more nodes others cut is = record {
   are = rw (take-append-le cut.rects rects more is.rects_in, take-append-le cut.nodes nodes others is.nodes_in) is.are;
 }
 
-pub index_grown : (rects : List Sides) (nodes : List Node) (cuts : List Cut) (rect : Sides) (bounds : Bounds) → IsIndex rects nodes cuts → length rects < 2 ^ 32 - 1 → sides_of bounds ≡ rect → IsRect rect
+pub index_grown : (rects : List Sides) (nodes : List Node) (cuts : List Cut) (rect : Sides) (bounds : Bounds) → IsIndex rects nodes cuts → length rects < 2 ^ 32 - 1 → bounds ≡ bounds_around rect 0 → IsRect rect
     → IsIndex (rects ++ rect ∷ []) (nodes ++ (record { bounds = bounds; content = Rect (length rects) }) ∷ []) cuts
 index_grown rects nodes cuts rect bounds index room is proper =
     let node : Node = record { bounds = bounds; content = Rect (length rects) } in

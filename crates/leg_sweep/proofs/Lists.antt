@@ -1,5 +1,6 @@
 -- Lists that rise under an order, and what a list contains.
-use Rattle.std.proofs.Common.{◌≡◌, zero, suc, List, [], ◌∷◌, ◌++◌, map, All, AllPairs, Contains, ◌⊎◌, inl, inr, refl, sym, ap, arith}
+use Rattle.std.proofs.Common.{◌≡◌, zero, suc, Bool, true, false, cond, List, [], ◌∷◌, ◌++◌, map, All, AllPairs, Contains, ◌⊎◌, inl, inr, refl, sym, ap, arith}
+use Rattle.std.specs.List.{filter}
 use Rattle.std.proofs.lemmas.List.Elements.{All-append, All-contains, All-cons, All-head, All-tail, All-map, All-nil, All-weaker}
 use Rattle.std.proofs.lemmas.List.Kept.{AllPairs-cons}
 
@@ -20,6 +21,17 @@ module _ {X : Type 0} where
   pub Contains-cons_cases : (y : X) (xs : List X) (x : X) → Contains (y ∷ xs) x → (y ≡ x) ⊎ Contains xs x
   Contains-cons_cases y xs x (zero, within, is) = inl is
   Contains-cons_cases y xs x (suc k, within, is) = inr (k, omega arith, is)
+
+  -- what a list contains stands among those that pass a test, if it passes
+  pub Contains-filter : (test : X → Bool) (x : X) (xs : List X) → test x ≡ true → Contains xs x → Contains (filter test xs) x
+  Contains-filter test x [] passes c = absurd (Contains-nil x c)
+  Contains-filter test x (y ∷ xs) passes c = elim (Contains-cons_cases y xs x c) [
+    | inl same ↦ let here : test y ≡ true = rw same passes in rw here (zero, omega arith, same)
+    | inr later ↦ behind (test y) (Contains-filter test x xs passes later)
+  ] where
+    behind : (b : Bool) → Contains (filter test xs) x → Contains (cond b (y ∷ filter test xs) (filter test xs)) x
+    behind true has = Contains-there y (filter test xs) x has
+    behind false has = has
 
   -- what holds of whatever a list contains holds of all of it
   pub All-from_contains : (P : X → Type 0) (xs : List X) → ((x : X) → Contains xs x → P x) → All P xs

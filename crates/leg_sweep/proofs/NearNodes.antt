@@ -1,11 +1,12 @@
--- What a walk through the nodes of an index finds: groups that don't reach into a window are passed over.
-use Rattle.std.proofs.Common.{◌≡◌, ℕ, zero, suc, ◌≤◌, ◌<◌, ℤ, pos, ◌+ℤ◌, ◌-ℤ◌, ◌≤ℤ◌, ◌<ℤ◌, Bool, true, false, List, [], ◌∷◌, ◌++◌, length, take, drop, Some, slice_get, All, Contains, if◌then◌else◌, inl, inr, refl, subst, arith, length-append}
+-- What a walk through the nodes of an index finds: groups whose bounds don't meet those of a window are passed over.
+use Rattle.std.proofs.Common.{◌≡◌, ℕ, zero, suc, ◌≤◌, ◌<◌, ℤ, pos, negsuc, ◌+ℤ◌, ◌-ℤ◌, ◌≤ℤ◌, ◌<ℤ◌, Bool, true, false, leb, cond, ap, List, [], ◌∷◌, ◌++◌, length, take, drop, get_or, Option, None, Some, slice_get, All, inl, inr, refl, sym, ◌∙◌, arith, length-append}
+use Rattle.std.specs.List.{filter}
 use Rattle.std.specs.Prelude.{int_le}
-use Rattle.std.proofs.lemmas.Bool.{cases_lt}
+use Rattle.std.proofs.lemmas.Bool.{cases_lt, leb-true, le-leb, and_parts, and_from, false_from_ne_true, true≢false}
 use Rattle.std.proofs.lemmas.Int.{ints}
 use Rattle.std.proofs.lemmas.Option.{slice_get_past}
 use Rattle.std.proofs.lemmas.List.{take-append-le}
-use Rattle.std.proofs.lemmas.List.Elements.{All-nil, All-cons, All-head, All-tail, Contains-append_cases, Contains-append_right}
+use Rattle.std.proofs.lemmas.List.Elements.{All-head, All-tail, All-drop, All-weaker, filter-append, filter_passes}
 use Rattle.leg_geom.specs.Plane.{Sides, IsRect}
 use Rattle.leg_geom.specs.Gap.{gap_between, x_gap, y_gap}
 use Rattle.leg_sweep.specs.declared.bounds.Bounds.{Bounds}
@@ -13,31 +14,24 @@ use Rattle.leg_sweep.specs.declared.bounds.Window.{Window}
 use Rattle.leg_sweep.specs.declared.node.Content.{Content}
 use Rattle.leg_sweep.specs.declared.node.Content.TheVariants.{Group, Rect}
 use Rattle.leg_sweep.specs.declared.node.Node.{Node}
+use Rattle.leg_sweep.specs.Counts.{near_along_both}
 use Rattle.leg_sweep.specs.Near.{IsNear, AreNear}
-use Rattle.leg_sweep.specs.NearNumbers.{meets, number_in, near_numbers}
-use Rattle.leg_sweep.specs.Steps.Bounds.{sides_of, window_around, IsWithin}
-use Rattle.leg_sweep.specs.Steps.Nodes.{members_of, numbers_of, IsForest, IsRightAt, IsRight, AreNodesFrom}
-use Rattle.leg_sweep.proofs.Lists.{Contains-nil, Contains-cons_cases}
+use Rattle.leg_sweep.specs.NearNumbers.{is_near, number_in, numbers_of, near_numbers}
+use Rattle.leg_sweep.specs.Steps.Bounds.{step_of, bounds_around, meet, IsWithin, IsWindow}
+use Rattle.leg_sweep.specs.Steps.Nodes.{members_of, IsForest, IsRightAt, IsRight, IsSearch, AreNodesFrom}
+use Rattle.leg_sweep.proofs.Lists.{Contains-filter}
 
--- what lies within sides that don't reach into a window doesn't either
-pub meets_within : (w : Window) (inner outer : Bounds) → IsWithin inner outer → meets w outer ≡ false → meets w inner ≡ false
-meets_within w inner outer within far =
+-- what lies within bounds that don't meet others doesn't meet them either
+meet_within : (w inner outer : Bounds) → IsWithin inner outer → meet w outer ≡ false → meet w inner ≡ false
+meet_within w inner outer within far =
     let left = within.left in
     let bottom = within.bottom in
     let right = within.right in
     let top = within.top in
     grind (arith, ints)
 
--- members of sides that don't reach into a window give nothing
-pub far_members : (w : Window) (outer : Bounds) (n : ℕ) (nodes : List Node) → All (λ node. IsWithin node.bounds outer) (take n nodes) → meets w outer ≡ false → near_numbers w nodes ≡ near_numbers w (drop n nodes)
-far_members w outer zero nodes within far = refl
-far_members w outer (suc n) [] within far = refl
-far_members w outer (suc n) (node ∷ nodes) within far =
-    let head = meets_within w node.bounds outer (All-head (λ (m : Node). IsWithin m.bounds outer) node (take n nodes) within) far in
-    rw head (far_members w outer n nodes (All-tail (λ (m : Node). IsWithin m.bounds outer) node (take n nodes) within) far)
-
 -- the nodes behind some keep their members
-pub forest_drop : (n : ℕ) (nodes : List Node) → IsForest nodes → IsForest (drop n nodes)
+forest_drop : (n : ℕ) (nodes : List Node) → IsForest nodes → IsForest (drop n nodes)
 forest_drop zero nodes forest = forest
 forest_drop (suc n) [] forest = forest
 forest_drop (suc n) (node ∷ nodes) forest = forest_drop n nodes forest.2
@@ -51,15 +45,21 @@ forest_append (node ∷ xs) ys first second =
     let same : take (members_of node.content) (xs ++ ys) ≡ take (members_of node.content) xs = take-append-le (members_of node.content) xs ys few in
     (omega (arith, few, count), rw same first.1, forest_append xs ys first.2 second)
 
--- along an axis a gap is at most the reach just where the one interval, with the reach on both sides, meets the other
+-- along an axis a gap is at most the reach only where the one interval, with the reach on both sides, meets the other
 gap_reaches : (a1 a2 b1 b2 : ℤ) (reach : ℕ) → a1 <ℤ a2 → b1 <ℤ b2 → gap_between a1 a2 b1 b2 ≤ reach → (b1 ≤ℤ (a2 +ℤ pos reach)) × ((a1 -ℤ pos reach) ≤ℤ b2)
 gap_reaches a1 a2 b1 b2 reach wide other near = (grind (arith, ints), grind (arith, ints))
 
-reach_gap : (a1 a2 b1 b2 : ℤ) (reach : ℕ) → a1 <ℤ a2 → b1 <ℤ b2 → b1 ≤ℤ (a2 +ℤ pos reach) → (a1 -ℤ pos reach) ≤ℤ b2 → gap_between a1 a2 b1 b2 ≤ reach
-reach_gap a1 a2 b1 b2 reach wide other left right = grind (arith, ints)
+-- of two coordinates the greater one does not lie in an earlier step
+step_rises : (a b : ℤ) → a ≤ℤ b → step_of a ≤ℤ step_of b
+step_rises (pos a) (pos b) below = omega (arith, ints)
+step_rises (pos a) (negsuc b) below = absurd (let e : ⊥ = omega (arith, ints) in e)
+step_rises (negsuc a) (pos b) below = omega (arith, ints)
+step_rises (negsuc a) (negsuc b) below = omega (arith, ints)
 
-le_true : (a b : ℤ) → a ≤ℤ b → int_le a b ≡ true
-le_true a b below = grind (arith, ints)
+steps_meet : (a b : ℤ) → a ≤ℤ b → int_le (step_of a) (step_of b) ≡ true
+steps_meet a b below = let rises = step_rises a b below in le_true (step_of a) (step_of b) rises where
+  le_true : (x y : ℤ) → x ≤ℤ y → int_le x y ≡ true
+  le_true x y rises = grind (arith, ints)
 
 -- a number with a rectangle is below the count
 pub number_below : (rects : List Sides) (rect : Sides) (number : ℕ) → slice_get rects number ≡ Some rect → number < length rects
@@ -68,70 +68,99 @@ number_below rects rect number there = elim (cases_lt number (length rects)) [
   | inr past ↦ let none = slice_get_past rects number past in cc
 ]
 
-module _ (rects : List Sides) (rect : Sides) (reach : ℕ) (proper : IsRect rect) where
-  abbrev window : Window
-  window = window_around rect reach
+-- the number of a node's rectangle is below the count
+content_below : (rects : List Sides) (bounds : Bounds) (content : Content) → IsRightAt rects bounds content → All (λ number. number < length rects) (number_in content)
+content_below rects bounds (Group members) right = λ k d within. absurd (omega arith)
+content_below rects bounds (Rect number) right = λ k d within. first k d (omega arith) where
+  first : (k d : ℕ) → k ≡ 0 → get_or (number ∷ []) k d < length rects
+  first k d is = rw is (number_below rects right.rect number right.there)
 
-  near_meets : (b : Bounds) → IsRect (sides_of b) → x_gap rect (sides_of b) ≤ reach → y_gap rect (sides_of b) ≤ reach → meets window b ≡ true
-  near_meets b is x y =
-      let along_x = gap_reaches rect.x1 rect.x2 b.x1 b.x2 reach proper.wide is.wide x in
-      let along_y = gap_reaches rect.y1 rect.y2 b.y1 b.y2 reach proper.high is.high y in
+module _ (rects : List Sides) (rect : Sides) (reach : ℕ) where
+  abbrev near : ℕ → Bool
+  near = is_near rects rect reach
+
+  -- the test is that of the definition
+  near_is : (number : ℕ) → near number ≡ true → IsNear rects rect reach number
+  near_is number test = by (slice_get rects number) refl where
+    by : (found : Option Sides) → slice_get rects number ≡ found → IsNear rects rect reach number
+    by None is = absurd (true≢false (sym test ∙ rw is refl))
+    by (Some other) is =
+        let passes : near_along_both reach rect other ≡ true = rw is at test in
+        let parts = and_parts (leb (x_gap rect other) reach) (leb (y_gap rect other) reach) passes in
+        record { other = other; there = is; x = leb-true (x_gap rect other) reach parts.0; y = leb-true (y_gap rect other) reach parts.1 }
+
+  is_near_passes : (number : ℕ) → IsNear rects rect reach number → near number ≡ true
+  is_near_passes number is = rw is.there (and_from _ _ (le-leb (x_gap rect is.other) reach is.x) (le-leb (y_gap rect is.other) reach is.y))
+
+  pub near_of_nodes : (nodes : List Node) → AreNodesFrom rects 0 nodes → AreNear rects rect reach (near_numbers rects rect reach nodes)
+  near_of_nodes nodes are = record {
+    each = All-weaker (λ number. near number ≡ true) (IsNear rects rect reach) near_is (filter near (numbers_of nodes)) (filter_passes near (numbers_of nodes));
+    all = λ number is. Contains-filter near number (numbers_of nodes) (is_near_passes number is) (are.all number (omega arith) (number_below rects is.other number is.there));
+  }
+
+module _ (rects : List Sides) (w : Window) (is : IsWindow w) where
+  abbrev in_window : ℕ → Bool
+  in_window = is_near rects w.rect w.reach
+
+  -- what is near has bounds that meet those of the window
+  near_meets : (other : Sides) → IsRect other → x_gap w.rect other ≤ w.reach → y_gap w.rect other ≤ w.reach → meet w.bounds (bounds_around other 0) ≡ true
+  near_meets other proper x y =
+      let along_x = gap_reaches w.rect.x1 w.rect.x2 other.x1 other.x2 w.reach is.proper.wide proper.wide x in
+      let along_y = gap_reaches w.rect.y1 w.rect.y2 other.y1 other.y2 w.reach is.proper.high proper.high y in
       rw (
-        le_true b.x1 (rect.x2 +ℤ pos reach) along_x.0,
-        le_true (rect.x1 -ℤ pos reach) b.x2 along_x.1,
-        le_true b.y1 (rect.y2 +ℤ pos reach) along_y.0,
-        le_true (rect.y1 -ℤ pos reach) b.y2 along_y.1,
+        is.bounds,
+        steps_meet (other.x1 -ℤ pos 0) (w.rect.x2 +ℤ pos w.reach) (omega (arith, ints, along_x.0)),
+        steps_meet (w.rect.x1 -ℤ pos w.reach) (other.x2 +ℤ pos 0) (omega (arith, ints, along_x.1)),
+        steps_meet (other.y1 -ℤ pos 0) (w.rect.y2 +ℤ pos w.reach) (omega (arith, ints, along_y.0)),
+        steps_meet (w.rect.y1 -ℤ pos w.reach) (other.y2 +ℤ pos 0) (omega (arith, ints, along_y.1)),
       ) refl
 
-  meets_near : (b : Bounds) (number : ℕ) → slice_get rects number ≡ Some (sides_of b) → IsRect (sides_of b) → meets window b ≡ true → IsNear rects rect reach number
-  meets_near b number there is near =
-      let right : b.x1 ≤ℤ (rect.x2 +ℤ pos reach) = grind (arith, ints) in
-      let left : (rect.x1 -ℤ pos reach) ≤ℤ b.x2 = grind (arith, ints) in
-      let top : b.y1 ≤ℤ (rect.y2 +ℤ pos reach) = grind (arith, ints) in
-      let bottom : (rect.y1 -ℤ pos reach) ≤ℤ b.y2 = grind (arith, ints) in
-      record {
-        other = sides_of b;
-        there = there;
-        x = reach_gap rect.x1 rect.x2 b.x1 b.x2 reach proper.wide is.wide right left;
-        y = reach_gap rect.y1 rect.y2 b.y1 b.y2 reach proper.high is.high top bottom;
-      }
+  -- so a node whose bounds don't meet those of the window gives nothing
+  far_here : (bounds : Bounds) (content : Content) → IsRightAt rects bounds content → meet w.bounds bounds ≡ false → filter in_window (number_in content) ≡ []
+  far_here bounds (Group members) right far = refl
+  far_here bounds (Rect number) right far = ap (λ b. cond b (number ∷ []) []) (false_from_ne_true (in_window number) not_near) where
+    not_near : in_window number ≡ true → ⊥
+    not_near test =
+        let passes = near_is rects w.rect w.reach number test in
+        let same : passes.other ≡ right.rect = cc (passes.there, right.there) in
+        let x : x_gap w.rect right.rect ≤ w.reach = rw (← same) passes.x in
+        let y : y_gap w.rect right.rect ≤ w.reach = rw (← same) passes.y in
+        true≢false (sym (near_meets right.rect right.proper x y) ∙ sym (ap (λ b. meet w.bounds b) right.are) ∙ far)
 
-  found_here : (bounds : Bounds) (m : Bool) (content : Content) (rest : List ℕ) → meets window bounds ≡ m → IsRightAt rects bounds content → All (IsNear rects rect reach) rest → All (IsNear rects rect reach) ((if m then number_in content else []) ++ rest)
-  found_here bounds false content rest is at each = each
-  found_here bounds true (Group members) rest is at each = each
-  found_here bounds true (Rect number) rest is at each =
-      All-cons (IsNear rects rect reach) number rest (meets_near bounds number at.0 at.1 is) each
+  far_node : (node : Node) (nodes : List Node) → IsRight rects node → meet w.bounds node.bounds ≡ false → near_numbers rects w.rect w.reach (node ∷ nodes) ≡ near_numbers rects w.rect w.reach nodes
+  far_node node nodes right far = rw (filter-append in_window (number_in node.content) (numbers_of nodes), far_here node.bounds node.content right far) refl
 
-  -- what is found is near
-  found_near : (nodes : List Node) → All (IsRight rects) nodes → All (IsNear rects rect reach) (near_numbers window nodes)
-  found_near [] right = All-nil (IsNear rects rect reach)
-  found_near (node ∷ nodes) right =
-      found_here node.bounds (meets window node.bounds) node.content (near_numbers window nodes) refl (All-head (IsRight rects) node nodes right)
-      (found_near nodes (All-tail (IsRight rects) node nodes right))
+  -- members of bounds that don't meet those of the window give nothing
+  far_members : (outer : Bounds) (n : ℕ) (nodes : List Node) → All (IsRight rects) nodes → All (λ node. IsWithin node.bounds outer) (take n nodes) → meet w.bounds outer ≡ false
+      → near_numbers rects w.rect w.reach nodes ≡ near_numbers rects w.rect w.reach (drop n nodes)
+  far_members outer zero nodes right within far = refl
+  far_members outer (suc n) [] right within far = refl
+  far_members outer (suc n) (node ∷ nodes) right within far =
+      let here = meet_within w.bounds node.bounds outer (All-head (λ (m : Node). IsWithin m.bounds outer) node (take n nodes) within) far in
+      far_node node nodes (All-head (IsRight rects) node nodes right) here
+      ∙ far_members outer n nodes (All-tail (IsRight rects) node nodes right) (All-tail (λ (m : Node). IsWithin m.bounds outer) node (take n nodes) within) far
 
-  module _ (number : ℕ) (near : IsNear rects rect reach number) where
-    near_here : (bounds : Bounds) (content : Content) (rest : List ℕ) → IsRightAt rects bounds content → Contains (number_in content) number → Contains ((if meets window bounds then number_in content else []) ++ rest) number
-    near_here bounds (Group members) rest at here = absurd (Contains-nil number here)
-    near_here bounds (Rect n) rest at here = elim (Contains-cons_cases n [] number here) [
-      | inl same ↦
-          let other : near.other ≡ sides_of bounds = cc (at.0, near.there) in
-          let near_it = near_meets bounds at.1 (subst (λ (s : Sides). x_gap rect s ≤ reach) other near.x) (subst (λ (s : Sides). y_gap rect s ≤ reach) other near.y) in
-          rw near_it (zero, omega arith, same)
-      | inr none ↦ absurd (Contains-nil number none)
-    ]
+-- what is left of a search behind its first node
+pub search_rest : (rects : List Sides) (w : Window) (node : Node) (nodes : List Node) → IsSearch rects w (node ∷ nodes) → IsSearch rects w nodes
+search_rest rects w node nodes search = record { forest = search.forest.2; right = All-tail (IsRight rects) node nodes search.right; window = search.window }
 
-    -- what is near is found
-    near_found : (nodes : List Node) → All (IsRight rects) nodes → Contains (numbers_of nodes) number → Contains (near_numbers window nodes) number
-    near_found [] right has = absurd (Contains-nil number has)
-    near_found (node ∷ nodes) right has =
-        elim (Contains-append_cases (number_in node.content) (numbers_of nodes) number has) [
-          | inl here ↦ near_here node.bounds node.content (near_numbers window nodes) (All-head (IsRight rects) node nodes right) here
-          | inr later ↦ Contains-append_right (if meets window node.bounds then number_in node.content else []) (near_numbers window nodes) number
-              (near_found nodes (All-tail (IsRight rects) node nodes right) later)
-        ]
+search_drop : (rects : List Sides) (w : Window) (n : ℕ) (nodes : List Node) → IsSearch rects w nodes → IsSearch rects w (drop n nodes)
+search_drop rects w n nodes search = record { forest = forest_drop n nodes search.forest; right = All-drop (IsRight rects) n nodes search.right; window = search.window }
 
-  pub near_of_nodes : (nodes : List Node) → AreNodesFrom rects 0 nodes → AreNear rects rect reach (near_numbers window nodes)
-  near_of_nodes nodes are = record {
-    each = found_near nodes are.right;
-    all = λ number near. near_found number near nodes are.right (are.all number (omega arith) (number_below rects near.other number near.there));
-  }
+-- A group that can't reach into the window is passed over with its members.
+pub passed_over : (rects : List Sides) (w : Window) (node : Node) (nodes : List Node) → IsSearch rects w (node ∷ nodes) → meet w.bounds node.bounds ≡ false
+    → (near_numbers rects w.rect w.reach (node ∷ nodes) ≡ near_numbers rects w.rect w.reach (drop (members_of node.content) nodes)) × IsSearch rects w (drop (members_of node.content) nodes)
+passed_over rects w node nodes search far =
+    let rest = search_rest rects w node nodes search in (
+      far_node rects w search.window node nodes (All-head (IsRight rects) node nodes search.right) far
+          ∙ far_members rects w search.window node.bounds (members_of node.content) nodes rest.right search.forest.1 far,
+      search_drop rects w (members_of node.content) nodes rest,
+    )
+
+-- the number of the first node's rectangle is below the count
+pub first_below : (rects : List Sides) (w : Window) (node : Node) (nodes : List Node) → IsSearch rects w (node ∷ nodes) → All (λ number. number < length rects) (number_in node.content)
+first_below rects w node nodes search = content_below rects node.bounds node.content (All-head (IsRight rects) node nodes search.right)
+
+-- a node that gives nothing
+pub gives_nothing : (rects : List Sides) (rect : Sides) (reach : ℕ) (node : Node) (nodes : List Node) → filter (is_near rects rect reach) (number_in node.content) ≡ [] → near_numbers rects rect reach (node ∷ nodes) ≡ near_numbers rects rect reach nodes
+gives_nothing rects rect reach node nodes none = rw (filter-append (is_near rects rect reach) (number_in node.content) (numbers_of nodes), none) refl

@@ -1,5 +1,5 @@
 -- How the nodes of an index are put together.
-use Rattle.std.proofs.Common.{◌≡◌, ℕ, ◌+◌, ◌-◌, ◌≤◌, ◌<◌, List, [], ◌∷◌, ◌++◌, length, drop, map, Some, slice_get, All, Contains, refl, sym, ap, ◌∙◌, arith, length-append, append_assoc}
+use Rattle.std.proofs.Common.{◌≡◌, ℕ, ◌+◌, ◌-◌, ◌≤◌, ◌<◌, List, [], ◌∷◌, ◌++◌, length, drop, map, All, Contains, refl, sym, ap, ◌∙◌, arith, length-append, append_assoc}
 use Rattle.std.specs.List.{range_with_len}
 use Rattle.std.specs.Prelude.{IsPermutation}
 use Rattle.std.proofs.lemmas.Int.{ints}
@@ -8,16 +8,16 @@ use Rattle.std.proofs.lemmas.List.Concat.{flat_map-append}
 use Rattle.std.proofs.lemmas.List.Elements.{All-nil, All-cons, All-append, All-take, All-weaker}
 use Rattle.std.proofs.lemmas.List.FromFn.{map-range_with_len_more, length-range_with_len, get_or-range_with_len}
 use Rattle.std.proofs.lemmas.List.Sorted.{IsPermutation-map, Contains-permutation}
-use Rattle.leg_geom.specs.Plane.{Sides, IsRect}
+use Rattle.leg_geom.specs.Plane.{Sides}
 use Rattle.leg_sweep.specs.declared.bounds.Bounds.{Bounds}
 use Rattle.leg_sweep.specs.declared.node.Content.TheVariants.{Rect}
 use Rattle.leg_sweep.specs.declared.node.Node.{Node}
-use Rattle.leg_sweep.specs.Steps.Bounds.{sides_of, IsWithin}
+use Rattle.leg_sweep.specs.Steps.Bounds.{IsWithin}
 use Rattle.leg_sweep.specs.NearNumbers.{number_in}
-use Rattle.leg_sweep.specs.Steps.Nodes.{members_of, IsRight, AreNodesFrom, IsGrouped, AreGrouped}
+use Rattle.leg_sweep.specs.Steps.Nodes.{members_of, HasBoundsOf, IsRight, AreNodesFrom, IsGrouped, AreGrouped}
 use Rattle.leg_sweep.proofs.NearNodes.{forest_append}
 
--- sides lie within themselves
+-- bounds lie within themselves
 within_itself : (b : Bounds) → IsWithin b b
 within_itself b = record { left = omega (arith, ints); bottom = omega (arith, ints); right = omega (arith, ints); top = omega (arith, ints) }
 
@@ -42,15 +42,15 @@ module _ (rects : List Sides) where
   }
 
   -- one rectangle
-  pub grouped_one : (bounds : Bounds) (number : ℕ) (before : List Node) → slice_get rects number ≡ Some (sides_of bounds) → IsRect (sides_of bounds)
+  pub grouped_one : (bounds : Bounds) (number : ℕ) (before : List Node) → HasBoundsOf rects number bounds
       → AreGrouped rects (number ∷ []) bounds before (before ++ (record { bounds = bounds; content = Rect number }) ∷ [])
-  grouped_one bounds number before there proper =
+  grouped_one bounds number before has =
       let node : Node = record { bounds = bounds; content = Rect number } in
       record {
         nodes = node ∷ [];
         are = refl;
         forest = (omega arith, All-nil (λ (member : Node). IsWithin member.bounds bounds), tt);
-        right = All-cons (IsRight rects) node [] (there, proper) (All-nil (IsRight rects));
+        right = All-cons (IsRight rects) node [] has (All-nil (IsRight rects));
         within = All-cons (λ (n : Node). IsWithin n.bounds bounds) node [] (within_itself bounds) (All-nil (λ (n : Node). IsWithin n.bounds bounds));
         named = refl;
       }

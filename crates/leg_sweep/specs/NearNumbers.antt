@@ -1,21 +1,28 @@
 -- The numbers that a search in an index has yet to give: what is seen of `Near`.
-use Rattle.std.specs.Prelude.{ℕ, Bool, ◌&&◌, int_le, List, [], ◌∷◌, if◌then◌else◌}
-use Rattle.std.specs.List.{flat_map}
-use Rattle.leg_sweep.specs.declared.bounds.Bounds.{Bounds}
-use Rattle.leg_sweep.specs.declared.bounds.Window.{Window}
+use Rattle.std.specs.Prelude.{ℕ, Bool, false, List, [], ◌∷◌, Option, None, Some, slice_get}
+use Rattle.std.specs.List.{filter, flat_map}
+use Rattle.leg_geom.specs.Plane.{Sides}
 use Rattle.leg_sweep.specs.declared.node.Content.{Content}
 use Rattle.leg_sweep.specs.declared.node.Content.TheVariants.{Group, Rect}
 use Rattle.leg_sweep.specs.declared.node.Node.{Node}
+use Rattle.leg_sweep.specs.Counts.{near_along_both}
 
--- the sides reach into the window
-abbrev pub meets : Window → Bounds → Bool
-meets w b = int_le b.x1 w.x2 && int_le w.x1 b.x2 && int_le b.y1 w.y2 && int_le w.y1 b.y2
+-- the rectangle with the number is there, and both of its gaps from this one are at most the reach
+abbrev pub is_near : List Sides → Sides → ℕ → ℕ → Bool
+is_near rects rect reach number = test (slice_get rects number) where
+  test : Option Sides → Bool
+  test None = false
+  test (Some other) = near_along_both reach rect other
 
 -- the number of a node's rectangle, if it has one
 abbrev pub number_in : Content → List ℕ
 number_in (Group members) = []
 number_in (Rect number) = number ∷ []
 
--- the numbers of those that reach into the window
-abbrev pub near_numbers : Window → List Node → List ℕ
-near_numbers w nodes = flat_map (λ node. if meets w node.bounds then number_in node.content else []) nodes
+-- the numbers of the nodes' rectangles
+abbrev pub numbers_of : List Node → List ℕ
+numbers_of nodes = flat_map (λ node. number_in node.content) nodes
+
+-- the numbers of those that are near
+abbrev pub near_numbers : List Sides → Sides → ℕ → List Node → List ℕ
+near_numbers rects rect reach nodes = filter (is_near rects rect reach) (numbers_of nodes)

@@ -76,7 +76,7 @@ impl<A: Allocator + Copy> BinIndex<A> {
     pub fn near(&self, rect: &Rect, reach: u32) -> Near<'_>
         ensures { AreNear self.now rect.now reach result }
     {
-        Near::new(&self.nodes, Window::around(rect, reach))
+        Near::new(&self.rects, &self.nodes, Window::around(rect, reach))
     }
 
     /// Adds a rectangle, and answers its number. If an allocation fails the index is as it was.
@@ -90,7 +90,7 @@ impl<A: Allocator + Copy> BinIndex<A> {
         self.rects.reserve(1)?;
         self.nodes.reserve(1)?;
         let number = self.rects.len() as u32;
-        let bounds = Bounds::of(&rect);
+        let bounds = Bounds::around(&rect, 0);
         self.rects.push_reserved(rect);
         self.nodes.push_reserved(Node {
             bounds,

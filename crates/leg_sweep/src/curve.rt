@@ -8,7 +8,7 @@ use leg_geom::{COORDINATE_LIMIT, Rect};
 use std::mem::swap;
 
 /// How many bits identify a column or a row of tiles. A tile has sides of 512 units.
-const TILE_BITS: u32 = 22;
+const TILE_BITS: u32 = 26;
 
 /// How many bits the sum of two coordinates has below those.
 const BITS_IN_A_TILE: u32 = 10;

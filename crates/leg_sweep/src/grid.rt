@@ -17,7 +17,7 @@ struct LayerSpan {
     /// How many items there are.
     count: u32,
     /// The heights of the items, added up.
-    total: u64,
+    total: u128,
     /// The height of the lowest bottom edge.
     lowest: u64,
     /// The height of the highest bottom edge.
@@ -94,7 +94,7 @@ fn with_item<R: LayeredRule>(rule: &R, item: &R::Item, span: LayerSpan) -> Layer
     let top = above_lowest(rule.top(item));
     LayerSpan {
         count: span.count + 1,
-        total: span.total + (top - bottom),
+        total: span.total + u128::from(top - bottom),
         lowest: span.lowest.min(bottom),
         highest: span.highest.max(bottom),
     }
@@ -162,7 +162,7 @@ fn band_height(span: LayerSpan, spread: u64, reach: u64) -> u64
     ensures few { spread / result < span.count / 8 + 1 }
 {
     let count = span.count as u64;
-    let average = span.total / count.max(1);
+    let average = (span.total / u128::from(count.max(1))) as u64;
     let roomy = 2 * (average + 1 + reach);
     let enough = spread / (count / 8 + 1) + 1;
     roomy.max(enough)

@@ -107,7 +107,7 @@ fn push_rects<A: Allocator>(
     let mut bounds = Bounds::of_nothing();
     for key in keys {
         let node = Node {
-            bounds: Bounds::of(&rects[key.1 as usize]),
+            bounds: Bounds::around(&rects[key.1 as usize], 0),
             content: Content::Rect(key.1),
         };
         bounds = bounds.joined(&node.bounds);

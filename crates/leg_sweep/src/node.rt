@@ -1,4 +1,4 @@
-//! Nodes of an index: rectangles, and groups of them with a rectangle around each.
+//! Nodes of an index: rectangles, and groups of them with bounds around each.
 
 ghost use Rattle.std.specs.Prelude.{◌≡◌};
 ghost use Rattle.leg_sweep.specs.Steps.Nodes.{members_of};

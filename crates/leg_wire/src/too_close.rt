@@ -85,7 +85,7 @@ fn are_nearer(distance: u64, a: &Rect, b: &Rect) -> bool
     requires { distance < 2 ^ 32 }
     ensures { IsTrue result ↔ AreNearer distance a.now b.now }
 {
-    a.gap2(b).unsigned_abs() < distance * distance
+    a.gap2(b) < i128::from(distance * distance)
 }
 
 impl<'l, 'a> PairRule for TooClose<'l, 'a> {

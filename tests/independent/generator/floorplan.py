@@ -2,7 +2,7 @@
 from answer.model import Row, Tracks
 
 # Nearly as far from the origin as numbers may be.
-FAR = 190000000
+FAR = 1990000000
 
 class Floorplan:
     """The lower left corner of the rows, the rows, the die around them, and the tracks."""

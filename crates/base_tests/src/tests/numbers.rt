@@ -30,7 +30,7 @@ fn check_numbers(rt: &impl Abort, read_as: Number, answers: &[(&str, Result<i64,
 
 #[test]
 fn lengths_at_a_thousand_units(rt: HostRuntime) {
-    static ANSWERS: [(&str, Result<i64, NumFault>); 18] = [
+    static ANSWERS: [(&str, Result<i64, NumFault>); 20] = [
         ("0.005", Ok(5)),
         (".5", Ok(500)),
         ("0.5000000", Ok(500)),
@@ -46,21 +46,44 @@ fn lengths_at_a_thousand_units(rt: HostRuntime) {
         ("1.2.3", Err(NumFault::BadNumber)),
         ("0.0000001", Err(NumFault::BadNumber)),
         ("", Err(NumFault::BadNumber)),
-        ("200000", Ok(200_000_000)),
-        ("200000.001", Err(NumFault::TooLarge)),
-        ("-200000.001", Err(NumFault::TooLarge)),
+        ("200000.001", Ok(200_000_001)),
+        ("2000000", Ok(2_000_000_000)),
+        ("-2000000", Ok(-2_000_000_000)),
+        ("2000000.001", Err(NumFault::TooLarge)),
+        ("-2000000.001", Err(NumFault::TooLarge)),
     ];
     check_numbers(&rt, Number::Thousandths, &ANSWERS);
 }
 
+/// What the word denotes at 20,000 units a micron.
+fn at_most_units(word: &str) -> Result<i64, NumFault> {
+    micron(word.as_bytes())?.to_units(20_000)
+}
+
+#[test]
+fn lengths_at_the_most_units(rt: HostRuntime) {
+    for (word, answer) in [
+        ("100000", Ok(2_000_000_000)),
+        ("-100000", Ok(-2_000_000_000)),
+        ("100000.00005", Err(NumFault::TooLarge)),
+        ("100000.00001", Err(NumFault::NotOnUnit)),
+        ("2000000000", Err(NumFault::TooLarge)),
+        ("-2000000000", Err(NumFault::TooLarge)),
+        ("1999999999.999999", Err(NumFault::NotOnUnit)),
+    ] {
+        assert_eq!(rt; at_most_units(word), answer, "of {word}");
+    }
+}
+
 #[test]
 fn millionths(rt: HostRuntime) {
-    static ANSWERS: [(&str, Result<i64, NumFault>); 7] = [
+    static ANSWERS: [(&str, Result<i64, NumFault>); 8] = [
         (".5", Ok(500_000)),
         ("-0.000001", Ok(-1)),
-        ("200000000", Ok(200_000_000_000_000)),
-        ("200000000.000001", Err(NumFault::TooLarge)),
-        ("-200000000.000001", Err(NumFault::TooLarge)),
+        ("2000000000", Ok(2_000_000_000_000_000)),
+        ("-2000000000", Ok(-2_000_000_000_000_000)),
+        ("2000000000.000001", Err(NumFault::TooLarge)),
+        ("-2000000000.000001", Err(NumFault::TooLarge)),
         ("99999999999999999999", Err(NumFault::TooLarge)),
         ("00000000000000000000000001.0000000", Ok(1_000_000)),
     ];
@@ -73,10 +96,10 @@ fn whole_numbers(rt: HostRuntime) {
         ("-12", Ok(-12)),
         ("+7", Ok(7)),
         ("007", Ok(7)),
-        ("200000000", Ok(200_000_000)),
-        ("-200000000", Ok(-200_000_000)),
-        ("200000001", Err(NumFault::TooLarge)),
-        ("-200000001", Err(NumFault::TooLarge)),
+        ("2000000000", Ok(2_000_000_000)),
+        ("-2000000000", Ok(-2_000_000_000)),
+        ("2000000001", Err(NumFault::TooLarge)),
+        ("-2000000001", Err(NumFault::TooLarge)),
         (
             "1234567890123456789012345678901234567890",
             Err(NumFault::TooLarge),

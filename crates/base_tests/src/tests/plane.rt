@@ -22,10 +22,10 @@ fn is_at(point: &Point, x: i64, y: i64) -> bool {
 
 #[test]
 fn a_point_is_within_the_limit(rt: HostRuntime) {
-    let corner = Point::new(1_000_000_000, -1_000_000_000);
-    assert!(rt; corner.is_some_and(|corner| is_at(&corner, 1_000_000_000, -1_000_000_000)));
-    assert!(rt; Point::new(1_000_000_001, 0).is_none());
-    assert!(rt; Point::new(0, -1_000_000_001).is_none());
+    let corner = Point::new(10_000_000_000, -10_000_000_000);
+    assert!(rt; corner.is_some_and(|corner| is_at(&corner, 10_000_000_000, -10_000_000_000)));
+    assert!(rt; Point::new(10_000_000_001, 0).is_none());
+    assert!(rt; Point::new(0, -10_000_000_001).is_none());
 }
 
 #[test]
@@ -35,15 +35,20 @@ fn a_rectangle_has_area_within_the_limit(rt: HostRuntime) {
         [0, 9, 9, 9],
         [9, 0, 5, 9],
         [0, 9, 9, 0],
-        [0, 0, 1_000_000_001, 9],
-        [-1_000_000_001, 0, 9, 9],
-        [0, 0, 9, 1_000_000_001],
-        [0, -1_000_000_001, 9, 9],
+        [0, 0, 10_000_000_001, 9],
+        [-10_000_000_001, 0, 9, 9],
+        [0, 0, 9, 10_000_000_001],
+        [0, -10_000_000_001, 9, 9],
         [i64::MIN, i64::MIN, i64::MAX, i64::MAX],
     ] {
         assert!(rt; rect(&sides).is_none());
     }
-    let whole = [-1_000_000_000, -999_999_999, 999_999_998, 1_000_000_000];
+    let whole = [
+        -10_000_000_000,
+        -9_999_999_999,
+        9_999_999_998,
+        10_000_000_000,
+    ];
     assert!(rt; rect(&whole).is_some_and(|rect| has_sides(&rect, &whole)));
 }
 
@@ -127,13 +132,13 @@ fn gaps_lie_between_the_nearest_edges(rt: HostRuntime) {
     ] {
         assert!(rt; gaps(&CELL, &other) == Some((x_gap, y_gap)));
     }
-    let left = [-1_000_000_000, 0, -999_999_999, 1];
-    let right = [999_999_999, 0, 1_000_000_000, 1];
-    assert!(rt; gaps(&left, &right) == Some((1_999_999_998, 0)));
+    let left = [-10_000_000_000, 0, -9_999_999_999, 1];
+    let right = [9_999_999_999, 0, 10_000_000_000, 1];
+    assert!(rt; gaps(&left, &right) == Some((19_999_999_998, 0)));
 }
 
 /// The squared gap of two rectangles, if it is the same in either order.
-fn gap2(one: &Sides, other: &Sides) -> Option<i64> {
+fn gap2(one: &Sides, other: &Sides) -> Option<i128> {
     let (one, other) = (rect(one)?, rect(other)?);
     let found = one.gap2(&other);
     (other.gap2(&one) == found).then_some(found)
@@ -151,9 +156,14 @@ fn the_squared_gap_is_that_of_the_nearest_points(rt: HostRuntime) {
     ] {
         assert!(rt; gap2(&CELL, &other) == Some(found));
     }
-    let low = [-1_000_000_000, -1_000_000_000, -999_999_999, -999_999_999];
-    let high = [999_999_999, 999_999_999, 1_000_000_000, 1_000_000_000];
-    assert!(rt; gap2(&low, &high) == Some(7_999_999_984_000_000_008));
+    let low = [
+        -10_000_000_000,
+        -10_000_000_000,
+        -9_999_999_999,
+        -9_999_999_999,
+    ];
+    let high = [9_999_999_999, 9_999_999_999, 10_000_000_000, 10_000_000_000];
+    assert!(rt; gap2(&low, &high) == Some(799_999_999_840_000_000_008));
 }
 
 fn has_its_centre_at(sides: &Sides, x: i64, y: i64) -> bool {
@@ -172,9 +182,14 @@ fn a_centre_is_rounded_down(rt: HostRuntime) {
         ([-1, -4, 0, 1], -1, -2),
         ([-2, -1, 1, 2], -1, 0),
         (
-            [999_999_997, -1_000_000_000, 1_000_000_000, -999_999_999],
-            999_999_998,
-            -1_000_000_000,
+            [
+                9_999_999_997,
+                -10_000_000_000,
+                10_000_000_000,
+                -9_999_999_999,
+            ],
+            9_999_999_998,
+            -10_000_000_000,
         ),
     ] {
         assert!(rt; has_its_centre_at(&sides, x, y));

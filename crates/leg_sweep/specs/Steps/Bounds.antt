@@ -1,20 +1,35 @@
--- Sides that enclose rectangles, and windows that they reach into.
-use Rattle.std.specs.Prelude.{ℕ, pos, ◌+ℤ◌, ◌-ℤ◌, ◌≤ℤ◌}
-use Rattle.leg_geom.specs.Plane.{Sides}
+-- Bounds that enclose rectangles, in steps of 8 database units, and windows that they reach into.
+use Rattle.std.specs.Prelude.{◌≡◌, ℕ, Bool, ◌&&◌, ℤ, pos, ◌+ℤ◌, ◌-ℤ◌, ◌≤ℤ◌, int_le}
+use Rattle.std.specs.Int.{int_div_euclid}
+use Rattle.leg_geom.specs.Plane.{Sides, IsRect}
 use Rattle.leg_sweep.specs.declared.bounds.Bounds.{Bounds}
 use Rattle.leg_sweep.specs.declared.bounds.Window.{Window}
 
--- the rectangle with these sides
-abbrev pub sides_of : Bounds → Sides
-sides_of b = record { x1 = b.x1; y1 = b.y1; x2 = b.x2; y2 = b.y2 }
+-- the number of the step that a coordinate lies in
+abbrev pub step_of : ℤ → ℤ
+step_of z = int_div_euclid z (pos 8)
 
--- what lies between the first sides lies between the second
+-- the bounds of a rectangle with what lies around it
+abbrev pub bounds_around : Sides → ℕ → Bounds
+bounds_around r reach = record {
+  x1 = step_of (r.x1 -ℤ pos reach);
+  y1 = step_of (r.y1 -ℤ pos reach);
+  x2 = step_of (r.x2 +ℤ pos reach);
+  y2 = step_of (r.y2 +ℤ pos reach);
+}
+
+-- what lies between the first bounds lies between the second
 pub record IsWithin (inner outer : Bounds) : Type 0 where
   pub left : outer.x1 ≤ℤ inner.x1
   pub bottom : outer.y1 ≤ℤ inner.y1
   pub right : inner.x2 ≤ℤ outer.x2
   pub top : inner.y2 ≤ℤ outer.y2
 
--- the rectangle with what lies around it
-abbrev pub window_around : Sides → ℕ → Window
-window_around r reach = record { x1 = r.x1 -ℤ pos reach; y1 = r.y1 -ℤ pos reach; x2 = r.x2 +ℤ pos reach; y2 = r.y2 +ℤ pos reach }
+-- some step along x, and some along y, lies in both
+abbrev pub meet : Bounds → Bounds → Bool
+meet a b = int_le b.x1 a.x2 && int_le a.x1 b.x2 && int_le b.y1 a.y2 && int_le a.y1 b.y2
+
+-- the bounds of a window are those of its rectangle with what lies around it
+pub record IsWindow (w : Window) : Type 0 where
+  pub proper : IsRect w.rect
+  pub bounds : w.bounds ≡ bounds_around w.rect w.reach

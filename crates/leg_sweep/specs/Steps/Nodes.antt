@@ -1,35 +1,44 @@
 -- Nodes of an index in a list: a group comes before its members.
 use Rattle.std.specs.Prelude.{◌≡◌, ℕ, ◌+◌, ◌-◌, ◌≤◌, ◌<◌, List, [], ◌∷◌, ◌++◌, length, take, slice_set, slice_get, Some, All, Contains}
-use Rattle.std.specs.List.{flat_map}
 use Rattle.leg_geom.specs.Plane.{Sides, IsRect}
 use Rattle.leg_sweep.specs.declared.bounds.Bounds.{Bounds}
 use Rattle.leg_sweep.specs.declared.node.Content.{Content}
 use Rattle.leg_sweep.specs.declared.node.Content.TheVariants.{Group, Rect}
 use Rattle.leg_sweep.specs.declared.node.Node.{Node}
-use Rattle.leg_sweep.specs.NearNumbers.{number_in}
-use Rattle.leg_sweep.specs.Steps.Bounds.{sides_of, IsWithin}
+use Rattle.leg_sweep.specs.declared.bounds.Window.{Window}
+use Rattle.leg_sweep.specs.NearNumbers.{number_in, numbers_of}
+use Rattle.leg_sweep.specs.Steps.Bounds.{bounds_around, IsWithin, IsWindow}
 
 -- how many of the nodes after it are a node's members
 abbrev pub members_of : Content → ℕ
 members_of (Group members) = members
 members_of (Rect number) = 0
 
--- the numbers of the nodes' rectangles
-abbrev pub numbers_of : List Node → List ℕ
-numbers_of nodes = flat_map (λ node. number_in node.content) nodes
-
 -- Each node's members are among the nodes after it, and lie within its bounds.
 abbrev pub IsForest : List Node → Type 0
 IsForest [] = Unit {0}
 IsForest (node ∷ rest) = (members_of node.content ≤ length rest) × All (λ member. IsWithin member.bounds node.bounds) (take (members_of node.content) rest) × IsForest rest
 
--- a node of a rectangle has its sides
+-- the bounds are those of the rectangle with the number
+pub record HasBoundsOf (rects : List Sides) (number : ℕ) (bounds : Bounds) : Type 0 where
+  pub rect : Sides
+  pub there : slice_get rects number ≡ Some rect
+  pub proper : IsRect rect
+  pub are : bounds ≡ bounds_around rect 0
+
+-- a node of a rectangle has its bounds
 abbrev pub IsRightAt : List Sides → Bounds → Content → Type 0
 IsRightAt rects bounds (Group members) = Unit {0}
-IsRightAt rects bounds (Rect number) = (slice_get rects number ≡ Some (sides_of bounds)) × IsRect (sides_of bounds)
+IsRightAt rects bounds (Rect number) = HasBoundsOf rects number bounds
 
 abbrev pub IsRight : List Sides → Node → Type 0
 IsRight rects node = IsRightAt rects node.bounds node.content
+
+-- what a search has yet to look at
+pub record IsSearch (rects : List Sides) (w : Window) (nodes : List Node) : Type 0 where
+  pub forest : IsForest nodes
+  pub right : All (IsRight rects) nodes
+  pub window : IsWindow w
 
 -- nodes of the rectangles from this number on
 pub record AreNodesFrom (rects : List Sides) (first : ℕ) (nodes : List Node) : Type 0 where

@@ -85,16 +85,16 @@ static SCALINGS: [Scaling; 8] = [
         units: 1000,
         fault: Some((b"INV", ScaleKind::NotOnUnit)),
     },
-    // 200,000,000 units are the limit.
+    // 2,000,000,000 units are the limit.
     Scaling {
         from: "SIZE 0.2 BY 2.0",
-        to: "SIZE 0.2 BY 200000",
+        to: "SIZE 0.2 BY 2000000",
         units: 1000,
         fault: None,
     },
     Scaling {
         from: "SIZE 0.2 BY 2.0",
-        to: "SIZE 0.2 BY 200000",
+        to: "SIZE 0.2 BY 2000000",
         units: 2000,
         fault: Some((b"core", ScaleKind::TooLarge)),
     },

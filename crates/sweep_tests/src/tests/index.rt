@@ -66,6 +66,34 @@ fn finds_what_was_added(rt: HostRuntime) {
     check_near(&rt, rt.alloc(), &index, &first, 99, &FIRST);
 }
 
+#[test]
+fn at_the_ends_of_the_plane(rt: HostRuntime) {
+    static LOW: [u32; 1] = [0];
+    static BOTH: [u32; 2] = [0, 1];
+    static HIGH: [u32; 1] = [2];
+    const END: i64 = 10_000_000_000;
+    const REACH: u32 = 2_000_000_000;
+    let low = rect(&rt, (-END, -END, 1 - END, 1 - END));
+    let left = 1 - END + i64::from(REACH);
+    let other = rect(&rt, (left, left, left + 1, left + 1));
+    let high = rect(&rt, (END - 1, END - 1, END, END));
+    let index = BinIndex::build(rt.alloc(), &[low, other, high]).expect(&rt, "memory");
+    check_near(&rt, rt.alloc(), &index, &low, REACH, &BOTH);
+    check_near(&rt, rt.alloc(), &index, &low, REACH - 1, &LOW);
+    check_near(&rt, rt.alloc(), &index, &high, u32::MAX, &HIGH);
+}
+
+#[test]
+fn a_few_units_apart(rt: HostRuntime) {
+    static FIRST: [u32; 1] = [0];
+    static BOTH: [u32; 2] = [0, 1];
+    let first = rect(&rt, (0, 0, 1, 1));
+    let second = rect(&rt, (3, 4, 4, 5));
+    let index = BinIndex::build(rt.alloc(), &[first, second]).expect(&rt, "memory");
+    check_near(&rt, rt.alloc(), &index, &first, 3, &BOTH);
+    check_near(&rt, rt.alloc(), &index, &first, 2, &FIRST);
+}
+
 /// That a search finds this number alone, and looks at it fewer than a hundred times.
 fn check_alone(rt: &impl Abort, index: &BinIndex<Global>, rect: &Rect, place: usize) {
     let mut times = 0u32;

@@ -1,4 +1,4 @@
-use Rattle.std.proofs.Common.{◌≡◌, ◌+◌, ◌*◌, ◌/◌, ◌≤◌, max, arith}
+use Rattle.std.proofs.Common.{◌≡◌, ◌+◌, ◌*◌, ◌/◌, ◌≤◌, ◌∙◌, max, arith}
 use Rattle.leg_geom.specs.declared.limits.TheConstants.{COORDINATE_LIMIT}
 use Rattle.leg_sweep.proofs.GridHeights.{room_for_all, parts_few}
 use Rattle.leg_sweep.proofs.grid.band_height.Goals as goal
@@ -7,7 +7,8 @@ pub returns-clause-even : goal.returns-clause-even
 returns-clause-even c =
     let span = c.args.span in
     let count : c.max.result ≡ max span.count 1 = c.max.ensures in
-    let tall : span.total / max span.count 1 + 1 + c.args.reach ≤ c.max-2.result = rw (← count) (omega (arith, c.max-2.ensures)) in
+    let divisor : c.from.result ≡ max span.count 1 = c.from.ensures ∙ count in
+    let tall : span.total / max span.count 1 + 1 + c.args.reach ≤ c.max-2.result = rw (← divisor) (omega (arith, c.max-2.ensures)) in
     room_for_all span.total span.count (2 * COORDINATE_LIMIT) c.args.reach c.max-2.result c.requires.small.total tall
 
 pub returns-clause-few : goal.returns-clause-few

@@ -6,28 +6,6 @@ use Rattle.leg_geom.proofs.rect.Rect.gap2.Goals as goal
 
 pub returns : goal.returns
 returns c =
-    let x = mul-le _ _ _ _ c.x_gap-x.ensures.small c.x_gap-x.ensures.small in
-    let y = mul-le _ _ _ _ c.y_gap-y.ensures.small c.y_gap-y.ensures.small in
-    (_, omega (arith, ints), IsSquareGap-gaps _ _ _ _ c.x_gap-x.ensures.least c.y_gap-y.ensures.least)
-
-pub overflow_mul-result : goal.overflow_mul-result
-overflow_mul-result c =
-    let x = mul-le _ _ _ _ c.x_gap-x.ensures.small c.x_gap-x.ensures.small in
-    omega arith
-
-pub overflow_mul-result-2 : goal.overflow_mul-result-2
-overflow_mul-result-2 c =
-    let y = mul-le _ _ _ _ c.y_gap-y.ensures.small c.y_gap-y.ensures.small in
-    omega arith
-
-pub overflow_add-result : goal.overflow_add-result
-overflow_add-result c =
-    let x = mul-le _ _ _ _ c.x_gap-x.ensures.small c.x_gap-x.ensures.small in
-    let y = mul-le _ _ _ _ c.y_gap-y.ensures.small c.y_gap-y.ensures.small in
-    omega arith
-
-pub overflow_cast-result : goal.overflow_cast-result
-overflow_cast-result c =
-    let x = mul-le _ _ _ _ c.x_gap-x.ensures.small c.x_gap-x.ensures.small in
-    let y = mul-le _ _ _ _ c.y_gap-y.ensures.small c.y_gap-y.ensures.small in
-    omega (arith, ints)
+    let x = mul-le _ _ _ _ c.x_gap.ensures.small c.x_gap.ensures.small in
+    let y = mul-le _ _ _ _ c.y_gap.ensures.small c.y_gap.ensures.small in
+    (_, omega (arith, ints), IsSquareGap-gaps _ _ _ _ c.x_gap.ensures.least c.y_gap.ensures.least)
