@@ -69,8 +69,8 @@ class GateTests(Room):
     def started(self, name='test', *words):
         path = os.pathsep.join([self.commands, '/usr/bin', '/bin'])
         return subprocess.Popen(
-            [os.path.join(self.room, name), *words], cwd='/', env={'PATH': path, 'ROOM': self.room}, text=True, stdout=subprocess.PIPE,
-            stderr=subprocess.STDOUT)
+            [os.path.join(self.room, name), *words], cwd='/', env={'PATH': path, 'ROOM': self.room, 'TMPDIR': self.room}, text=True,
+            stdout=subprocess.PIPE, stderr=subprocess.STDOUT)
 
     def run_gate(self):
         """Returns the status and the lines of the gate."""

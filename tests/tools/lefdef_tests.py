@@ -1,6 +1,10 @@
-"""Tests of the script `lefdef`: when it builds the program, and what it says of that; and of tools/sources-sum, by which it knows. A small
-script stands in for the kit's `rt`."""
+"""Tests of the script `lefdef`: when it builds the program, when it runs that of dist/, and what it says of both; and of tools/sources-sum,
+by which it knows. A small script stands in for the kit's `rt`."""
+import glob
+import gzip
+import hashlib
 import os
+import re
 import shutil
 import signal
 import subprocess
@@ -14,6 +18,7 @@ TOP = os.path.normpath(os.path.join(os.path.dirname(os.path.abspath(__file__)), 
 RT = '''#!/bin/sh
 [ "$1" != version ] || exec cat "$KIT"
 echo "$1" >>"$CALLS"
+[ "$1" != all ] || eval "$PROVING"
 [ "$1" = run ] || exit 0
 eval "$DURING"
 mkdir -p out
@@ -51,7 +56,9 @@ class Room(unittest.TestCase):
         os.utime(path, (1_000_000_000, 1_000_000_000))
 
 
-class LefdefTests(Room):
+class CallTests(Room):
+    """A test that calls the script."""
+
     def setUp(self):
         super().setUp()
         self.kit = self.file('kit', 'kit 1\n')
@@ -60,13 +67,25 @@ class LefdefTests(Room):
         self.commands = os.path.join(self.room, 'commands')
         self.program = os.path.join(self.top, 'crates', 'lefdef', 'out', 'lefdef')
 
-    def started(self, program=None, during='', commands=None, scratch=None):
-        """Starts the script, in a session of its own; `during` are commands of the build."""
-        return subprocess.Popen(
-            [program or os.path.join(self.top, 'lefdef'), 'check'], cwd=self.room, text=True, stdout=subprocess.PIPE, stderr=subprocess.PIPE,
-            start_new_session=True, env={
-                'PATH': os.pathsep.join([self.commands if commands is None else commands, '/usr/bin', '/bin']), 'CALLS': self.calls,
-                'KIT': self.kit, 'DURING': during, 'SOURCE': self.source, 'TMPDIR': scratch or self.room})
+    def started(self, program=None, during='', commands=None, scratch=None, words=('check',), proving='', **variables):
+        """Starts the script, in a session of its own; `during` are commands of the build, and `proving` of its proofs. A variable may be None,
+        and is not set then."""
+        path = os.pathsep.join([self.commands if commands is None else commands, '/usr/bin', '/bin'])
+        env = {
+            'PATH': path, 'CALLS': self.calls, 'KIT': self.kit, 'DURING': during, 'PROVING': proving, 'SOURCE': self.source,
+            'TMPDIR': scratch or self.room, **variables}
+        started = subprocess.Popen(
+            [program or os.path.join(self.top, 'lefdef'), *words], cwd=self.room, text=True, stdout=subprocess.PIPE, stderr=subprocess.PIPE,
+            start_new_session=True, env={name: value for name, value in env.items() if value is not None})
+        self.addCleanup(self.end, started)
+        return started
+
+    @staticmethod
+    def end(started):
+        """Ends a call that a test has left running, with all that it started."""
+        if started.poll() is None:
+            os.killpg(started.pid, signal.SIGKILL)
+        started.communicate()
 
     def run_script(self, **given):
         """Returns the status, the output and the messages of a call."""
@@ -84,6 +103,11 @@ class LefdefTests(Room):
                 return
             time.sleep(0.05)
         self.fail('no build began')
+
+
+
+class BuildTests(CallTests):
+    """When the program is built."""
 
     def check_builds(self, count):
         """Checks that the next call runs the program, and that there were so many builds by then; and that another one builds nothing."""
@@ -224,6 +248,207 @@ class LefdefTests(Room):
         status, out, _ = self.run_script()
         self.assertEqual((status, out, self.builds()), (70, '', 0))
 
+    def test_without_b2sum_that_is_said(self):
+        self.check_builds(1)
+        bare = os.path.join(self.room, 'bare')
+        os.mkdir(bare)
+        for name in ('dirname', 'readlink'):
+            os.symlink(shutil.which(name), os.path.join(bare, name))
+        status, out, err = self.run_script(PATH=bare)
+        self.assertEqual((status, out), (70, ''))
+        self.assertRegex(err, r'\Alefdef: there is no command b2sum on the PATH, [^\n]*\n\Z')
+
+
+# What `rt all` says of a crate, with its verdict in the last line.
+PROVED = """echo '== {0}
+fn {0}::f: proved
+logic=proved functions=1'
+"""
+NOT_PROVED = PROVED.replace('logic=proved', 'logic=not-proved')
+
+
+class ProvingTests(CallTests):
+    """What is said of each crate while it is proved."""
+
+    def said(self, proving, during=''):
+        """Returns what the script says of crates while `rt all`, and then `rt run`, has these commands."""
+        status, out, err = self.run_script(proving=proving, during=during)
+        self.assertEqual((status, out), (0, 'ran check\n'), err)
+        return re.findall(r'(?m)^lefdef: proved (\S+ \(.*\)), 0 min \d+ s$', err)
+
+    def test_each_crate_that_is_proved_has_a_line(self):
+        self.assertEqual(self.said(PROVED.format('low') + PROVED.format('lefdef')), ['low (1 of 2)', 'lefdef (2 of 2)'])
+
+    def test_the_line_comes_when_the_crate_is_proved(self):
+        seen = os.path.join(self.room, 'seen')
+        os.mkfifo(seen)
+        started = self.started(proving=f"{PROVED.format('low')}cat '{seen}'\n")
+        self.assertIn('proving and building it', started.stderr.readline())
+        self.assertRegex(started.stderr.readline(), r'\Alefdef: proved low \(1 of 2\), ')
+        with open(seen, 'w', encoding='utf-8') as file:
+            file.write('seen\n')
+        self.assertEqual((started.communicate(timeout=60)[0], started.returncode), ('ran check\n', 0))
+
+    def test_one_that_is_not_proved_has_none(self):
+        self.assertEqual(self.said(NOT_PROVED.format('low') + PROVED.format('lefdef')), ['lefdef (1 of 2)'])
+
+    def test_one_that_an_earlier_build_proved_is_counted(self):
+        self.file('top/crates/low/out/rlib/stamp', '')
+        self.assertEqual(self.said("echo '== low'\n" + PROVED.format('lefdef')), ['lefdef (2 of 2)'])
+
+    def test_one_of_which_nothing_is_known_is_not(self):
+        self.assertEqual(self.said("echo '== low'\n" + PROVED.format('lefdef')), ['lefdef (1 of 2)'])
+
+    def test_what_is_proved_one_at_a_time_has_a_line_too(self):
+        one = PROVED.replace('== ', 'crate ').replace('\nfn', ': modules loaded=1 checked=2\nfn')
+        proving = NOT_PROVED.format('lefdef') + 'exit 1\n'
+        self.assertEqual(self.said(proving, one.format('low') + one.format('lefdef')), ['low (1 of 2)', 'lefdef (2 of 2)'])
+
+
+class PackedTests(CallTests):
+    """When the program of dist/ is run."""
+
+    def setUp(self):
+        super().setUp()
+        self.home = os.path.join(self.room, 'home')
+        self.unpacked = os.path.join(self.top, 'dist', '.unpacked')
+        self.pack('#!/bin/sh\necho packed "$@"\n')
+
+    def pack(self, program):
+        """Puts a program into dist/, as one of the sources that are here."""
+        os.makedirs(os.path.join(self.top, 'dist'), exist_ok=True)
+        with open(os.path.join(self.top, 'dist', 'lefdef.gz'), 'wb') as file:
+            file.write(gzip.compress(program.encode()))
+        sources = subprocess.run([os.path.join(self.top, 'tools', 'sources-sum'), 'lefdef'], capture_output=True, text=True, check=True).stdout
+        self.file('top/dist/built-from', f'{sources}kit 1\n{hashlib.blake2b(program.encode()).hexdigest()}  -\n')
+
+    def kept(self, *folder):
+        """Returns the files in which calls have left the program, as paths from a folder."""
+        found = glob.glob(os.path.join(*folder, '**', '*'), recursive=True)
+        return sorted(os.path.relpath(path, os.path.join(*folder)) for path in found if os.path.isfile(path))
+
+    def check_packed(self, **given):
+        """Checks that the next call runs the program of dist/, and returns what it says."""
+        status, out, err = self.run_script(**given)
+        self.assertEqual((status, out, self.builds()), (0, 'packed check\n', 0), err)
+        return err
+
+    def check_built(self, said, **given):
+        """Checks that the next call builds the program, and says why it does not run that of dist/."""
+        status, out, err = self.run_script(**given)
+        self.assertEqual((status, out, self.builds()), (0, 'ran check\n', 1), err)
+        self.assertIn(f'lefdef: {said}\n', err)
+
+    def test_it_is_run_without_a_build_and_said_once(self):
+        said = self.check_packed(commands='')
+        self.assertRegex(said, r'\Alefdef: running the program of dist/, built from these sources with kit 1 as dist/built-from has it; [^\n]*\n\Z')
+        self.assertEqual(self.check_packed(commands=''), '')
+        self.assertEqual(len(self.kept(self.unpacked)), 1)
+        self.assertEqual(self.check_packed(), '')
+
+    def test_it_gets_the_words_and_its_status_is_kept(self):
+        self.pack('#!/bin/sh\n[ "$1" = --help ] || { printf "<%s>" "$@"; cat; exit 3; }\n')
+        for _ in range(2):
+            status, out, _ = self.run_script(words=['a b', '', '*'])
+            self.assertEqual((status, out), (3, '<a b><><*>'))
+        self.assertEqual(self.run_script(words=[])[:2], (3, '<>'))
+
+    def test_a_program_that_was_built_here_comes_first(self):
+        self.assertEqual(self.run_script(LEFDEF_PROVE='1')[:2], (0, 'ran check\n'))
+        self.assertEqual(self.run_script(), (0, 'ran check\n', ''))
+        self.file('kit', 'kit 2\n')
+        self.assertEqual(self.run_script()[:2], (0, 'packed check\n'))
+        self.assertEqual(self.builds(), 1)
+
+    def test_it_is_left_aside_on_demand(self):
+        self.check_packed(LEFDEF_PROVE='0')
+        self.check_packed(LEFDEF_PROVE='')
+        status, out, err = self.run_script(LEFDEF_PROVE='1')
+        self.assertEqual((status, out, self.builds()), (0, 'ran check\n', 1), err)
+        self.assertNotIn('dist/', err)
+        self.file(self.source, 'fn main() { }\n')
+        self.assertEqual(self.run_script(LEFDEF_PROVE='1', commands='')[:2], (70, ''))
+
+    def test_one_of_other_sources_is_not_run(self):
+        self.check_packed()
+        self.file(self.low, 'another proof\n')
+        self.check_built('the program of dist/ is not of these sources')
+
+    def test_one_that_has_not_its_sum_is_not_run(self):
+        with open(os.path.join(self.top, 'dist', 'lefdef.gz'), 'wb') as file:
+            file.write(gzip.compress(b'#!/bin/sh\necho doctored\n'))
+        self.check_built('dist/lefdef.gz does not unpack to the program whose sum is in dist/built-from, so it is not run')
+        self.assertEqual(self.kept(self.unpacked), [])
+
+    def test_one_that_cannot_be_unpacked_is_not_run(self):
+        self.file('top/dist/lefdef.gz', 'no archive\n')
+        self.check_built('dist/lefdef.gz does not unpack to the program whose sum is in dist/built-from, so it is not run')
+
+    def test_one_without_a_note_of_its_sources_is_not_run(self):
+        os.remove(os.path.join(self.top, 'dist', 'built-from'))
+        self.assertEqual(self.run_script()[:2], (0, 'ran check\n'))
+
+    def test_one_that_does_not_run_here_is_told_of(self):
+        self.pack('#!/nowhere/sh\n')
+        self.check_built('the program of dist/ cannot be unpacked, or does not run here: it needs the C library glibc 2.34 or later', HOME=self.home)
+        self.assertEqual(self.kept(self.unpacked) + self.kept(self.home), [])
+
+    def test_on_another_system_that_is_said(self):
+        os.chmod(self.file('commands/uname', '#!/bin/sh\necho Linux aarch64\n'), 0o755)
+        self.check_built('the program of dist/ is for Linux on x86_64 alone, and this is Linux aarch64')
+
+    def test_an_unpacked_program_that_was_changed_is_unpacked_again(self):
+        self.check_packed()
+        path = os.path.join(self.unpacked, *self.kept(self.unpacked))
+        for text, mode in (('#!/bin/sh\necho doctored\n', 0o755), ('#!/bin/sh\necho packed "$@', 0o755), ('#!/bin/sh\necho packed "$@"\n', 0o644)):
+            with self.subTest(text=text, mode=mode):
+                self.write_older(path, text)
+                os.chmod(path, mode)
+                self.assertIn('running the program of dist/', self.check_packed())
+                self.assertEqual(self.check_packed(), '')
+
+    def test_a_tree_that_cannot_be_written_is_left_as_it_is(self):
+        self.file('top/dist/.unpacked', 'no folder\n')
+        for variables in ({'HOME': self.home}, {'XDG_CACHE_HOME': os.path.join(self.home, 'kept'), 'HOME': None}):
+            self.assertIn('running the program of dist/', self.check_packed(**variables))
+            self.assertEqual(self.check_packed(**variables), '')
+        self.assertEqual([os.path.dirname(os.path.dirname(it)) for it in self.kept(self.home, '.')], ['kept/lefdef'])
+        self.assertEqual(len(self.kept(self.home, '.cache', 'lefdef')), 1)
+
+    def test_where_nothing_can_be_kept_it_is_run_all_the_same(self):
+        self.file('top/dist/.unpacked', 'no folder\n')
+        scratch = os.path.join(self.room, 'scratch')
+        os.mkdir(scratch)
+        for variables in ({'HOME': None}, {'HOME': self.file('no home', '')}, {'XDG_CACHE_HOME': self.file('no cache', '')}):
+            for _ in range(2):
+                self.assertIn('running the program of dist/', self.check_packed(scratch=scratch, **variables))
+        self.assertEqual(os.listdir(scratch), [])
+
+    def test_many_first_calls_at_a_time_all_answer(self):
+        calls = [self.started() for _ in range(12)]
+        for call in calls:
+            self.assertEqual((call.communicate(timeout=60)[0], call.returncode), ('packed check\n', 0))
+        self.assertEqual(len(self.kept(self.unpacked)), 1)
+
+    def test_a_call_that_is_cut_off_leaves_nothing_that_is_run(self):
+        self.pack('#!/bin/sh\n[ "$1" != --help ] || { [ -e "$WAITED" ] || { : >"$WAITED"; sleep 60; }; }\necho packed "$@"\n')
+        waited = os.path.join(self.room, 'waited')
+        cut = self.started(WAITED=waited)
+        for _ in range(200):
+            if os.path.exists(waited):
+                break
+            time.sleep(0.05)
+        os.killpg(cut.pid, signal.SIGKILL)
+        cut.communicate()
+        self.assertNotIn('lefdef', [os.path.basename(path) for path in self.kept(self.unpacked)])
+        self.check_packed(WAITED=waited)
+
+    def test_whatever_goes_wrong_is_no_answer(self):
+        os.chmod(os.path.join(self.top, 'tools', 'sources-sum'), 0o644)
+        status, out, err = self.run_script()
+        self.assertEqual((status, out, self.builds()), (70, '', 0))
+        self.assertNotIn('not of these sources\n', err)
+
 
 class SourcesSumTests(Room):
     def sum_of(self, *crates):
@@ -267,6 +492,11 @@ class SourcesSumTests(Room):
         self.file('top/crates.txt', '# Every crate.\nlefdef: low clap # and itoa\nother: low\n\nlow:\n')
         os.utime(self.low)
         self.check_changes(sums, False, False, False, False, False)
+
+    def test_it_names_the_crates(self):
+        for words, names in ((['lefdef'], 'lefdef low'), (['low'], 'low'), ([], 'lefdef low other')):
+            found = subprocess.run([os.path.join(self.top, 'tools', 'sources-sum'), '--crates', *words], capture_output=True, text=True, check=True)
+            self.assertEqual(found.stdout.split('\n'), [*names.split(), ''])
 
     def test_a_crate_that_is_none_is_named(self):
         for crates in (['none'], ['low', 'none']):

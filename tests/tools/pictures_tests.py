@@ -32,7 +32,7 @@ sys.exit(1 if text.splitlines()[-1].startswith('violations ') else 0)
 def answers():
     """Returns the answer to each command that the README shows."""
     with open(os.path.join(TOP, 'README.md'), encoding='utf-8') as file:
-        shown = re.findall(r'^    \$ \./lefdef (.+)\n((?:    (?!\$).*\n)+)', file.read(), re.MULTILINE)
+        shown = re.findall(r'^    \$ (?:git clone .+ && )?\./lefdef (.+)\n((?:    (?!\$).*\n)+)', file.read(), re.MULTILINE)
     found = {command: ''.join(line[4:] + '\n' for line in text.splitlines()) for command, text in shown}
     found['check examples/stacked.def examples/standard.lef'] = STACKED
     return found
