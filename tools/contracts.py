@@ -16,7 +16,7 @@ from typing import NamedTuple
 DEAD = re.compile(r'''//[^\n]*|b?"(?:\\.|[^"\\])*"|b?'(?:\\x[0-9a-fA-F]{2}|\\.|[^'\\\n])\'''', re.DOTALL)
 START = re.compile(r'(?P<public>pub(?:\([a-z]+\))?\s+)?(?:(?:unsafe|const)\s+(?=(?:unsafe\s+)?(?:fn|impl|trait)\b))*'
                    r'(?P<kind>fn|struct|enum|trait|impl|mod|use|const|static|type|ghost\s+use|ghost|macro_rules!)(?![\w])\s*(?P<name>\w+)?')
-CLAUSE = re.compile(r'\b(requires|ensures)(?:\s+(\w+))?\s*$')
+CLAUSE = re.compile(r'\b((?:requires|ensures)\*?)(?:\s+(\w+))?\s*$')
 CLOSING = {'(': ')', '[': ']', '{': '}'}
 # Members of std's traits that hold proofs and state nothing.
 PROOFS = {'laws'}

@@ -107,7 +107,7 @@ class ChangeTests(unittest.TestCase):
     """What a change of a source does to the pages."""
 
     def setUp(self):
-        self.copy = Doctored(('leg_geom', 'leg_sweep', 'leg_walk', 'leg_lib'))
+        self.copy = Doctored(('leg_geom', 'leg_sweep', 'leg_walk', 'leg_lib', 'leg_lent'))
         self.addCleanup(self.copy.close)
         reference.write(self.copy.top)
         self.assertEqual(reference.differences(self.copy.top), {})
@@ -128,6 +128,12 @@ class ChangeTests(unittest.TestCase):
     def test_a_condition_that_is_added_is_a_difference(self):
         self.copy.edit('crates/leg_walk/src/side.rt', '-> Side\n    ensures', '-> Side\n    requires { 0 ≡ 0 }\n    ensures')
         self.assertEqual(list(self.differing()), ['leg_walk.md'])
+
+    def test_a_condition_on_memory_that_goes_is_a_difference(self):
+        self.copy.edit('crates/leg_lent/src/memory.rt', '        requires* memory { sem 𝓛 (bytes_at ptr size) }\n', '')
+        found = self.differing()
+        self.assertEqual(list(found), ['leg_lent.md'])
+        self.assertIn('-    requires* memory { sem 𝓛 (bytes_at ptr size) }', found['leg_lent.md'])
 
     def test_a_law_of_a_trait_that_goes_is_a_difference(self):
         self.copy.edit('crates/leg_sweep/src/rule.rt', '    ghost symmetric: { (r : Self) (a b : Self.Item) → Holds r a b → Holds r b a };\n', '')

@@ -1,0 +1,5 @@
+mod Cell
+mod Handover
+pub mod Steps
+mod Units
+mod Values
