@@ -18,7 +18,7 @@ TOP = os.path.normpath(os.path.join(os.path.dirname(os.path.abspath(__file__)), 
 RT = '''#!/bin/sh
 [ "$1" != version ] || exec cat "$KIT"
 echo "$1" >>"$CALLS"
-[ "$1" != all ] || eval "$PROVING"
+case $1 in all | lib | check) eval "$PROVING" ;; esac
 [ "$1" = run ] || exit 0
 eval "$DURING"
 mkdir -p out
@@ -303,6 +303,92 @@ class ProvingTests(CallTests):
         one = PROVED.replace('== ', 'crate ').replace('\nfn', ': modules loaded=1 checked=2\nfn')
         proving = NOT_PROVED.format('lefdef') + 'exit 1\n'
         self.assertEqual(self.said(proving, one.format('low') + one.format('lefdef')), ['low (1 of 2)', 'lefdef (2 of 2)'])
+
+
+# What `rt lib` and `rt check` say of the crate in whose folder they are.
+PROVED_HERE = """name=$(basename "$PWD")
+echo "crate $name: modules loaded=1 checked=2"
+echo "logic=proved functions=1"
+"""
+
+
+class ProveTests(ProvingTests):
+    """The same where tools/prove proves the crates; and that `rt all` does where it cannot."""
+
+    def setUp(self):
+        super().setUp()
+        shutil.copy(os.path.join(TOP, 'tools', 'prove'), os.path.join(self.top, 'tools', 'prove'))
+        self.file('top/crates/low/src/lib.rt', '')
+
+    def calls_of(self):
+        with open(self.calls, encoding='utf-8') as file:
+            return file.read().split()
+
+    def python_that(self, does):
+        """Puts a script in the place of Python."""
+        os.chmod(self.file('commands/python3', f'#!/bin/sh\n{does}\n'), 0o755)
+
+    def test_each_crate_that_is_proved_has_a_line(self):
+        self.assertEqual(self.said(PROVED_HERE), ['low (1 of 2)', 'lefdef (2 of 2)'])
+        self.assertEqual(self.calls_of(), ['lib', 'check', 'run'])
+
+    def test_the_line_comes_when_the_crate_is_proved(self):
+        seen = os.path.join(self.room, 'seen')
+        os.mkfifo(seen)
+        started = self.started(proving=f"{PROVED_HERE}[ $name = low ] || cat '{seen}'\n")
+        self.assertIn('proving and building it', started.stderr.readline())
+        self.assertRegex(started.stderr.readline(), r'\Alefdef: proved low \(1 of 2\), ')
+        with open(seen, 'w', encoding='utf-8') as file:
+            file.write('seen\n')
+        self.assertEqual((started.communicate(timeout=60)[0], started.returncode), ('ran check\n', 0))
+
+    def test_one_that_is_not_proved_has_none(self):
+        """It ends the build, with what rt said of it last."""
+        status, out, err = self.run_script(proving="echo 'fn low::f: not proved'\necho logic=not-proved\nexit 1\n")
+        self.assertEqual((status, out, self.calls_of()), (70, '', ['lib']))
+        self.assertNotIn('lefdef: proved', err)
+        self.assertIn('== low\nfn low::f: not proved\nlogic=not-proved\nthe build ended with status 1\nlefdef: not built; all that ', err)
+
+    def test_one_that_an_earlier_build_proved_is_counted(self):
+        self.file('top/crates/low/out/rlib/stamp', '')
+        self.assertEqual(self.said(f'[ "$(basename "$PWD")" = lefdef ] || exit 0\n{PROVED_HERE}'), ['lefdef (2 of 2)'])
+
+    def test_one_of_which_nothing_is_known_is_not(self):
+        self.assertEqual(self.said(f'[ "$(basename "$PWD")" = lefdef ] || exit 0\n{PROVED_HERE}'), ['lefdef (1 of 2)'])
+
+    def test_what_is_proved_one_at_a_time_has_a_line_too(self):
+        self.assertEqual(self.said('exit 2', PROVED_HERE), ['lefdef (1 of 2)'])
+        self.assertEqual(self.calls_of(), ['lib', 'all', 'run'])
+
+    def test_without_python_rt_proves_all(self):
+        for does in ('exit 127', 'exit 1'):
+            with self.subTest(python=does):
+                self.python_that(does)
+                self.file('top/crates/low/src/lib.rt', does)
+                self.file('calls', '')
+                self.assertEqual(self.said(PROVED.format('low') + PROVED.format('lefdef')), ['low (1 of 2)', 'lefdef (2 of 2)'])
+                self.assertEqual(self.calls_of(), ['all', 'run'])
+
+    def test_where_no_copy_can_be_made_rt_proves_all(self):
+        os.symlink('nowhere', os.path.join(self.top, 'crates', 'low', 'proofs', 'lost'))
+        self.assertEqual(self.said(PROVED.format('low') + PROVED.format('lefdef')), ['low (1 of 2)', 'lefdef (2 of 2)'])
+        self.assertEqual(self.calls_of(), ['all', 'run'])
+
+    def test_a_build_that_is_ended_leaves_no_copy(self):
+        scratch = os.path.join(self.room, 'scratch')
+        os.mkdir(scratch)
+        started = self.started(scratch=scratch, proving=': >"$CALLS.begun"; exec sleep 60')
+        for _ in range(200):
+            if os.path.exists(f'{self.calls}.begun'):
+                break
+            time.sleep(0.05)
+        os.killpg(started.pid, signal.SIGTERM)
+        started.communicate(timeout=60)
+        for _ in range(200):
+            if not [it for it in os.listdir(scratch) if it.startswith('prove-')]:
+                return
+            time.sleep(0.05)
+        self.fail('a copy is left')
 
 
 class PackedTests(CallTests):
