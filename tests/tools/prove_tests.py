@@ -58,6 +58,15 @@ class PlanTests(unittest.TestCase):
         self.assertEqual(self.begun({'a': []}, {'a': 4}, 9), {0: {'a': prove.MOST_JOBS}})
         self.assertEqual(self.begun({'a': [], 'b': []}, {'a': 8, 'b': 8}, 9)[0], {'a': prove.MOST_JOBS, 'b': prove.MOST_JOBS})
 
+    def test_the_longest_chain_gets_half_although_others_wait(self):
+        uses = {'a': [], 'b': [], 'c': [], 'd': [], 'on a': ['a']}
+        sizes = {'a': 8, 'b': 3, 'c': 3, 'd': 2, 'on a': 4}
+        self.assertEqual(self.begun(uses, sizes, 4), {0: {'a': 2, 'b': 1, 'c': 1}, 3: {'d': 1}, 4: {'on a': 3}})
+        # (one that is longest of those that are ready has no more than its share while a longer chain runs)
+        uses = {'a': [], 'b': [], 'c': ['b'], 'd': ['b'], 'e': ['b']}
+        sizes = {'a': 90, 'b': 2, 'c': 8, 'd': 7, 'e': 6}
+        self.assertEqual(self.begun(uses, sizes, 6)[1], {'c': 1, 'd': 1})
+
     def test_a_crate_waits_for_each_that_it_stands_on(self):
         begun = self.begun({'a': [], 'b': [], 'c': ['a', 'b']}, {'a': 3, 'b': 2, 'c': 4}, 2)
         self.assertEqual(begun, {0: {'a': 1, 'b': 1}, 3: {'c': 2}})
