@@ -294,7 +294,10 @@ class ProvingTests(CallTests):
 
     def test_one_that_an_earlier_build_proved_is_counted(self):
         self.file('top/crates/low/out/rlib/stamp', '')
-        self.assertEqual(self.said("echo '== low'\n" + PROVED.format('lefdef')), ['lefdef (2 of 2)'])
+        for said in ('', "echo 'rt: low: begins with what a check kept in another place'\n"):
+            with self.subTest(said=said):
+                self.assertEqual(self.said("echo '== low'\n" + said + PROVED.format('lefdef')), ['lefdef (2 of 2)'])
+                self.file(self.source, said)
 
     def test_one_of_which_nothing_is_known_is_not(self):
         self.assertEqual(self.said("echo '== low'\n" + PROVED.format('lefdef')), ['lefdef (1 of 2)'])
