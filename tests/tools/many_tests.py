@@ -177,7 +177,8 @@ class OtherWaysTests(Room):
     """GNU parallel, and the tasks of a Slurm array."""
 
     def test_parallel(self):
-        if not shutil.which('parallel'):
+        # (another program of that name has other words)
+        if not shutil.which('parallel') or 'GNU parallel' not in self.run_here('parallel', '--version')[1]:
             print('many_tests: GNU parallel is not installed, so its recipe was not tried', file=sys.stderr)
             return
         with open(os.path.join(TOP, 'docs', 'RECIPES.md'), encoding='utf-8') as file:
