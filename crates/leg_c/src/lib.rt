@@ -1,0 +1,27 @@
+//! lefdef for C, and for what calls C: `library/lefdef.h` says how.
+#![tactic(auto)]
+
+ghost use Rattle.std.specs.Prelude.{◌≡◌, map, IfSome, IfNone};
+ghost use Rattle.leg_app.specs.declared.end.Halt.TheVariants.{Usage};
+ghost use Rattle.leg_app.specs.End.{halt_code};
+ghost use Rattle.leg_call.specs.Call.{command_of, Answers};
+
+use leg_lent::Memory;
+
+/// `leg_call::call`, for C.
+#[unsafe(no_mangle)]
+pub extern "C" fn lefdef_run(
+    memory: Memory,
+    command: u32,
+    lefs: &[&[u8]],
+    def: &[u8],
+    out: &mut [u8],
+    length: &mut usize,
+) -> u32
+    ensures answer { IfSome (command_of command) (λ asked.
+        Answers asked (map (λ t. t.now) lefs.now) def.now out.old out.new length.new result) }
+    ensures unknown { IfNone (command_of command)
+        ((result ≡ halt_code Usage) × (length.new ≡ 0) × (out.new ≡ out.old)) }
+{
+    leg_call::call(memory, command, lefs, def, out, length)
+}
