@@ -14,7 +14,7 @@ from typing import NamedTuple
 
 # What is no code: comments, texts, characters.
 DEAD = re.compile(r'''//[^\n]*|b?"(?:\\.|[^"\\])*"|b?'(?:\\x[0-9a-fA-F]{2}|\\.|[^'\\\n])\'''', re.DOTALL)
-START = re.compile(r'(?P<public>pub(?:\([a-z]+\))?\s+)?(?:(?:unsafe|const)\s+(?=(?:unsafe\s+)?(?:fn|impl|trait)\b))*'
+START = re.compile(r'(?P<public>pub(?:\([a-z]+\))?\s+)?(?:(?:unsafe|const|extern)\s+(?=(?:(?:unsafe|extern)\s+)*(?:fn|impl|trait)\b))*'
                    r'(?P<kind>fn|struct|enum|trait|impl|mod|use|const|static|type|ghost\s+use|ghost|macro_rules!)(?![\w])\s*(?P<name>\w+)?')
 CLAUSE = re.compile(r'\b((?:requires|ensures)\*?)(?:\s+(\w+))?\s*$')
 CLOSING = {'(': ')', '[': ']', '{': '}'}
@@ -417,7 +417,7 @@ class Crates:
         self.top = top
         with open(os.path.join(top, 'crates.txt'), encoding='utf-8') as file:
             lines = [line.partition('#')[0].strip() for line in file]
-        self.below = {name.strip(): rest.split() for name, _, rest in (line.partition(':') for line in lines if line)}
+        self.below = {name.split()[0]: rest.split() for name, _, rest in (line.partition(':') for line in lines if line)}
         self.read = {}
 
     def libraries(self):

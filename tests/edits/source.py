@@ -2,7 +2,7 @@
 import re
 from typing import NamedTuple
 
-HEAD = re.compile(r'^( *)(?:pub(?:\([^)]*\))? )?(?:const )?(?:unsafe )?fn (\w+)')
+HEAD = re.compile(r'^( *)(?:pub(?:\([^)]*\))? )?(?:const )?(?:unsafe )?(?:extern "C" )?fn (\w+)')
 TYPE = re.compile(r'^(?:pub(?:\([^)]*\))? )?(?:struct|enum|trait) (\w+)', re.M)
 OWNER = re.compile(r'^( *)(?:pub(?:\([^)]*\))? )?(?:unsafe )?(impl|trait)\b(.*)')
 

@@ -25,7 +25,7 @@ class Doctored:
     def __init__(self, crates=(), parts=()):
         self.top = os.path.realpath(tempfile.mkdtemp())
         with open(os.path.join(TOP, 'crates.txt'), encoding='utf-8') as file:
-            lines = {line.partition(':')[0]: line for line in file if ':' in line and not line.startswith('#')}
+            lines = {line.partition(':')[0].split()[0]: line for line in file if ':' in line and not line.startswith('#')}
         for crate in crates or lines:
             for part in ('src', 'specs'):
                 if os.path.isdir(os.path.join(TOP, 'crates', crate, part)):
