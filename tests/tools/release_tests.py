@@ -21,8 +21,9 @@ FILES = {
     'README.md': '# lefdef\n\n## What it is\n\nwords\n\n## Use\n\n    ./lefdef COMMAND\n\nmore words\n\n## Beside\n\nothers\n',
     'CHANGELOG.md': '# Changes\n\n## 1.2.3\n\nall\n',
     'VERSION': '1.2.3\n',
-    'crates.txt': 'lefdef:\n',
+    'crates.txt': 'lefdef:\nleg_c staticlib:\n',
     'crates/lefdef/src/main.rt': 'fn main() {}\n',
+    'crates/leg_c/src/lib.rt': 'fn run() {}\n',
     'docs/RULES.md': 'rules\n',
     'docs/pictures/one.svg': '<svg/>\n',
     'docs/.hidden': 'hidden\n',
@@ -31,12 +32,14 @@ FILES = {
     'tools/lefdef_text/words.py': 'words = 1\n',
     'tools/lefdef_text/__pycache__/words.pyc': 'kept\n',
     'tools/try-unproved': '#!/bin/sh\n',
+    'library/lefdef.h': 'header\n',
+    'library/examples/check.c': 'example\n',
     'dist/README.md': 'of dist\n',
     'dist/.unpacked/0123/lefdef': 'unpacked\n',
 }
 TAKEN = [
     'CHANGELOG.md', 'README.md', 'SHA256SUMS', 'VERSION', 'built-from', 'docs/RULES.md', 'docs/pictures/one.svg', 'examples/wired.def', 'lefdef',
-    'tools/lefdef_text/words.py', 'tools/view']
+    'library/examples/check.c', 'library/lefdef.h', 'tools/lefdef_text/words.py', 'tools/view']
 
 
 class ReleaseTests(unittest.TestCase):
@@ -136,21 +139,42 @@ class ReleaseTests(unittest.TestCase):
         self.assertTrue(readme.endswith('## Use\n\n    ./lefdef COMMAND\n\nmore words\n'))
         self.assertIn(f'    {sources}\n\nby the kit `kit 1`', readme)
         self.assertIn('| `docs/RULES.md` |', readme)
-        self.assertNotIn('`library/`', readme)
+        self.assertIn('| `library/lefdef.h` |', readme)
+        self.assertNotIn('`library/liblefdef.a`', readme)
 
-    def test_the_page_the_library_and_a_licence_are_taken_where_they_are_there(self):
-        for name in ('web/page.html', 'dist/liblefdef.a', 'dist/lefdef.h', 'LICENSE'):
+    def test_the_page_and_a_licence_are_taken_where_they_are_there(self):
+        for name in ('web/page.html', 'LICENSE'):
             self.file(name, name)
         _, texts = self.entries(self.made())
-        added = {'web/page.html': 'web/page.html', 'library/liblefdef.a': 'dist/liblefdef.a', 'library/lefdef.h': 'dist/lefdef.h', 'LICENSE': 'LICENSE'}
-        self.assertEqual(sorted(texts), sorted([*TAKEN, *added]))
-        for name, text in added.items():
-            self.assertEqual(texts[name].decode(), text)
-        self.assertIn('| `library/` |', texts['README.md'].decode())
+        self.assertEqual(sorted(texts), sorted([*TAKEN, 'web/page.html', 'LICENSE']))
+        self.assertEqual(texts['LICENSE'].decode(), 'LICENSE')
+
+    def library(self, text):
+        """Puts a library of the sources that are here into dist/, with this text and the sum of `archive`."""
+        words = [os.path.join(self.top, 'tools', 'sources-sum'), 'leg_c']
+        sources = subprocess.run(words, stdout=subprocess.PIPE, universal_newlines=True, check=True).stdout
+        self.file('dist/liblefdef.a', text)
+        self.file('dist/liblefdef.built-from', f'{sources}kit 1\n{hashlib.blake2b(b"archive").hexdigest()}  -\n')
+
+    def test_a_library_of_these_sources_is_taken(self):
+        self.library('archive')
+        self.file('dist/lefdef.h', 'another header\n')
+        _, texts = self.entries(self.made())
+        self.assertEqual(sorted(texts), sorted([*TAKEN, 'library/liblefdef.a', 'library/liblefdef.built-from']))
+        self.assertEqual(texts['library/liblefdef.a'].decode(), 'archive')
+        self.assertEqual(texts['library/lefdef.h'].decode(), 'header\n')
+        self.assertIn('| `library/liblefdef.a` |', texts['README.md'].decode())
+
+    def test_with_another_library_there_is_none(self):
+        self.library('another archive')
+        self.check_refused('dist/liblefdef.a has not the sum that is in dist/liblefdef.built-from')
+        self.library('archive')
+        self.file('crates/leg_c/src/lib.rt', 'fn run() { }\n')
+        self.check_refused('dist/liblefdef.a is not of the sources that are here')
 
     def test_without_a_program_of_these_sources_there_is_none(self):
         self.file('crates/lefdef/src/main.rt', 'fn main() { }\n')
-        self.check_refused('the program of dist/ is not of the sources that are here')
+        self.check_refused('dist/lefdef.gz is not of the sources that are here')
         os.remove(os.path.join(self.top, 'dist', 'lefdef.gz'))
         self.check_refused('there is no program in dist/')
 
