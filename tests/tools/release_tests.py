@@ -229,7 +229,7 @@ class RepositoryTests(unittest.TestCase):
     """What is in the repository for a release."""
 
     def setUp(self):
-        self.copy = Doctored(parts=('README.md', 'CHANGELOG.md', 'VERSION', 'docs', 'examples', 'tools'))
+        self.copy = Doctored(parts=('README.md', 'CHANGELOG.md', 'VERSION', 'docs', 'examples', 'library', 'tools'))
         self.addCleanup(self.copy.close)
         self.release = script('tools/release')
         self.release.TOP = self.copy.top
