@@ -4,7 +4,7 @@
  * with its exit status. All memory that it needs is lent to it: it opens no file, calls no malloc, keeps nothing between calls and
  * changes nothing but what it is lent. `library/examples/check.c` is a program to copy from.
  *
- * Link with liblefdef.a; of the C library it needs memcpy, memmove and memset alone.
+ * Link with liblefdef.a. It needs memcpy, memmove and memset, of the C library, and __udivti3, which comes with the C compiler.
  */
 #ifndef LEFDEF_H
 #define LEFDEF_H
@@ -59,12 +59,15 @@ struct lefdef_memory {
  *
  * lefdef_answer, below, keeps most of these rules for its caller. Nothing checks them:
  *
- *  - `memory` is as its struct says, and nobody else reads or writes these bytes during the call. 20 times the length of the DEF, and
- *    64 KiB more, were enough in all cases that were measured; where memory is too little, the answer is MEMORY.
+ *  - `memory` is as its struct says, and nobody else reads or writes these bytes during the call.
  *  - No pointer is null, not even to none: `lefs` points to `lef_count` texts, `def` to `def_length` bytes, `out` to `out_size` bytes and
  *    `length` to a size_t.
  *  - `memory`, `out` and `*length` overlap neither each other nor a text. Texts may overlap.
  *  - One call at a time uses a region of memory, an `out` or a `length`. Calls that share nothing but texts may run at the same time.
+ *
+ * How much memory is enough depends on the design, and nothing tells it before. Checks were measured to take 10 to 55 times the lengths of
+ * all texts, or 400 KiB for small blocks with a library of 33 cells, and routing 2 MiB for one of 84 nets. So begin with 20 times these
+ * lengths and 1 MiB, and where the answer is MEMORY ask again with twice as much. 64 KiB of stack were enough for the blocks that were tried.
  *
  * When the call has ended, the memory is its caller's again, and no part of it is reached later. This is so by how the library is
  * written, which has nothing that outlives a call. It is not in its contract, which takes the memory for good.

@@ -108,7 +108,11 @@ int main(int words, char **word)
     }
     struct lefdef_text def = file(word[2]);
 
-    size_t size = 20 * def.length + (1 << 16);
+    size_t length = def.length;
+    for (size_t at = 0; at < count; at++) {
+        length += lefs[at].length;
+    }
+    size_t size = 20 * length + (1 << 20);
     struct answer answer = ask(size, number_of(word[1]), lefs, count, def);
     while (answer.status == LEFDEF_MEMORY && size <= GREATEST / 2) {
         size *= 2;

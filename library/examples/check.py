@@ -56,7 +56,7 @@ def ask(run, size, command, lefs, definition):
 
 def answer(run, command, lefs, definition):
     """Returns the status and the answer of a command, by its name, to the bytes of the LEFs and of the DEF."""
-    size = 20 * len(definition) + (1 << 16)
+    size = 20 * sum(map(len, [definition, *lefs])) + (1 << 20)
     number = COMMANDS.index(command)
     status, text = ask(run, size, number, lefs, definition)
     while status == MEMORY and size <= GREATEST // 2:
