@@ -104,7 +104,8 @@ class Controls {
   }
 
   key(event) {
-    const isWritten = event.target.matches && event.target.matches('input[type=search]');
+    // (where a text is written, chosen or read, keys are that element's own)
+    const isWritten = event.target.closest && event.target.closest('input[type=search], select, pre');
     if (isWritten || event.ctrlKey || event.metaKey || event.altKey) return;
     const { viewer } = this;
     const across = viewer.view.width / 8;

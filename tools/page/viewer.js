@@ -75,10 +75,10 @@ class Viewer {
     const { clientWidth, clientHeight } = this.canvas.parentElement;
     this.ratio = devicePixelRatio || 1;
     const [width, height] = [clientWidth, clientHeight].map((size) => Math.round(size * this.ratio));
+    this.view.resize(clientWidth, clientHeight);
     if (width === this.canvas.width && height === this.canvas.height) return;
     this.canvas.width = width;
     this.canvas.height = height;
-    this.view.resize(clientWidth, clientHeight);
     this.draw();
   }
 
