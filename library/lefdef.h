@@ -75,6 +75,14 @@ struct lefdef_memory {
 uint32_t lefdef_run(struct lefdef_memory memory, uint32_t command, const struct lefdef_text *lefs, size_t lef_count, const uint8_t *def,
                     size_t def_length, uint8_t *out, size_t out_size, size_t *length);
 
+/* Gives the message that the program writes on standard error after an answer with the status LEFDEF_REFUSED or LEFDEF_UNSOLVED to the
+ * same texts: where a text is refused and why, or what can be done. `lef_names` are the names of the LEFs' files and `def_name` that of the
+ * DEF's, in UTF-8, and `word` is the first word of the answer's last line. Memory, `out` and `length` are as for lefdef_run. Returns 0, or
+ * LEFDEF_MEMORY where the memory was not enough, or LEFDEF_USAGE where a name is not UTF-8; then `*length` is 0 and `out` as it was. */
+uint32_t lefdef_message(struct lefdef_memory memory, const struct lefdef_text *lef_names, size_t lef_name_count, const uint8_t *def_name,
+                        size_t def_name_length, const struct lefdef_text *lefs, size_t lef_count, const uint8_t *def, size_t def_length,
+                        const uint8_t *word, size_t word_length, uint8_t *out, size_t out_size, size_t *length);
+
 /* A text of these bytes. The pointer may be null where there are none. */
 static inline struct lefdef_text lefdef_text_of(const void *bytes, size_t length)
 {
