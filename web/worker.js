@@ -1,0 +1,82 @@
+// What runs beside the page: it asks the module, and makes the data of the picture. A message to it is { module }, the module's text, or
+// { id, command, lefs, def }, each text { name, file }; it answers { id, answer } and then { id, picture }.
+
+// Answers that are designs, and what their picture is compared with.
+const DESIGN_COMMANDS = new Set(['legalise', 'route', 'flow']);
+// Longer texts are not drawn.
+const MOST_DRAWN = 2 ** 27;
+const UNREADABLE = 5;
+
+let loading = null;
+
+// Returns the bytes of a text, as many as the program would read.
+async function bytesOf({ name, file }) {
+  try {
+    return new Uint8Array(await file.slice(0, FILE_LIMIT).arrayBuffer());
+  } catch (error) {
+    throw new Unreadable(`cannot read ${name}\n${error.message}\n`);
+  }
+}
+
+class Unreadable extends Error {}
+
+// Returns the answer to a command on texts: its status, its bytes and the message on it.
+function asked(module, command, names, lefs, def) {
+  const answer = module.run(command, lefs, def);
+  return { ...answer, message: textOf(module.message(answer, names, lefs, def)) };
+}
+
+// Returns what is to be drawn after an answer, or null: the design that was printed and the one before, or the one that was read, with its
+// violations where they were listed.
+function drawnOf(module, command, lefs, def, { status, text }) {
+  if (status === REFUSED || status === NO_MEMORY || def.length > MOST_DRAWN) return null;
+  if (status === 0 && DESIGN_COMMANDS.has(command)) return { def: text, before: def, lines: null };
+  const lines = violationLines(textOf(text));
+  // (what `flow` lists is of the legalised block, where it could be legalised)
+  const legalised = lines && command === 'flow' ? module.run('legalise', lefs, def) : null;
+  return legalised && legalised.status === 0 ? { def: legalised.text, before: def, lines } : { def, before: null, lines };
+}
+
+// Returns the data of a picture.
+function pictureOf(lefs, { def, before, lines }) {
+  const words = new Words(textOf(def));
+  const library = new Library(unitsOf(words));
+  for (const lef of lefs) new LefReader(new Words(textOf(lef)), library).read();
+  const design = new DefReader(words, library).read();
+  return blockData(design, lines, before ? new DefReader(new Words(textOf(before)), library).read() : null);
+}
+
+// Returns the arrays of numbers in the data of a picture, which are handed over and not copied.
+function buffersOf({ shapes, components }) {
+  return [...Object.values(shapes), ...Object.values(components)].map((array) => array.buffer);
+}
+
+async function answer({ id, command, lefs, def }) {
+  const texts = await Promise.all([...lefs, def].map(bytesOf));
+  const names = [def, ...lefs].map(({ name }) => name);
+  const read = texts.pop();
+  const module = await loading;
+  const began = performance.now();
+  const answered = asked(module, command, names, texts, read);
+  postMessage({ id, answer: { ...answered, seconds: (performance.now() - began) / 1000 } });
+  const drawn = drawnOf(module, command, texts, read, answered);
+  const picture = drawn ? pictureOf(texts, drawn) : null;
+  postMessage({ id, picture }, picture ? buffersOf(picture) : []);
+}
+
+async function take(message) {
+  if (message.module) {
+    loading = Module.from(message.module);
+    await loading;
+    return;
+  }
+  try {
+    await answer(message);
+  } catch (error) {
+    if (!(error instanceof Unreadable)) throw Object.assign(error, { id: message.id });
+    postMessage({ id: message.id, answer: { status: UNREADABLE, text: new Uint8Array(), message: error.message, seconds: 0 } });
+    postMessage({ id: message.id, picture: null });
+  }
+}
+
+addEventListener('message', ({ data }) => take(data).catch((error) => postMessage({ id: error.id ?? null, failure: String(error) })));
