@@ -1,4 +1,4 @@
-"""The page in web/lefdef.html: one file, with lefdef as a module of WebAssembly, the examples of the README and the viewer of tools/view.
+"""The page in web/index.html: one file, with lefdef as a module of WebAssembly, the examples of the README and the viewer of tools/view.
 
 What it is made of stands in the folder `web`, and the viewer in `page` beside this file. The policy in the page names the sums of its one
 script and of its style, so a browser runs no other script in it, and loads nothing.

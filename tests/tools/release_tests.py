@@ -143,11 +143,11 @@ class ReleaseTests(unittest.TestCase):
         self.assertNotIn('`library/liblefdef.a`', readme)
 
     def test_the_page_and_a_licence_are_taken_where_they_are_there(self):
-        for name in ('web/lefdef.html', 'web/page.js', 'dist/lefdef.wasm.gz', 'dist/module-built-from', 'LICENSE'):
+        for name in ('web/index.html', 'web/page.js', 'dist/lefdef.wasm.gz', 'dist/module-built-from', 'LICENSE'):
             self.file(name, name)
         self.web('exit 0')
         _, texts = self.entries(self.made())
-        self.assertEqual(sorted(texts), sorted([*TAKEN, 'web/lefdef.html', 'LICENSE']))
+        self.assertEqual(sorted(texts), sorted([*TAKEN, 'web/index.html', 'LICENSE']))
         self.assertEqual(texts['LICENSE'].decode(), 'LICENSE')
 
     def library(self, text):
@@ -179,7 +179,7 @@ class ReleaseTests(unittest.TestCase):
         os.chmod(os.path.join(self.top, 'tools', 'web'), 0o755)
 
     def test_a_page_that_is_not_of_these_sources_is_refused(self):
-        self.file('web/lefdef.html', 'page')
+        self.file('web/index.html', 'page')
         self.web('[ "$*" = --check ] && echo "web: the module of dist/ is of other sources" >&2; exit 3')
         self.check_refused('web: the module of dist/ is of other sources')
 

@@ -1,4 +1,4 @@
-"""Tests of tools/web, which makes the page web/lefdef.html and builds its module. A small script stands in for the kit."""
+"""Tests of tools/web, which makes the page web/index.html and builds its module. A small script stands in for the kit."""
 import base64
 import gzip
 import hashlib
@@ -70,7 +70,7 @@ class WebTests(unittest.TestCase):
         self.addCleanup(room.cleanup)
         self.top = os.path.join(room.name, 'top')
         for folder in ('web', 'tools/page', 'examples'):
-            shutil.copytree(os.path.join(TOP, folder), os.path.join(self.top, folder), ignore=shutil.ignore_patterns('lefdef.html'))
+            shutil.copytree(os.path.join(TOP, folder), os.path.join(self.top, folder), ignore=shutil.ignore_patterns('index.html'))
         for name in ('README.md', 'VERSION', 'tools/web', 'tools/web_page.py', 'tools/sources-sum'):
             shutil.copy(os.path.join(TOP, name), os.path.join(self.top, name))
         os.mkdir(os.path.join(self.top, 'dist'))
@@ -110,21 +110,21 @@ class WebTests(unittest.TestCase):
         self.assertEqual(gzip.decompress(self.read('dist/lefdef.wasm.gz')), b'leg_c\nlow\n')
         sources = subprocess.run([os.path.join(self.top, 'tools', 'sources-sum'), 'leg_c'], capture_output=True, text=True, check=True).stdout.strip()
         self.assertEqual(self.read('dist/module-built-from').decode(), f'{sources}\nkit 1\n{hashlib.blake2b(b"leg_c" + bytes([10]) + b"low" + bytes([10])).hexdigest()}  -\n')
-        self.assertIn(base64.b64encode(self.read('dist/lefdef.wasm.gz')), self.read('web/lefdef.html'))
+        self.assertIn(base64.b64encode(self.read('dist/lefdef.wasm.gz')), self.read('web/index.html'))
         self.assertEqual(self.web('--check'), (0, 'web: the module of dist/ is of these sources, and the page has it\n', ''))
 
     def test_the_same_sources_make_the_same_files(self):
         self.build()
-        first = [self.read(name) for name in ('dist/lefdef.wasm.gz', 'dist/module-built-from', 'web/lefdef.html')]
+        first = [self.read(name) for name in ('dist/lefdef.wasm.gz', 'dist/module-built-from', 'web/index.html')]
         self.build()
-        self.assertEqual([self.read(name) for name in ('dist/lefdef.wasm.gz', 'dist/module-built-from', 'web/lefdef.html')], first)
+        self.assertEqual([self.read(name) for name in ('dist/lefdef.wasm.gz', 'dist/module-built-from', 'web/index.html')], first)
 
     def test_a_page_of_other_sources_is_told(self):
         self.build()
         self.write('web/page.js', self.read('web/page.js') + b'// more\n')
         status, out, err = self.web('--check')
         self.assertEqual((status, out), (1, ''))
-        self.assertIn('web/lefdef.html is not what its sources and the module of dist/ give', err)
+        self.assertIn('web/index.html is not what its sources and the module of dist/ give', err)
         self.assertEqual(self.web()[0], 0)
         self.assertEqual(self.web('--check')[0], 0)
 
@@ -153,13 +153,13 @@ class WebTests(unittest.TestCase):
 
     def test_a_build_that_fails_leaves_all_as_it_was(self):
         self.build()
-        before = [self.read(name) for name in ('dist/lefdef.wasm.gz', 'dist/module-built-from', 'web/lefdef.html')]
+        before = [self.read(name) for name in ('dist/lefdef.wasm.gz', 'dist/module-built-from', 'web/index.html')]
         self.write('crates/leg_c/src/lib.rt', 'wrong\n')
         self.assertEqual(self.web('--module'), (1, '', 'web: the module was not built:\nbuilding\nit is wrong\n'))
         self.assertEqual(self.web('--module', has_kit=False)[0], 1)
         self.write('crates/low/src/lib.rt', 'wrong\n')
         self.assertEqual(self.web('--module'), (1, '', 'web: not all crates below the module are proved\n'))
-        self.assertEqual([self.read(name) for name in ('dist/lefdef.wasm.gz', 'dist/module-built-from', 'web/lefdef.html')], before)
+        self.assertEqual([self.read(name) for name in ('dist/lefdef.wasm.gz', 'dist/module-built-from', 'web/index.html')], before)
 
     def test_other_words_are_a_usage_error(self):
         for words in (['--modules'], ['--check', '--module'], ['x']):

@@ -1,4 +1,4 @@
-"""Tests of the page in web/lefdef.html: what is in it, and what it does in Chromium, where it is installed: without a browser what it does is not
+"""Tests of the page in web/index.html: what is in it, and what it does in Chromium, where it is installed: without a browser what it does is not
 tried, and that is said."""
 import json
 import os
@@ -21,7 +21,7 @@ from lefdef_text import read_design, read_library, read_violations  # noqa: E402
 from violation_marks import Finder  # noqa: E402
 from web_page import examples, page_text  # noqa: E402
 
-PAGE = os.path.join(TOP, 'web', 'lefdef.html')
+PAGE = os.path.join(TOP, 'web', 'index.html')
 CASES = os.path.join(TOP, 'tests', 'program')
 COMMANDS = ('check', 'place-check', 'measure', 'legalise', 'route', 'flow')
 LIST_ENDS = ('legal', 'violations', 'FIXEDILLEGAL', 'NOTCLEAN')
@@ -130,7 +130,7 @@ class TextTests(unittest.TestCase):
     def test_the_page_is_what_its_sources_give(self):
         with open(os.path.join(TOP, 'dist', 'lefdef.wasm.gz'), 'rb') as file:
             module = file.read()
-        self.assertTrue(text_of(PAGE) == page_text(module), 'web/lefdef.html is not what tools/web makes')
+        self.assertTrue(text_of(PAGE) == page_text(module), 'web/index.html is not what tools/web makes')
 
     def test_it_refers_to_nothing(self):
         text = text_of(PAGE)
