@@ -1,0 +1,2 @@
+-- Elements of lists
+mod Elements

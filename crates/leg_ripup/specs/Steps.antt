@@ -1,0 +1,3 @@
+-- Intermediate state of the code. Only private contracts cite it.
+pub mod Tree
+pub mod Laid
