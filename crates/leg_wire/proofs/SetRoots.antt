@@ -1,8 +1,9 @@
 -- The root of each number's tree: how it is known, and what a change of one parent makes of it.
-use Rattle.std.proofs.Common.{◌≡◌, ◌≢◌, ℕ, zero, suc, ◌+◌, ◌<◌, ◌≤◌, List, [], ◌∷◌, ◌++◌, length, map, get_or, set, cond, nat_eq, inl, inr, refl, sym, ap, ◌∙◌, arith}
+use Rattle.std.proofs.Common.{◌≡◌, ◌≢◌, ℕ, zero, suc, ◌+◌, ◌<◌, ◌≤◌, List, [], ◌∷◌, ◌++◌, length, drop, map, get_or, set, cond, nat_eq, inl, inr, refl, sym, ap, ◌∙◌, add-one, arith}
+use Rattle.std.proofs.Math.Seq.{drop-cons}
 use Rattle.std.proofs.lemmas.Bool.{cases_eq}
 use Rattle.std.proofs.lemmas.Bool.Decides.{nat_tests}
-use Rattle.std.proofs.lemmas.List.{length_push, length-map, length-set, get_or_append_left, get_or_at, get_or_past, get_or_default, get_or-map, get_or-set_same, get_or-set_other, ext_get_or}
+use Rattle.std.proofs.lemmas.List.{length_push, length-map, length-set, drop_all, get_or_append_left, get_or_at, get_or_past, get_or_default, get_or-map, get_or-set_same, get_or-set_other, ext_get_or}
 use Rattle.std.proofs.lemmas.List.FromFn.{length-range_with_len, get_or-range_with_len}
 use Rattle.std.specs.List.{range_with_len}
 use Rattle.leg_wire.specs.Steps.NumberSets.{IsForest, roots_after, roots_of}
@@ -68,6 +69,21 @@ rooted parents k within = record {
   own = λ is. own_after [] parents k k (omega arith) within is;
   below = λ low. below_after [] parents k k (omega arith) within low;
 }
+
+-- the root of one number more, whose parent is p
+pub roots_more : (parents roots more : List ℕ) (i p : ℕ) → i < length parents → p ≡ get_or parents i p → more ≡ roots ++ get_or roots p p ∷ []
+    → roots_after roots (drop i parents) ≡ roots_of parents → roots_after more (drop (i + 1) parents) ≡ roots_of parents
+roots_more parents roots more i p within is more_is so_far =
+    let front : drop i parents ≡ p ∷ drop (i + 1) parents = rw (drop-cons parents i p within, ← is, add-one) refl in
+    rw more_is (sym (ap (roots_after roots) front) ∙ so_far)
+
+pub roots_begun : (parents : List ℕ) → roots_after [] (drop 0 parents) ≡ roots_of parents
+unfolding roots_of
+roots_begun parents = refl
+
+-- all numbers have theirs
+pub roots_done : (parents roots : List ℕ) (i : ℕ) → length parents ≤ i → roots_after roots (drop i parents) ≡ roots_of parents → roots ≡ roots_of parents
+roots_done parents roots i all so_far = rw (drop_all i parents all) at so_far
 
 module _ (parents : List ℕ) (forest : IsForest parents) where
   -- that alone says what the roots are

@@ -5,7 +5,7 @@ use Rattle.std.proofs.lemmas.Bool.Decides.{nat_tests}
 use Rattle.std.proofs.lemmas.List.{length-map, length_push, get_or_append_left, get_or_at}
 use Rattle.std.proofs.lemmas.Option.{none-some, same_Some, slice_get-map, slice_get-get_or, slice_get_within, get_or_from_slice_get}
 use Rattle.leg_wire.specs.Steps.NumberSets.{AreTogether, AreUnited, IsForest, roots_of}
-use Rattle.leg_wire.specs.Touch.{AreMarks}
+use Rattle.leg_wire.specs.Touch.{AreMarks, AreFirsts}
 use Rattle.leg_wire.proofs.SetRoots.{length-roots_of, rooted, root_within, root_own, merged, merged-high, merged-other, forest_linked, roots_linked}
 
 module _ (sets : List ℕ) where
@@ -156,6 +156,26 @@ module _ (parents : List ℕ) (forest : IsForest parents) where
           let here : j ≡ k = omega (arith, late, before) in
           rw here (get_or_at marks mark [] false k done.many ∙ is)
     ];
+  }
+
+  -- the root of each number is the least that is with it
+  pub firsts_are : AreFirsts (AreTogether (roots_of parents)) (length (roots_of parents)) (roots_of parents)
+  firsts_are = record {
+    count = refl;
+    each = λ k first at.
+        let many : length (roots_of parents) ≡ length parents = length-roots_of parents in
+        let known = root_known k first at in
+        let own : get_or (roots_of parents) first 0 ≡ first = (rooted parents first known.0).own known.1 in
+        let itself : slice_get (roots_of parents) first ≡ Some first = slice_get-get_or (roots_of parents) first 0 (omega (arith, many, known.0)) ∙ ap Some own in
+        record {
+          within = omega (arith, many, known.0);
+          joined = record { least = first; of_a = at; of_b = itself };
+          least = λ j j_in h.
+              let same : h.least ≡ first = same_Some h.least first (sym h.of_a ∙ at) in
+              let root : get_or (roots_of parents) j 0 ≡ h.least = get_or_from_slice_get (roots_of parents) j h.least 0 h.of_b in
+              let low : get_or (roots_of parents) j 0 ≤ j = root_within parents forest j (omega (arith, many, j_in)) in
+              omega (arith, same, root, low);
+        };
   }
 
   -- all numbers

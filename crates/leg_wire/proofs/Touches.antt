@@ -18,7 +18,7 @@ use Rattle.leg_wire.specs.Steps.NumberSets.{AreTogether}
 use Rattle.leg_wire.specs.Steps.PieceMetal.{ArePieceShapes, LiesAmong, TouchAmong}
 use Rattle.leg_wire.specs.Steps.SharedPoints.{first_seen}
 use Rattle.leg_wire.specs.Steps.JoinSteps.{HavePlaces, AreJoinedSets}
-use Rattle.leg_wire.specs.Touch.{piece_count, IsOfPiece, LiesIn, Touch, Joined, AreJoined, AreMarks}
+use Rattle.leg_wire.specs.Touch.{piece_count, IsOfPiece, LiesIn, Touch, Joined, AreJoined, AreMarks, AreFirsts}
 use Rattle.leg_wire.specs.Touch.Joined.{itself, through}
 use Rattle.leg_wire.proofs.PiecesTouch.{AreSoFar, joined_together}
 
@@ -156,4 +156,19 @@ marks_of_joined flat net sets marks joined done = record {
       let some : 0 < piece_count flat net = omega (arith, within, done.count, joined.count) in
       let same = joined.each 0 k some in
       (λ set_mark. same.0 ((done.each k mark at).0 set_mark), λ joins. (done.each k mark at).1 (same.1 joins));
+}
+
+-- and the least pieces that are together with each are the least that are joined to it
+pub firsts_of_joined : (flat : FlatSaid) (net : ℕ) (sets firsts : List ℕ) → AreJoinedSets flat net sets → AreFirsts (AreTogether sets) (length sets) firsts → AreFirsts (AreJoined flat net) (piece_count flat net) firsts
+firsts_of_joined flat net sets firsts joined done = record {
+  count = done.count ∙ joined.count;
+  each = λ k first at.
+      let within : k < length firsts = slice_get_within firsts k first at in
+      let k_in : k < piece_count flat net = omega (arith, within, done.count, joined.count) in
+      let is = done.each k first at in
+      record {
+        within = omega (arith, is.within, joined.count);
+        joined = (joined.each k first k_in).0 is.joined;
+        least = λ j j_in joins. is.least j (omega (arith, j_in, joined.count)) ((joined.each k j k_in).1 joins);
+      };
 }

@@ -1,7 +1,7 @@
-//! Which pieces of a net are joined to its first one.
+//! Which pieces of a net are joined: to its first one, and to each other.
 
 ghost use Rattle.std.specs.Prelude.{◌<◌, length, IfOk};
-ghost use Rattle.leg_wire.specs.Touch.{piece_count, AreJoined, AreMarks};
+ghost use Rattle.leg_wire.specs.Touch.{piece_count, AreJoined, AreMarks, AreFirsts};
 ghost use Rattle.leg_wire.specs.NetShapes.{AreNumbersOf};
 
 use crate::joining::joined_sets;
@@ -44,4 +44,23 @@ pub fn joined_among<A: Allocator + Copy>(
     let metal = metal_of_net(alloc, flat, net, numbers)?;
     let sets = joined_sets(alloc, flat, net, &metal)?;
     sets.marks(alloc)
+}
+
+/// For each piece of the net the least piece that it is joined to, by their numbers: two pieces are joined to each other just
+/// where these are the same. The numbers of the net's shapes are known, in increasing order, as for `joined_among`.
+///
+/// It fails only when out of memory.
+pub fn groups_among<A: Allocator + Copy>(
+    alloc: A,
+    flat: &Flat<A>,
+    net: u32,
+    numbers: &[u32],
+) -> Result<Vec<u32, A>, AllocError>
+    requires net { net < length flat.now.pieces }
+    requires numbers { AreNumbersOf flat.now.shapes net numbers.now }
+    ensures { IfOk result (λ firsts. AreFirsts (AreJoined flat.now net) (piece_count flat.now net) firsts.items) }
+{
+    let metal = metal_of_net(alloc, flat, net, numbers)?;
+    let sets = joined_sets(alloc, flat, net, &metal)?;
+    sets.roots(alloc)
 }

@@ -3,8 +3,9 @@
 //!
 //! `spacing_faults` and `open_faults` list exactly the violations of these kinds, each once, in order; `joined` finds
 //! which pieces of a net are joined to its first one, and `joined_among` the same where the numbers of the net's shapes
-//! are known, which `numbers_by_net` finds. `clean` decides where metal of a net may lie, `clean_indexed` decides it by
-//! an index, and `access_beside` finds which nets' metal may lie beside a shape.
+//! are known, which `numbers_by_net` finds; `groups_among` finds which pieces are joined to each other. `clean` decides
+//! where metal of a net may lie, `clean_indexed` decides it by an index, and `access_beside` finds which nets' metal may
+//! lie beside a shape.
 #![tactic(auto)]
 
 mod access;
@@ -25,7 +26,7 @@ mod too_close;
 
 pub use access::{Access, access_beside};
 pub use clean_metal::{clean, clean_indexed};
-pub use join::{joined, joined_among};
+pub use join::{groups_among, joined, joined_among};
 pub use net_shapes::numbers_by_net;
 pub use open_fault::open_faults;
 pub use spacing::spacing_faults;

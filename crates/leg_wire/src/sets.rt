@@ -2,7 +2,7 @@
 
 ghost use Rattle.std.specs.Prelude.{◌≡◌, ◌↔◌, ◌<◌, IsTrue, length, Some, IfOk, slice_get};
 ghost use Rattle.std.specs.List.{range_with_len};
-ghost use Rattle.leg_wire.specs.Touch.{AreMarks};
+ghost use Rattle.leg_wire.specs.Touch.{AreMarks, AreFirsts};
 ghost use Rattle.leg_wire.specs.Steps.NumberSets.{AreTogether, AreUnited, IsForest, roots_of};
 
 use std::alloc::{AllocError, Allocator};
@@ -83,6 +83,19 @@ impl<A: Allocator> Sets<A> {
             marks.push(with_first)?;
         }
         Ok(marks)
+    }
+
+    /// For each number the least number of its set.
+    pub(crate) fn roots<B: Allocator>(&self, alloc: B) -> Result<Vec<u32, B>, AllocError>
+        ensures { IfOk result (λ roots. AreFirsts (AreTogether self.now) (length self.now) roots.items) }
+    {
+        let parents = self.parents.as_slice();
+        let mut roots = Vec::with_capacity(alloc, parents.len())?;
+        for parent in parents {
+            let root = roots.get(*parent as usize).copied().unwrap_or(*parent);
+            roots.push(root)?;
+        }
+        Ok(roots)
     }
 }
 
