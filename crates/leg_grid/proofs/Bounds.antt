@@ -11,7 +11,7 @@ use Rattle.leg_grid.specs.declared.slot_box.SlotBox.{SlotBox}
 use Rattle.leg_grid.specs.Grid.{GridSaid, IsGrid, IsSlot}
 use Rattle.leg_grid.specs.Beside.{IsSlotBeside}
 use Rattle.leg_grid.specs.Numbered.{IsBesideAt}
-use Rattle.leg_grid.specs.declared.limits.TheConstants.{GRID_LIMIT}
+use Rattle.leg_grid.specs.declared.limits.TheConstants.{GREATEST_GRID}
 use Rattle.leg_grid.specs.Bound.{gap, slot_bound, nearest, bound_at, IsBoxOf, IsInBox, IsBesideNear}
 use Rattle.leg_grid.proofs.StepsAt.{step_from}
 
@@ -109,12 +109,12 @@ one_nearer grid boxes side n to is_grid step =
 gap_below : (n low high place : ℕ) → low < n → place < n → gap low high place < n
 gap_below n low high place l p = omega arith
 
-pub bound_small : (grid : GridSaid) (ends : SlotBox) (n : ℕ) (s : Slot) → IsGrid grid → IsBoxOf grid ends → IsSlot grid n s.layer s.row s.column → slot_bound ends s ≤ 12582912
+pub bound_small : (grid : GridSaid) (ends : SlotBox) (n : ℕ) (s : Slot) → IsGrid grid → IsBoxOf grid ends → IsSlot grid n s.layer s.row s.column → slot_bound ends s ≤ 50331648
 bound_small grid ends n s is_grid box slot =
     let layer = slot.layer in
     let row = slot.row in
     let column = slot.column in
-    let few = few_each 4194304 (length grid.layers) (length grid.ys) (length grid.xs) is_grid.few (omega arith) (omega arith) (omega arith) in
+    let few = few_each 16777216 (length grid.layers) (length grid.ys) (length grid.xs) is_grid.few (omega arith) (omega arith) (omega arith) in
     let l = gap_below (length grid.layers) ends.low.layer ends.high.layer s.layer box.low.layer layer in
     let r = gap_below (length grid.ys) ends.low.row ends.high.row s.row box.low.row row in
     let c = gap_below (length grid.xs) ends.low.column ends.high.column s.column box.low.column column in
@@ -132,7 +132,7 @@ min_grouped a b c = grind arith
 pub none_upto : (a b : ℕ) → a ≤ b → b ≡ 0 → a ≡ 0
 none_upto a b upto none = omega arith
 
-pub nearest_few : (boxes : List SlotBox) (s : Slot) → nearest boxes s ≤ GRID_LIMIT
+pub nearest_few : (boxes : List SlotBox) (s : Slot) → nearest boxes s ≤ GREATEST_GRID
 nearest_few [] s = omega arith
 nearest_few (ends ∷ boxes) s = let few = nearest_few boxes s in let least = min-le_right (slot_bound ends s) (nearest boxes s) in omega (arith, few, least)
 
@@ -159,7 +159,7 @@ nearest_first (ends ∷ boxes) more s = min_upto (slot_bound ends s) (nearest (b
 
 -- one box more
 pub nearest_more : (boxes : List SlotBox) (ends : SlotBox) (s : Slot) → nearest (boxes ++ ends ∷ []) s ≡ min (nearest boxes s) (slot_bound ends s)
-nearest_more [] ends s = min_turned (slot_bound ends s) GRID_LIMIT
+nearest_more [] ends s = min_turned (slot_bound ends s) GREATEST_GRID
 nearest_more (first ∷ boxes) ends s =
     ap (min (slot_bound first s)) (nearest_more boxes ends s) ∙ min_grouped (slot_bound first s) (nearest boxes s) (slot_bound ends s)
 

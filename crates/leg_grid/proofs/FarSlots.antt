@@ -18,7 +18,7 @@ use Rattle.leg_wire.specs.Steps.LayerSpacing.{spacing_at}
 use Rattle.leg_grid.specs.Added.{half, square}
 use Rattle.leg_grid.specs.OpenMetal.{IsOpenWire}
 use Rattle.leg_grid.specs.Grid.{GridSaid}
-use Rattle.leg_grid.specs.Steps.Squares.{IsStretch}
+use Rattle.leg_grid.specs.Steps.Stretches.{IsStretch}
 use Rattle.leg_grid.specs.Steps.Reaches.{Reaches, ReachesAll, ReachesShape}
 use Rattle.leg_grid.proofs.FarMetal.{IsBeyond, AreBeyond, the_one, far_is_clean}
 use Rattle.leg_grid.proofs.OpenVias.{metal_at, image_at}

@@ -4,7 +4,7 @@ use Rattle.std.proofs.lemmas.Option.{slice_get_within}
 use Rattle.leg_block.specs.Records.{DesignContents}
 use Rattle.leg_grid.specs.declared.layers.RoutingLayer.{RoutingLayer}
 use Rattle.leg_grid.specs.Tracks.{IsGridX, IsGridY}
-use Rattle.leg_grid.specs.GridSize.{AreValues, track_count, slot_count, IsGridTooLarge}
+use Rattle.leg_grid.specs.GridSize.{AreValues, track_count, slot_count, IsGridBeyond}
 use Rattle.leg_grid.specs.Grid.{axis_of, values_of, AreTracks}
 use Rattle.leg_grid.specs.Steps.LayerList.{routing_from}
 use Rattle.leg_grid.specs.TrackMarks.{AreTrackMarks}
@@ -46,12 +46,12 @@ module _ (design : DesignContents) (xs ys : List ℤ) (xs_are : AreValues (IsGri
   slots_are : (layers : List RoutingLayer) → layers ≡ routing_from 0 design.library.layers → length layers * length ys * length xs ≡ slot_count design xs ys
   slots_are layers is = ap (λ n. n * length ys * length xs) (ap length is ∙ count_from 0 design.library.layers)
 
-  pub not_too_large : (layers : List RoutingLayer) → layers ≡ routing_from 0 design.library.layers → ¬ (4194304 < track_count design.tracks) → length layers * length ys * length xs ≤ 4194304
-      → ¬ IsGridTooLarge design
-  not_too_large layers is few_tracks few (inl many) = few_tracks many
-  not_too_large layers is few_tracks few (inr (others, more, are, many)) =
+  pub not_beyond : (limit : ℕ) (layers : List RoutingLayer) → layers ≡ routing_from 0 design.library.layers → ¬ (limit < track_count design.tracks) → length layers * length ys * length xs ≤ limit
+      → ¬ IsGridBeyond limit design
+  not_beyond limit layers is few_tracks few (inl many) = few_tracks many
+  not_beyond limit layers is few_tracks few (inr (others, more, are, many)) =
       let same : slot_count design others more ≡ slot_count design xs ys = rw (same_xs others are.xs_are, same_ys more are.ys_are) refl in
       omega (arith, many, same, slots_are layers is, few)
 
-  pub too_large : (layers : List RoutingLayer) → layers ≡ routing_from 0 design.library.layers → ¬ (length layers * length ys * length xs ≤ 4194304) → IsGridTooLarge design
-  too_large layers is many = inr (xs, ys, record { xs_are = xs_are; ys_are = ys_are }, let same = slots_are layers is in omega (arith, same, many))
+  pub beyond : (limit : ℕ) (layers : List RoutingLayer) → layers ≡ routing_from 0 design.library.layers → ¬ (length layers * length ys * length xs ≤ limit) → IsGridBeyond limit design
+  beyond limit layers is many = inr (xs, ys, record { xs_are = xs_are; ys_are = ys_are }, let same = slots_are layers is in omega (arith, same, many))

@@ -33,6 +33,7 @@ pub mod WalkWires
 pub mod ViaUp
 pub mod FirstSteps
 pub mod OpenWalks
+pub mod GridWalks
 pub mod SlotRanges
 pub mod NumbersTold
 pub mod SlotBoxes

@@ -34,9 +34,19 @@ module _ {Node : Type 0} (Open Other : Node → Type 0) (Step Further : Node →
   walk_as (here is_open) = here (opens _ is_open)
   walk_as (on is_open step rest) = on (opens _ is_open) (steps _ _ step) (walk_as rest)
 
--- a shortest walk by nodes, steps, starts and ends that are told otherwise
+-- the ends of a walk are open
+module _ {Node : Type 0} {Open : Node → Type 0} {Step : Node → Node → Type 0} where
+  from_open : {a b : Node} {nodes : List Node} → Walk Open Step a nodes b → Open a
+  from_open (here is_open) = is_open
+  from_open (on is_open step rest) = is_open
+
+  to_open : {a b : Node} {nodes : List Node} → Walk Open Step a nodes b → Open b
+  to_open (here is_open) = is_open
+  to_open (on is_open step rest) = to_open rest
+
+-- a shortest walk by nodes and steps, and by open starts and ends, that are told otherwise
 module _ {Node : Type 0} (Open Other : Node → Type 0) (Step Further : Node → Node → Type 0) (Start End First Last : Node → Type 0) (opens : (a : Node) → Open a ↔ Other a)
-    (steps : (a b : Node) → Step a b ↔ Further a b) (starts : (a : Node) → Start a ↔ First a) (ends : (a : Node) → End a ↔ Last a) where
+    (steps : (a b : Node) → Step a b ↔ Further a b) (starts : (a : Node) → Open a → Start a ↔ First a) (ends : (a : Node) → Open a → End a ↔ Last a) where
   forth : {a b : Node} {nodes : List Node} → Walk Open Step a nodes b → Walk Other Further a nodes b
   forth walk = walk_as Open Other Step Further (λ a is. (opens a).0 is) (λ a b step. (steps a b).0 step) walk
 
@@ -47,14 +57,18 @@ module _ {Node : Type 0} (Open Other : Node → Type 0) (Step Further : Node →
   shortest_as nodes is = record {
     from = is.from;
     to = is.to;
-    start = (starts is.from).0 is.start;
-    is_end = (ends is.to).0 is.is_end;
+    start = (starts is.from (from_open is.walk)).0 is.start;
+    is_end = (ends is.to (to_open is.walk)).0 is.is_end;
     walk = forth is.walk;
-    least = λ a b others start end walk. is.least a b others ((starts a).1 start) ((ends b).1 end) (back walk);
+    least = λ a b others start end walk.
+        let same = back walk in
+        is.least a b others ((starts a (from_open same)).1 start) ((ends b (to_open same)).1 end) same;
   }
 
   pub none_as : NoWalk Open Step Start End → NoWalk Other Further First Last
-  none_as none a b nodes start end walk = none a b nodes ((starts a).1 start) ((ends b).1 end) (back walk)
+  none_as none a b nodes start end walk =
+      let same = back walk in
+      none a b nodes ((starts a (from_open same)).1 start) ((ends b (to_open same)).1 end) same
 
 module _ (grid : GridSaid) (origin around : List SlotBox) (flat : FlatSaid) (slots : List SlotAccess) (net : ℕ) where
   abbrev pub Admitted : ℕ → Type 0
@@ -78,16 +92,24 @@ module _ (grid : GridSaid) (origin around : List SlotBox) (flat : FlatSaid) (slo
           (side.0, (beside_near grid origin around side.0 m n is_grid side.1.0, (step_admitted grid is_grid sound flat slots told net m n side.0 side.1.0).1 side.1.1)),
     )
 
+    -- what a search answers is so of the numbers of open nodes
+    module _ (Start End : ℕ → Type 0) (starts finish : List ℕ) (first : (n : ℕ) → Admitted n → Contains starts n ↔ Start n) (last : (n : ℕ) → Admitted n → Contains finish n ↔ End n) where
+      pub shortest_at : (numbers : List ℕ) → IsShortest Admitted StepAdmitted (Contains starts) (Contains finish) numbers → IsShortest OpenAt StepAt Start End numbers
+      shortest_at numbers is =
+          shortest_as Admitted OpenAt StepAdmitted StepAt (Contains starts) (Contains finish) Start End (node_admitted grid flat slots told net) same_steps first last numbers is
+
+      pub none_at : NoWalk Admitted StepAdmitted (Contains starts) (Contains finish) → NoWalk OpenAt StepAt Start End
+      none_at none =
+          none_as Admitted OpenAt StepAdmitted StepAt (Contains starts) (Contains finish) Start End (node_admitted grid flat slots told net) same_steps first last none
+
     module _ (starts finish : List ℕ) (first : (n : ℕ) → Contains starts n ↔ IsOneOf (IsNumberOf grid) (MeetsJoined flat net) n) (last : (n : ℕ) → Contains finish n ↔ IsOneOf (IsNumberOf grid) (MeetsRest flat net) n) where
       pub next_walk_at : (numbers : List ℕ) → IsShortest Admitted StepAdmitted (Contains starts) (Contains finish) numbers → IsNextWalkAt grid flat net numbers
       next_walk_at numbers is =
-          shortest_as Admitted OpenAt StepAdmitted StepAt (Contains starts) (Contains finish) (IsOneOf (IsNumberOf grid) (MeetsJoined flat net)) (IsOneOf (IsNumberOf grid) (MeetsRest flat net))
-          (node_admitted grid flat slots told net) same_steps first last numbers is
+          shortest_at (IsOneOf (IsNumberOf grid) (MeetsJoined flat net)) (IsOneOf (IsNumberOf grid) (MeetsRest flat net)) starts finish (λ n is_open. first n) (λ n is_open. last n) numbers is
 
       pub no_walk_at : NoWalk Admitted StepAdmitted (Contains starts) (Contains finish) → HasNoWalkAt grid flat net
       no_walk_at none =
-          none_as Admitted OpenAt StepAdmitted StepAt (Contains starts) (Contains finish) (IsOneOf (IsNumberOf grid) (MeetsJoined flat net)) (IsOneOf (IsNumberOf grid) (MeetsRest flat net))
-          (node_admitted grid flat slots told net) same_steps first last none
+          none_at (IsOneOf (IsNumberOf grid) (MeetsJoined flat net)) (IsOneOf (IsNumberOf grid) (MeetsRest flat net)) starts finish (λ n is_open. first n) (λ n is_open. last n) none
 
 module _ (grid : GridSaid) (slots : List SlotAccess) (count : length slots ≡ slot_total grid) (net : ℕ) where
   below : (n : ℕ) → IsNodeAdmitted slots net n → n < slot_total grid

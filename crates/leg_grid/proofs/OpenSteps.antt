@@ -18,7 +18,7 @@ use Rattle.leg_grid.specs.Added.{half, StepAdds}
 use Rattle.leg_grid.specs.OpenMetal.{IsOpenWire, IsOpenStep}
 use Rattle.leg_grid.specs.Grid.{GridSaid, IsGrid, IsSlot, IsNumberOf}
 use Rattle.leg_grid.specs.Beside.{IsAboveOf}
-use Rattle.leg_grid.specs.Steps.Squares.{IsStretch}
+use Rattle.leg_grid.specs.Steps.Stretches.{IsStretch}
 use Rattle.leg_grid.specs.Numbered.{IsStepOf, IsBesideAt, IsOpenStepAt}
 use Rattle.leg_grid.proofs.GridSlots.{the_node, numbered, lies_at}
 use Rattle.leg_grid.proofs.OpenNodes.{one_width}

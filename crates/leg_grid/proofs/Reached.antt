@@ -8,7 +8,7 @@ use Rattle.leg_lex.specs.Number.{IsNumber}
 use Rattle.leg_geom.specs.Plane.{Sides, IsCoordinate}
 use Rattle.leg_cells.specs.declared.records.Shape.{Shape}
 use Rattle.leg_grid.specs.Steps.Reaches.{IsDistance, IsReach, ReachesAll, IsWider, ReachesShape}
-use Rattle.leg_grid.specs.Steps.SlotRanges.{ArePlaces}
+use Rattle.leg_grid.specs.Places.{ArePlaces}
 use Rattle.leg_grid.specs.Steps.SlotsTold.{ArePlacesNear}
 
 -- what reaches so far reaches as far where the reach is wider

@@ -12,7 +12,8 @@ use Rattle.leg_grid.specs.InRect.{LiesInRect}
 use Rattle.leg_grid.specs.Numbered.{IsOneOf}
 use Rattle.leg_grid.specs.Bound.{nearest, slot_of, bound_at, IsBoxOf, IsInBox, HasJust, AreBoxed}
 use Rattle.leg_grid.specs.Steps.Boxes.{IsBoxAt, HaveGotBox}
-use Rattle.leg_grid.specs.Steps.SlotRanges.{ArePlaces, IsLayerAt, IsInRows, HaveGot}
+use Rattle.leg_grid.specs.Places.{ArePlaces}
+use Rattle.leg_grid.specs.Steps.SlotRanges.{IsLayerAt, IsInRows, HaveGot}
 use Rattle.leg_grid.proofs.Bounds.{slot_is, in_boxes, nearest_first, none_upto}
 use Rattle.leg_grid.proofs.SlotRanges.{in_rect, from_rect}
 

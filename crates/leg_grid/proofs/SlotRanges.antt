@@ -13,7 +13,8 @@ use Rattle.leg_grid.specs.declared.slot.Slot.{Slot}
 use Rattle.leg_grid.specs.Grid.{GridSaid, IsGrid, IsSlot, IsNumberOf, slot_total}
 use Rattle.leg_grid.specs.InRect.{LiesInRect}
 use Rattle.leg_grid.specs.Numbered.{IsOneOf}
-use Rattle.leg_grid.specs.Steps.SlotRanges.{ArePlaces, IsLayerAt, IsAmong, IsInRows, HaveGot}
+use Rattle.leg_grid.specs.Places.{ArePlaces}
+use Rattle.leg_grid.specs.Steps.SlotRanges.{IsLayerAt, IsAmong, IsInRows, HaveGot}
 use Rattle.leg_grid.proofs.GridSlots.{one_place}
 use Rattle.leg_grid.proofs.Slots.{by_number}
 use Rattle.leg_grid.proofs.StepsAt.{point_in}

@@ -15,8 +15,7 @@ use Rattle.leg_flat.specs.Metal.{OnLayer}
 use Rattle.leg_flat.specs.Flat.{FlatSaid}
 use Rattle.leg_wire.specs.Comparable.{AreComparable}
 use Rattle.leg_wire.specs.Clean.{net_metal, IsClean}
-use Rattle.leg_grid.specs.Added.{half}
-use Rattle.leg_grid.specs.Steps.Squares.{IsSmall}
+use Rattle.leg_grid.specs.Added.{half, IsSmall}
 
 -- half of a width is above 0, and is a number that a DEF may have
 pub record IsHalf (h : ℤ) : Type 0 where

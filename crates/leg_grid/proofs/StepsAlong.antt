@@ -17,7 +17,7 @@ use Rattle.leg_grid.specs.OpenMetal.{IsOpenWire}
 use Rattle.leg_grid.specs.Grid.{GridSaid, IsGrid, IsNumberOf}
 use Rattle.leg_grid.specs.Numbered.{IsBesideAt, IsOpenStepAt}
 use Rattle.leg_grid.specs.Told.{IsOpenAlong}
-use Rattle.leg_grid.specs.Steps.Squares.{IsStretch}
+use Rattle.leg_grid.specs.Steps.Stretches.{IsStretch}
 use Rattle.leg_grid.specs.Steps.SlotsTold.{IsNextAlong, IsNextIfAny}
 use Rattle.leg_grid.proofs.GridSlots.{the_node}
 use Rattle.leg_grid.proofs.OpenSteps.{line_of, beside_nodes, stretch_east, stretch_north, no_step, line_answer}

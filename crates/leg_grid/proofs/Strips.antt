@@ -9,7 +9,7 @@ use Rattle.leg_flat.specs.Outline.{HasPointOf}
 use Rattle.leg_flat.specs.Outline.Outline.{Line}
 use Rattle.leg_grid.proofs.SegmentPoints.{ends, sides_of, RunsAcross, along_up, along_down, horizontal_points, vertical_points}
 use Rattle.leg_grid.specs.Added.{half}
-use Rattle.leg_grid.specs.Steps.Squares.{IsStretch}
+use Rattle.leg_grid.specs.Steps.Stretches.{IsStretch}
 use Rattle.leg_grid.proofs.Squares.{half_is}
 
 abbrev pub strip_of : Spot → Spot → ℤ → Sides

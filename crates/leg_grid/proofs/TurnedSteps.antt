@@ -21,7 +21,7 @@ use Rattle.leg_grid.specs.Grid.{GridSaid, IsGrid}
 use Rattle.leg_grid.specs.Beside.{IsSlotBeside}
 use Rattle.leg_grid.specs.Numbered.{IsBesideAt, IsOpenStepAt}
 use Rattle.leg_grid.specs.Told.{IsOpenAlong}
-use Rattle.leg_grid.specs.Steps.Squares.{IsStretch}
+use Rattle.leg_grid.specs.Steps.Stretches.{IsStretch}
 use Rattle.leg_grid.proofs.Squares.{open_is_clean, clean_is_open}
 use Rattle.leg_grid.proofs.Strips.{strip_of, points_forth, points_back}
 use Rattle.leg_grid.proofs.GridSlots.{the_node, one_direction}

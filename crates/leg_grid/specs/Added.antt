@@ -1,5 +1,6 @@
 -- The wires that nodes and steps of the grid add (lefdef's own rules): each is given as a wire of NETS.
-use Rattle.std.specs.Prelude.{◌≡◌, ℕ, ◌⊎◌, ℤ, pos, ◌-ℤ◌}
+use Rattle.std.specs.Prelude.{◌≡◌, ℕ, ◌≤◌, ◌⊎◌, ℤ, pos, ◌-ℤ◌, unsigned_abs}
+use Rattle.leg_lex.specs.declared.limits.TheConstants.{NUMBER_LIMIT}
 use Rattle.leg_geom.specs.Plane.{Sides, halfway}
 use Rattle.leg_cells.specs.declared.records.Direction.{Direction}
 use Rattle.leg_block.specs.declared.records.Wire.{Wire}
@@ -16,6 +17,13 @@ half width = halfway (pos 0) width
 -- the square of this width about the point 0 0
 abbrev pub square : ℤ → Sides
 square width = record { x1 = pos 0 -ℤ half width; y1 = pos 0 -ℤ half width; x2 = half width; y2 = half width }
+
+-- all sides are numbers that a DEF may have, so that the rectangle can be moved to any point of a design
+pub record IsSmall (r : Sides) : Type 0 where
+  pub x1 : unsigned_abs r.x1 ≤ NUMBER_LIMIT
+  pub y1 : unsigned_abs r.y1 ≤ NUMBER_LIMIT
+  pub x2 : unsigned_abs r.x2 ≤ NUMBER_LIMIT
+  pub y2 : unsigned_abs r.y2 ≤ NUMBER_LIMIT
 
 -- a node adds the square of its layer's width
 pub record NodeAdds (design : DesignContents) (node : Node) (wire : Wire) : Type 0 where

@@ -2,7 +2,7 @@
 use Rattle.std.specs.Prelude.{◌≡◌, ◌↔◌, ℕ, ◌+◌, ◌-◌, ◌/◌, ◌%◌, ◌≤◌, List, [], ◌∷◌, length, min, All}
 use Rattle.leg_grid.specs.declared.slot.Slot.{Slot}
 use Rattle.leg_grid.specs.declared.slot_box.SlotBox.{SlotBox}
-use Rattle.leg_grid.specs.declared.limits.TheConstants.{GRID_LIMIT}
+use Rattle.leg_grid.specs.declared.limits.TheConstants.{GREATEST_GRID}
 use Rattle.leg_grid.specs.Grid.{GridSaid, IsSlot}
 use Rattle.leg_walk.specs.declared.side.Side.{Side}
 use Rattle.leg_walk.specs.Side.{opposite, across_twice}
@@ -23,7 +23,7 @@ slot_of grid n = record { layer = n / length grid.xs / length grid.ys; row = n /
 
 -- how many layers, rows and columns a slot lies outside of the nearest of the boxes; with no boxes, as many as a grid has slots at most
 abbrev pub nearest : List SlotBox → Slot → ℕ
-nearest [] s = GRID_LIMIT
+nearest [] s = GREATEST_GRID
 nearest (ends ∷ boxes) s = min (slot_bound ends s) (nearest boxes s)
 
 -- the same for the slot of this number

@@ -8,7 +8,7 @@ use Rattle.leg_cells.specs.Records.{Contents}
 use Rattle.leg_block.specs.declared.records.Axis.{Axis}
 use Rattle.leg_block.specs.declared.records.Axis.TheVariants.{X, Y}
 use Rattle.leg_block.specs.Records.{DesignContents}
-use Rattle.leg_grid.specs.declared.limits.TheConstants.{GRID_LIMIT}
+use Rattle.leg_grid.specs.declared.limits.TheConstants.{GREATEST_GRID}
 use Rattle.leg_grid.specs.declared.layers.RoutingLayer.{RoutingLayer}
 use Rattle.leg_grid.specs.declared.node.Node.{Node}
 use Rattle.leg_grid.specs.Tracks.{Runs, IsGridX, IsGridY}
@@ -60,14 +60,14 @@ pub record AreViasFrom (library : Contents) (layers : List RoutingLayer) (n : �
 abbrev pub slot_total : GridSaid → ℕ
 slot_total grid = length grid.layers * length grid.ys * length grid.xs
 
--- The table is that of the grid of its design, and keeps the limit.
+-- The table is that of the grid of its design, and keeps the greatest limit.
 pub record IsGrid (grid : GridSaid) : Type 0 where
   pub layers_are : AreRoutingLayers grid.design.library grid.layers
   pub xs_are : AreValues (IsGridX grid.design) grid.xs
   pub ys_are : AreValues (IsGridY grid.design) grid.ys
   pub xs_within : All IsNumber grid.xs
   pub ys_within : All IsNumber grid.ys
-  pub few : slot_total grid ≤ GRID_LIMIT
+  pub few : slot_total grid ≤ GREATEST_GRID
   pub tracks_are : AreTracks grid.design grid.layers grid.xs grid.ys grid.tracks
   pub vias_are : AreViasFrom grid.design.library grid.layers (length grid.layers) grid.vias
 

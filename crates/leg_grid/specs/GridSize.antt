@@ -29,8 +29,12 @@ pub record AreGridValues (design : DesignContents) (xs ys : List ℤ) : Type 0 w
   pub xs_are : AreValues (IsGridX design) xs
   pub ys_are : AreValues (IsGridY design) ys
 
--- The grid is too large: there are too many tracks, or too many slots.
+-- The grid is beyond a limit: there are more tracks than this, or more slots.
+abbrev pub IsGridBeyond : ℕ → DesignContents → Type 0
+IsGridBeyond limit design =
+    (limit < track_count design.tracks)
+    ⊎ ((xs : List ℤ) × (ys : List ℤ) × AreGridValues design xs ys × (limit < slot_count design xs ys))
+
+-- The grid is too large: it is beyond the limit of routed designs.
 abbrev pub IsGridTooLarge : DesignContents → Type 0
-IsGridTooLarge design =
-    (GRID_LIMIT < track_count design.tracks)
-    ⊎ ((xs : List ℤ) × (ys : List ℤ) × AreGridValues design xs ys × (GRID_LIMIT < slot_count design xs ys))
+IsGridTooLarge design = IsGridBeyond GRID_LIMIT design

@@ -10,6 +10,7 @@ pub mod MoreWires
 pub mod Run
 pub mod TrackMarks
 pub mod GridSize
+pub mod Places
 pub mod Refusals
 pub mod Grid
 pub mod Beside

@@ -1,5 +1,5 @@
 -- Walks over the grid, given by the numbers of slots.
-use Rattle.std.specs.Prelude.{ℕ, List}
+use Rattle.std.specs.Prelude.{ℕ, List, Contains}
 use Rattle.leg_flat.specs.Flat.{FlatSaid}
 use Rattle.leg_walk.specs.Walk.{IsShortest, NoWalk}
 use Rattle.leg_walk.specs.declared.side.Side.{Side}
@@ -14,6 +14,12 @@ pub record IsOneOf {Point : Type 0} (Number : ℕ → Point → Type 0) (P : Poi
   pub node : Point
   pub is : Number n node
   pub holds : P node
+
+-- the node has one of these numbers
+pub record IsNodeAmong (grid : GridSaid) (numbers : List ℕ) (node : Node) : Type 0 where
+  pub n : ℕ
+  pub has : Contains numbers n
+  pub is : IsNumberOf grid n node
 
 -- there is such a step from the node of the one number to that of the other
 pub record IsStepOf {Point : Type 0} (Number : ℕ → Point → Type 0) (Step : Point → Point → Type 0) (m n : ℕ) : Type 0 where

@@ -2,7 +2,7 @@
 pub mod Lines
 pub mod LayerList
 pub mod Joining
-pub mod Squares
+pub mod Stretches
 pub mod SlotSides
 pub mod Towards
 pub mod FirstWire

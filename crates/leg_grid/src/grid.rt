@@ -1,21 +1,23 @@
 //! The grid of a design.
 
-ghost use Rattle.std.specs.Prelude.{◌≡◌, ◌↔◌, ◌<◌, ◌^◌, IsTrue, Bool, List, Some, All, length, slice_get, IfOk, IfErr, OnOk};
+ghost use Rattle.std.specs.Prelude.{◌≡◌, ◌↔◌, ◌<◌, ◌≤◌, ◌^◌, IsTrue, Bool, List, Some, All, length, slice_get, IfOk, IfErr, OnOk};
 ghost use Rattle.leg_lex.specs.Number.{IsNumber};
 ghost use Rattle.leg_cells.specs.declared.records.Direction.{Direction};
 ghost use Rattle.leg_cells.specs.Sound.{IsWidth, IsSound};
 ghost use Rattle.leg_block.specs.WellFormedParts.{IsPosition};
 ghost use Rattle.leg_grid.specs.declared.fault.GridFault.TheVariants.{TooLarge};
+ghost use Rattle.leg_grid.specs.declared.limits.TheConstants.{GREATEST_GRID};
 ghost use Rattle.leg_grid.specs.declared.layers.RoutingLayer.{RoutingLayer};
 ghost use Rattle.leg_grid.specs.declared.node.Node.{Node};
 ghost use Rattle.leg_grid.specs.Nodes.{IsNode};
 ghost use Rattle.leg_grid.specs.Tracks.{Runs};
-ghost use Rattle.leg_grid.specs.GridSize.{IsGridTooLarge};
+ghost use Rattle.leg_grid.specs.GridSize.{IsGridTooLarge, IsGridBeyond};
 ghost use Rattle.leg_grid.specs.Grid.{AreTracks, IsGrid, IsSlot, LiesAt, IsNumberOf, axis_of, values_of, slot_total};
 ghost use Rattle.leg_grid.specs.TrackMarks.{AreTrackMarks};
 
 use crate::fault::GridFault;
 use crate::layers::{RoutingLayer, routing_layers};
+use crate::limits::{GREATEST_GRID, GRID_LIMIT};
 use crate::lines::{grid_xs, grid_ys};
 use crate::node::Node;
 use crate::size::{are_too_many, fits, slots_of};
@@ -124,14 +126,29 @@ impl<'g, 'a, A: Allocator + Copy> Grid<'g, 'a, A> {
         ensures fits { OnOk result (¬ IsGridTooLarge design.now) }
         ensures large { IfErr result (λ fault. fault ≡ TooLarge → IsGridTooLarge design.now) }
     {
-        if are_too_many(design.tracks()) {
+        Self::new_within(alloc, design, GRID_LIMIT)
+    }
+
+    /// The grid of the design by another limit than `GRID_LIMIT`, which is `GREATEST_GRID` at most. `TooLarge` is returned
+    /// where the design has more tracks than the limit or its grid more slots.
+    pub fn new_within(
+        alloc: A,
+        design: &'g Design<'a, A>,
+        limit: u64,
+    ) -> Result<Grid<'g, 'a, A>, GridFault>
+        requires { limit ≤ GREATEST_GRID }
+        ensures is { IfOk result (λ grid. grid.design ≡ design.now) }
+        ensures fits { OnOk result (¬ IsGridBeyond limit design.now) }
+        ensures large { IfErr result (λ fault. fault ≡ TooLarge → IsGridBeyond limit design.now) }
+    {
+        if are_too_many(design.tracks(), limit) {
             return Err(GridFault::TooLarge);
         }
         let library = design.library();
         let layers = routing_layers(alloc, library.layers())?;
         let xs = grid_xs(alloc, design)?;
         let ys = grid_ys(alloc, design)?;
-        if !fits(layers.len(), ys.len(), xs.len()) {
+        if !fits(layers.len(), ys.len(), xs.len(), limit) {
             return Err(GridFault::TooLarge);
         }
         let tracks = all_track_marks(alloc, design, &layers, &xs, &ys)?;
@@ -151,11 +168,17 @@ impl<'g, 'a, A: Allocator + Copy> Grid<'g, 'a, A> {
         ensures is { result ≡ slot_total self.now }
         ensures proper { IsGrid self.now }
     {
-        slots_of(self.layers.len(), self.ys.len(), self.xs.len()).unwrap()
+        slots_of(
+            self.layers.len(),
+            self.ys.len(),
+            self.xs.len(),
+            GREATEST_GRID,
+        )
+        .unwrap()
     }
 
-    /// The slot of this number.
-    pub(crate) fn slot(&self, number: u32) -> Slot
+    /// The slot of this number. Slots are numbered by layer, then by row, then by column, from 0.
+    pub fn slot(&self, number: u32) -> Slot
         requires { number < slot_total self.now }
         ensures is { IsSlot self.now number result.layer result.row result.column }
         ensures proper { IsGrid self.now }
@@ -171,24 +194,24 @@ impl<'g, 'a, A: Allocator + Copy> Grid<'g, 'a, A> {
         }
     }
 
-    /// The routing layers, bottom up.
-    pub(crate) fn layers(&self) -> &[RoutingLayer]
+    /// The routing layers, bottom up: layer k of the slots is the one at place k.
+    pub fn layers(&self) -> &[RoutingLayer]
         ensures is { result.now ≡ self.now.layers }
         ensures proper { IsGrid self.now }
     {
         &self.layers
     }
 
-    /// The x values of the columns, in increasing order.
-    pub(crate) fn xs(&self) -> &[i64]
+    /// The x values of the columns in database units, in increasing order.
+    pub fn xs(&self) -> &[i64]
         ensures is { result.now ≡ self.now.xs }
         ensures proper { IsGrid self.now }
     {
         &self.xs
     }
 
-    /// The y values of the rows, in increasing order.
-    pub(crate) fn ys(&self) -> &[i64]
+    /// The y values of the rows in database units, in increasing order.
+    pub fn ys(&self) -> &[i64]
         ensures is { result.now ≡ self.now.ys }
         ensures proper { IsGrid self.now }
     {
@@ -196,28 +219,28 @@ impl<'g, 'a, A: Allocator + Copy> Grid<'g, 'a, A> {
     }
 
     /// How many columns of slots there are, one for each x value.
-    pub(crate) fn columns(&self) -> usize
+    pub fn columns(&self) -> usize
         ensures { result ≡ length self.now.xs }
     {
         self.xs.len()
     }
 
     /// How many rows of slots there are, one for each y value.
-    pub(crate) fn rows(&self) -> usize
+    pub fn rows(&self) -> usize
         ensures { result ≡ length self.now.ys }
     {
         self.ys.len()
     }
 
     /// How many routing layers there are.
-    pub(crate) fn layer_count(&self) -> usize
+    pub fn layer_count(&self) -> usize
         ensures { result ≡ length self.now.layers }
     {
         self.layers.len()
     }
 
-    /// The number of the slot.
-    pub(crate) fn number_at(&self, slot: Slot) -> u32
+    /// The number of the slot: slots are numbered by layer, then by row, then by column, from 0.
+    pub fn number_at(&self, slot: Slot) -> u32
         requires layer { slot.layer < length self.now.layers }
         requires row { slot.row < length self.now.ys }
         requires column { slot.column < length self.now.xs }
@@ -227,8 +250,8 @@ impl<'g, 'a, A: Allocator + Copy> Grid<'g, 'a, A> {
         ((slot.layer * self.ys.len() + slot.row) * self.xs.len() + slot.column) as u32
     }
 
-    /// Routing layer k.
-    pub(crate) fn layer_at(&self, k: usize) -> RoutingLayer
+    /// Routing layer k, counted from 0 at the bottom.
+    pub fn layer_at(&self, k: usize) -> RoutingLayer
         requires { k < length self.now.layers }
         ensures is { slice_get self.now.layers k ≡ Some result }
         ensures proper { IsGrid self.now }
@@ -236,8 +259,9 @@ impl<'g, 'a, A: Allocator + Copy> Grid<'g, 'a, A> {
         self.layers[k]
     }
 
-    /// The via from routing layer k to the next one above, by its number.
-    pub(crate) fn via_at(&self, k: usize) -> Option<usize>
+    /// The via by which wires go from routing layer k to the next one above, by its number in the library, or none where no
+    /// via leads there, as from the top layer.
+    pub fn via_at(&self, k: usize) -> Option<usize>
         requires { k < length self.now.layers }
         ensures is { slice_get self.now.vias k ≡ Some result }
         ensures proper { IsGrid self.now }

@@ -13,7 +13,7 @@ ghost use Rattle.leg_grid.specs.Neighbours.{IsBeside};
 ghost use Rattle.leg_grid.specs.Beside.{IsSlotBeside};
 ghost use Rattle.leg_walk.specs.Walk.{IsStep, IsShortest, NoWalk};
 ghost use Rattle.leg_grid.specs.declared.slot_box.SlotBox.{SlotBox};
-ghost use Rattle.leg_grid.specs.OpenMetal.{IsOpenStep};
+ghost use Rattle.leg_grid.specs.OpenMetal.{IsOpenNode, IsOpenStep};
 ghost use Rattle.leg_grid.specs.Bound.{bound_at, IsInBox, IsBesideNear};
 ghost use Rattle.leg_grid.specs.GridWalk.{IsGridWalk};
 ghost use Rattle.leg_block.specs.Records.{DesignContents};
@@ -22,7 +22,7 @@ ghost use Rattle.leg_grid.specs.Run.{IsNextWalk, HasNoWalk};
 ghost use Rattle.leg_grid.specs.Grid.{GridSaid, IsGrid, IsSlot, LiesAt, IsNumberOf, slot_total};
 ghost use Rattle.leg_grid.specs.Told.{TellsSlots};
 ghost use Rattle.leg_grid.specs.Admitted.{IsNodeAdmitted, IsStepAdmitted};
-ghost use Rattle.leg_grid.specs.Numbered.{IsOneOf, IsStepOf, IsBesideAt, IsOpenStepAt, IsNextWalkAt, HasNoWalkAt};
+ghost use Rattle.leg_grid.specs.Numbered.{IsOneOf, IsStepOf, IsNodeAmong, IsBesideAt, IsOpenStepAt, IsNextWalkAt, HasNoWalkAt};
 
 /// Each node of the grid has a number, no two have one, and none has two.
 #[tactic(auto, using(crate::proofs::GridSlots::one_node, crate::proofs::GridSlots::one_number, crate::proofs::GridSlots::numbered))]
@@ -49,6 +49,19 @@ pub fn searches_walk_as_numbers()
     ensures within { (grid : GridSaid) (origin around : List SlotBox) (slots : List SlotAccess) (net : ℕ) (starts finish numbers : List ℕ) → length slots ≡ slot_total grid
         → IsShortest (IsNodeAdmitted slots net) (IsStep (IsBesideNear grid origin around) (IsStepAdmitted grid slots net)) (Contains starts) (Contains finish) numbers
         → All (λ n. n < slot_total grid) numbers }
+{}
+
+/// What a search in the graph of a net answers, from any numbers to any others, is an open walk of the net from the nodes of the
+/// ones to the nodes of the others, where the table has what is open in the flat.
+pub fn searches_walk_as_nodes()
+    ensures shortest { (grid : GridSaid) (origin around : List SlotBox) (flat : FlatSaid) (slots : List SlotAccess) (net : ℕ) (starts finish numbers : List ℕ) → IsGrid grid
+        → IsSound grid.design.library → TellsSlots grid flat slots
+        → IsShortest (IsNodeAdmitted slots net) (IsStep (IsBesideNear grid origin around) (IsStepAdmitted grid slots net)) (Contains starts) (Contains finish) numbers
+        → (nodes : List Node) × AllZip (IsNumberOf grid) numbers nodes × IsShortest (IsOpenNode grid.design flat net) (IsOpenStep grid.design flat net) (IsNodeAmong grid starts) (IsNodeAmong grid finish) nodes }
+    ensures none { (grid : GridSaid) (origin around : List SlotBox) (flat : FlatSaid) (slots : List SlotAccess) (net : ℕ) (starts finish : List ℕ) → IsGrid grid
+        → IsSound grid.design.library → TellsSlots grid flat slots
+        → NoWalk (IsNodeAdmitted slots net) (IsStep (IsBesideNear grid origin around) (IsStepAdmitted grid slots net)) (Contains starts) (Contains finish)
+        → NoWalk (IsOpenNode grid.design flat net) (IsOpenStep grid.design flat net) (IsNodeAmong grid starts) (IsNodeAmong grid finish) }
 {}
 
 /// A shortest open walk that is given by numbers is one of nodes; where no numbers are those of an open walk, there is

@@ -7,11 +7,10 @@ ghost use Rattle.leg_block.specs.declared.records.Wire.TheVariants.{Patch};
 ghost use Rattle.leg_block.specs.WellFormedParts.{IsPosition};
 ghost use Rattle.leg_flat.specs.Outline.{HasPointOf};
 ghost use Rattle.leg_flat.specs.Outline.Outline.{Shifted};
-ghost use Rattle.leg_grid.specs.Added.{half, square};
+ghost use Rattle.leg_grid.specs.Added.{half, square, IsSmall};
 ghost use Rattle.leg_wire.specs.Access.{alone};
 ghost use Rattle.leg_grid.specs.OpenMetal.{IsOpenWire};
 ghost use Rattle.leg_grid.specs.Told.{Tells};
-ghost use Rattle.leg_grid.specs.Steps.Squares.{IsSmall};
 
 use leg_block::Design;
 use leg_flat::Shape;
@@ -26,8 +25,9 @@ pub(crate) fn half(width: i64) -> i64
     width.div_euclid(2)
 }
 
-/// The square of this width about the point 0 0.
-pub(crate) fn square(width: i64) -> Rect
+/// The square of this width about the point 0 0, in database units: what the node of a layer adds whose wires have this width,
+/// given from the node's point.
+pub fn square(width: i64) -> Rect
     requires { IsWidth width }
     ensures is { result ≡ square width }
     ensures small { IsSmall result }

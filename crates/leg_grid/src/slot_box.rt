@@ -5,7 +5,7 @@ ghost use Rattle.leg_grid.specs.Grid.{slot_total};
 ghost use Rattle.leg_grid.specs.Bound.{gap, slot_bound, bound_at, IsBoxOf};
 
 use crate::grid::Grid;
-use crate::limits::GRID_LIMIT;
+use crate::limits::GREATEST_GRID;
 use crate::slot::Slot;
 use std::alloc::Allocator;
 
@@ -49,7 +49,7 @@ pub fn bound<A: Allocator + Copy>(grid: &Grid<'_, '_, A>, boxes: &[SlotBox], num
     ensures { result ≡ bound_at grid.now boxes.now number }
 {
     let slot = grid.slot(number);
-    let mut least = GRID_LIMIT as usize;
+    let mut least = GREATEST_GRID as usize;
     for ends in boxes {
         least = least.min(outside(ends, slot));
     }

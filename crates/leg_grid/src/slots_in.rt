@@ -7,7 +7,8 @@ ghost use Rattle.leg_grid.specs.Numbered.{IsOneOf};
 ghost use Rattle.leg_grid.specs.declared.slot_box.SlotBox.{SlotBox};
 ghost use Rattle.leg_grid.specs.Bound.{HasJust, AreBoxed};
 ghost use Rattle.leg_grid.specs.Steps.Boxes.{HaveGotBox};
-ghost use Rattle.leg_grid.specs.Steps.SlotRanges.{ArePlaces, IsLayerIfAny, IsInRow, IsInRows, HaveGot};
+ghost use Rattle.leg_grid.specs.Places.{ArePlaces};
+ghost use Rattle.leg_grid.specs.Steps.SlotRanges.{IsLayerIfAny, IsInRow, IsInRows, HaveGot};
 
 use crate::grid::Grid;
 use crate::layers::RoutingLayer;
@@ -16,8 +17,9 @@ use crate::slot_box::{BoxedSlots, SlotBox};
 use leg_geom::Rect;
 use std::alloc::{AllocError, Allocator};
 
-/// The places of the values from low to high: the first one, and the one past the last.
-pub(crate) fn places_within(values: &[i64], low: i64, high: i64) -> (usize, usize)
+/// The places of the values from low to high, both among them, in a list of increasing values: the first place, and the one
+/// past the last. Where no value lies there, the first is not below the other.
+pub fn places_within(values: &[i64], low: i64, high: i64) -> (usize, usize)
     requires { AllPairs (λ a b. a <ℤ b) values.now }
     ensures { ArePlaces values.now low high result.0 result.1 }
 {

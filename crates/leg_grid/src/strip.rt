@@ -10,7 +10,7 @@ ghost use Rattle.leg_grid.specs.Added.{half};
 ghost use Rattle.leg_wire.specs.Access.{alone};
 ghost use Rattle.leg_grid.specs.OpenMetal.{IsOpenWire};
 ghost use Rattle.leg_grid.specs.Told.{Tells};
-ghost use Rattle.leg_grid.specs.Steps.Squares.{IsStretch};
+ghost use Rattle.leg_grid.specs.Steps.Stretches.{IsStretch};
 
 use crate::patch::half;
 use leg_block::Design;

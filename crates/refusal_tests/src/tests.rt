@@ -82,6 +82,7 @@ fn nets_without_memory(rt: HostRuntime) {
         every_form(),
     ] {
         assert!(rt; goes_right(refusing, refusing, Trial::Lend(DesignCall::Joined), def));
+        assert!(rt; goes_right(refusing, refusing, Trial::Lend(DesignCall::Groups), def));
         assert!(rt; goes_right(refusing, refusing, Trial::Lend(DesignCall::OpenFaults), def));
         assert!(rt; goes_right(refusing, refusing, Trial::Lend(DesignCall::AddWire), def));
     }

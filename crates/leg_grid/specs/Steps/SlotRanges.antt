@@ -1,15 +1,7 @@
 -- Slots of a grid by ranges of rows and columns.
-use Rattle.std.specs.Prelude.{◌≡◌, ◌↔◌, ◌⊎◌, ℕ, ◌<◌, ◌≤◌, ℤ, ◌≤ℤ◌, List, length, Some, slice_get, Contains, Option, MatchOption}
+use Rattle.std.specs.Prelude.{◌≡◌, ◌↔◌, ◌⊎◌, ℕ, ◌<◌, ◌≤◌, List, Some, slice_get, Contains, Option, MatchOption}
 use Rattle.leg_grid.specs.declared.layers.RoutingLayer.{RoutingLayer}
 use Rattle.leg_grid.specs.Grid.{GridSaid, IsSlot}
-
--- the places from the first to before the end are those of the values from low to high
-pub record ArePlaces (values : List ℤ) (low high : ℤ) (first end : ℕ) : Type 0 where
-  pub within : end ≤ length values
-  pub low_in : (k : ℕ) (z : ℤ) → slice_get values k ≡ Some z → first ≤ k → low ≤ℤ z
-  pub high_in : (k : ℕ) (z : ℤ) → slice_get values k ≡ Some z → k < end → z ≤ℤ high
-  pub first_in : (k : ℕ) (z : ℤ) → slice_get values k ≡ Some z → low ≤ℤ z → first ≤ k
-  pub end_in : (k : ℕ) (z : ℤ) → slice_get values k ≡ Some z → z ≤ℤ high → k < end
 
 -- routing layer k is the layer of this number in the library
 pub record IsLayerAt (layers : List RoutingLayer) (number k : ℕ) : Type 0 where

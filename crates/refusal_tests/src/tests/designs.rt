@@ -12,7 +12,7 @@ use leg_design::read_def;
 use leg_flat::{Flat, FlatFault, flatten};
 use leg_place::place_faults;
 use leg_print::print_def;
-use leg_wire::{joined, open_faults, spacing_faults};
+use leg_wire::{groups_among, joined, numbers_by_net, open_faults, spacing_faults};
 use refusing_alloc::{Refused, RefusingAlloc, Turn, Turns};
 use std::alloc::{Allocator, Global};
 
@@ -26,6 +26,8 @@ pub(super) enum DesignCall {
     SpacingFaults,
     /// Of its first net.
     Joined,
+    /// Of its first net.
+    Groups,
     OpenFaults,
     PrintDef,
 }
@@ -152,6 +154,23 @@ fn joined_in_turn<A: Allocator + Copy>(
     turn_of_list(refusing, found, &ample)
 }
 
+fn groups_in_turn<A: Allocator + Copy>(
+    alloc: A,
+    refusing: &RefusingAlloc<Global>,
+    design: &Design<'_, A>,
+    number: u64,
+) -> Option<Turn> {
+    let flat = flatten(alloc, design.library(), design).ok()?;
+    if flat.net_count() == 0 {
+        return None;
+    }
+    let lists = numbers_by_net(alloc, flat.shapes(), 1).ok()?;
+    let ample = groups_among(alloc, &flat, 0, lists[0].as_slice()).ok()?;
+    refusing.refuse(Refused::Growth(number));
+    let found = groups_among(alloc, &flat, 0, lists[0].as_slice());
+    turn_of_list(refusing, found, &ample)
+}
+
 fn open_faults_in_turn<A: Allocator + Copy>(
     alloc: A,
     refusing: &RefusingAlloc<Global>,
@@ -190,6 +209,7 @@ fn turn_of<A: Allocator + Copy>(
         DesignCall::PlaceFaults => place_faults_in_turn(alloc, refusing, design, number),
         DesignCall::SpacingFaults => spacing_faults_in_turn(alloc, refusing, design, number),
         DesignCall::Joined => joined_in_turn(alloc, refusing, design, number),
+        DesignCall::Groups => groups_in_turn(alloc, refusing, design, number),
         DesignCall::OpenFaults => open_faults_in_turn(alloc, refusing, design, number),
         DesignCall::PrintDef => print_def_in_turn(alloc, refusing, design, number),
     }

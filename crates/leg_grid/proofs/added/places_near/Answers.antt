@@ -1,6 +1,6 @@
 use Rattle.std.proofs.Common.{◌+ℤ◌, ◌-ℤ◌, FitsSigned, w64, arith}
 use Rattle.std.proofs.lemmas.Int.{ints, to_z-of_z}
-use Rattle.leg_grid.specs.Steps.SlotRanges.{ArePlaces}
+use Rattle.leg_grid.specs.Places.{ArePlaces}
 use Rattle.leg_grid.proofs.Reached.{places_before, place_before}
 use Rattle.leg_grid.proofs.added.places_near.Goals as goal
 

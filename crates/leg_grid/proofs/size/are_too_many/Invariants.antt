@@ -3,4 +3,4 @@ use Rattle.leg_grid.specs.GridSize.{track_count}
 use Rattle.leg_grid.proofs.size.are_too_many.Given as goal
 
 abbrev pub invariant-loop-track : goal.invariant-loop-track
-invariant-loop-track g l = l.left + track_count (take l.track-index l.tracks) ≡ 4194304
+invariant-loop-track g l = l.left + track_count (take l.track-index l.tracks) ≡ l.limit

@@ -14,7 +14,7 @@ outside-requires g c =
     let within : c.loop-ends.ends-index < length c.args.boxes.now = c.loop-ends-test.true in
     let ends : SlotBox = get_or c.args.boxes.now c.loop-ends.ends-index (record { low = record { layer = 0; row = 0; column = 0 }; high = record { layer = 0; row = 0; column = 0 } }) in
     let corners : IsBoxOf c.args.grid.now ends = c.requires.boxes c.loop-ends.ends-index _ within in
-    let small : slot_bound ends c.slot-slot.result ≤ 12582912 = bound_small c.args.grid.now ends c.args.number c.slot-slot.result c.slot-slot.ensures.proper corners c.slot-slot.ensures.is in
+    let small : slot_bound ends c.slot-slot.result ≤ 50331648 = bound_small c.args.grid.now ends c.args.number c.slot-slot.result c.slot-slot.ensures.proper corners c.slot-slot.ensures.is in
     omega (arith, small)
 
 pub loop-ends-preserved : goal.loop-ends-preserved

@@ -4,7 +4,8 @@ use Rattle.std.proofs.lemmas.Option.{slice_get_within}
 use Rattle.leg_grid.specs.InRect.{LiesInRect}
 use Rattle.leg_grid.specs.Grid.{IsNumberOf}
 use Rattle.leg_grid.specs.Numbered.{IsOneOf}
-use Rattle.leg_grid.specs.Steps.SlotRanges.{ArePlaces, IsLayerAt, HaveGot}
+use Rattle.leg_grid.specs.Places.{ArePlaces}
+use Rattle.leg_grid.specs.Steps.SlotRanges.{IsLayerAt, HaveGot}
 use Rattle.leg_grid.proofs.SlotRanges.{none_on_layer, all_in_rect, all_below}
 use Rattle.leg_grid.proofs.SlotBoxes.{new_boxes, still_boxed}
 use Rattle.leg_grid.proofs.slots_in.add_slots_in.Given.{Over}

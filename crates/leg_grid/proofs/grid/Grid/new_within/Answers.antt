@@ -1,11 +1,11 @@
-use Rattle.std.proofs.Common.{◌≡◌, ◌*◌, ◌≤◌, length, true≢false, rules, refl, sym, ap, ◌∙◌}
+use Rattle.std.proofs.Common.{◌≡◌, ◌*◌, ◌≤◌, length, true≢false, rules, refl, sym, ap, ◌∙◌, arith}
 use Rattle.leg_cells.specs.Records.{Contents}
 use Rattle.leg_grid.specs.Grid.{AreTracks, AreViasFrom}
 use Rattle.leg_grid.specs.Steps.LayerList.{routing_from}
 use Rattle.leg_grid.proofs.GridValues.{xs_within, ys_within}
 use Rattle.leg_grid.proofs.RoutingLayers.{layers_are}
-use Rattle.leg_grid.proofs.GridMade.{not_too_large, too_large}
-use Rattle.leg_grid.proofs.grid.Grid.new.Goals as goal
+use Rattle.leg_grid.proofs.GridMade.{not_beyond, beyond}
+use Rattle.leg_grid.proofs.grid.Grid.new_within.Goals as goal
 
 pub returns-then-not-fits-clause-large : goal.returns-then-not-fits-clause-large
 returns-then-not-fits-clause-large g c large =
@@ -14,7 +14,7 @@ returns-then-not-fits-clause-large g c large =
     let layers : c.len.result ≡ length c.in_ok-layers.layers.items = search rules in
     let rows : c.len-2.result ≡ length c.in_ok-ys.ys.items = search rules in
     let columns : c.len-3.result ≡ length c.in_ok-xs.xs.items = search rules in
-    too_large c.args.design.now c.in_ok-xs.xs.items c.in_ok-ys.ys.items c.in_ok-xs.ensures c.in_ok-ys.ensures c.in_ok-layers.layers.items layers_is
+    beyond c.args.design.now c.in_ok-xs.xs.items c.in_ok-ys.ys.items c.in_ok-xs.ensures c.in_ok-ys.ensures c.args.limit c.in_ok-layers.layers.items layers_is
     (λ few. true≢false (sym (c.if-not-fits.ensures.1 (rw (layers, rows, columns) few))))
 
 pub all_track_marks-requires-clause-xs : goal.all_track_marks-requires-clause-xs
@@ -33,7 +33,7 @@ invariant_of-result g c =
     let layers : c.len.result ≡ length c.in_ok-layers.layers.items = search rules in
     let rows : c.len-2.result ≡ length c.in_ok-ys.ys.items = search rules in
     let columns : c.len-3.result ≡ length c.in_ok-xs.xs.items = search rules in
-    let few : c.len.result * c.len-2.result * c.len-3.result ≤ 4194304 = c.if-not-fits.ensures.0 refl in
+    let few : c.len.result * c.len-2.result * c.len-3.result ≤ c.args.limit = c.if-not-fits.ensures.0 refl in
     let tracks : AreTracks c.args.design.now c.deref.result.now c.deref-2.result.now c.deref-3.result.now c.in_ok-tracks.tracks.items = c.in_ok-tracks.ensures in
     let vias : AreViasFrom c.library-library.result.now c.deref-4.result.now (length c.deref-4.result.now) c.in_ok-vias.vias.items = c.in_ok-vias.ensures in
     record {
@@ -42,7 +42,7 @@ invariant_of-result g c =
       ys_are = c.in_ok-ys.ensures;
       xs_within = xs_within c.args.design.now c.in_ok-xs.xs.items c.tracks.ensures.proper c.in_ok-xs.ensures;
       ys_within = ys_within c.args.design.now c.in_ok-ys.ys.items c.tracks.ensures.proper c.in_ok-ys.ensures;
-      few = rw (layers, rows, columns) at few;
+      few = (let kept : length c.in_ok-layers.layers.items * length c.in_ok-ys.ys.items * length c.in_ok-xs.xs.items ≤ c.args.limit = rw (layers, rows, columns) at few in omega (arith, kept, c.requires));
       tracks_are = rw (c.deref.ensures.value, c.deref-2.ensures.value, c.deref-3.ensures.value) at tracks;
       vias_are = rw (c.deref-4.ensures.value, c.library-library.ensures.is) at vias;
     }
@@ -54,6 +54,6 @@ returns-clause-fits g c =
     let layers : c.len.result ≡ length c.in_ok-layers.layers.items = search rules in
     let rows : c.len-2.result ≡ length c.in_ok-ys.ys.items = search rules in
     let columns : c.len-3.result ≡ length c.in_ok-xs.xs.items = search rules in
-    let few : c.len.result * c.len-2.result * c.len-3.result ≤ 4194304 = c.if-not-fits.ensures.0 refl in
-    not_too_large c.args.design.now c.in_ok-xs.xs.items c.in_ok-ys.ys.items c.in_ok-xs.ensures c.in_ok-ys.ensures c.in_ok-layers.layers.items layers_is
+    let few : c.len.result * c.len-2.result * c.len-3.result ≤ c.args.limit = c.if-not-fits.ensures.0 refl in
+    not_beyond c.args.design.now c.in_ok-xs.xs.items c.in_ok-ys.ys.items c.in_ok-xs.ensures c.in_ok-ys.ensures c.args.limit c.in_ok-layers.layers.items layers_is
     (λ many. true≢false (sym (c.if-are_too_many.ensures.1 (rw c.tracks.ensures.is many)))) (rw (layers, rows, columns) at few)
