@@ -1,6 +1,6 @@
 //! Calls that are lent a design.
 
-ghost use Rattle.std.specs.Prelude.{false, IfSome};
+ghost use Rattle.std.specs.Prelude.{◌<◌, false, IfSome, length};
 ghost use Rattle.leg_block.specs.WellFormedNets.{IsWire};
 
 use crate::flats::are_same_flats;
@@ -14,7 +14,7 @@ use leg_place::place_faults;
 use leg_print::print_def;
 use leg_wire::{groups_among, joined, numbers_by_net, open_faults, spacing_faults};
 use refusing_alloc::{Refused, RefusingAlloc, Turn, Turns};
-use std::alloc::{Allocator, Global};
+use std::alloc::{AllocError, Allocator, Global};
 
 /// A call on a design, or on its flat.
 #[derive(Clone, Copy)]
@@ -154,6 +154,14 @@ fn joined_in_turn<A: Allocator + Copy>(
     turn_of_list(refusing, found, &ample)
 }
 
+/// The groups of the first net's pieces.
+fn first_groups<A: Allocator + Copy>(alloc: A, flat: &Flat<A>) -> Result<Vec<u32, A>, AllocError>
+    requires { 0 < length flat.now.pieces }
+{
+    let lists = numbers_by_net(alloc, flat.shapes(), 1)?;
+    groups_among(alloc, flat, 0, lists[0].as_slice())
+}
+
 fn groups_in_turn<A: Allocator + Copy>(
     alloc: A,
     refusing: &RefusingAlloc<Global>,
@@ -164,10 +172,9 @@ fn groups_in_turn<A: Allocator + Copy>(
     if flat.net_count() == 0 {
         return None;
     }
-    let lists = numbers_by_net(alloc, flat.shapes(), 1).ok()?;
-    let ample = groups_among(alloc, &flat, 0, lists[0].as_slice()).ok()?;
+    let ample = first_groups(alloc, &flat).ok()?;
     refusing.refuse(Refused::Growth(number));
-    let found = groups_among(alloc, &flat, 0, lists[0].as_slice());
+    let found = first_groups(alloc, &flat);
     turn_of_list(refusing, found, &ample)
 }
 
