@@ -121,54 +121,98 @@ fn spread<A: Allocator + Copy, L: Lattice>(
     requires point { IsPointOf (L.levels_of ground.now.lattice.now) (length (L.ys_of ground.now.lattice.now)) (length (L.xs_of ground.now.lattice.now)) from.point }
     ensures { table.new ≡ table.old }
 {
-    let point = from.point;
-    let (columns, rows) = (ground.lattice.xs().len(), ground.lattice.ys().len());
-    match ground.lattice.direction(point.level) {
-        Direction::Horizontal => {
-            if point.column > 0 {
-                let to = GridPoint {
-                    column: point.column - 1,
-                    ..point
-                };
-                follow(ground, table, question, from, Step::along(to, Origin::East))?;
-            }
-            if point.column + 1 < columns {
-                let to = GridPoint {
-                    column: point.column + 1,
-                    ..point
-                };
-                follow(ground, table, question, from, Step::along(to, Origin::West))?;
-            }
-        }
-        Direction::Vertical => {
-            if point.row > 0 {
-                let to = GridPoint {
-                    row: point.row - 1,
-                    ..point
-                };
-                follow(
-                    ground,
-                    table,
-                    question,
-                    from,
-                    Step::along(to, Origin::North),
-                )?;
-            }
-            if point.row + 1 < rows {
-                let to = GridPoint {
-                    row: point.row + 1,
-                    ..point
-                };
-                follow(
-                    ground,
-                    table,
-                    question,
-                    from,
-                    Step::along(to, Origin::South),
-                )?;
-            }
-        }
+    match ground.lattice.direction(from.point.level) {
+        Direction::Horizontal => spread_along_x(ground, table, question, from)?,
+        Direction::Vertical => spread_along_y(ground, table, question, from)?,
     }
+    spread_through(ground, table, question, from)
+}
+
+/// Tries the steps to the west and to the east.
+fn spread_along_x<A: Allocator + Copy, L: Lattice>(
+    ground: &Ground<'_, A, L>,
+    table: &mut Table<A>,
+    question: &Question,
+    from: Reached,
+) -> Result<(), AllocError>
+    requires size { table.old ≡ L.size_of ground.now.lattice.now }
+    requires slot { from.slot < L.size_of ground.now.lattice.now }
+    requires point { IsPointOf (L.levels_of ground.now.lattice.now) (length (L.ys_of ground.now.lattice.now)) (length (L.xs_of ground.now.lattice.now)) from.point }
+    ensures { table.new ≡ table.old }
+{
+    let point = from.point;
+    if point.column > 0 {
+        let to = GridPoint {
+            column: point.column - 1,
+            ..point
+        };
+        follow(ground, table, question, from, Step::along(to, Origin::East))?;
+    }
+    if point.column + 1 < ground.lattice.xs().len() {
+        let to = GridPoint {
+            column: point.column + 1,
+            ..point
+        };
+        follow(ground, table, question, from, Step::along(to, Origin::West))?;
+    }
+    Ok(())
+}
+
+/// Tries the steps to the south and to the north.
+fn spread_along_y<A: Allocator + Copy, L: Lattice>(
+    ground: &Ground<'_, A, L>,
+    table: &mut Table<A>,
+    question: &Question,
+    from: Reached,
+) -> Result<(), AllocError>
+    requires size { table.old ≡ L.size_of ground.now.lattice.now }
+    requires slot { from.slot < L.size_of ground.now.lattice.now }
+    requires point { IsPointOf (L.levels_of ground.now.lattice.now) (length (L.ys_of ground.now.lattice.now)) (length (L.xs_of ground.now.lattice.now)) from.point }
+    ensures { table.new ≡ table.old }
+{
+    let point = from.point;
+    if point.row > 0 {
+        let to = GridPoint {
+            row: point.row - 1,
+            ..point
+        };
+        follow(
+            ground,
+            table,
+            question,
+            from,
+            Step::along(to, Origin::North),
+        )?;
+    }
+    if point.row + 1 < ground.lattice.ys().len() {
+        let to = GridPoint {
+            row: point.row + 1,
+            ..point
+        };
+        follow(
+            ground,
+            table,
+            question,
+            from,
+            Step::along(to, Origin::South),
+        )?;
+    }
+    Ok(())
+}
+
+/// Tries the steps down and up.
+fn spread_through<A: Allocator + Copy, L: Lattice>(
+    ground: &Ground<'_, A, L>,
+    table: &mut Table<A>,
+    question: &Question,
+    from: Reached,
+) -> Result<(), AllocError>
+    requires size { table.old ≡ L.size_of ground.now.lattice.now }
+    requires slot { from.slot < L.size_of ground.now.lattice.now }
+    requires point { IsPointOf (L.levels_of ground.now.lattice.now) (length (L.ys_of ground.now.lattice.now)) (length (L.xs_of ground.now.lattice.now)) from.point }
+    ensures { table.new ≡ table.old }
+{
+    let point = from.point;
     if point.level > 0 {
         let to = GridPoint {
             level: point.level - 1,
