@@ -1,2 +1,6 @@
-//! What a violation of a design is, and when a design is legal: definitions alone.
+//! What a violation of a design is, and when a design is legal.
 #![tactic(auto)]
+
+mod but_open;
+
+pub use but_open::faults_but_open;

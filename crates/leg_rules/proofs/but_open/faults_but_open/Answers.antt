@@ -1,5 +1,5 @@
 use Rattle.leg_rules.proofs.ListsOfKinds.{without_open}
-use Rattle.leg_route.proofs.clean_flat.faults_but_open.Goals as goal
+use Rattle.leg_rules.proofs.but_open.faults_but_open.Goals as goal
 
 pub returns : goal.returns
 returns g c =
