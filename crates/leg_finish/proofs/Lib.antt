@@ -1,0 +1,11 @@
+mod OpenNets
+mod AddedWires
+mod LaidOut
+mod WithWires
+mod NetsLeft
+mod OneWire
+mod Judged
+mod GroupSlots
+mod GroupNodes
+mod Ways
+mod FirstReached

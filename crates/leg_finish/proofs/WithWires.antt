@@ -1,0 +1,95 @@
+-- The design that got the wires that were laid out and judged.
+use Rattle.std.proofs.Common.{◌≡◌, ◌↔◌, ◌+◌, ◌≤◌, ℕ, List, [], ◌∷◌, false, All, length, map, sum_by, inl, inr, refl, arith}
+use Rattle.std.proofs.lemmas.List.Elements.{All-nil, All-cons, All-head, All-tail}
+use Rattle.std.proofs.lemmas.List.Sums.{sum_by-cons}
+use Rattle.leg_cells.specs.Records.{Contents}
+use Rattle.leg_cells.specs.Sound.{IsSound}
+use Rattle.leg_place.specs.Faults as place
+use Rattle.leg_block.specs.declared.fault.Fault.{Fault}
+use Rattle.leg_block.specs.declared.limits.TheConstants.{PART_LIMIT}
+use Rattle.leg_block.specs.declared.records.Wire.{Wire}
+use Rattle.leg_block.specs.MoreWires.{with_more_wires}
+use Rattle.leg_block.specs.Records.{DesignContents, wire_count}
+use Rattle.leg_block.specs.WellFormed.{IsWellFormed}
+use Rattle.leg_block.specs.WellFormedNets.{IsWire}
+use Rattle.leg_flat.specs.Metal.{metal_of}
+use Rattle.leg_flat.specs.Flat.{FlatSaid, IsFlatOf}
+use Rattle.leg_wire.specs.Open.{IsOpenNet}
+use Rattle.leg_rules.specs.Legal.{IsLegal}
+use Rattle.leg_rules.specs.Violations.{IsViolationIn, IsViolation}
+use Rattle.leg_grown.specs.CleanWire.{HasNoSpacingFault}
+use Rattle.leg_grown.specs.Finished.{finished, AreByNet, IsFinishedFrom}
+use Rattle.leg_grown.specs.Growth.{AddedWire, Grows}
+use Rattle.leg_finish.specs.Steps.Judged.{AreFinishing}
+use Rattle.leg_finish.proofs.AddedWires.{wires_more}
+
+abbrev pub FinishedIsLegal : Type 0
+FinishedIsLegal =
+    (library : Contents) (design : DesignContents) (added : List AddedWire) (grown : FlatSaid) (lists : List (List Wire)) (end : FlatSaid) → IsFinishedFrom design added grown lists end
+    → ((fault : Fault) → ¬ place.Holds library design fault) → HasNoSpacingFault library grown → ((n : ℕ) → ¬ IsOpenNet design grown n)
+    → (fault : Fault) → ¬ IsViolationIn library (finished design lists) end fault
+
+abbrev pub PlacementStays : Type 0
+PlacementStays = (library : Contents) (design : DesignContents) (lists : List (List Wire)) (fault : Fault) → place.Holds library design fault ↔ place.Holds library (finished design lists) fault
+
+abbrev pub ShapesStayAsMany : Type 0
+ShapesStayAsMany =
+    (design : DesignContents) (flat grown : FlatSaid) (added : List AddedWire) (lists : List (List Wire)) → IsFlatOf design flat → Grows design added flat grown
+    → AreByNet (length design.nets) added lists → length (metal_of (finished design lists)) ≡ length grown.shapes
+
+abbrev pub WiresHaveShapes : Type 0
+WiresHaveShapes =
+    (design : DesignContents) (lists : List (List Wire)) → IsSound design.library → IsWellFormed design → All (All (IsWire design.library design.vias false)) lists
+    → wire_count (with_more_wires design.nets lists) + wire_count design.special ≤ length (metal_of (finished design lists))
+
+module _ (design : DesignContents) (lists : List (List Wire)) (it : AreFinishing design lists) where
+  pub few_shapes : ShapesStayAsMany → length (metal_of (finished design lists)) ≤ PART_LIMIT
+  few_shapes stay = rw (stay design it.flat it.grown it.laid.added lists it.comes.clean.judged.is_flat it.laid.grows it.laid.by_net) it.within
+
+  pub few_wires : ShapesStayAsMany → WiresHaveShapes → IsSound design.library → IsWellFormed design
+      → wire_count (with_more_wires design.nets lists) + wire_count design.special ≤ PART_LIMIT
+  few_wires stay have sound proper = let few = few_shapes stay in let wires = have design lists sound proper it.laid.spelled in omega (arith, few, wires)
+
+  pub few_added : ShapesStayAsMany → WiresHaveShapes → IsSound design.library → IsWellFormed design → sum_by (λ (wires : List Wire). length wires) lists ≤ PART_LIMIT
+  few_added stay have sound proper =
+      let few = few_wires stay have sound proper in
+      let more = wires_more design.nets lists it.laid.by_net.one_each in
+      omega (arith, few, more)
+
+  module _ (is_legal : FinishedIsLegal) (placement : PlacementStays) (proper : IsWellFormed design) (proper_end : IsWellFormed (finished design lists)) where
+    from : (end : FlatSaid) → IsFlatOf (finished design lists) end → IsFinishedFrom design it.laid.added it.grown lists end
+    from end is_end = record {
+      flat = it.flat;
+      is_flat = it.comes.clean.judged.is_flat;
+      proper = proper;
+      grows = it.laid.grows;
+      by_net = it.laid.by_net;
+      proper_end = proper_end;
+      is_end = is_end;
+    }
+
+    no_violation : (fault : Fault) → ¬ IsViolation design.library (finished design lists) fault
+    no_violation fault holds =
+        elim holds [
+          | inl placed ↦ it.comes.clean.none fault (inl ((placement design.library design lists fault).1 placed))
+          | inr metal ↦
+              is_legal design.library design it.laid.added it.grown lists metal.flat (from metal.flat metal.is_flat) (λ f placed. it.comes.clean.none f (inl placed)) it.no_fault.spacing
+              it.no_fault.joined fault (inr metal.holds)
+        ]
+
+    pub legal_then : ShapesStayAsMany → (end : FlatSaid) → IsFlatOf (finished design lists) end → IsLegal (finished design lists)
+    legal_then stay end is_end = record { flat = end; judged = record { few = few_shapes stay; is_flat = is_end }; none = no_violation }
+
+-- lists that hold their wires
+pub sum_mapped : {X Y : Type 0} (xs : List X) (g : X → Y) (f : Y → ℕ) → sum_by f (map g xs) ≡ sum_by (λ x. f (g x)) xs
+sum_mapped [] g f = refl
+sum_mapped (x ∷ xs) g f =
+    let first = sum_by-cons f (g x) (map g xs) in
+    let then = sum_by-cons (λ x. f (g x)) x xs in
+    let rest = sum_mapped xs g f in
+    omega (arith, first, then, rest)
+
+pub all_before : {X Y : Type 0} (xs : List X) (g : X → Y) (P : Y → Type 0) → All P (map g xs) → All (λ x. P (g x)) xs
+all_before [] g P all = All-nil (λ x. P (g x))
+all_before (x ∷ xs) g P all =
+    All-cons (λ x. P (g x)) x xs (All-head P (g x) (map g xs) all) (all_before xs g P (All-tail P (g x) (map g xs) all))

@@ -1,0 +1,12 @@
+-- The pieces so far can be reached.
+use Rattle.std.proofs.Common.{◌≡◌, ℕ, ◌<◌, []}
+use Rattle.leg_walk.specs.Marks.{AreUnseen}
+use Rattle.leg_finish.specs.Reach.{IsUnreachable}
+use Rattle.leg_finish.proofs.reach.unreachable_piece.Given as goal
+
+abbrev pub invariant-loop-piece : goal.invariant-loop-piece
+invariant-loop-piece g l = record {
+  none : (k : ℕ) → k < l.piece → ¬ IsUnreachable l.grid.design l.flat l.net.net k;
+  unseen : AreUnseen l.marks;
+  untouched : l.touched.items ≡ [];
+}

@@ -1,0 +1,4 @@
+pub mod Reach
+pub mod Wires
+pub mod Refusal
+pub mod Steps

@@ -1,0 +1,42 @@
+-- Pieces of a net that cannot be reached, whatever other nets do (lefdef's own rules). A node meets a piece if its point is one of a
+-- rectangle of the piece on the node's layer.
+use Rattle.std.specs.Prelude.{◌≡◌, ◌<◌, ℕ, ◌⊎◌}
+use Rattle.leg_block.specs.Records.{DesignContents}
+use Rattle.leg_flat.specs.Flat.{FlatSaid}
+use Rattle.leg_walk.specs.Walk.{NoWalk}
+use Rattle.leg_wire.specs.Open.{IsOpenNet}
+use Rattle.leg_wire.specs.Touch.{piece_count, LiesIn, AreJoined}
+use Rattle.leg_grid.specs.declared.node.Node.{Node}
+use Rattle.leg_grid.specs.OpenMetal.{IsOpenNode, IsOpenStep}
+
+-- the node meets a piece that is joined to this one
+pub record MeetsJoinedTo (flat : FlatSaid) (net piece : ℕ) (node : Node) : Type 0 where
+  pub other : ℕ
+  pub joined : AreJoined flat net piece other
+  pub meets : LiesIn flat net other node.layer node.at
+
+-- the node meets a piece that is not
+pub record MeetsOthers (flat : FlatSaid) (net piece : ℕ) (node : Node) : Type 0 where
+  pub other : ℕ
+  pub apart : ¬ AreJoined flat net piece other
+  pub meets : LiesIn flat net other node.layer node.at
+
+-- The piece cannot be reached: its net is open, and no open walk leads from what is joined to it to another piece. That wires of other
+-- nets are laid opens none.
+pub record IsUnreachable (design : DesignContents) (flat : FlatSaid) (net piece : ℕ) : Type 0 where
+  pub is_open : IsOpenNet design flat net
+  pub there : piece < piece_count flat net
+  pub none : NoWalk (IsOpenNode design flat net) (IsOpenStep design flat net) (MeetsJoinedTo flat net piece) (MeetsOthers flat net piece)
+
+-- the one piece comes before the other: its net does, or it does among the pieces of the same net
+abbrev pub ComesBefore : ℕ → ℕ → ℕ → ℕ → Type 0
+ComesBefore net piece other k = (net < other) ⊎ ((net ≡ other) × (piece < k))
+
+-- it is the first that cannot be reached
+pub record IsFirstUnreachable (design : DesignContents) (flat : FlatSaid) (net piece : ℕ) : Type 0 where
+  pub unreachable : IsUnreachable design flat net piece
+  pub first : (other k : ℕ) → ComesBefore other k net piece → ¬ IsUnreachable design flat other k
+
+-- each piece can be reached
+abbrev pub AreReachable : DesignContents → FlatSaid → Type 0
+AreReachable design flat = (net piece : ℕ) → ¬ IsUnreachable design flat net piece

@@ -1,0 +1,24 @@
+//! The router that finishes: it adds wires to all nets that are open, by negotiation, and gives the result only if nothing is wrong
+//! with it.
+#![tactic(auto)]
+
+mod clean_flat;
+mod fault;
+mod finishing;
+mod found;
+mod grid_lattice;
+mod group_slots;
+mod groups;
+mod grow;
+mod judge;
+mod layout;
+mod reach;
+mod to_join;
+mod totals;
+mod unfinished;
+mod wires;
+
+pub use fault::FinishFault;
+pub use finishing::{finish, finish_within};
+pub use leg_ripup::{Budget, Progress};
+pub use totals::WireTotals;

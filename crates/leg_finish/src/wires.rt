@@ -1,0 +1,47 @@
+//! The wires of walks.
+
+ghost use Rattle.std.specs.Prelude.{◌≡◌, false, All, IfOk, IfSome};
+ghost use Rattle.leg_block.specs.WellFormedNets.{IsWire};
+
+use leg_block::{Design, Wire};
+use leg_cells::Items;
+use leg_grid::{Grid, is_walk, nodes_of, wires_of};
+use std::alloc::{AllocError, Allocator};
+
+/// The wires of a walk, given by the numbers of its slots. None where it is no walk over the grid.
+fn wires_of_walk<A: Allocator + Copy>(
+    alloc: A,
+    grid: &Grid<'_, '_, A>,
+    design: &Design<'_, A>,
+    walk: &[u32],
+) -> Result<Option<Vec<Wire, A>>, AllocError>
+    requires { grid.now.design ≡ design.now }
+    ensures { IfOk result (λ found. IfSome found (λ wires. All (IsWire design.now.library design.now.vias false) wires.items)) }
+{
+    if !is_walk(grid, walk) {
+        return Ok(None);
+    }
+    let nodes = nodes_of(alloc, grid, walk)?;
+    let wires = wires_of(alloc, design, &nodes)?;
+    Ok(Some(wires))
+}
+
+/// The wires of these walks, one after another. None where one of them is no walk over the grid.
+pub(crate) fn wires_of_walks<A: Allocator + Copy>(
+    alloc: A,
+    grid: &Grid<'_, '_, A>,
+    design: &Design<'_, A>,
+    walks: &[Items<u32, A>],
+) -> Result<Option<Vec<Wire, A>>, AllocError>
+    requires { grid.now.design ≡ design.now }
+    ensures { IfOk result (λ found. IfSome found (λ wires. All (IsWire design.now.library design.now.vias false) wires.items)) }
+{
+    let mut wires = Vec::new(alloc);
+    for walk in walks {
+        let Some(mut more) = wires_of_walk(alloc, grid, design, walk.as_slice())? else {
+            return Ok(None);
+        };
+        wires.append(&mut more)?;
+    }
+    Ok(Some(wires))
+}
