@@ -23,15 +23,16 @@ enum lefdef_command {
     LEFDEF_MEASURE = 2,
     LEFDEF_LEGALISE = 3,
     LEFDEF_ROUTE = 4,
-    LEFDEF_FLOW = 5
+    LEFDEF_FLOW = 5,
+    LEFDEF_FINISH = 6
 };
 
 /* How a call ended: the program's exit statuses. */
 enum lefdef_status {
-    LEFDEF_SUCCESS = 0,    /* the design is legal, its wirelength was printed, or it was legalised or routed */
+    LEFDEF_SUCCESS = 0,    /* the design is legal, its wirelength was printed, or it was legalised, routed or finished */
     LEFDEF_VIOLATIONS = 1, /* violations were listed */
     LEFDEF_REFUSED = 2,    /* a text was refused, a length is no whole number of the DEF's units, or there are too many shapes */
-    LEFDEF_UNSOLVED = 3,   /* the design could not be legalised or routed */
+    LEFDEF_UNSOLVED = 3,   /* the design could not be legalised, routed or finished */
     LEFDEF_MEMORY = 4,     /* the memory was not enough: the answer is the line MEMORY, and more memory may give another */
     LEFDEF_USAGE = 64      /* no command has this number: there is no answer */
 };

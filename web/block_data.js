@@ -144,7 +144,7 @@ function wireKey(net, layer, rect) {
 }
 
 // Returns the data of a block. `answer` is what lefdef printed of it if that is a list of violations, and else null; `before` is the design
-// before `legalise`, `route` or `flow` printed this one, or null.
+// before `legalise`, `route`, `flow` or `finish` printed this one, or null.
 function blockData(design, answer, before) {
   const nets = design.numberNets();
   const changes = before ? new Changes(before) : null;

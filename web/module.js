@@ -3,7 +3,7 @@
 // The module is for 64-bit memory: addresses and sizes are BigInts. A slice is passed as its address and its length, a slice of slices as the
 // address of such pairs and their number, and the memory that a call may use as the address of a pair of its own.
 
-const COMMAND_NAMES = ['check', 'place-check', 'measure', 'legalise', 'route', 'flow'];
+const COMMAND_NAMES = ['check', 'place-check', 'measure', 'legalise', 'route', 'flow', 'finish'];
 const [REFUSED, UNSOLVED, NO_MEMORY] = [2, 3, 4];
 const PAGE = 65536;
 const UNIT = 16;

@@ -116,11 +116,11 @@ class Page {
   }
 }
 
-// Shows at what a command has stopped: a net without a way, or a component without a place.
+// Shows at what a command has stopped: a net without a way, also if only a piece of it has none, or a component without a place.
 function chooseNamed(viewer, line) {
   const [word, name] = line.split(' ');
   const { names } = viewer.block;
-  if (word === 'UNROUTABLE') {
+  if (word === 'UNROUTABLE' || word === 'UNREACHABLE') {
     const net = names.nets.indexOf(name);
     viewer.choose(`net ${name}`, viewer.block.shapesOfNet(net));
   } else if (word === 'NOROOM' || word === 'NOSITE') {

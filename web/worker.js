@@ -2,7 +2,7 @@
 // { id, command, lefs, def }, each text { name, file }; it answers { id, answer } and then { id, picture }.
 
 // Answers that are designs, and what their picture is compared with.
-const DESIGN_COMMANDS = new Set(['legalise', 'route', 'flow']);
+const DESIGN_COMMANDS = new Set(['legalise', 'route', 'flow', 'finish']);
 // Longer texts are not drawn.
 const MOST_DRAWN = 2 ** 27;
 const UNREADABLE = 5;

@@ -18,6 +18,7 @@
 static const char *const commands[] = {
     [LEFDEF_CHECK] = "check",       [LEFDEF_PLACE_CHECK] = "place-check", [LEFDEF_MEASURE] = "measure",
     [LEFDEF_LEGALISE] = "legalise", [LEFDEF_ROUTE] = "route",             [LEFDEF_FLOW] = "flow",
+    [LEFDEF_FINISH] = "finish",
 };
 
 enum { COMMANDS = sizeof commands / sizeof commands[0] };

@@ -12,7 +12,7 @@ import mmap
 import os
 import sys
 
-COMMANDS = ("check", "place-check", "measure", "legalise", "route", "flow")
+COMMANDS = ("check", "place-check", "measure", "legalise", "route", "flow", "finish")
 MEMORY = 4
 UNIT = 16
 # No more than this is lent.

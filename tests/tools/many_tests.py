@@ -29,9 +29,12 @@ BLOCKS = {
     'large': '2\nTOOMANY\n',
     'stuck': '3\nUNROUTABLE n1\n',
     'not_clean': '3\nOFFSITE u1\nNOTCLEAN 1\n',
+    'crowded': '3\nUNFINISHED n1\nUNFINISHED n2\nunfinished 2\n',
+    'cut_off': '3\nUNREACHABLE n1 u1 A\n',
     'short_of_memory': '4\nMEMORY\n',
     'measured': '0\nhpwl 120\n',
     'placed': '0\nVERSION 5.8 ;\nEND DESIGN\n# total 0\n# greatest 0\n',
+    'finished': '0\nVERSION 5.8 ;\nEND DESIGN\n# length 0\n# vias 0\n',
 }
 
 
@@ -131,7 +134,7 @@ class MakeTests(Room):
         status, out, err = self.make()
         self.assertEqual((status, err), (0, ''))
         self.assertEqual(self.calls(), sorted(f'check blocks/{name}.def a.lef b.lef' for name in BLOCKS))
-        self.assertEqual(out.splitlines()[-1], 'blocks 10, legal 1, done 2, with violations 1, refused 3, not done 2, out of memory 1')
+        self.assertEqual(out.splitlines()[-1], 'blocks 13, legal 1, done 3, with violations 1, refused 3, not done 4, out of memory 1')
 
     def test_a_block_is_asked_about_again_only_if_its_files_have_changed(self):
         self.blocks('clean', 'dirty')
@@ -206,7 +209,7 @@ class SummaryTests(Room):
     ROWS = {
         'clean': 'legal', 'dirty': 'UNPLACED 1, SHORT 2, OPEN 1', 'misspelt': 'blocks/misspelt.def:7 UnknownName', 'of_a_lef': 'a.lef:3 Unsupported',
         'large': 'TOOMANY', 'stuck': 'UNROUTABLE n1', 'not_clean': 'NOTCLEAN 1, OFFSITE 1', 'short_of_memory': 'MEMORY', 'measured': 'hpwl 120',
-        'placed': 'a DEF'}
+        'placed': 'a DEF', 'finished': 'a DEF', 'crowded': 'unfinished 2', 'cut_off': 'UNREACHABLE n1 u1 A'}
 
     def asked(self, *names):
         self.blocks(*names)

@@ -23,7 +23,7 @@ from web_page import examples, page_text  # noqa: E402
 
 PAGE = os.path.join(TOP, 'web', 'index.html')
 CASES = os.path.join(TOP, 'tests', 'program')
-COMMANDS = ('check', 'place-check', 'measure', 'legalise', 'route', 'flow')
+COMMANDS = ('check', 'place-check', 'measure', 'legalise', 'route', 'flow', 'finish')
 LIST_ENDS = ('legal', 'violations', 'FIXEDILLEGAL', 'NOTCLEAN')
 NUMBERS = {'u8': 'Uint8Array', 'i32': 'Int32Array', 'f64': 'Float64Array'}
 MARK = (230, 0, 126)
@@ -95,7 +95,7 @@ class Case:
         if self.status() in (2, 4):
             return None
         library, before, listed = read_library(libraries), None, None
-        if self.status() == 0 and command in ('legalise', 'route', 'flow'):
+        if self.status() == 0 and command in ('legalise', 'route', 'flow', 'finish'):
             design_path, before = stdout, read_design(design_path, library)
         elif lines and lines[-1].split(' ')[0] in LIST_ENDS:
             listed = stdout

@@ -1,6 +1,7 @@
 //! What no clause states: the words of lines, cuts of streams, and that writing goes on and stops.
 
 mod blockages;
+mod finish;
 mod input;
 mod metal;
 

@@ -109,6 +109,18 @@ fn a_router_without_memory(rt: HostRuntime) {
 }
 
 #[test]
+fn a_router_that_finishes_without_memory(rt: HostRuntime) {
+    let refusing = &RefusingAlloc::new(rt.alloc());
+    for def in [around_an_obstruction(), around_blockages()] {
+        assert!(rt; goes_right(refusing, refusing, Trial::Give(Change::Finish(0)), def));
+    }
+    // The inverters overlap, and so does the metal of their two signal pins.
+    for def in [two_at_one_place(), net_at_one_place()] {
+        assert!(rt; goes_right(refusing, refusing, Trial::Give(Change::Finish(3)), def));
+    }
+}
+
+#[test]
 fn nets_get_wires_without_memory(rt: HostRuntime) {
     let refusing = &RefusingAlloc::new(rt.alloc());
     for call in [WireCall::WithWires, WireCall::WithAllWires] {
@@ -119,13 +131,14 @@ fn nets_get_wires_without_memory(rt: HostRuntime) {
     }
 }
 
-const COMMANDS: [Command; 6] = [
+const COMMANDS: [Command; 7] = [
     Command::Check,
     Command::PlaceCheck,
     Command::Measure,
     Command::Legalise,
     Command::Route,
     Command::Flow,
+    Command::Finish,
 ];
 
 /// Whether each command on the DEF goes right with each allocation refused in turn.

@@ -11,7 +11,7 @@ const STATUSES: &str = "Exit status:
   0   the block is legal, or a design, a wirelength or this help was printed
   1   violations were listed
   2   a text was refused, a LEF length cannot be converted to database units, or a check met too many shapes
-  3   the block could not be legalised or routed
+  3   the block could not be legalised, routed or finished
   4   out of memory
   5   a file could not be read, or the output not written
   64  usage error";
@@ -26,6 +26,9 @@ pub fn help_text(alloc: Global) -> Result<String, AllocError> {
         ),
         PossibleValue::new("route").help("print the block with wires added to its open nets"),
         PossibleValue::new("flow").help("legalise, then route the result"),
+        PossibleValue::new("finish").help(
+            "as route, but added wires that are in each other's way are laid again",
+        ),
         PossibleValue::new("measure").help("print the half-perimeter wirelength"),
     ];
     let mut program = program(alloc, names.as_slice())?;

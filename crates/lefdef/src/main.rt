@@ -5,21 +5,25 @@
 #![tactic(auto)]
 
 mod help;
+mod rounds;
 
 use help::help_text;
 use leg_app::{
-    Asked, FILE_LIMIT, Halt, InputFault, Line, RunFault, STREAM_LIMIT, Status, asked_by, read_all,
-    run, run_help, run_out, run_stream,
+    Asked, FILE_LIMIT, Halt, InputFault, Line, Progress, RunFault, STREAM_LIMIT, Status, asked_by,
+    read_all, run_help, run_out, run_stream, run_with_progress,
 };
 use leg_message::{NotingWriter, Texts, message, stream_message};
+use rounds::Rounds;
 use std::alloc::{AllocError, Allocator};
 use std::fs::File;
+use std::io::IsTerminal;
 use std::process::ExitCode;
 use std::rt::Runtime;
 use std::{env, io};
 
 fn main(rt: HostRuntime) -> ExitCode {
-    ExitCode::from(ended(&rt))
+    let mut rounds = Rounds::new(&rt, rt.stderr().is_terminal());
+    ExitCode::from(ended(&rt, &mut rounds))
 }
 
 // Why there is no answer of a run.
@@ -37,13 +41,13 @@ impl From<AllocError> for Stop<'_> {
     }
 }
 
-// The exit status, after all that is written.
-fn ended<R: Runtime + AllocGlobal>(rt: &R) -> u8 {
+// The exit status, after all that is written. The progress is told of each round of `finish`.
+fn ended<R: Runtime + AllocGlobal, P: Progress>(rt: &R, progress: &mut P) -> u8 {
     let words = match words(rt) {
         Ok(words) => words,
         Err(stop) => return stopped(rt, stop),
     };
-    match answered(rt, &words) {
+    match answered(rt, &words, progress) {
         Ok(status) => status.code(),
         Err(stop) => stopped(rt, stop),
     }
@@ -59,11 +63,15 @@ fn words<R: Runtime + AllocGlobal>(rt: &R) -> Result<Vec<String>, Stop<'static>>
 }
 
 // Writes the answer to what the words ask.
-fn answered<'a, R: Runtime + AllocGlobal>(rt: &R, words: &'a [String]) -> Result<Status, Stop<'a>> {
+fn answered<'a, R: Runtime + AllocGlobal, P: Progress>(
+    rt: &R,
+    words: &'a [String],
+    progress: &mut P,
+) -> Result<Status, Stop<'a>> {
     match asked_by(words) {
         Some(Asked::Stream) => on_stream(rt),
         Some(Asked::Help) => on_help(rt),
-        Some(Asked::Files(line)) => on_files(rt, &line),
+        Some(Asked::Files(line)) => on_files(rt, &line, progress),
         None => Err(Stop::Halt(Halt::Usage, None)),
     }
 }
@@ -77,14 +85,15 @@ fn on_help<R: Runtime + AllocGlobal>(rt: &R) -> Result<Status, Stop<'static>> {
 }
 
 // The answer to files: the LEFs are read in turn and then the DEF, before any of them is judged.
-fn on_files<'a, R: Runtime + AllocGlobal, A: Allocator>(
+fn on_files<'a, R: Runtime + AllocGlobal, A: Allocator, P: Progress>(
     rt: &R,
     line: &Line<'a, A>,
+    progress: &mut P,
 ) -> Result<Status, Stop<'a>> {
     let texts = texts_of(rt, line.lefs)?;
     let def = file(rt, line.def)?;
     let lefs = as_slices(rt, &texts)?;
-    on_texts(rt, line, &lefs, &def)
+    on_texts(rt, line, &lefs, &def, progress)
 }
 
 // The bytes of these files.
@@ -113,11 +122,12 @@ fn as_slices<'t, R: Runtime + AllocGlobal>(
 }
 
 // The answer to the texts of files.
-fn on_texts<R: Runtime + AllocGlobal, A: Allocator>(
+fn on_texts<R: Runtime + AllocGlobal, A: Allocator, P: Progress>(
     rt: &R,
     line: &Line<'_, A>,
     lefs: &[&[u8]],
     def: &[u8],
+    progress: &mut P,
 ) -> Result<Status, Stop<'static>> {
     let texts = Texts {
         line: Some(line),
@@ -125,7 +135,7 @@ fn on_texts<R: Runtime + AllocGlobal, A: Allocator>(
         def,
     };
     let mut out = NotingWriter::new(io::writer(rt));
-    let ran = run(rt.alloc(), line.command, lefs, def, &mut out);
+    let ran = run_with_progress(rt.alloc(), line.command, lefs, def, &mut out, progress);
     let status = written(ran, out.error())?;
     if is_explained(status) {
         explain(rt, message(rt.alloc(), &texts, out.word()));

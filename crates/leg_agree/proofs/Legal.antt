@@ -11,7 +11,7 @@ use Rattle.leg_rules.specs.Violations.{IsViolation}
 use Rattle.leg_rules.specs.Legal.{IsLegal}
 use Rattle.leg_again.specs.PrintedNames.{StayOne, printed_names}
 use Rattle.leg_input.specs.declared.command.Command.{Command}
-use Rattle.leg_input.specs.declared.command.Command.TheVariants.{PlaceCheck, Check, Route, Flow}
+use Rattle.leg_input.specs.declared.command.Command.TheVariants.{PlaceCheck, Check, Route, Flow, Finish}
 use Rattle.leg_app.specs.declared.status.Status.{Status}
 use Rattle.leg_app.specs.declared.status.Status.TheVariants.{Success, Refused, Memory}
 use Rattle.leg_app.specs.Say.{SayDesign}
@@ -19,9 +19,10 @@ use Rattle.leg_app.specs.Lines.{legal_text}
 use Rattle.leg_app.specs.Legalised.{Legalises, PrintsLegalised}
 use Rattle.leg_app.specs.Routed.{Routes, PrintsRouted}
 use Rattle.leg_app.specs.Flow.{PrintsFlow}
+use Rattle.leg_app.specs.Finished.{Finishes, PrintsFinished}
 use Rattle.leg_app.specs.Answer.{IsAnswer}
 use Rattle.leg_agree.specs.Legal.{AnswersLegal}
-use Rattle.leg_agree.proofs.SaidAgain.{SaysItsDesign, SaysItsUnits, said_again, said_with_moves}
+use Rattle.leg_agree.proofs.SaidAgain.{SaysItsDesign, SaysItsUnits, said_again, said_with_moves, said_with_wires}
 
 -- where nothing holds, the list has nothing
 none_listed : (Holds : Fault → Type 0) → ((fault : Fault) → ¬ Holds fault) → IsListOf Holds []
@@ -35,27 +36,27 @@ none_listed Holds none = record {
 abbrev pub HasOneAnswer : Type 0
 HasOneAnswer = (command : Command) (lefs : List (List ℕ)) (def : List ℕ) (status other : Status) (text words : List ℕ)
     → IsAnswer command lefs def status text → IsAnswer command lefs def other words
-    → command ≢ Route → command ≢ Flow → status ≢ Refused → status ≢ Memory → other ≢ Memory → (status ≡ other) × (text ≡ words)
+    → command ≢ Route → command ≢ Flow → command ≢ Finish → status ≢ Refused → status ≢ Memory → other ≢ Memory → (status ≡ other) × (text ≡ words)
 
 module _ (one_answer : HasOneAnswer) (lefs : List (List ℕ)) (text : List ℕ) where
-  no_other : (command : Command) → command ≢ Route → command ≢ Flow → IsAnswer command lefs text Success legal_text → AnswersLegal command lefs text
-  no_other command first second legal = record {
+  no_other : (command : Command) → command ≢ Route → command ≢ Flow → command ≢ Finish → IsAnswer command lefs text Success legal_text → AnswersLegal command lefs text
+  no_other command first second third legal = record {
     legal = legal;
     only = λ status answer is not_memory.
-        let same = one_answer command lefs text Success status legal_text answer legal is first second (λ e. cc) (λ e. cc) not_memory in
+        let same = one_answer command lefs text Success status legal_text answer legal is first second third (λ e. cc) (λ e. cc) not_memory in
         (sym same.0, sym same.1);
   }
 
   -- texts that denote a legally placed design
   placed_answered : (design : DesignContents) → SayDesign lefs text design.library design → IsLegallyPlaced design → AnswersLegal PlaceCheck lefs text
   placed_answered design say placed =
-      no_other PlaceCheck (λ e. cc) (λ e. cc)
+      no_other PlaceCheck (λ e. cc) (λ e. cc) (λ e. cc)
       (inl (record { library = design.library; design = design; flat = None; violations = []; say = say; shown = tt; list = none_listed _ placed; is = (refl, refl) }))
 
   -- texts that denote a legal design within the limit of shapes
   legal_answered : (design : DesignContents) → SayDesign lefs text design.library design → IsLegal design → AnswersLegal Check lefs text
   legal_answered design say legal =
-      no_other Check (λ e. cc) (λ e. cc)
+      no_other Check (λ e. cc) (λ e. cc) (λ e. cc)
       (inl (record {
         library = design.library;
         design = design;
@@ -67,14 +68,17 @@ module _ (one_answer : HasOneAnswer) (lefs : List (List ℕ)) (text : List ℕ) 
         is = (refl, refl);
       }))
 
--- routing and legalising keep the library
+-- routing, legalising and finishing keep the library
 routed_library : (before after : DesignContents) → Routes before after → after.library ≡ before.library
 routed_library before after routes = ap (λ d. d.library) routes.same.rest
 
 legalised_library : (before after : DesignContents) → Legalises before after → after.library ≡ before.library
 legalised_library before after legalises = ap (λ d. d.library) legalises.same.rest
 
--- What `route`, `legalise` and `flow` print.
+finished_library : (before after : DesignContents) → Finishes before after → after.library ≡ before.library
+finished_library before after finishes = ap (λ d. d.library) finishes.same.rest
+
+-- What `route`, `legalise`, `flow` and `finish` print.
 module _ (says_design : SaysItsDesign) (says_units : SaysItsUnits) (lefs : List (List ℕ)) (def text : List ℕ) (library : Contents) (design : DesignContents) (say : SayDesign lefs def library design) where
   pub routed_said : (printed : PrintsRouted design text) → StayOne (printed_names printed.routed) → length text ≤ TEXT_LIMIT → SayDesign lefs text printed.routed.library printed.routed
   routed_said printed one fits =
@@ -94,6 +98,12 @@ module _ (says_design : SaysItsDesign) (says_units : SaysItsUnits) (lefs : List 
       said_with_moves says_design says_units lefs def text library design printed.routed say same routes.sound routes.proper one
       printed.distances printed.total printed.greatest printed.is fits
 
+  pub finished_said : (printed : PrintsFinished design text) → StayOne (printed_names printed.finished) → length text ≤ TEXT_LIMIT → SayDesign lefs text printed.finished.library printed.finished
+  finished_said printed one fits =
+      let finishes = printed.finishes in
+      said_with_wires says_design says_units lefs def text library design printed.finished say (finished_library design printed.finished finishes) finishes.sound finishes.proper one
+      printed.length printed.vias printed.is fits
+
   module _ (one_answer : HasOneAnswer) where
     pub routed_legal : (printed : PrintsRouted design text) → StayOne (printed_names printed.routed) → length text ≤ TEXT_LIMIT → AnswersLegal Check lefs text
     routed_legal printed one fits =
@@ -107,3 +117,6 @@ module _ (says_design : SaysItsDesign) (says_units : SaysItsUnits) (lefs : List 
     flow_legal printed one fits =
         let routes = printed.routes in
         legal_answered one_answer lefs text printed.routed (flow_said printed one fits) routes.legal
+
+    pub finished_legal : (printed : PrintsFinished design text) → StayOne (printed_names printed.finished) → length text ≤ TEXT_LIMIT → AnswersLegal Check lefs text
+    finished_legal printed one fits = legal_answered one_answer lefs text printed.finished (finished_said printed one fits) printed.finishes.legal

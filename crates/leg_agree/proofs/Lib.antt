@@ -2,6 +2,7 @@
 mod NoFeeds
 mod Comments
 mod Moves
+mod Wires
 -- What printed texts say
 mod SaidAgain
 mod Legal

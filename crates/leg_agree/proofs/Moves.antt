@@ -26,7 +26,7 @@ before_end design =
     ++ pins_text design design.pins ++ blockages_text design design.blockages
     ++ nets_text design true design.special ++ nets_text design false design.nets
 
-text_ends : (design : DesignContents) → EndsLine (design_text design)
+pub text_ends : (design : DesignContents) → EndsLine (design_text design)
 unfolding design_text
 text_ends design = record {
   front = before_end design ++ codes "END DESIGN";

@@ -59,7 +59,7 @@ digits_feed (suc k) n after none = by (n / 10 == 0) (digits_feed k (n / 10) (dig
   by true later = more
   by false later = later
 
-decimal_feed : (n : ℕ) → HasNoFeed (decimal n)
+pub decimal_feed : (n : ℕ) → HasNoFeed (decimal n)
 unfolding digits
 decimal_feed n = digits_feed 64 n [] refl
 

@@ -14,8 +14,10 @@ use Rattle.leg_print.specs.Text.Whole.{design_text}
 use Rattle.leg_again.specs.PrintedNames.{StayOne, printed_names}
 use Rattle.leg_app.specs.Say.{SayDesign}
 use Rattle.leg_app.specs.LegaliseLines.{legalised_text}
+use Rattle.leg_app.specs.FinishLines.{finished_text}
 use Rattle.leg_app.proofs.Sayings.{design_has_library}
 use Rattle.leg_agree.proofs.Moves.{design_fits, says_with_moves}
+use Rattle.leg_agree.proofs.Wires.{finished_fits, says_with_wires}
 
 -- The texts denote a design; another one has the same library.
 module _ (lefs : List (List ℕ)) (def text : List ℕ) (library : Contents) (design after : DesignContents) (say : SayDesign lefs def library design) (same : after.library ≡ design.library) where
@@ -62,3 +64,12 @@ module _ (says_design : SaysItsDesign) (says_units : SaysItsUnits) (lefs : List 
       under_lefs lefs def text library design after say same
       (subst (λ t. Says units_in t after.library.units) (sym is) (says_with_moves units_in after.library.units after distances total greatest well long (says_units after sound well one short)))
       (subst (λ t. Says (design_in after.library) t after) (sym is) (says_with_moves (design_in after.library) after after distances total greatest well long (says_design after sound well one short)))
+
+  -- and with lines on its added wires
+  pub said_with_wires : (long vias : ℕ) → text ≡ finished_text after long vias → length text ≤ TEXT_LIMIT → SayDesign lefs text after.library after
+  said_with_wires long vias is fits =
+      let whole = subst (λ t. length t ≤ TEXT_LIMIT) is fits in
+      let short = finished_fits after long vias whole in
+      under_lefs lefs def text library design after say same
+      (subst (λ t. Says units_in t after.library.units) (sym is) (says_with_wires units_in after.library.units after long vias whole (says_units after sound well one short)))
+      (subst (λ t. Says (design_in after.library) t after) (sym is) (says_with_wires (design_in after.library) after after long vias whole (says_design after sound well one short)))

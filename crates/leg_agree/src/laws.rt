@@ -14,13 +14,14 @@ ghost use Rattle.leg_app.specs.Say.{SayDesign};
 ghost use Rattle.leg_app.specs.Legalised.{PrintsLegalised};
 ghost use Rattle.leg_app.specs.Routed.{PrintsRouted};
 ghost use Rattle.leg_app.specs.Flow.{PrintsFlow};
+ghost use Rattle.leg_app.specs.Finished.{PrintsFinished};
 ghost use Rattle.leg_agree.specs.Legal.{AnswersLegal};
 
 use leg_again::laws::printed_text_says_its_design;
 use leg_app::laws::command_has_one_answer;
 
-/// What `route`, `legalise` and `flow` print denotes the design that they made, under its library: the lines on how far
-/// components have moved are comments.
+/// What `route`, `legalise`, `flow` and `finish` print denotes the design that they made, under its library: the lines on how far
+/// components have moved, and on added wires, are comments.
 pub fn printed_texts_say_their_designs()
     ensures routed { (lefs : List (List ℕ)) (def text : List ℕ) (library : Contents) (design : DesignContents)
         → SayDesign lefs def library design → (printed : PrintsRouted design text)
@@ -34,6 +35,10 @@ pub fn printed_texts_say_their_designs()
         → SayDesign lefs def library design → (printed : PrintsFlow design text)
         → StayOne (printed_names printed.routed) → length text ≤ TEXT_LIMIT
         → SayDesign lefs text printed.routed.library printed.routed }
+    ensures finished { (lefs : List (List ℕ)) (def text : List ℕ) (library : Contents) (design : DesignContents)
+        → SayDesign lefs def library design → (printed : PrintsFinished design text)
+        → StayOne (printed_names printed.finished) → length text ≤ TEXT_LIMIT
+        → SayDesign lefs text printed.finished.library printed.finished }
 {
     printed_text_says_its_design();
 }
@@ -63,6 +68,16 @@ pub fn flow_text_is_legal()
     ensures { (lefs : List (List ℕ)) (def text : List ℕ) (library : Contents) (design : DesignContents)
         → SayDesign lefs def library design → (printed : PrintsFlow design text)
         → StayOne (printed_names printed.routed) → length text ≤ TEXT_LIMIT → AnswersLegal Check lefs text }
+{
+    printed_text_says_its_design();
+    command_has_one_answer();
+}
+
+/// What `finish` prints, `check` answers `legal`.
+pub fn finished_text_is_legal()
+    ensures { (lefs : List (List ℕ)) (def text : List ℕ) (library : Contents) (design : DesignContents)
+        → SayDesign lefs def library design → (printed : PrintsFinished design text)
+        → StayOne (printed_names printed.finished) → length text ≤ TEXT_LIMIT → AnswersLegal Check lefs text }
 {
     printed_text_says_its_design();
     command_has_one_answer();

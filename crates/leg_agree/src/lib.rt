@@ -1,4 +1,4 @@
-//! What `route`, `legalise` and `flow` print, the checks answer `legal`.
+//! What `route`, `legalise`, `flow` and `finish` print, the checks answer `legal`.
 #![tactic(auto)]
 
 pub mod laws;

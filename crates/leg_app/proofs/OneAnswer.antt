@@ -17,7 +17,7 @@ use Rattle.leg_flat.proofs.OneFlat.{one_flat}
 use Rattle.leg_print.specs.Wirelength.{IsWirelength}
 use Rattle.leg_print.proofs.OneWirelength.{one_wirelength}
 use Rattle.leg_input.specs.declared.command.Command.{Command}
-use Rattle.leg_input.specs.declared.command.Command.TheVariants.{PlaceCheck, Check, Measure, Legalise, Route, Flow}
+use Rattle.leg_input.specs.declared.command.Command.TheVariants.{PlaceCheck, Check, Measure, Legalise, Route, Flow, Finish}
 use Rattle.leg_app.specs.declared.status.Status.{Status}
 use Rattle.leg_app.specs.declared.status.Status.TheVariants.{Success, Violations, Refused, Unsolved, Memory}
 use Rattle.leg_app.specs.Say.{SayLibraryFor, SayDesign}
@@ -76,6 +76,7 @@ one_shown Measure design f g p q = absurd p
 one_shown Legalise design f g p q = absurd p
 one_shown Route design f g p q = absurd p
 one_shown Flow design f g p q = absurd p
+one_shown Finish design f g p q = absurd p
 one_shown Check design (Some f) (Some g) p q = (let same : f ≡ g = one_flat design f g p.is_flat q.is_flat in cc)
 
 -- one status and one text go with violations
@@ -154,24 +155,24 @@ module _ (command : Command) (lefs : List (List ℕ)) (def : List ℕ) (one : Sa
       no_outcome_of_check design text (subst (λ c. IsOutcome c design text) much.flattens outcome)
 
   -- of a command that doesn't route
-  module _ (first : command ≢ Route) (second : command ≢ Flow) where
+  module _ (first : command ≢ Route) (second : command ≢ Flow) (third : command ≢ Finish) where
     one_making : (text words : List ℕ) → PrintsMade command lefs def text → PrintsMade command lefs def words → text ≡ words
     one_making text words p q =
         let same = one p.library q.library p.design q.design p.say q.say in
         let made : IsTextMade command q.design text = subst (λ d. IsTextMade command d text) same.1 p.made in
-        one_made command q.design text words first second made q.made
+        one_made command q.design text words first second third made q.made
 
     one_unsolved : (text words : List ℕ) → TellsUnsolved command lefs def text → TellsUnsolved command lefs def words → text ≡ words
     one_unsolved text words p q =
         let same = one p.library q.library p.design q.design p.say q.say in
         let reason : IsReason command q.design text = subst (λ d. IsReason command d text) same.1 p.reason in
-        one_reason_told command q.design text words first second reason q.reason
+        one_reason_told command q.design text words first second third reason q.reason
 
     made_or_unsolved : (text words : List ℕ) → PrintsMade command lefs def text → TellsUnsolved command lefs def words → ⊥
     made_or_unsolved text words p q =
         let same = one p.library q.library p.design q.design p.say q.say in
         let made : IsTextMade command q.design text = subst (λ d. IsTextMade command d text) same.1 p.made in
-        made_or_not command q.design text words first second made q.reason
+        made_or_not command q.design text words first second third made q.reason
 
     -- two answers without violations, and without a reason why nothing is made
     one_success : (text words : List ℕ) → IsAnswer command lefs def Success text → IsAnswer command lefs def Success words → text ≡ words

@@ -8,7 +8,7 @@ use Rattle.leg_legal.specs.Moves.{AreMoves}
 use Rattle.leg_legal.specs.Refusals.{IsRefusal}
 use Rattle.leg_legal.proofs.OneOutcome.{one_design, one_list_of_moves, one_cause, no_outcome}
 use Rattle.leg_input.specs.declared.command.Command.{Command}
-use Rattle.leg_input.specs.declared.command.Command.TheVariants.{PlaceCheck, Check, Measure, Legalise, Route, Flow}
+use Rattle.leg_input.specs.declared.command.Command.TheVariants.{PlaceCheck, Check, Measure, Legalise, Route, Flow, Finish}
 use Rattle.leg_app.specs.LegaliseLines.{legalised_text, fixed_illegal_text, no_site_text, no_room_text}
 use Rattle.leg_app.specs.Legalised.{PrintsLegalised, TellsNotLegalised}
 use Rattle.leg_app.specs.Legalised.TellsNotLegalised.{fixed_illegal, no_site, no_room}
@@ -64,32 +64,35 @@ module _ (design : DesignContents) (text words : List ℕ) where
       no_outcome design p.legalised told.cause told.refused told.kept p.legalises.run p.legalises.legal
 
 -- the same by command, but for those that route
-pub one_made : (command : Command) (design : DesignContents) (text words : List ℕ) → command ≢ Route → command ≢ Flow
+pub one_made : (command : Command) (design : DesignContents) (text words : List ℕ) → command ≢ Route → command ≢ Flow → command ≢ Finish
     → IsTextMade command design text → IsTextMade command design words → text ≡ words
-one_made PlaceCheck design text words first second p q = absurd p
-one_made Check design text words first second p q = absurd p
-one_made Measure design text words first second p q = absurd p
-one_made Legalise design text words first second p q = one_legalised design text words p q
-one_made Route design text words first second p q = absurd (first refl)
-one_made Flow design text words first second p q = absurd (second refl)
+one_made PlaceCheck design text words first second third p q = absurd p
+one_made Check design text words first second third p q = absurd p
+one_made Measure design text words first second third p q = absurd p
+one_made Legalise design text words first second third p q = one_legalised design text words p q
+one_made Route design text words first second third p q = absurd (first refl)
+one_made Flow design text words first second third p q = absurd (second refl)
+one_made Finish design text words first second third p q = absurd (third refl)
 
-pub one_reason_told : (command : Command) (design : DesignContents) (text words : List ℕ) → command ≢ Route → command ≢ Flow
+pub one_reason_told : (command : Command) (design : DesignContents) (text words : List ℕ) → command ≢ Route → command ≢ Flow → command ≢ Finish
     → IsReason command design text → IsReason command design words → text ≡ words
-one_reason_told PlaceCheck design text words first second p q = absurd p
-one_reason_told Check design text words first second p q = absurd p
-one_reason_told Measure design text words first second p q = absurd p
-one_reason_told Legalise design text words first second p q = one_reason design text words p q
-one_reason_told Route design text words first second p q = absurd (first refl)
-one_reason_told Flow design text words first second p q = absurd (second refl)
+one_reason_told PlaceCheck design text words first second third p q = absurd p
+one_reason_told Check design text words first second third p q = absurd p
+one_reason_told Measure design text words first second third p q = absurd p
+one_reason_told Legalise design text words first second third p q = one_reason design text words p q
+one_reason_told Route design text words first second third p q = absurd (first refl)
+one_reason_told Flow design text words first second third p q = absurd (second refl)
+one_reason_told Finish design text words first second third p q = absurd (third refl)
 
-pub made_or_not : (command : Command) (design : DesignContents) (text words : List ℕ) → command ≢ Route → command ≢ Flow
+pub made_or_not : (command : Command) (design : DesignContents) (text words : List ℕ) → command ≢ Route → command ≢ Flow → command ≢ Finish
     → IsTextMade command design text → IsReason command design words → ⊥
-made_or_not PlaceCheck design text words first second p q = p
-made_or_not Check design text words first second p q = p
-made_or_not Measure design text words first second p q = p
-made_or_not Legalise design text words first second p q = legalised_or_not design text words p q
-made_or_not Route design text words first second p q = first refl
-made_or_not Flow design text words first second p q = second refl
+made_or_not PlaceCheck design text words first second third p q = p
+made_or_not Check design text words first second third p q = p
+made_or_not Measure design text words first second third p q = p
+made_or_not Legalise design text words first second third p q = legalised_or_not design text words p q
+made_or_not Route design text words first second third p q = first refl
+made_or_not Flow design text words first second third p q = second refl
+made_or_not Finish design text words first second third p q = third refl
 
 -- what a command makes of a design, or why it makes nothing of it
 abbrev pub IsOutcome : Command → DesignContents → List ℕ → Type 0
@@ -106,6 +109,7 @@ shown_or_made Measure design other flat text shown outcome = shown
 shown_or_made Legalise design other flat text shown outcome = shown
 shown_or_made Route design other flat text shown outcome = shown
 shown_or_made Flow design other flat text shown outcome = shown
+shown_or_made Finish design other flat text shown outcome = shown
 
 pub no_outcome_of_measure : (design : DesignContents) (text : List ℕ) → IsOutcome Measure design text → ⊥
 no_outcome_of_measure design text (inl made) = made

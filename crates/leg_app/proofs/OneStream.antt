@@ -2,7 +2,7 @@
 use Rattle.std.proofs.Common.{◌≡◌, ◌≢◌, ℕ, ◌≤◌, List, [], ◌∷◌, ◌++◌, length, take, drop, inl, inr, refl, sym, ap, ◌∙◌, subst, arith, length-append}
 use Rattle.std.proofs.lemmas.List.{take_at, drop_at}
 use Rattle.leg_input.specs.declared.command.Command.{Command}
-use Rattle.leg_input.specs.declared.command.Command.TheVariants.{Check, Route, Flow}
+use Rattle.leg_input.specs.declared.command.Command.TheVariants.{Check, Route, Flow, Finish}
 use Rattle.leg_input.specs.Stream.{end_library, StandsBehind, IsSplit}
 use Rattle.leg_app.specs.declared.status.Status.{Status}
 use Rattle.leg_app.specs.declared.status.Status.TheVariants.{Refused, Memory}
@@ -32,7 +32,7 @@ one_split stream front back before behind p q =
 abbrev pub HasOneAnswer : Type 0
 HasOneAnswer = (command : Command) (lefs : List (List ℕ)) (def : List ℕ) (status other : Status) (text words : List ℕ)
     → IsAnswer command lefs def status text → IsAnswer command lefs def other words
-    → command ≢ Route → command ≢ Flow → status ≢ Refused → status ≢ Memory → other ≢ Memory → (status ≡ other) × (text ≡ words)
+    → command ≢ Route → command ≢ Flow → command ≢ Finish → status ≢ Refused → status ≢ Memory → other ≢ Memory → (status ≡ other) × (text ≡ words)
 
 pub one_stream_answer : HasOneAnswer → (stream : List ℕ) (status other : Status) (text words : List ℕ)
     → IsStreamAnswer stream status text → IsStreamAnswer stream other words
@@ -43,4 +43,4 @@ one_stream_answer one stream status other text words (inl p) (inl q) known full 
     let same = one_split stream p.lef p.def q.lef q.def p.split q.split in
     let at_lef : IsAnswer Check (q.lef ∷ []) p.def status text = subst (λ lef. IsAnswer Check (lef ∷ []) p.def status text) same.0 p.answer in
     let at_def : IsAnswer Check (q.lef ∷ []) q.def status text = subst (λ def. IsAnswer Check (q.lef ∷ []) def status text) same.1 at_lef in
-    one Check (q.lef ∷ []) q.def status other text words at_def q.answer (λ is. cc) (λ is. cc) known full left
+    one Check (q.lef ∷ []) q.def status other text words at_def q.answer (λ is. cc) (λ is. cc) (λ is. cc) known full left

@@ -6,7 +6,7 @@ use Rattle.leg_lex.specs.declared.read_fault.FaultKind.TheVariants as kinds
 use Rattle.leg_cells.specs.declared.scale_fault.ScaleKind.{ScaleKind}
 use Rattle.leg_cells.specs.declared.scale_fault.ScaleKind.TheVariants as scale
 use Rattle.leg_input.specs.declared.command.Command.{Command}
-use Rattle.leg_input.specs.declared.command.Command.TheVariants.{PlaceCheck, Check, Measure, Legalise, Route, Flow}
+use Rattle.leg_input.specs.declared.command.Command.TheVariants.{PlaceCheck, Check, Measure, Legalise, Route, Flow, Finish}
 use Rattle.leg_app.specs.declared.status.Status.{Status}
 use Rattle.leg_app.specs.declared.status.Status.TheVariants.{Success, Violations, Refused, Unsolved, Memory}
 use Rattle.leg_cells.specs.Records.{Contents}
@@ -30,6 +30,7 @@ Lists Measure library design fault = ⊥
 Lists Legalise library design fault = ⊥
 Lists Route library design fault = ⊥
 Lists Flow library design fault = ⊥
+Lists Finish library design fault = ⊥
 
 -- the flat that is judged, and whose shapes and pieces the lines name: none, or the design's own; the other commands show
 -- none
@@ -42,6 +43,7 @@ IsShown Measure design flat = ⊥
 IsShown Legalise design flat = ⊥
 IsShown Route design flat = ⊥
 IsShown Flow design flat = ⊥
+IsShown Finish design flat = ⊥
 
 -- the status and the text for these violations: `legal` where there are none, and else a line for each and their number
 abbrev pub IsListing : DesignContents → Option FlatSaid → List Fault → Status → List ℕ → Type 0

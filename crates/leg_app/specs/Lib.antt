@@ -4,8 +4,10 @@ pub mod Refusal
 pub mod Lines
 pub mod LegaliseLines
 pub mod RouteLines
+pub mod FinishLines
 pub mod Legalised
 pub mod Routed
+pub mod Finished
 pub mod Flow
 pub mod Made
 pub mod Answer

@@ -9,6 +9,7 @@ ghost use Rattle.leg_app.specs.Answer.{IsAnswer};
 ghost use Rattle.leg_app.specs.Answer.{IsListing};
 
 use crate::check::check_design;
+use crate::finish_answer::finish_answer;
 use crate::flow_answer::flow_answer;
 use crate::legalise_answer::legalise_answer;
 use crate::lines::{listing_text, refused_text, scale_text, wirelength_text};
@@ -19,6 +20,7 @@ use crate::texts::{behind_lefs, library_for};
 use leg_block::{Design, Fault};
 use leg_cells::{Library, ScaleKind};
 use leg_design::DefText;
+use leg_finish::Progress;
 use leg_flat::{Flat, FlatFault};
 use leg_input::Command;
 use leg_lex::FaultKind;
@@ -33,44 +35,47 @@ pub(crate) struct Answer<A: Allocator> {
     pub(crate) text: Vec<u8, A>,
 }
 
-/// What the command answers to these texts.
-pub(crate) fn answer_to<'a, A: Allocator + Copy>(
+/// What the command answers to these texts. The progress is told of each round of `finish`.
+pub(crate) fn answer_to<'a, A: Allocator + Copy, P: Progress>(
     alloc: A,
     command: Command,
     lefs: &[&'a [u8]],
     def: &'a [u8],
+    progress: &mut P,
 ) -> Result<Answer<A>, AllocError>
     ensures { IfOk result (λ answer.
         IsAnswer command (map (λ t. t.now) lefs.now) def.now answer.status answer.text.items) }
 {
     match library_for(alloc, lefs, def) {
-        Ok((library, text)) => library_answer(alloc, command, lefs.len(), &library, text),
+        Ok((library, text)) => library_answer(alloc, command, lefs.len(), &library, text, progress),
         Err(fault) => refusal(alloc, command, &fault),
     }
 }
 
 // What is answered to a DEF after this many LEFs, where the texts denote this library and no other.
-fn library_answer<A: Allocator + Copy>(
+fn library_answer<A: Allocator + Copy, P: Progress>(
     alloc: A,
     command: Command,
     count: usize,
     library: &Library<'_, A>,
     def: DefText<'_, A>,
+    progress: &mut P,
 ) -> Result<Answer<A>, AllocError>
     ensures { IfOk result (λ answer. (lefs : List (List ℕ)) →
         SaysJust lefs def.entry library.now → IsAnswer command lefs def.entry answer.status answer.text.items) }
 {
     match def.design(alloc, library) {
-        Ok(design) => design_answer(alloc, command, design),
+        Ok(design) => design_answer(alloc, command, design, progress),
         Err(fault) => refusal(alloc, command, &TextFault::Read(behind_lefs(count, fault))),
     }
 }
 
 // What is answered to texts that denote this design.
-fn design_answer<A: Allocator + Copy>(
+fn design_answer<A: Allocator + Copy, P: Progress>(
     alloc: A,
     command: Command,
     design: Design<'_, A>,
+    progress: &mut P,
 ) -> Result<Answer<A>, AllocError>
     ensures { IfOk result (λ answer. (lefs : List (List ℕ)) (def : List ℕ) →
         SayDesign lefs def design.entry.library design.entry →
@@ -83,6 +88,7 @@ fn design_answer<A: Allocator + Copy>(
         Command::Legalise => legalise_answer(alloc, design),
         Command::Route => route_answer(alloc, design),
         Command::Flow => flow_answer(alloc, design),
+        Command::Finish => finish_answer(alloc, design, progress),
     }
 }
 

@@ -6,7 +6,7 @@ ghost use Rattle.leg_cells.specs.Records.{Contents};
 ghost use Rattle.leg_block.specs.Records.{DesignContents};
 ghost use Rattle.leg_block.specs.declared.fault.Fault.{Fault};
 ghost use Rattle.leg_input.specs.declared.command.Command.{Command};
-ghost use Rattle.leg_input.specs.declared.command.Command.TheVariants.{Route, Flow};
+ghost use Rattle.leg_input.specs.declared.command.Command.TheVariants.{Route, Flow, Finish};
 ghost use Rattle.leg_app.specs.declared.status.Status.{Status};
 ghost use Rattle.leg_app.specs.declared.status.Status.TheVariants.{Refused, Memory};
 ghost use Rattle.leg_app.specs.declared.limits.TheConstants.{FILE_LIMIT, STREAM_LIMIT};
@@ -50,7 +50,7 @@ pub fn texts_have_one_list()
 pub fn command_has_one_answer()
     ensures { (command : Command) (lefs : List (List ℕ)) (def : List ℕ) (status other : Status) (text words : List ℕ)
         → IsAnswer command lefs def status text → IsAnswer command lefs def other words
-        → command ≢ Route → command ≢ Flow → status ≢ Refused → status ≢ Memory → other ≢ Memory → (status ≡ other) × (text ≡ words) }
+        → command ≢ Route → command ≢ Flow → command ≢ Finish → status ≢ Refused → status ≢ Memory → other ≢ Memory → (status ≡ other) × (text ≡ words) }
 {
     texts_say_one_design();
 }

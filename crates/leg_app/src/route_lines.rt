@@ -23,12 +23,23 @@ pub(crate) fn not_clean_text<A: Allocator + Copy>(
     requires { length (metal_of design.now) ≤ PART_LIMIT }
     ensures { IfOk result (λ text. (flat : FlatSaid) → IsFlatOf design.now flat → text.items ≡ not_clean_text design.now flat violations.now) }
 {
-    let flat = match flatten(alloc, design.library(), design) {
-        Ok(flat) => flat,
-        // There are not too many shapes, so an allocation failed.
-        Err(_refusal) => return Err(AllocError),
-    };
+    let flat = flat_again(alloc, design)?;
     shown_text(alloc, design, &flat, violations)
+}
+
+/// The flat of a design that keeps the limit of shapes, made anew.
+pub(crate) fn flat_again<A: Allocator + Copy>(
+    alloc: A,
+    design: &Design<'_, A>,
+) -> Result<Flat<A>, AllocError>
+    requires { length (metal_of design.now) ≤ PART_LIMIT }
+    ensures { IfOk result (λ flat. IsFlatOf design.now flat) }
+{
+    match flatten(alloc, design.library(), design) {
+        Ok(flat) => Ok(flat),
+        // There are not too many shapes, so an allocation failed.
+        Err(_refusal) => Err(AllocError),
+    }
 }
 
 /// The lines of violations that speak of shapes of the flat, and their number.
@@ -62,7 +73,7 @@ pub(crate) fn unroutable_text<A: Allocator + Copy>(
 }
 
 /// The name of the net of this number: entries of `NETS` count first. Empty where there is none.
-fn net_name<'d, A: Allocator + Copy>(design: &'d Design<'_, A>, number: u32) -> &'d [u8]
+pub(crate) fn net_name<'d, A: Allocator + Copy>(design: &'d Design<'_, A>, number: u32) -> &'d [u8]
     ensures { result.now ≡ net_name design.now number }
 {
     let (number, regular) = (number as usize, design.nets().len());

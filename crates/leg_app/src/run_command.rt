@@ -8,6 +8,7 @@ ghost use Rattle.leg_app.specs.Lines.{memory_text};
 
 use crate::answer::answer_to;
 use crate::status::Status;
+use leg_finish::Progress;
 use leg_input::{Command, split_stream};
 use std::alloc::Allocator;
 use std::io::Write;
@@ -39,7 +40,24 @@ pub fn run<W: Write, A: Allocator + Copy>(
     ensures cut { OnErr result (TakesPart (IsAnswer command (map (λ t. t.now) lefs.now) def.now)
         (W.contents out.old) (W.contents out.new)) }
 {
-    match answer_to(alloc, command, lefs, def) {
+    run_with_progress(alloc, command, lefs, def, out, &mut ())
+}
+
+/// Writes what `run` writes, and tells the progress of each round of `finish`, before anything is written.
+pub fn run_with_progress<W: Write, A: Allocator + Copy, P: Progress>(
+    alloc: A,
+    command: Command,
+    lefs: &[&[u8]],
+    def: &[u8],
+    out: &mut W,
+    progress: &mut P,
+) -> Result<Status, RunFault>
+    ensures whole { IfOk result (λ status. TakesAnswer (IsAnswer command (map (λ t. t.now) lefs.now) def.now) status
+        (W.contents out.old) (W.contents out.new)) }
+    ensures cut { OnErr result (TakesPart (IsAnswer command (map (λ t. t.now) lefs.now) def.now)
+        (W.contents out.old) (W.contents out.new)) }
+{
+    match answer_to(alloc, command, lefs, def, progress) {
         Ok(answer) => {
             write_text(out, &answer.text)?;
             Ok(answer.status)

@@ -1,13 +1,13 @@
 -- Calls from other languages (lefdef's own rules).
 use Rattle.std.specs.Prelude.{◌≡◌, ℕ, List, [], ◌∷◌, ◌++◌, length, take, drop, slice_get, Option}
 use Rattle.leg_input.specs.declared.command.Command.{Command}
-use Rattle.leg_input.specs.declared.command.Command.TheVariants.{Check, PlaceCheck, Measure, Legalise, Route, Flow}
+use Rattle.leg_input.specs.declared.command.Command.TheVariants.{Check, PlaceCheck, Measure, Legalise, Route, Flow, Finish}
 use Rattle.leg_app.specs.declared.status.Status.{Status}
 use Rattle.leg_app.specs.Answer.{IsAnswer, exit_code}
 
 -- the commands, in the order of their numbers from 0 on
 abbrev pub commands : List Command
-commands = Check ∷ PlaceCheck ∷ Measure ∷ Legalise ∷ Route ∷ Flow ∷ []
+commands = Check ∷ PlaceCheck ∷ Measure ∷ Legalise ∷ Route ∷ Flow ∷ Finish ∷ []
 
 -- the command of this number
 abbrev pub command_of : ℕ → Option Command

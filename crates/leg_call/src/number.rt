@@ -16,6 +16,7 @@ pub fn command_of(number: u32) -> Option<Command>
         3 => Some(Command::Legalise),
         4 => Some(Command::Route),
         5 => Some(Command::Flow),
+        6 => Some(Command::Finish),
         _ => None,
     }
 }

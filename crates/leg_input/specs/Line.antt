@@ -4,7 +4,7 @@ use Rattle.std.specs.Str.{bytes_eq}
 use Rattle.leg_input.specs.declared.command.Command.{Command}
 use Rattle.leg_input.specs.declared.line.Asked.{Asked}
 use Rattle.leg_input.specs.declared.line.Asked.TheVariants.{Stream, Help, Files}
-use Rattle.leg_input.specs.declared.command.Command.TheVariants.{PlaceCheck, Check, Measure, Legalise, Route, Flow}
+use Rattle.leg_input.specs.declared.command.Command.TheVariants.{PlaceCheck, Check, Measure, Legalise, Route, Flow, Finish}
 
 -- the command of exactly this name
 abbrev pub command_named : List ℕ → Option Command
@@ -14,7 +14,8 @@ command_named name =
     else (if bytes_eq name (codes "measure") then Some Measure
     else (if bytes_eq name (codes "legalise") then Some Legalise
     else (if bytes_eq name (codes "route") then Some Route
-    else (if bytes_eq name (codes "flow") then Some Flow else None)))))
+    else (if bytes_eq name (codes "flow") then Some Flow
+    else (if bytes_eq name (codes "finish") then Some Finish else None))))))
 
 -- a command's name, a DEF, and one LEF or more
 abbrev pub line_of : List (List ℕ) → Option (Command × List ℕ × List (List ℕ))

@@ -15,4 +15,6 @@ pub enum Command {
     Route,
     /// The block legalised, and what came of it routed.
     Flow,
+    /// The block with wires added to its open nets, laid anew until all of them pass one another.
+    Finish,
 }

@@ -73,6 +73,8 @@ fn command_named(name: &str) -> Option<Command>
         Some(Command::Route)
     } else if name == "flow" {
         Some(Command::Flow)
+    } else if name == "finish" {
+        Some(Command::Finish)
     } else {
         None
     }

@@ -22,4 +22,5 @@ mod words;
 
 pub use design_text::print_def;
 pub use fault_line::print_faults;
+pub use name::push_piece;
 pub use wirelength::hpwl;

@@ -178,8 +178,9 @@ pub(crate) fn push_owner<A: Allocator + Copy>(
     }
 }
 
-/// Adds a piece of a net. Its wires are counted from 1.
-pub(crate) fn push_piece<A: Allocator + Copy>(
+/// Adds the words that name a piece of a net of the design: a component and its pin, `PIN` and a pin of the design, or `WIRE` and
+/// which wire of the net it is, counted from 1. On a refusal the text may have the front of them.
+pub fn push_piece<A: Allocator + Copy>(
     text: &mut Vec<u8, A>,
     design: &Design<'_, A>,
     piece: &Piece,

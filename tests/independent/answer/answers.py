@@ -1,13 +1,10 @@
 """The answer to a command: what is printed, and the exit status."""
-from . import connection, metal, placement, spacing
+from . import finisher, placement
 from .legaliser import NotLegalised, legalised
-from .printer import design_text
+from .printer import design_text, text_of
 from .router import NotRouted, routed
+from .violations import violation_lines
 from .wirelength import wirelength
-
-
-def text_of(lines):
-    return ''.join(line + '\n' for line in lines)
 
 
 def violations(lines):
@@ -17,10 +14,7 @@ def violations(lines):
 
 def check(design):
     """Returns the answer to check."""
-    shapes = metal.metal(design)
-    lines = placement.fault_lines(design, placement.faults(design))
-    lines += spacing.fault_lines(design, shapes, spacing.faults(design, shapes))
-    return violations(lines + connection.fault_lines(design, connection.faults(design)))
+    return violations(violation_lines(design))
 
 
 def place_check(design):
@@ -66,3 +60,5 @@ def flow(design):
 
 
 COMMANDS = {'check': check, 'place-check': place_check, 'measure': measure, 'legalise': legalise, 'route': route, 'flow': flow}
+# For each command whose answer is not determined: what is wrong with an output and a status for a design, in words, or None.
+JUDGES = {'finish': finisher.wrong_with}

@@ -24,20 +24,40 @@ def touching_pairs(parts):
             yield having[a], having[b]
 
 
+def touching(parts):
+    """Returns for each piece that touches others the pieces that it touches."""
+    found = {}
+    for a, b in touching_pairs(parts):
+        found.setdefault(a, []).append(b)
+        found.setdefault(b, []).append(a)
+    return found
+
+
+def reached(first, neighbours):
+    """Returns the numbers of the pieces that are joined to this one; neighbours has the pieces that touch each piece."""
+    found, waiting = {first}, [first]
+    while waiting:
+        for other in neighbours.get(waiting.pop(), ()):
+            if other not in found:
+                found.add(other)
+                waiting.append(other)
+    return found
+
+
 def joined(parts):
     """Returns the numbers of the pieces that are joined to the first one."""
-    touching = {}
-    for a, b in touching_pairs(parts):
-        touching.setdefault(a, []).append(b)
-        touching.setdefault(b, []).append(a)
-    reached = {0} if parts else set()
-    waiting = [0]
-    while waiting:
-        for other in touching.get(waiting.pop(), ()):
-            if other not in reached:
-                reached.add(other)
-                waiting.append(other)
-    return reached
+    return reached(0, touching(parts)) if parts else set()
+
+
+def groups(parts):
+    """Returns the pieces as sets of those that are joined, in the order of the least piece of each."""
+    neighbours = touching(parts)
+    found, left = [], set(range(len(parts)))
+    for piece in range(len(parts)):
+        if piece in left:
+            found.append(reached(piece, neighbours))
+            left -= found[-1]
+    return found
 
 
 def faults(design):

@@ -2,6 +2,11 @@
 from .model import PlacedVia, Segment
 
 
+def text_of(lines):
+    """Returns a text of these lines."""
+    return ''.join(line + '\n' for line in lines)
+
+
 def design_text(design):
     """Returns the text of a design."""
     lines = ['VERSION 5.8 ;']
@@ -19,7 +24,7 @@ def design_text(design):
     lines += section('SPECIALNETS', [net_entry(design, net, True) for net in design.special_nets])
     lines += section('NETS', [net_entry(design, net, False) for net in design.nets])
     lines.append('END DESIGN')
-    return ''.join(line + '\n' for line in lines)
+    return text_of(lines)
 
 
 def point(place):

@@ -1,6 +1,6 @@
 """Routes a design over the grid of tracks."""
 from . import connection, geometry, metal, placement, spacing
-from .grid import DIRECTIONS, Grid, GridTooLarge
+from .grid import DIRECTIONS, LIMIT, Grid, GridTooLarge
 from .model import Patch
 from .obstacles import Obstacles
 
@@ -13,18 +13,22 @@ class NotRouted(Exception):
         self.lines = lines
 
 
-def routed(design):
-    """Returns the routed design, or raises NotRouted."""
+def ground(design, limit=LIMIT):
+    """Returns the grid of a design and its metal, or raises NotRouted if it has violations but open nets, or a grid beyond the limit."""
     shapes = metal.metal(design)
     places, near = placement.faults(design), spacing.faults(design, shapes)
     if places or near:
         lines = placement.fault_lines(design, places) + spacing.fault_lines(design, shapes, near)
         raise NotRouted(lines + [f'NOTCLEAN {len(lines)}'])
     try:
-        grid = Grid(design)
+        return Grid(design, limit), Obstacles(design.library.layers, shapes)
     except GridTooLarge:
         raise NotRouted(['GRIDTOOLARGE']) from None
-    obstacles = Obstacles(design.library.layers, shapes)
+
+
+def routed(design):
+    """Returns the routed design, or raises NotRouted."""
+    grid, obstacles = ground(design)
     nets = list(design.nets)
     for number, net in enumerate(metal.whole_nets(design)[:len(nets)]):
         wires = NetRouter(design, grid, obstacles, number, net).wires()

@@ -5,7 +5,9 @@ from answer.model import Design
 from . import floorplan as plans
 from .blockages import blockages
 from .cells import cells
+from .contests import design_to_finish
 from .def_writer import DefWriter
+from .finish_plan import TO_FINISH, plan_to_finish
 from .lef_writer import LefWriter
 from .netlist import Netlist, design_pins
 from .placing import Placing, chosen_macros, widths_of_sites
@@ -25,10 +27,10 @@ class Block(NamedTuple):
 
 def block_of(number):
     """Returns the block with this number."""
-    plan, dice = plan_of(number)
+    plan, dice = plan_to_finish(number) if number >= TO_FINISH else plan_of(number)
     found = technology(dice, plan)
     found.library.macros.extend(cells(dice, plan, found.library))
-    design = design_of(dice, plan, found.library)
+    design = design_to_finish(dice, plan, lambda: design_of(dice, plan, found.library))
     if plan.thin:
         design = thinned(dice, design)
     lefs, text = LefWriter(dice, plan, found).texts(), DefWriter(dice, plan, design).text()

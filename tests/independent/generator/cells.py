@@ -1,19 +1,22 @@
 """Macros: cells on sites, and blocks without one."""
 from answer import geometry
 from answer.model import Macro, MacroPin
+from .walls import with_walls
 
 
 def cells(dice, plan, library):
     """Returns the macros: first those with a site."""
     found = [cell(dice, plan, library, number) for number in range(plan.macros if library.sites else 0)]
-    return found + [block(dice, plan, library, number) for number in range(plan.blocks)]
+    found += [block(dice, plan, library, number) for number in range(plan.blocks)]
+    return [with_walls(dice, plan, library, macro) for macro in found] if plan.walls else found
 
 
 def cell(dice, plan, library, number):
     """Returns a macro with a site, of a whole number of sites, but of another size in rare cases."""
     place = dice.below(len(library.sites))
     site = library.sites[place]
-    width, height = site.width * dice.between(1, 6 if number else 2), site.height
+    least, most = (2, 4) if plan.dense else (1, 6 if number else 2)
+    width, height = site.width * dice.between(least, most), site.height
     if not plan.sound and dice.chance(0.15):
         width, height = dice.one_of(((width + 1, height), (width, height * 2), (width, height + plan.pitch)))
     return Macro(f'C{number}', width, height, dice.chance(0.6), place, pins(dice, plan, library, width, height),
@@ -24,7 +27,8 @@ def block(dice, plan, library, number):
     """Returns a macro without a site."""
     side = plan.pitch if plan.tidy else 1
     width, height = (side * dice.between(1, 1 + 8 * plan.pitch // side) for _ in range(2))
-    width, height = min(width, 12 * plan.pitch), min(height, 12 * plan.pitch)
+    most = (4 if plan.dense else 12) * plan.pitch
+    width, height = min(width, most), min(height, most)
     return Macro(f'B{number}', width, height, dice.chance(0.5), None, pins(dice, plan, library, width, height),
                  obstructions(dice, plan, library, width, height))
 

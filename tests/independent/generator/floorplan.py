@@ -1,4 +1,7 @@
 """The die, the rows and the tracks."""
+from math import isqrt
+
+from answer.grid import FINISH_LIMIT
 from answer.model import Row, Tracks
 
 # Nearly as far from the origin as numbers may be.
@@ -60,7 +63,11 @@ def tracks(dice, plan, library, area, corner):
     found = []
     for number in levels:
         axis = 'X' if library.layers[number].direction == 'VERTICAL' else 'Y'
-        found += tracks_of(dice, plan, area, corner, axis, (number,))
+        found += (uneven_tracks if plan.uneven else tracks_of)(dice, plan, area, corner, axis, (number,))
+    if plan.limits:
+        return tracks_about_the_limits(dice, plan, library, area, found)
+    if plan.uneven:
+        return dice.shuffled(found)
     if plan.too_many:
         count = dice.one_of((2100, 2 ** 22 + 1))
         return found + [Tracks(axis, area[side], count, 1, ()) for side, axis in enumerate('XY')]
@@ -86,6 +93,29 @@ def tracks_of(dice, plan, area, corner, axis, layers):
         return [Tracks(axis, first, (count + 1) // 2, 2 * plan.pitch, layers),
                 Tracks(axis, first + plan.pitch, count // 2, 2 * plan.pitch, layers)]
     return [Tracks(axis, first, count, plan.pitch, layers)]
+
+
+def uneven_tracks(dice, plan, area, corner, axis, layers):
+    """Returns the tracks of a layer as two statements: at the middle of pitches, and with another offset and another step."""
+    even = tracks_of(dice, plan, area, corner, axis, layers)
+    side = 'XY'.index(axis)
+    start = area[side] + dice.between(1, 2 * plan.pitch)
+    step = dice.one_of((plan.pitch, 2 * plan.pitch, 3 * plan.pitch, dice.between(plan.pitch // 2, 3 * plan.pitch)))
+    count = max(1, (area[side + 2] - start) // step + dice.below(2))
+    return [dice.one_of(even), Tracks(axis, start, count, step, layers)] if even else []
+
+
+def tracks_about_the_limits(dice, plan, library, area, found):
+    """Returns tracks of which there are just as many as may be, or one more, or whose grid has about as many slots as may be."""
+    if plan.limits == 'tracks':
+        # (X tracks of a layer whose wires do not run along y give no values)
+        idle = [number for number, layer in enumerate(library.layers) if layer.direction != 'VERTICAL']
+        count = FINISH_LIMIT - sum(tracks.count for tracks in found) + dice.below(2)
+        return found + [Tracks('X', area[0], count, 1, (dice.one_of(idle),))]
+    slots = FINISH_LIMIT // len(library.routing_layers())
+    columns = dice.one_of((2048, 4096, isqrt(slots) + dice.between(-9, 9)))
+    counts = columns, slots // columns + dice.below(2)
+    return [Tracks(axis, area[side], counts[side], dice.between(1, 3), ()) for side, axis in enumerate('XY')]
 
 
 def any_tracks(dice, plan, library, area):

@@ -3,7 +3,7 @@ from .dice import Dice
 
 FAMILIES = ('components', 'rows', 'wires', 'nets', 'terminals', 'routed nets', 'walks', 'pins of the design', 'rectangles',
             'tracks', 'layers', 'special nets', 'macros', 'legal', 'thinned wires', 'corners', 'all')
-COMMANDS = ('check', 'place-check', 'measure', 'legalise', 'route', 'flow')
+COMMANDS = ('check', 'place-check', 'measure', 'legalise', 'route', 'flow', 'finish')
 # Of four counts of a family three are small, from 0 to 12 in turn, and one is large, of these in turn, but not above the family's most.
 SMALL_COUNTS = 13
 LARGE_COUNTS = (140, 17, 1200, 33, 280, 70, 600)
@@ -17,7 +17,7 @@ LARGE_EVERY = 50
 LARGE = ('components', 'metal', 'routes')
 # Blocks from this number on have blockages; the block of this number and n has the family and the count of block n.
 WITH_BLOCKAGES = 1000000
-LARGE_COMMANDS = {'components': NOT_ROUTED, 'metal': NOT_ROUTED, 'routes': ('check', 'measure', 'route', 'flow')}
+LARGE_COMMANDS = {'components': NOT_ROUTED, 'metal': NOT_ROUTED, 'routes': ('check', 'measure', 'route', 'flow', 'finish')}
 
 
 class Plan:
@@ -27,6 +27,13 @@ class Plan:
     some wires are taken away again. sound: directions alternate, vias join all routing layers, and all macros fit their sites.
     corners: pins of the design and wires are squares that share corners. far: the block lies far from the origin. too_many: there
     are more tracks than the grid may have. layer_blockages: how many of the blockages are of a layer, in so many cases of 1.
+
+    Those for finish. dense: cells are narrow and have many pins. uneven: the tracks of a layer are of two statements that do not go
+    together. pads: how the rectangles of vias are larger than wires: 'wide', 'lopsided', or None. far_cuts: cuts of vias at
+    neighbouring tracks are too near to one another. walls: macros have obstructions across several tracks. reached: terminals from
+    which no walk leads are left out of nets. contested: nets are in an order in which route stops though the block can be finished, if
+    there is one. attempts: how many designs are made at the most until one is so. kept: how much of the wires with which it is finished
+    the block has, in so many cases of 1. limits: the grid has about as many 'slots' as it may have, or 'tracks', or None.
     """
 
     def __init__(self, dice):
@@ -59,6 +66,8 @@ class Plan:
         self.sound = dice.chance(0.5)
         self.odd_names = dice.chance(0.15)
         self.far = dice.chance(0.1)
+        self.dense, self.uneven, self.pads, self.far_cuts, self.walls = False, False, None, False, False
+        self.reached, self.contested, self.attempts, self.kept, self.limits = False, False, 1, 0.0, None
 
     def route(self, dice):
         """Makes it a block that can be routed: tidy and legal, without wild wires."""
@@ -101,6 +110,9 @@ def plan_by_turn(number, dice):
     SIZED[plan.family](plan, count, dice)
     if count > MOST_ROUTED:
         plan.commands = NOT_ROUTED
+    elif plan.too_many:
+        # (a grid that is not too large for finish would have millions of slots)
+        plan.commands = COMMANDS[:-1]
     return plan
 
 

@@ -3,6 +3,7 @@ from typing import List, NamedTuple
 
 from answer import geometry
 from answer.model import Layer, Library, Site, Via
+from .pads import cut_spacing, pad
 
 
 class Technology(NamedTuple):
@@ -52,7 +53,8 @@ def cut_layers(dice, plan, level):
     names = [f'v{level}']
     if not plan.sound and dice.chance(0.08):
         names = dice.one_of(([], [f'v{level}', f'w{level}']))
-    between = [Layer(name, 'CUT', None, None, dice.between(0, plan.pitch // 2)) for name in names]
+    space = cut_spacing if plan.far_cuts else lambda dice, plan: dice.between(0, plan.pitch // 2)
+    between = [Layer(name, 'CUT', None, None, space(dice, plan)) for name in names]
     return between + ([Layer(f'x{level}', dice.one_of(OTHER_KINDS), None, None, 0)] if dice.chance(0.1) else [])
 
 
@@ -61,7 +63,7 @@ def vias(dice, plan, levels, join):
     lower, cut, upper = join
     found = []
     for number in range(dice.one_of((0, 1, 2, 3) if not plan.sound else (1, 1, 2))):
-        shapes = [(layer, via_rect(dice, plan, levels[layer].width // 2)) for layer in (lower, upper)]
+        shapes = [(layer, via_rect(dice, plan, levels, layer)) for layer in (lower, upper)]
         half = max(1, min(levels[lower].width, levels[upper].width) // 2 - dice.below(3))
         cuts = [(cut, geometry.around((0, 0), half))]
         if dice.chance(0.1):
@@ -70,8 +72,11 @@ def vias(dice, plan, levels, join):
     return found
 
 
-def via_rect(dice, plan, half):
-    """Returns a rectangle of a via around its point."""
+def via_rect(dice, plan, levels, layer):
+    """Returns a rectangle of a via around its point, on a routing layer of these layers."""
+    half = levels[layer].width // 2
+    if plan.pads:
+        return pad(dice, plan, levels, layer)
     if plan.tidy or dice.chance(0.6):
         return geometry.around((0, 0), half if dice.chance(0.8) else dice.between(1, half))
     most = max(2, plan.pitch // 3)
@@ -97,7 +102,9 @@ def sites(dice, plan):
     """Returns the sites, of which some have the same height."""
     found = []
     for number in range(plan.sites):
-        if plan.tidy:
+        if plan.dense:
+            width, height = plan.pitch, plan.pitch * dice.between(4, 6)
+        elif plan.tidy:
             width, height = plan.pitch * dice.between(1, 3), plan.pitch * dice.between(4, 9)
         else:
             width, height = dice.between(1, 3 * plan.pitch), dice.between(1, 9 * plan.pitch)

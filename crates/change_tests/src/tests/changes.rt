@@ -3,6 +3,7 @@
 use leg_block::Design;
 use leg_cells::Library;
 use leg_design::read_def;
+use leg_finish::{FinishFault, finish};
 use leg_legal::{LegalFault, Moves, legalise};
 use leg_print::print_def;
 use leg_route::{RouteFault, route};
@@ -17,6 +18,8 @@ pub(super) enum Change {
     Legalise(&'static [i64]),
     /// The design has this many violations other than open nets; with none it is routed.
     Route(usize),
+    /// The same; with none it is finished.
+    Finish(usize),
 }
 
 /// What came of a change, and the text of the design that was handed back.
@@ -101,6 +104,38 @@ fn routed<A: Allocator + Copy>(
     }
 }
 
+/// Whether memory ran out for the router that finishes. If not, the design has this many violations other than open nets.
+fn has_no_memory<A: Allocator>(fault: &FinishFault<A>, violations: usize) -> Option<bool> {
+    match fault {
+        FinishFault::Memory => Some(true),
+        FinishFault::NotClean(found) => (found.as_slice().len() == violations).then_some(false),
+        _ => None,
+    }
+}
+
+fn finished<A: Allocator + Copy>(
+    alloc: A,
+    refusing: &RefusingAlloc<Global>,
+    design: Design<'_, A>,
+    violations: usize,
+    refused: Refused,
+) -> Option<Changed<A>> {
+    let library = design.library();
+    refusing.refuse(refused);
+    match finish(alloc, library, design, &mut ()) {
+        Ok((done, _totals)) => {
+            if violations != 0 {
+                return None;
+            }
+            come_back(alloc, refusing, &done, false)
+        }
+        Err((back, fault)) => {
+            let refused = has_no_memory(&fault, violations)?;
+            come_back(alloc, refusing, &back, refused)
+        }
+    }
+}
+
 /// What came of the change of the design that a DEF denotes.
 fn changed_by<A: Allocator + Copy>(
     alloc: A,
@@ -114,6 +149,7 @@ fn changed_by<A: Allocator + Copy>(
     match change {
         Change::Legalise(by) => legalised(alloc, refusing, design, by, refused),
         Change::Route(violations) => routed(alloc, refusing, design, violations, refused),
+        Change::Finish(violations) => finished(alloc, refusing, design, violations, refused),
     }
 }
 

@@ -5,5 +5,5 @@ use Rattle.leg_app.proofs.route_lines.not_clean_text.Goals as goal
 pub returns : goal.returns
 returns g c =
     ok_weaker _ _ c.shown_text.result
-    (λ text is flat is_flat. (let same = one_flat c.args.design.now c.in-Ok.flat flat c.in-Ok.ensures.ok is_flat in rw (← same) is))
+    (λ text is flat is_flat. (let same = one_flat c.args.design.now c.in_ok-flat.flat flat c.in_ok-flat.ensures is_flat in rw (← same) is))
     c.shown_text.ensures

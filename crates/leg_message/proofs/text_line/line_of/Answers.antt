@@ -1,4 +1,4 @@
-use Rattle.std.proofs.Common.{ap, ◌∙◌, ℕ, ◌-◌, List, [], Some, None, slice_get, unwrap_or, rules, tests}
+use Rattle.std.proofs.Common.{ap, ◌∙◌, [], Some, None, slice_get, unwrap_or, rules, tests}
 use Rattle.std.specs.List.{slice_split}
 use Rattle.std.proofs.lemmas.Iterator.Splits.{YieldsList-from_slice_split}
 use Rattle.std.proofs.lemmas.Iterator.Consumers.{nth_from_yields_List}

@@ -2,7 +2,7 @@ use Rattle.std.proofs.Common.{refl}
 use Rattle.leg_app.specs.declared.status.Status.TheVariants.{Memory}
 use Rattle.leg_app.specs.Lines.{memory_text}
 use Rattle.leg_app.proofs.AnswerLemmas.{on_err_weaker}
-use Rattle.leg_app.proofs.run_command.run.Goals as goal
+use Rattle.leg_app.proofs.run_command.run_with_progress.Goals as goal
 
 pub returns-in-Err-clause-cut : goal.returns-in-Err-clause-cut
 returns-in-Err-clause-cut g c =
