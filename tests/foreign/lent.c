@@ -143,7 +143,7 @@ static void try_buffers(struct question it, struct answer answer, struct lefdef_
 /* A number that is no command has no answer. */
 static void try_numbers(struct question it, struct lefdef_memory memory)
 {
-    static const uint32_t numbers[] = {LEFDEF_FLOW + 1, 64, UINT32_MAX};
+    static const uint32_t numbers[] = {LEFDEF_FINISH + 1, 64, UINT32_MAX};
     struct answer none = {LEFDEF_USAGE, lefdef_text_of(NULL, 0)};
     for (size_t at = 0; at < sizeof numbers / sizeof numbers[0]; at++) {
         it.number = numbers[at];
