@@ -3,6 +3,7 @@
 
 mod changes;
 mod commands;
+mod no_rounds;
 mod two_nets;
 mod wires;
 
@@ -117,6 +118,14 @@ fn a_router_that_finishes_without_memory(rt: HostRuntime) {
     // The inverters overlap, and so does the metal of their two signal pins.
     for def in [two_at_one_place(), net_at_one_place()] {
         assert!(rt; goes_right(refusing, refusing, Trial::Give(Change::Finish(3)), def));
+    }
+}
+
+#[test]
+fn a_router_that_finishes_without_a_round(rt: HostRuntime) {
+    let library = library_of_cells(rt.alloc()).expect(&rt, "memory");
+    for def in [around_an_obstruction(), around_blockages()] {
+        assert!(rt; no_rounds::is_left(rt.alloc(), &library, def));
     }
 }
 
