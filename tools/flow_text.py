@@ -112,20 +112,27 @@ class DefText(Words):
         return ''.join(parts) + self.text[done:]
 
 
-class Arguments(argparse.ArgumentParser):
+class Parser(argparse.ArgumentParser):
+    """Words of a command line; a usage error ends with its own status."""
+
+    def __init__(self, prog, doc, statuses):
+        super().__init__(prog=prog, description=doc, formatter_class=argparse.RawDescriptionHelpFormatter, epilog=statuses)
+
+    def error(self, message):
+        self.print_usage(sys.stderr)
+        self.exit(USAGE, f'{self.prog}: {message}\n')
+
+
+class Arguments(Parser):
     """Words of a command line: a DEF, LEFs where the tool needs them, and where the answer goes."""
 
     def __init__(self, prog, doc, libraries=None):
-        super().__init__(prog=prog, description=doc, formatter_class=argparse.RawDescriptionHelpFormatter, epilog=STATUSES)
+        super().__init__(prog, doc, STATUSES)
         self.add_argument('design', metavar='DEF', help='the block')
         if libraries:
             self.add_argument('libraries', metavar='LEF', nargs=libraries, help='its libraries, in the order in which lefdef is given them')
         self.add_argument('-o', '--output', metavar='FILE', help='write the block there, in place of standard output')
         self.add_argument('--force', action='store_true', help='overwrite FILE if it exists')
-
-    def error(self, message):
-        self.print_usage(sys.stderr)
-        self.exit(USAGE, f'{self.prog}: {message}\n')
 
 
 def check_output(asked):
@@ -175,6 +182,19 @@ def run(parser, words, edit):
     for line in notes:
         print(f'{parser.prog}: {line}', file=sys.stderr)
     return status
+
+
+def print_lines(prog, lines_of):
+    """Runs a tool that prints what it finds: `lines_of` returns the lines and the exit status. Of what cannot be read nothing is printed."""
+    try:
+        lines, status = lines_of()
+        write(None, ''.join(f'{line}\n' for line in lines))
+        return status
+    except NotWritten as fault:
+        print(f'{prog}: {fault}', file=sys.stderr)
+    except OSError as error:
+        print(f'{prog}: cannot read {error.filename}: {error.strerror}', file=sys.stderr)
+    return NO_FILE
 
 
 def counted(number, one, many=None):

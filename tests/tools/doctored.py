@@ -18,6 +18,13 @@ def script(path):
     return module
 
 
+def expressions(heading):
+    """Returns the regular expressions of the lines that a tool prints, from the section of docs/SCRIPTS.md with this heading."""
+    with open(os.path.join(TOP, 'docs', 'SCRIPTS.md'), encoding='utf-8') as file:
+        section = file.read().partition(f'\n## {heading}\n')[2].partition('\n## ')[0]
+    return section.partition('```text\n')[2].partition('```')[0].splitlines()
+
+
 class Doctored:
     """A folder with copies of these files and folders of the repository, and of the code and the definitions of these crates: of all that
     crates.txt lists, where none are named."""

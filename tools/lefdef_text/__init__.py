@@ -6,6 +6,7 @@
     design = read_design(path, library)      the block that a DEF denotes, in its database units
     design.shapes()                          where its metal lies, and whose it is
     read_violations(path)                    the violations that `lefdef check` or `place-check` listed
+    tolerant.read_faults(path, paths)        everything in a DEF and its LEFs for which they are refused
 
 The texts are those that lefdef reads, and they mean what docs/FORMATS.md and docs/RULES.md say. A text that they give no
 meaning is refused (`Refused`), with its file, the line of the word at fault, and the reason; only the length of a text and

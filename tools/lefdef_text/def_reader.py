@@ -1,7 +1,7 @@
 """Reading a DEF text (docs/FORMATS.md, "DEF"); nets and their wiring are read by `net_reader`."""
 from .design import Blockage, Component, Design, Pin, Place, Port, Row, Tracks
-from .library import Via, joined_layers
 from .entries import EntryReader
+from .library import Via, joined_layers, why_not_joined
 from .net_reader import NetReader
 from .rects import ORIENTATIONS
 from .words import GREATEST_NUMBER, Words
@@ -23,11 +23,11 @@ def units_of(text):
             text.at = at + 3
             units = text.whole()
             if not 1 <= units <= GREATEST_UNITS:
-                text.refuse(f'the units a micron are 1 to {GREATEST_UNITS}')
+                text.refuse(f'the units a micron are 1 to {GREATEST_UNITS}', kind='TooLarge')
             text.expect(';')
             text.at = 0
             return units
-    return text.refuse('UNITS DISTANCE MICRONS is missing', text.count)
+    return text.refuse('UNITS DISTANCE MICRONS is missing', text.count, 'UnexpectedEnd')
 
 
 SKIPPED_LINES = ('VERSION', 'NAMESCASESENSITIVE', 'TECHNOLOGY', 'HISTORY', 'GCELLGRID')
@@ -36,37 +36,49 @@ SKIPPED_SECTIONS = ('PROPERTYDEFINITIONS', 'NONDEFAULTRULES', 'REGIONS', 'FILLS'
 
 class DefReader(EntryReader):
     """Reads a DEF text into a design."""
+    net_reader = NetReader
 
     def __init__(self, text, design):
         super().__init__(text, design)
         self.seen = set()
+        self.nets = self.net_reader(text, design)
+        self.forms = {'DIVIDERCHAR': self.kept_word, 'BUSBITCHARS': self.kept_word, 'DESIGN': self.design_name, 'UNITS': self.units,
+                      'DIEAREA': self.die, 'ROW': self.row, 'TRACKS': self.tracks}
+        self.sections = {'VIAS': self.via, 'COMPONENTS': self.component, 'PINS': self.pin, 'BLOCKAGES': self.blockage,
+                         'SPECIALNETS': self.nets.special_net, 'NETS': self.nets.net}
 
     def read(self):
-        text, nets = self.text, NetReader(self.text, self.design)
-        forms = {'DIVIDERCHAR': self.kept_word, 'BUSBITCHARS': self.kept_word, 'DESIGN': self.design_name, 'UNITS': self.units,
-                 'DIEAREA': self.die, 'ROW': self.row, 'TRACKS': self.tracks}
-        sections = {'VIAS': self.via, 'COMPONENTS': self.component, 'PINS': self.pin, 'BLOCKAGES': self.blockage,
-                    'SPECIALNETS': nets.special_net, 'NETS': nets.net}
-        while (word := text.keyword()) != 'END':
-            if word in forms or word in sections:
-                if word in self.seen and word not in ('ROW', 'TRACKS'):
-                    text.refuse(f'{word} appears twice')
-                self.seen.add(word)
-            if word in forms:
-                forms[word]()
-            elif word in sections:
-                self.section(word, sections[word])
-            elif word in SKIPPED_LINES:
-                text.skip_statement()
-            elif word in SKIPPED_SECTIONS:
-                text.skip_block(word)
-            elif word == 'BEGINEXT':
-                while text.keyword() != 'ENDEXT':
-                    pass
-            else:
-                text.refuse(f'{text.words[text.at - 1]} is no form of a DEF')
+        while (word := self.text.keyword()) != 'END':
+            self.form(word)
         self.end()
         return self.design
+
+    def form(self, word):
+        """Takes a form of a DEF, whose first word was taken."""
+        text, begin = self.text, self.text.at - 1
+        if word in self.forms or word in self.sections:
+            if word in self.seen and word not in ('ROW', 'TRACKS'):
+                text.fault(f'{word} appears twice')
+            self.seen.add(word)
+        if word in self.forms:
+            self.forms[word]()
+        elif word in self.sections:
+            self.section(word, self.sections[word])
+        else:
+            self.skip_form(word)
+            text.past(word, begin)
+
+    def skip_form(self, word):
+        text = self.text
+        if word in SKIPPED_LINES:
+            text.skip_statement()
+        elif word in SKIPPED_SECTIONS:
+            text.skip_block(word)
+        elif word == 'BEGINEXT':
+            while text.keyword() != 'ENDEXT':
+                pass
+        else:
+            text.refuse(f'{text.words[text.at - 1]} is no form of a DEF', form='a word is no form of a DEF')
 
     def end(self):
         text = self.text
@@ -74,9 +86,9 @@ class DefReader(EntryReader):
         text.expect('DESIGN')
         for word in ('DESIGN', 'UNITS', 'DIEAREA'):
             if word not in self.seen:
-                text.refuse(f'{word} is missing', at)
+                text.fault(f'{word} is missing', at)
         if text.more():
-            text.refuse('nothing may follow END DESIGN', text.at)
+            text.fault('nothing may follow END DESIGN', text.at)
         listed = self.design.net_of
         for pin in self.design.pins.values():
             entry = self.design.nets.get(pin.net) or self.design.special.get(pin.net)
@@ -109,45 +121,51 @@ class DefReader(EntryReader):
         if len(points) == 4:
             (a, b), (c, d), (e, f), (g, h) = points
             if not (a == c and d == f and e == g and h == b or b == d and c == e and f == h and g == a) or a == e or b == f:
-                text.refuse('a die area that is no rectangle is not supported', begin)
+                text.refuse('a die area that is no rectangle is not supported', begin, 'Unsupported')
             points = [points[0], points[2]]
         if len(points) != 2:
-            text.refuse('a die area of other than two or four points is not supported', begin)
+            text.refuse('a die area of other than two or four points is not supported', begin, 'Unsupported')
         self.design.die = text.with_area(points[0] + points[1], begin)
 
     def row(self):
         text = self.text
-        name, site_name = text.name('the name of a row'), text.name('the name of a site')
-        site = self.library.sites.get(site_name) or text.refuse(f'there is no site {site_name}')
+        name, site = text.name('the name of a row'), self.known('site', self.library.sites)
         at = text.at
         x, y, orientation, count = text.whole(), text.whole(), self.orientation(), 1
         if orientation in ('W', 'E', 'FW', 'FE'):
-            text.refuse(f'a row of orientation {orientation} is not supported')
+            text.fault(f'a row of orientation {orientation} is not supported', kind='BadRow', form='a row is turned')
         if text.peek() == 'DO':
             count = self.row_sites(site)
         if x + count * site.width > GREATEST_NUMBER:
-            text.refuse(f'the row ends beyond {GREATEST_NUMBER}', at)
+            text.fault(f'the row ends beyond {GREATEST_NUMBER}', at, 'TooLarge')
         if text.peek() == '+':
+            begin = text.at + 1
             text.skip_statement()
+            text.past(f'ROW + {text.words[begin].upper()}', begin)
         else:
             text.expect(';')
-        self.design.rows.append(Row(name, site_name, x, y, orientation, count))
+        self.design.rows.append(Row(name, site.name, x, y, orientation, count))
 
     def row_sites(self, site):
         text = self.text
         text.expect('DO')
         if (count := text.whole()) < 1:
-            text.refuse('a row has no site')
+            text.refuse('a row has no site', kind='TooLarge')
         text.expect('BY')
         if text.whole() != 1:
-            text.refuse('a row is one site high')
+            text.refuse('a row is one site high', kind='BadRow')
         if text.peek() == 'STEP':
             text.expect('STEP')
             step, at = text.whole(), text.at - 1
             text.whole()
-            if step != site.width and count != 1:
-                text.refuse(f'the step of a row is the width of its site, {site.width}', at)
+            if count != 1:
+                self.row_step(site, step, at)
         return count
+
+    def row_step(self, site, step, at):
+        """Refuses a step of a row that is not the width of its site."""
+        if step != site.width:
+            self.text.fault(f'the step of a row is the width of its site, {site.width}', at, 'BadRow', 'the step of a row is not the width of its site')
 
     def tracks(self):
         text, layers = self.text, []
@@ -157,14 +175,14 @@ class DefReader(EntryReader):
         start = text.whole()
         text.expect('DO')
         if (count := text.whole()) < 1:
-            text.refuse('there is no track')
+            text.refuse('there is no track', kind='TooLarge')
         text.expect('STEP')
         if (step := text.whole()) < 1:
-            text.refuse('the step of tracks is too small')
+            text.refuse('the step of tracks is too small', kind='TooLarge')
         if start + (count - 1) * step > GREATEST_NUMBER:
-            text.refuse(f'the last track is beyond {GREATEST_NUMBER}', at)
+            text.refuse(f'the last track is beyond {GREATEST_NUMBER}', at, 'TooLarge')
         if text.peek() == 'MASK':
-            text.refuse('MASK is not supported', text.at)
+            text.refuse('MASK is not supported', text.at, 'Unsupported', 'MASK of tracks is not supported')
         if text.peek() == 'LAYER':
             text.expect('LAYER')
             layers.append(self.layer().name)
@@ -185,34 +203,43 @@ class DefReader(EntryReader):
 
         def clause(word):
             if word == 'RECT':
-                layer = self.layer()
-                if text.peek() == '+':
-                    text.refuse('a mask is not supported', text.at)
-                rect = text.corners(self.point)
-                if layer.has_metal():
-                    shapes.append((layer.name, rect))
+                self.via_rect(shapes)
             elif word in ('VIARULE', 'POLYGON', 'PATTERNNAME', 'MASK'):
-                text.refuse(f'{word} of a via is not supported')
+                text.refuse(f'{word} of a via is not supported', kind='Unsupported')
             else:
-                self.skip_clause()
+                self.skip_clause('VIAS')
 
         self.clauses(clause)
-        self.design.vias[name] = Via(name, False, *joined_layers(self.library.layers, name, shapes), shapes)
+        why = why_not_joined(self.library.layers, name, shapes)
+        lower, upper = joined_layers(self.library.layers, shapes) if why is None else (None, None)
+        self.design.vias[name] = Via(name, False, lower, upper, shapes)
+        if why is not None:
+            self.design.why_not_good[name] = why
+
+    def via_rect(self, shapes):
+        text, begin = self.text, self.text.at - 1
+        layer = self.layer()
+        if text.peek() == '+' and text.words[text.at + 1].upper() == 'MASK':
+            text.refuse('a mask is not supported', text.at, 'Unsupported', 'MASK of a via is not supported')
+        rect = text.corners(self.point)
+        if layer.has_metal():
+            shapes.append((layer.name, rect))
+        else:
+            text.past('VIAS + RECT on a layer without metal', begin)
 
     def component(self):
         text, given = self.text, []
         name = self.new_name('component', self.design.components)
         if name.upper() == 'PIN':
             text.refuse('no component is named PIN')
-        macro_name = text.name('the name of a macro')
-        macro = self.library.macros.get(macro_name) or text.refuse(f'there is no macro {macro_name}')
+        macro = self.known('macro', self.library.macros)
 
         def clause(word):
             if word in ('PLACED', 'FIXED', 'COVER', 'UNPLACED'):
                 self.twice(word, given)
                 given.extend((word, None if word == 'UNPLACED' else self.place()))
             else:
-                self.skip_clause()
+                self.skip_clause('COMPONENTS')
 
         self.clauses(clause)
         status, place = given or ('UNPLACED', None)
@@ -240,42 +267,52 @@ class DefReader(EntryReader):
                 self.twice(word, port().place)
                 ports[-1] = ports[-1]._replace(status=word, place=self.place())
             elif word in ('POLYGON', 'VIA', 'MASK'):
-                text.refuse(f'{word} of a pin is not supported')
+                text.refuse(f'{word} of a pin is not supported', kind='Unsupported')
             else:
-                self.skip_clause()
+                self.skip_clause('PINS')
 
         self.clauses(clause)
         self.design.pins[name] = Pin(name, words.get('NET'), words.get('DIRECTION'), words.get('USE'), ports)
 
     def blockage(self):
         """Takes an entry of BLOCKAGES, and keeps it unless its layer has no metal."""
-        text, layer, rects = self.text, None, []
+        text, layer, rects, begin = self.text, None, [], self.text.at - 1
         if (word := text.keyword()) == 'LAYER':
             layer = self.layer()
         elif word != 'PLACEMENT':
             text.unexpected('LAYER or PLACEMENT')
         while text.peek() == '+':
-            text.take()
-            if text.keyword() != 'PUSHDOWN':
-                text.refuse(f'{text.words[text.at - 1]} of a blockage is not supported')
+            self.blockage_clause()
         while not rects or text.peek() != ';':
             if text.peek() == 'POLYGON':
-                text.refuse('POLYGON of a blockage is not supported', text.at)
+                text.refuse('POLYGON of a blockage is not supported', text.at, 'Unsupported')
             text.expect('RECT')
             rects.append(text.corners(self.point))
         text.expect(';')
         if layer is None or layer.has_metal():
             self.design.blockages.append(Blockage(layer and layer.name, rects))
+        else:
+            text.past('BLOCKAGES LAYER without metal', begin)
+
+    def blockage_clause(self):
+        text, begin = self.text, self.text.at
+        text.expect('+')
+        if (word := text.keyword()) != 'PUSHDOWN':
+            text.refuse(f'{text.words[text.at - 1]} of a blockage is not supported', kind='Unsupported', form=f'{word} of a blockage is not supported')
+        text.past('BLOCKAGES + PUSHDOWN', begin)
 
     def port_layer(self, port):
-        text = self.text
+        text, begin = self.text, self.text.at - 1
         layer = self.layer()
+        if text.peek() == 'MASK':
+            text.refuse('MASK is not supported', text.at, 'Unsupported', 'MASK of a pin is not supported')
         for word in ('SPACING', 'DESIGNRULEWIDTH'):
             if text.peek() == word:
                 text.expect(word)
                 text.whole()
-        if text.peek() == 'MASK':
-            text.refuse('MASK is not supported', text.at)
+                text.past(f'PINS + LAYER {word}', text.at - 2)
         rect = text.corners(self.point)
         if layer.has_metal():
             port.shapes.append((layer.name, rect))
+        else:
+            text.past('PINS + LAYER without metal', begin)

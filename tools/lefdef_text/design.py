@@ -113,6 +113,7 @@ class Design:
         self.name = self.die = None
         self.rows, self.tracks = [], []
         self.vias: Dict[str, Via] = dict(library.vias)
+        self.why_not_good: Dict[str, str] = dict(library.why_not_good)
         self.components: Dict[str, Component] = {}
         self.pins: Dict[str, Pin] = {}
         self.blockages: List[Blockage] = []

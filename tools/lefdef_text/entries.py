@@ -1,18 +1,19 @@
 """What the entries of all sections of a DEF text have: names, layers, points and clauses."""
+from .reader import Reader
 
 
-class EntryReader:
+class EntryReader(Reader):
     """Reads a part of a DEF text into a design."""
 
     def __init__(self, text, design):
-        self.text, self.design, self.library = text, design, design.library
+        super().__init__(text)
+        self.design, self.library = design, design.library
 
     def point(self):
         return self.text.point(self.text.whole)
 
     def layer(self):
-        name = self.text.name('the name of a layer')
-        return self.library.layers.get(name) or self.text.refuse(f'there is no layer {name}')
+        return self.known('layer', self.library.layers)
 
     def section(self, name, entry):
         text = self.text
@@ -32,16 +33,18 @@ class EntryReader:
         if mark != ';':
             text.unexpected('+ or ;')
 
-    def skip_clause(self):
-        text = self.text
+    def skip_clause(self, section):
+        """Takes the rest of a clause, which is read past."""
+        text, begin = self.text, self.text.at - 1
         while text.words[text.at] not in ('+', ';'):
             text.take()
+        text.past(f'{section} + {text.words[begin].upper()}', begin)
 
     def new_name(self, kind, *records):
         text = self.text
         name = text.name(f'the name of a {kind}')
         if any(name in known for known in records):
-            text.refuse(f'{kind} {name} appears twice')
+            text.fault(f'{kind} {name} appears twice', kind='DuplicateName', form=f'a {kind} appears twice')
         return name
 
     def twice(self, word, is_given):

@@ -1,5 +1,6 @@
 """Reading LEF texts (docs/FORMATS.md, "LEF")."""
-from .library import Layer, Library, Macro, MacroPin, Site, Via, joined_layers
+from .library import Layer, Library, Macro, MacroPin, Site, Via, joined_layers, why_not_joined
+from .reader import Reader
 from .words import Words
 
 
@@ -11,32 +12,50 @@ def read_library(paths):
     return library
 
 
-class LefReader:
+class Drawing:
+    """The rectangles that statements have drawn so far, and the layer of the next one."""
+
+    def __init__(self):
+        self.layer, self.shapes = None, []
+        self.why_not_good = None
+
+
+class LefReader(Reader):
     """Reads one LEF text into a library."""
 
     def __init__(self, text, library):
-        self.text, self.library = text, library
+        super().__init__(text)
+        self.library = library
+        self.forms = {'LAYER': self.layer, 'VIA': self.via, 'SITE': self.site, 'MACRO': self.macro}
 
     def read(self):
+        while self.text.more():
+            self.form(self.text.keyword())
+
+    def form(self, word):
+        """Takes a form of a LEF, whose first word was taken."""
+        text, begin = self.text, self.text.at - 1
+        if word in self.forms:
+            self.forms[word]()
+        elif word == 'END':
+            text.expect('LIBRARY')
+            if text.more():
+                text.fault('nothing may follow END LIBRARY', text.at)
+        elif word != ';':
+            self.skip_form(word)
+            text.past(word, begin)
+
+    def skip_form(self, word):
         text = self.text
-        forms = {'LAYER': self.layer, 'VIA': self.via, 'SITE': self.site, 'MACRO': self.macro}
-        while text.more():
-            word = text.keyword()
-            if word in forms:
-                forms[word]()
-            elif word in ('VIARULE', 'NONDEFAULTRULE'):
-                self.skip_named(text.name('a name'))
-            elif word in ('UNITS', 'PROPERTYDEFINITIONS', 'SPACING'):
-                text.skip_block(word)
-            elif word == 'BEGINEXT':
-                while text.keyword() != 'ENDEXT':
-                    pass
-            elif word == 'END':
-                text.expect('LIBRARY')
-                if text.more():
-                    text.refuse('nothing may follow END LIBRARY', text.at)
-            elif word != ';':
-                text.skip_statement()
+        if word in ('VIARULE', 'NONDEFAULTRULE'):
+            self.skip_named(text.name('a name'))
+        elif word in ('UNITS', 'PROPERTYDEFINITIONS', 'SPACING'):
+            text.skip_block(word)
+        elif word == 'BEGINEXT':
+            while text.keyword() != 'ENDEXT':
+                pass
+        else:
+            text.skip_statement()
 
     def skip_named(self, name):
         text = self.text
@@ -44,69 +63,92 @@ class LefReader:
             pass
         text.at += 1
 
+    def statements(self, statement):
+        """Takes the statements of a block up to the word END, each by `statement`, which is given its first word in capitals."""
+        while (word := self.text.keyword()) != 'END':
+            statement(word)
+
+    def skip(self, block, word):
+        """Takes the rest of a statement of a block, which is read past."""
+        text, begin = self.text, self.text.at - 1
+        if word != ';':
+            text.skip_statement()
+            text.past(f'{block} {word}', begin)
+
     def end(self, name):
         """Takes the name after the END of a block."""
         if self.text.take() != name:
-            self.text.unexpected(f'END {name}')
+            self.text.fault(f'END {name} was expected, not {self.text.words[self.text.at - 1]}', form='END with another name')
 
     def new_name(self, kind, records):
         """Takes the name of a record, which none of its kind may have, and keeps its place in the text."""
         text = self.text
-        name = text.name(f'the name of a {kind.__name__.lower()}')
+        what = kind.__name__.lower()
+        name = text.name(f'the name of a {what}')
         if name in records:
-            text.refuse(f'{kind.__name__.lower()} {name} is defined twice')
-        self.library.places[kind, name] = text, text.at - 1
+            text.fault(f'{what} {name} is defined twice', kind='DuplicateName', form=f'a {what} is defined twice')
+        self.library.places.setdefault((kind, name), (text, text.at - 1))
         return name
 
-    def known_layer(self):
-        """Takes the name of a layer that was defined before."""
-        name = self.text.name('the name of a layer')
-        if name not in self.library.layers:
-            self.text.refuse(f'there is no layer {name}')
-        return self.library.layers[name]
-
-    def once(self, found, word):
+    def once(self, found, word, kind='Unexpected'):
+        """Notes that the statement of a word is there, and refuses a second one."""
         if word in found:
-            self.text.refuse(f'{word} appears twice')
+            self.text.refuse(f'{word} appears twice', kind=kind)
+        found[word] = None
 
     def layer(self):
-        text, found = self.text, {}
+        found = {}
         name = self.new_name(Layer, self.library.layers)
-        while (word := text.keyword()) != 'END':
-            begin = text.at
-            if word == 'TYPE':
-                self.once(found, word)
-                found[word] = text.word('a type').upper()
-                text.expect(';')
-            elif word == 'DIRECTION':
-                self.once(found, word)
-                found[word] = text.keyword()
-                if found[word] not in ('HORIZONTAL', 'VERTICAL'):
-                    text.refuse(f'the direction {found[word]} is not supported')
-                text.expect(';')
-            elif word != ';':
-                text.skip_statement()
-                if word in ('WIDTH', 'SPACING') and text.at == begin + 2:
-                    self.layer_length(found, word, begin)
-                elif word == 'SPACINGTABLE' and text.words[begin].upper() == 'PARALLELRUNLENGTH':
-                    self.spacing_table(found, begin)
+        self.statements(lambda word: self.layer_statement(word, found))
         self.layer_end(name, found)
+
+    def layer_statement(self, word, found):
+        text, begin = self.text, self.text.at
+        if word == 'TYPE':
+            self.once(found, word)
+            found[word] = text.word('a type').upper()
+            text.expect(';')
+        elif word == 'DIRECTION':
+            self.once(found, word)
+            found[word] = self.direction()
+            text.expect(';')
+        elif not self.layer_rule(word, found):
+            text.at = begin
+            self.skip('LAYER', word)
+
+    def direction(self):
+        text = self.text
+        word = text.keyword()
+        if word not in ('HORIZONTAL', 'VERTICAL'):
+            text.refuse(f'the direction {word} is not supported', kind='Unsupported' if word in ('DIAG45', 'DIAG135') else 'Unexpected')
+        return word
+
+    def layer_rule(self, word, found):
+        """Takes a statement of a layer's width or spacing if it is the one that counts, and returns whether it is."""
+        text, begin = self.text, self.text.at
+        if word in ('WIDTH', 'SPACING') and word not in found:
+            text.skip_statement()
+            if text.at == begin + 2:
+                self.layer_length(found, word, begin)
+                return True
+        elif word == 'SPACINGTABLE' and 'TABLE' not in found and text.peek() == 'PARALLELRUNLENGTH':
+            text.skip_statement()
+            self.spacing_table(found, begin)
+            return True
+        return False
 
     def layer_length(self, found, word, at):
         """Judges the first width or spacing of one length, which is the word number `at`."""
-        if word in found:
-            return
         text, after = self.text, self.text.at
         text.at = at
+        found[word] = None
         found[word] = text.length()
         if found[word] < (1 if word == 'WIDTH' else 0):
-            text.refuse(f'the {word.lower()} is too small')
+            text.fault(f'the {word.lower()} is too small', kind='TooLarge')
         text.at = after
 
     def spacing_table(self, found, begin):
         """Takes the second length after the first WIDTH of the first table."""
-        if 'TABLE' in found:
-            return
         text, after = self.text, self.text.at
         found['TABLE'] = None
         words = [word.upper() for word in text.words[begin:after - 1]]
@@ -119,21 +161,20 @@ class LefReader:
             if number == 1:
                 found['TABLE'] = length
                 if length < 0:
-                    text.refuse('the spacing is too small')
+                    text.fault('the spacing is too small', kind='TooLarge')
         text.at = after
 
     def layer_end(self, name, found):
         text = self.text
-        at = text.at - 1
-        self.end(name)
         if 'TYPE' not in found:
-            text.refuse(f'layer {name} has no TYPE', at)
-        is_routing = found['TYPE'] == 'ROUTING'
+            text.fault(f'layer {name} has no TYPE', form='a layer has no TYPE')
+        is_routing = found.get('TYPE') == 'ROUTING'
         if is_routing and not ('DIRECTION' in found and 'WIDTH' in found):
-            text.refuse(f'routing layer {name} needs a DIRECTION and a WIDTH', at)
-        self.library.layers[name] = Layer(
-            name, found['TYPE'], found.get('DIRECTION'), found.get('WIDTH') if is_routing else None,
-            found.get('SPACING', found.get('TABLE')) or 0)
+            text.fault(f'routing layer {name} needs a DIRECTION and a WIDTH', form='a routing layer has no DIRECTION or no WIDTH')
+        self.end(name)
+        spacing = found.get('TABLE') if found.get('SPACING') is None else found['SPACING']
+        self.library.layers.setdefault(name, Layer(
+            name, found.get('TYPE'), found.get('DIRECTION'), found.get('WIDTH') if is_routing else None, spacing or 0))
 
     def point(self):
         """Takes two lengths, in parentheses or without."""
@@ -146,22 +187,35 @@ class LefReader:
         words = []
         while text.peek() in ('DEFAULT', 'TOPOFSTACKONLY', 'GENERATED') and text.peek() not in words:
             words.append(text.keyword())
-        layer, shapes, is_good = None, [], True
-        while (word := text.keyword()) != 'END':
-            if word == 'LAYER':
-                layer = self.known_layer()
-                text.expect(';')
-            elif word == 'RECT' and not layer:
-                text.refuse('RECT comes before any LAYER')
-            elif word == 'RECT' and layer.has_metal() and text.peek() != 'MASK':
-                shapes.append((layer.name, text.corners(self.point)))
-                text.expect(';')
-            elif word != ';':
-                is_good = is_good and word not in ('VIARULE', 'POLYGON') and not (word == 'RECT' and text.peek() == 'MASK')
-                text.skip_statement()
+        drawing = Drawing()
+        self.statements(lambda word: self.via_statement(word, drawing))
         self.end(name)
-        lower, upper = joined_layers(self.library.layers, name, shapes) if is_good else (None, None)
-        self.library.vias[name] = Via(name, 'DEFAULT' in words, lower, upper, shapes if lower else [])
+        why = drawing.why_not_good or why_not_joined(self.library.layers, name, drawing.shapes)
+        if why is None:
+            self.library.vias[name] = Via(name, 'DEFAULT' in words, *joined_layers(self.library.layers, drawing.shapes), drawing.shapes)
+        else:
+            self.library.vias[name] = Via(name, 'DEFAULT' in words, None, None, [])
+            self.library.why_not_good[name] = why
+
+    def via_statement(self, word, drawing):
+        text, begin = self.text, self.text.at - 1
+        form = 'RECT MASK' if word == 'RECT' and text.peek() == 'MASK' else word
+        if form in ('VIARULE', 'POLYGON', 'RECT MASK'):
+            drawing.why_not_good = drawing.why_not_good or f'it has the statement {form}'
+            text.skip_statement()
+        elif word == 'LAYER':
+            drawing.layer = self.known('layer', self.library.layers)
+            text.expect(';')
+        elif word != 'RECT':
+            self.skip('VIA', word)
+        elif not drawing.layer:
+            text.refuse('RECT comes before any LAYER')
+        elif drawing.layer.has_metal():
+            drawing.shapes.append((drawing.layer.name, text.corners(self.point)))
+            text.expect(';')
+        else:
+            text.skip_statement()
+            text.past('VIA RECT on a layer without metal', begin)
 
     def size(self):
         """Takes a size after SIZE."""
@@ -171,54 +225,62 @@ class LefReader:
         height = text.length()
         text.expect(';')
         if width <= 0 or height <= 0:
-            text.refuse('a size has no area', at)
+            text.fault('a size has no area', at, 'EmptyRect')
         return width, height
 
     def site(self):
         text, found = self.text, {}
         name = text.name('the name of a site')
         named = text.at - 1
-        while (word := text.keyword()) != 'END':
-            if word == 'SIZE':
-                self.once(found, word)
-                found[word] = self.size()
-            elif word != ';':
-                text.skip_statement()
-        at = text.at - 1
-        self.end(name)
+        self.statements(lambda word: self.site_statement(word, found))
         if 'SIZE' not in found:
-            text.refuse(f'site {name} has no SIZE', at)
-        site = Site(name, *found['SIZE'])
+            text.fault(f'site {name} has no SIZE', form='a site has no SIZE')
+        self.end(name)
+        site = Site(name, *(found.get('SIZE') or (0, 0)))
         if self.library.sites.setdefault(name, site) != site:
-            text.refuse(f'site {name} is defined twice, with another size', named)
+            text.fault(f'site {name} is defined twice, with another size', named, 'DuplicateName', 'a site is defined twice')
+        if (Site, name) in self.library.places:
+            text.past('SITE, defined again', named)
         self.library.places.setdefault((Site, name), (text, named))
+
+    def site_statement(self, word, found):
+        if word == 'SIZE':
+            self.once(found, word)
+            found[word] = self.size()
+        else:
+            self.skip('SITE', word)
 
     def macro(self):
         text, found = self.text, {}
         name = self.new_name(Macro, self.library.macros)
         pins, obstructions = {}, []
-        parts = {'SIZE': self.size, 'ORIGIN': self.origin, 'SYMMETRY': self.symmetry, 'SITE': self.macro_site}
-        while (word := text.keyword()) != 'END':
-            if word in parts:
-                self.once(found, word)
-                found[word] = parts[word]()
-            elif word == 'PIN':
-                self.macro_pin(pins)
-            elif word == 'OBS':
-                obstructions += self.geometry()
-            elif word == 'DENSITY':
-                while text.keyword() != 'END':
-                    pass
-            elif word == 'TIMING':
-                text.skip_block('TIMING')
-            elif word != ';':
-                text.skip_statement()
-        at = text.at - 1
-        self.end(name)
+        self.statements(lambda word: self.macro_part(word, found, pins, obstructions))
         if 'SIZE' not in found:
-            text.refuse(f'macro {name} has no SIZE', at)
-        self.library.macros[name] = Macro(
-            name, *found['SIZE'], found.get('ORIGIN', (0, 0)), 'Y' in found.get('SYMMETRY', ()), found.get('SITE'), pins, obstructions)
+            text.fault(f'macro {name} has no SIZE', form='a macro has no SIZE')
+        self.end(name)
+        self.library.macros.setdefault(name, Macro(
+            name, *(found.get('SIZE') or (0, 0)), found.get('ORIGIN') or (0, 0), 'Y' in (found.get('SYMMETRY') or ()), found.get('SITE'),
+            pins, obstructions))
+
+    def macro_part(self, word, found, pins, obstructions):
+        text, begin = self.text, self.text.at - 1
+        parts = {'SIZE': self.size, 'ORIGIN': self.origin, 'SYMMETRY': self.symmetry, 'SITE': self.macro_site}
+        if word in parts:
+            self.once(found, word, 'Unsupported' if word == 'SITE' else 'Unexpected')
+            found[word] = parts[word]()
+        elif word == 'PIN':
+            self.macro_pin(pins)
+        elif word == 'OBS':
+            obstructions += self.geometry('OBS')
+        elif word == 'DENSITY':
+            while text.keyword() != 'END':
+                pass
+            text.past('MACRO DENSITY', begin)
+        elif word == 'TIMING':
+            text.skip_block('TIMING')
+            text.past('MACRO TIMING', begin)
+        else:
+            self.skip('MACRO', word)
 
     def origin(self):
         point = self.point()
@@ -235,55 +297,66 @@ class LefReader:
 
     def macro_site(self):
         text = self.text
-        name = text.name('the name of a site')
-        if name not in self.library.sites:
-            text.refuse(f'there is no site {name}')
-        text.expect(';')
-        return name
+        site = self.known('site', self.library.sites)
+        if text.take() != ';':
+            text.refuse(f'; was expected, not {text.words[text.at - 1]}', kind='Unsupported', form='SITE of a macro with more than a name')
+        return site.name
 
     def macro_pin(self, pins):
         text, found, shapes = self.text, {}, []
         name = text.name('the name of a pin')
         if name in pins:
-            text.refuse(f'pin {name} is defined twice')
-        while (word := text.keyword()) != 'END':
-            if word == 'USE':
-                self.once(found, word)
-                found[word] = text.word('a use').upper()
-                text.expect(';')
-            elif word == 'PORT':
-                shapes += self.geometry()
-            elif word != ';':
-                text.skip_statement()
+            text.fault(f'pin {name} is defined twice', kind='DuplicateName', form='a pin of a macro is defined twice')
+        self.statements(lambda word: self.pin_part(word, found, shapes))
         self.end(name)
-        pins[name] = MacroPin(name, found.get('USE', ''), shapes)
+        pins[name] = MacroPin(name, found.get('USE') or '', shapes)
 
-    def geometry(self):
-        """Takes the geometry of a port or of obstructions, with its END, and returns its rectangles on layers with metal."""
-        text, layer, shapes = self.text, None, []
-        while (word := text.keyword()) != 'END':
-            if word == 'LAYER':
-                layer = self.geometry_layer()
-            elif word not in ('RECT', 'WIDTH', 'CLASS', 'POLYGON', 'PATH', 'VIA'):
-                text.unexpected('a form of a geometry')
-            elif word in ('WIDTH', 'CLASS') or layer and not layer.has_metal():
-                text.skip_statement()
-            elif word != 'RECT':
-                text.refuse(f'{word} in a geometry is not supported')
-            elif not layer:
-                text.refuse('RECT comes before any LAYER')
-            elif text.peek() in ('MASK', 'ITERATE'):
-                text.refuse(f'RECT {text.peek()} is not supported', text.at)
-            else:
-                shapes.append((layer.name, text.corners(self.point)))
-                text.expect(';')
-        return shapes
-
-    def geometry_layer(self):
+    def pin_part(self, word, found, shapes):
         text = self.text
-        layer = self.known_layer()
+        if word == 'USE':
+            self.once(found, word)
+            found[word] = text.word('a use').upper()
+            text.expect(';')
+        elif word == 'PORT':
+            shapes += self.geometry('PORT')
+        else:
+            self.skip('PIN', word)
+
+    def geometry(self, block):
+        """Takes the geometry of a port or of obstructions, with its END, and returns its rectangles on layers with metal."""
+        drawing = Drawing()
+        self.statements(lambda word: self.geometry_statement(word, block, drawing))
+        return drawing.shapes
+
+    def geometry_statement(self, word, block, drawing):
+        text, begin = self.text, self.text.at - 1
+        if word == 'LAYER':
+            drawing.layer = self.geometry_layer(block)
+        elif word not in ('RECT', 'WIDTH', 'CLASS', 'POLYGON', 'PATH', 'VIA'):
+            text.unexpected('a form of a geometry')
+        elif word in ('WIDTH', 'CLASS'):
+            self.skip(block, word)
+        elif drawing.layer and not drawing.layer.has_metal():
+            text.skip_statement()
+            text.past(f'{block} {word} on a layer without metal', begin)
+        elif word != 'RECT':
+            text.refuse(f'{word} in a geometry is not supported', kind='Unsupported')
+        elif not drawing.layer:
+            text.refuse('RECT comes before any LAYER')
+        elif text.peek() in ('MASK', 'ITERATE'):
+            text.refuse(f'RECT {text.peek()} is not supported', text.at, 'Unsupported')
+        else:
+            drawing.shapes.append((drawing.layer.name, text.corners(self.point)))
+            text.expect(';')
+
+    def geometry_layer(self, block):
+        """Takes a LAYER statement of a geometry; the words after the name are read past."""
+        text = self.text
+        layer, begin = self.known('layer', self.library.layers), text.at
         while text.peek() != ';':
             if text.word('a word').upper() == 'EXCEPTPGNET':
-                text.refuse('EXCEPTPGNET is not supported')
+                text.fault('EXCEPTPGNET is not supported', kind='Unsupported')
+        if text.at > begin:
+            text.past(f'{block} LAYER {text.words[begin].upper()}', begin)
         text.expect(';')
         return layer

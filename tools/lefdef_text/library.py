@@ -60,7 +60,8 @@ class Macro(NamedTuple):
 
 
 class Library:
-    """Layers (bottom up), sites, vias and macros by their names, in the order in which they were defined."""
+    """Layers (bottom up), sites, vias and macros by their names, in the order in which they were defined; and why the vias that are not
+    good are not."""
 
     def __init__(self):
         self.layers: Dict[str, Layer] = {}
@@ -68,18 +69,21 @@ class Library:
         self.vias: Dict[str, Via] = {}
         self.macros: Dict[str, Macro] = {}
         self.places = {}
+        self.why_not_good: Dict[str, str] = {}
 
     def routing(self):
         return [layer for layer in self.layers.values() if layer.is_routing()]
 
-    def at(self, units):
-        """Returns the library in database units, of which `units` are a micron, with each macro's origin added to its shapes."""
+    def at(self, units, scale=None):
+        """Returns the library in database units, of which `units` are a micron, with each macro's origin added to its shapes. The lengths
+        are those of `scale`, or exact."""
         library = Library()
-        scale = Scale(self, units)
+        library.why_not_good = self.why_not_good
+        scale = scale or Scale(self, units)
         for layer in self.layers.values():
             width = scale.of(layer.width, layer) if layer.is_routing() else None
             if width is not None and width % 2:
-                scale.refuse(layer, f'the width of {layer.name} is odd: {width} database units')
+                scale.fault(layer, layer.width, f'the width of {layer.name} is odd: {width} database units', 'OddWidth')
             library.layers[layer.name] = layer._replace(width=width, spacing=scale.of(layer.spacing, layer))
         for site in self.sites.values():
             library.sites[site.name] = Site(site.name, scale.of(site.width, site), scale.of(site.height, site))
@@ -96,16 +100,18 @@ class Scale:
     def __init__(self, library, units):
         self.library, self.units = library, units
 
-    def refuse(self, record, why):
+    def fault(self, record, millionths, why, kind):
+        """Refuses a length of a record, in the text that defines the record."""
         text, at = self.library.places[type(record), record.name]
-        text.refuse(why, at)
+        text.fault(why, at, kind)
 
     def of(self, millionths, record):
         units, rest = divmod(millionths * self.units, 10 ** 6)
         if rest:
-            self.refuse(record, f'a length of {record.name} is no whole number of database units: {millionths / 10 ** 6:g} microns at {self.units} units a micron')
-        if abs(units) > GREATEST_NUMBER:
-            self.refuse(record, f'a length of {record.name} is beyond {GREATEST_NUMBER} database units')
+            self.fault(record, millionths, f'a length of {record.name} is no whole number of database units: '
+                       f'{millionths / 10 ** 6:g} microns at {self.units} units a micron', 'NotOnUnit')
+        elif abs(units) > GREATEST_NUMBER:
+            self.fault(record, millionths, f'a length of {record.name} is beyond {GREATEST_NUMBER} database units', 'TooLarge')
         return units
 
     def shapes(self, shapes, record, origin):
@@ -119,17 +125,26 @@ class Scale:
             obstructions=self.shapes(macro.obstructions, macro, origin))
 
 
-def joined_layers(layers, name, shapes):
-    """Returns the lower and the upper routing layer of a good via of these shapes, or None and None."""
+def why_not_joined(layers, name, shapes):
+    """Returns why a via of these shapes is not good, or None where it is."""
     order = list(layers)
     used = sorted({order.index(layer) for layer, _ in shapes})
     routing = [order.index(layer.name) for layer in layers.values() if layer.is_routing()]
-    if name.upper() in WIRING_WORDS or len(used) != 3 or [at in routing for at in used] != [True, False, True]:
-        return None, None
-    low, _, high = used
+    if name.upper() in WIRING_WORDS:
+        return 'its name is a word of wiring'
+    if len(used) != 3 or [at in routing for at in used] != [True, False, True]:
+        return 'its rectangles are not on two routing layers and one cut layer between them'
+    low, cut, high = used
     if routing.index(high) != routing.index(low) + 1:
-        return None, None
+        return f'another routing layer is between {order[low]} and {order[high]}'
     for layer, rect in shapes:
-        if order.index(layer) != used[1] and not (rect.x1 < 0 < rect.x2 and rect.y1 < 0 < rect.y2):
-            return None, None
-    return order[low], order[high]
+        if layer != order[cut] and not (rect.x1 < 0 < rect.x2 and rect.y1 < 0 < rect.y2):
+            return f'a rectangle of it on {layer} does not have the point 0 0 inside'
+    return None
+
+
+def joined_layers(layers, shapes):
+    """Returns the lower and the upper routing layer of a good via of these shapes."""
+    order = list(layers)
+    used = sorted({order.index(layer) for layer, _ in shapes})
+    return order[used[0]], order[used[2]]

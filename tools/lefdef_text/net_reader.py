@@ -4,6 +4,8 @@ from .entries import EntryReader
 from .rects import ORIENTATIONS
 
 UNREAD_NET_CLAUSES = ('NONDEFAULTRULE', 'SUBNET', 'VPIN', 'TAPERRULE', 'STYLE', 'MASK', 'VIRTUAL')
+# Words of wiring that would change metal, and how many words each has after it (DO n BY m STEP x y).
+UNREAD_IN_WIRING = {'TAPERRULE': 1, 'STYLE': 1, 'MASK': 1, 'VIRTUAL': 0, 'DO': 6}
 
 
 class NetReader(EntryReader):
@@ -18,7 +20,7 @@ class NetReader(EntryReader):
     def net_entry(self, entries, is_special):
         text = self.text
         if text.peek() == 'MUSTJOIN':
-            text.refuse('MUSTJOIN is not supported', text.at)
+            text.refuse('MUSTJOIN is not supported', text.at, 'Unsupported')
         net = Net(self.new_name('net', entries))
         entries[net.name] = net
         while text.words[text.at] == '(':
@@ -28,16 +30,21 @@ class NetReader(EntryReader):
             if word in ('ROUTED', 'FIXED', 'COVER') or word == ('SHIELD' if is_special else 'NOSHIELD'):
                 if word == 'SHIELD':
                     text.name('the name of a net')
+                    text.past('SPECIALNETS + SHIELD, the name of its net', text.at - 1)
                 self.wiring(net.wires, is_special)
             elif word == 'USE':
                 self.twice(word, net.use)
                 net.use = text.word('a use')
             elif word in UNREAD_NET_CLAUSES or is_special and word in ('RECT', 'POLYGON', 'VIA'):
-                text.refuse(f'{word} of a net is not supported')
+                text.refuse(f'{word} of a net is not supported', kind='Unsupported')
             else:
-                self.skip_clause()
+                self.skip_clause(self.section_of(is_special))
 
         self.clauses(clause)
+
+    @staticmethod
+    def section_of(is_special):
+        return 'SPECIALNETS' if is_special else 'NETS'
 
     def terminal(self, net, is_special):
         text = self.text
@@ -45,28 +52,41 @@ class NetReader(EntryReader):
         text.expect('(')
         if is_special and text.words[text.at] == '*':
             text.take()
-            pin = text.name('the name of a pin')
-            terminals = [(component.name, pin) for component in self.design.components.values() if pin in component.macro.pins]
+            terminals = self.every_component(text.name('the name of a pin'))
         else:
             terminals = [self.one_terminal()]
         if text.peek() == '+':
             text.take()
             text.expect('SYNTHESIZED')
+            text.past(f'{self.section_of(is_special)} + SYNTHESIZED', text.at - 2)
         text.expect(')')
         for terminal in terminals:
             if self.design.net_of.setdefault(terminal, net.name) != net.name:
-                text.refuse(f'{" ".join(terminal)} is in two nets, {self.design.net_of[terminal]} and {net.name}', begin)
+                self.in_two_nets(terminal, net, begin)
             net.terminals[terminal] = None
+
+    def in_two_nets(self, terminal, net, at):
+        other = self.design.net_of[terminal]
+        self.text.fault(f'{" ".join(terminal)} is in two nets, {other} and {net.name}', at, 'PinTwice', 'a terminal is in two nets')
+
+    def every_component(self, pin):
+        """Returns the terminals that `( * pin )` denotes."""
+        return [(component.name, pin) for component in self.design.components.values() if pin in component.macro.pins]
 
     def one_terminal(self):
         text = self.text
-        name = text.name('the name of a component')
-        if name.upper() == 'PIN':
-            pin = text.name('the name of a pin')
-            return ('PIN', pin) if pin in self.design.pins else text.refuse(f'there is no pin {pin}')
-        component = self.design.components.get(name) or text.refuse(f'there is no component {name}')
+        if text.peek() == 'PIN':
+            text.take()
+            return 'PIN', self.known('pin', self.design.pins).name
+        component = self.known('component', self.design.components)
         pin = text.name('the name of a pin')
-        return (name, pin) if pin in component.macro.pins else text.refuse(f'macro {component.macro.name} has no pin {pin}')
+        if pin not in component.macro.pins:
+            self.unknown_pin(component, pin)
+        return component.name, pin
+
+    def unknown_pin(self, component, pin):
+        """Refuses the word that was taken last, a name that no pin of the component's macro has."""
+        self.text.fault(f'macro {component.macro.name} has no pin {pin}', kind='UnknownName', form='a macro has no such pin')
 
     def wiring(self, wires, is_special):
         self.path(wires, is_special)
@@ -79,10 +99,9 @@ class NetReader(EntryReader):
         text = self.text
         layer = self.layer()
         if not layer.is_routing():
-            text.refuse(f'{layer.name} is no routing layer')
+            layer = self.no_routing_layer(layer)
         width = self.special_width() if is_special else layer.width
-        if not is_special and text.peek() == 'TAPER':
-            text.take()
+        self.before_the_first_point(is_special)
         x, y, extension = self.path_point(None)
         ends_here = None
         while (word := text.words[text.at]) not in ('+', ';') and word.upper() != 'NEW':
@@ -93,9 +112,9 @@ class NetReader(EntryReader):
                     extension = extension if given is None else given
                     continue
                 if to_x != x and to_y != y:
-                    text.refuse('a wire is neither horizontal nor vertical', begin)
+                    text.fault('a wire is neither horizontal nor vertical', begin, 'Diagonal')
                 if width == 0:
-                    text.refuse('a wire has the width 0', begin)
+                    text.fault('a wire has the width 0', begin, 'EmptyRect')
                 self.settle(wires, ends_here, extension)
                 half = 0 if is_special else width // 2
                 ends_here = len(wires)
@@ -104,9 +123,39 @@ class NetReader(EntryReader):
             elif word.upper() == 'RECT' and not is_special:
                 wires.append(Patch(layer.name, x, y, self.patch()))
             else:
-                layer = self.path_via(layer, wires, x, y)
+                layer = self.path_via(layer, wires, x, y, is_special)
                 width = width if is_special else layer.width
         self.settle(wires, ends_here, extension)
+
+    def no_routing_layer(self, layer):
+        """Refuses the word that was taken last, the name of a layer on which no wires run."""
+        self.text.fault(f'{layer.name} is no routing layer', form='the layer of a path is no routing layer')
+
+    def before_the_first_point(self, is_special):
+        """Takes what comes before the first point of a path and has no effect: + SHAPE and its word, or TAPER."""
+        text = self.text
+        if not is_special and text.peek() == 'TAPER':
+            text.take()
+            text.past('NETS TAPER', text.at - 1)
+        while text.words[text.at] != '(':
+            begin = text.at
+            at = begin + 1 if text.words[begin] == '+' else begin
+            word = text.words[at].upper()
+            if word in UNREAD_IN_WIRING:
+                self.unread_in_wiring(word, begin)
+            elif is_special and word == 'SHAPE' and at > begin:
+                text.at = at + 1
+                text.word('a shape')
+                text.past('SPECIALNETS + SHAPE', begin)
+            elif is_special and at > begin:
+                text.refuse('only + SHAPE is allowed before the first point of a path', begin)
+            else:
+                break
+
+    def unread_in_wiring(self, word, at):
+        """Refuses a word of wiring that would change metal, which begins with the word number `at`."""
+        form = 'the orientation of a via in wiring is not supported' if word in ORIENTATIONS else None
+        self.text.fault(f'{word} in wiring is not supported', at, 'Unsupported', form)
 
     @staticmethod
     def settle(wires, at, extension):
@@ -129,7 +178,7 @@ class NetReader(EntryReader):
         if text.words[text.at] != ')':
             extension = text.whole()
             if extension < 0:
-                text.refuse('an extension is negative')
+                text.fault('an extension is negative', kind='TooLarge')
         text.expect(')')
         return numbers[0], numbers[1], extension
 
@@ -137,15 +186,9 @@ class NetReader(EntryReader):
         text = self.text
         width = text.whole()
         if width < 0:
-            text.refuse('a width is negative')
-        if width % 2:
-            text.refuse(f'the width {width} is odd')
-        while text.peek() == '+':
-            at = text.at
-            text.take()
-            if text.keyword() != 'SHAPE':
-                text.refuse('only + SHAPE is allowed before the first point of a path', at)
-            text.word('a shape')
+            text.fault('a width is negative', kind='TooLarge')
+        elif width % 2:
+            text.fault(f'the width {width} is odd', kind='OddWidth', form='the width of a wire is odd')
         return width
 
     def patch(self):
@@ -157,21 +200,33 @@ class NetReader(EntryReader):
         text.expect(')')
         return text.with_area(sides, at)
 
-    def path_via(self, layer, wires, x, y):
+    def path_via(self, layer, wires, x, y, is_special):
         """Takes the name of a via at a point, and returns the layer on which the path goes on."""
         text = self.text
         name = text.name('a via')
         word = name.upper()
-        if word in ('TAPERRULE', 'STYLE', 'MASK', 'VIRTUAL', 'DO') or word in ORIENTATIONS and word != 'N':
-            text.refuse(f'{word} in wiring is not supported')
+        if word in UNREAD_IN_WIRING or word in ORIENTATIONS and word != 'N':
+            self.unread_in_wiring(word, text.at - 1)
+            return layer
         if word in ('RECT', 'TAPER', 'N'):
             text.unexpected('a via')
-        via = self.design.vias.get(name) or text.refuse(f'there is no via {name}')
-        if not via.is_good():
-            text.refuse(f'via {name} does not join two routing layers')
-        if layer.name not in (via.lower, via.upper):
-            text.refuse(f'via {name} does not begin on {layer.name}')
+        via = self.design.vias[name] if name in self.design.vias else self.unknown('via', name)
+        beyond = self.beyond(via, layer)
         wires.append(ViaAt(via, x, y))
         if text.peek() == 'N':
             text.take()
+            text.past(f'{self.section_of(is_special)} N after a via', text.at - 1)
+        return beyond
+
+    def beyond(self, via, layer):
+        """Returns the layer on which a path goes on from this layer behind a via, whose name was taken last."""
+        if not via.is_good() or layer.name not in (via.lower, via.upper):
+            return self.no_way(via, layer)
         return self.library.layers[via.upper if layer.name == via.lower else via.lower]
+
+    def no_way(self, via, layer):
+        """Refuses the word that was taken last, the name of a via that does not lead on from this layer."""
+        if via.is_good():
+            self.text.fault(f'via {via.name} does not begin on {layer.name}', kind='ViaLayer', form='a via does not begin on the layer of its path')
+        else:
+            self.text.fault(f'via {via.name} does not join two routing layers', kind='BadVia', form='a via does not join two routing layers')

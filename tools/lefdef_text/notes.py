@@ -10,6 +10,12 @@ SIGNATURES = (
 FIRST_WORDS = {b'DESIGN': 'DEF', b'DIEAREA': 'DEF', b'LAYER': 'LEF', b'MACRO': 'LEF'}
 
 
+def format_of(data):
+    """Returns the format of a text by the first line that begins with a word of one alone, 'LEF' or 'DEF', or None if there is none."""
+    words = (line.split(None, 1)[0].upper() for line in data.split(b'\n') if line.strip())
+    return next((FIRST_WORDS[word] for word in words if word in FIRST_WORDS), None)
+
+
 def note_of(path, needed):
     """Returns what the file seems to be, where a `needed` text, 'LEF' or 'DEF', is expected; None if it may be one."""
     if not os.path.isfile(path):  # a pipe is read once
@@ -24,8 +30,7 @@ def note_of(path, needed):
             return note
     if b'\0' in data:
         return 'this is no text: it has a byte 0'
-    words = (line.split(None, 1)[0].upper() for line in data.split(b'\n') if line.strip())
-    found = next((FIRST_WORDS[word] for word in words if word in FIRST_WORDS), needed)
+    found = format_of(data) or needed
     return None if found == needed else f'this seems to be a {found}, where a {needed} is needed: the DEF is named first'
 
 

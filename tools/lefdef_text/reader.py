@@ -1,0 +1,17 @@
+"""What the readers of LEF and of DEF texts have: records that are named."""
+
+
+class Reader:
+    """Reads a text, of which `text` has the words."""
+
+    def __init__(self, text):
+        self.text = text
+
+    def known(self, kind, records):
+        """Takes the name of a record of this kind that was defined before, and returns the record."""
+        name = self.text.name(f'the name of a {kind}')
+        return records[name] if name in records else self.unknown(kind, name)
+
+    def unknown(self, kind, name):
+        """Refuses the word that was taken last, a name that no record of this kind has."""
+        self.text.fault(f'there is no {kind} {name}', kind='UnknownName', form=f'there is no {kind}')
