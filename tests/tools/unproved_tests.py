@@ -20,7 +20,7 @@ class UnprovedTests(unittest.TestCase):
     def test_it_answers_as_the_program_does(self):
         found = tried('check', 'examples/misspelt.def', 'examples/standard.lef')
         self.assertEqual(found.stdout, 'REFUSED 1 10 UnknownName\n')
-        self.assertTrue(found.stderr.startswith('examples/misspelt.def:10: a name of this line was not defined before it'), found.stderr)
+        self.assertTrue(found.stderr.startswith('examples/misspelt.def:10:6: `INVX` is not the name of a macro of the LEFs: '), found.stderr)
         self.assertTrue(found.stderr.endswith('    - u2 INVX + PLACED ( 400 0 ) N ;\n'), found.stderr)
         self.assertEqual(found.returncode, 2)
 

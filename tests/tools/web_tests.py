@@ -357,7 +357,7 @@ class BrowserTests(unittest.TestCase):
         self.page.click('#run')
         self.ended()
         self.assertTrue(self.words('printed').startswith('REFUSED '))
-        self.assertIn('note: this seems to be a LEF, where the DEF is needed', self.words('message'))
+        self.assertIn('note: this looks like a LEF, and a DEF is expected here', self.words('message'))
 
     def test_what_is_no_text_gets_the_message_of_lefdef(self):
         for data, name, said in (

@@ -238,7 +238,9 @@ fn halted<R: Runtime + AllocGlobal>(rt: &R, halt: &Halt<'_>, cause: Option<io::E
     let said = match halt {
         Halt::NotRead(path) => eprintln!(rt; "cannot read {path}"),
         Halt::NotWritten => eprintln!(rt; "cannot write"),
-        Halt::Usage => eprintln!(rt; "usage: lefdef COMMAND DEF LEF..."),
+        Halt::Usage => eprintln!(rt;
+            "usage: lefdef COMMAND DEF LEF...\nCOMMAND is check, place-check, measure, legalise, route, flow or finish; lefdef --help says more"
+        ),
     };
     // A message that can't be written changes no status.
     let _ = said;

@@ -4,6 +4,7 @@ use Rattle.std.proofs.lemmas.Bool.{cases_eq, cases_lt}
 use Rattle.std.proofs.lemmas.List.{take_all, length-take-le}
 use Rattle.std.proofs.Math.Seq.{take-append-add}
 use Rattle.leg_lex.specs.declared.limits.TheConstants.{TEXT_LIMIT}
+use Rattle.leg_lex.specs.declared.read_fault.Need.TheVariants.{OfKind}
 use Rattle.leg_lex.specs.declared.read_fault.FaultKind.TheVariants as kinds
 use Rattle.leg_input.specs.declared.command.Command.TheVariants.{Check}
 use Rattle.leg_app.specs.declared.status.Status.{Status}
@@ -103,7 +104,7 @@ long_lef_answer lef def status text long refused is =
     subst (λ s. IsAnswer Check (lef ∷ []) def s text) (sym refused)
     (inl (record {
       nothing = too_long lef def (inl long);
-      reason = inl (record { fault = record { file = 0; line = 1; kind = kinds.UnexpectedEnd }; not_memory = λ e. cc; is = is });
+      reason = inl (record { fault = record { file = 0; line = 1; start = 0; end = 0; kind = kinds.UnexpectedEnd; need = OfKind }; not_memory = λ e. cc; is = is });
     }))
 
 -- a limit of more than two texts

@@ -11,8 +11,8 @@ use Rattle.leg_grid.specs.declared.limits.TheConstants.{GREATEST_GRID}
 use Rattle.leg_grid.specs.GridSize.{IsGridBeyond}
 use Rattle.leg_grid.specs.Refusals.{IsNotClean}
 use Rattle.leg_rules.specs.Legal.{IsLegal}
-use Rattle.leg_route.specs.SameButForWires.{IsSameButForWires}
-use Rattle.leg_route.specs.Refusal.{IsCleanIn}
+use Rattle.leg_grown.specs.SameButForWires.{IsSameButForWires}
+use Rattle.leg_rules.specs.Legal.{IsCleanIn}
 use Rattle.leg_finish.specs.Reach.{IsFirstUnreachable}
 use Rattle.leg_finish.specs.Refusal.{ComesToSearch, AreUnfinished}
 use Rattle.leg_finish.specs.Wires.{AddsToOpenNets, HaveTotals}

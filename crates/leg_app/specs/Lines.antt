@@ -50,13 +50,16 @@ kind_name kinds.OddWidth = codes "OddWidth"
 kind_name kinds.Memory = codes "Memory"
 
 -- a refused text: its number, the line, and the kind of fault
+abbrev pub refused_line : ℕ → ℕ → FaultKind → List ℕ
+refused_line file line kind =
+    codes "REFUSED " ++ decimal file ++ codes " " ++ decimal line ++ codes " " ++ kind_name kind ++ codes "\n"
+
 abbrev pub refused_text : ReadFault → List ℕ
-refused_text fault =
-    codes "REFUSED " ++ decimal fault.file ++ codes " " ++ decimal fault.line ++ codes " " ++ kind_name fault.kind ++ codes "\n"
+refused_text fault = refused_line fault.file fault.line fault.kind
 
 -- a stream in which no LEF ends
 abbrev pub no_library_text : List ℕ
-no_library_text = refused_text (record { file = 0; line = 1; kind = kinds.UnexpectedEnd })
+no_library_text = refused_line 0 1 kinds.UnexpectedEnd
 
 abbrev pub scale_kind_name : ScaleKind → List ℕ
 scale_kind_name scale.NotOnUnit = codes "NotOnUnit"

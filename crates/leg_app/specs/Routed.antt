@@ -8,9 +8,10 @@ use Rattle.leg_flat.specs.Flat.{FlatSaid, IsJudgedBy}
 use Rattle.leg_grid.specs.GridSize.{IsGridTooLarge}
 use Rattle.leg_grid.specs.Refusals.{IsNotClean, IsUnroutable}
 use Rattle.leg_rules.specs.Legal.{IsLegal}
-use Rattle.leg_route.specs.SameButForWires.{IsSameButForWires}
+use Rattle.leg_grown.specs.SameButForWires.{IsSameButForWires}
 use Rattle.leg_route.specs.Routed.{IsRouted}
-use Rattle.leg_route.specs.Refusal.{IsCleanIn, ComesToRun, HasTooMany}
+use Rattle.leg_rules.specs.Legal.{IsCleanIn}
+use Rattle.leg_route.specs.Refusal.{ComesToRun, HasTooMany}
 use Rattle.leg_print.specs.Text.Whole.{design_text}
 use Rattle.leg_app.specs.Lines.{too_many_text}
 use Rattle.leg_app.specs.RouteLines.{not_clean_text, grid_too_large_text, unroutable_text}

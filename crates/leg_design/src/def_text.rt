@@ -44,8 +44,10 @@ impl<'a, A: Allocator + Copy> DefText<'a, A> {
         ensures too_long { IfErr result (λ fault. TEXT_LIMIT < length text.now → fault.kind ≢ Memory) }
         ensures none { IfErr result (λ fault. fault.kind ≢ Memory → HasNoWords text.now) }
     {
-        let words = file_words(alloc, 0, text)?;
-        Ok(DefText { text, words })
+        match file_words(alloc, 0, text) {
+            Ok(words) => Ok(DefText { text, words }),
+            Err(fault) => Err(fault),
+        }
     }
 
     /// The database units of a micron that the DEF denotes, from 1 to 20,000, at the first place where its `UNITS`

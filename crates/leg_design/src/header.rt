@@ -7,7 +7,7 @@ ghost use Rattle.leg_lex.specs.Words.{Reads, Means};
 ghost use Rattle.leg_lex.specs.Past.{past};
 ghost use Rattle.leg_design.specs.Header.{word_after, design_name_at, microns_at, units_after, units_at, units_in};
 
-use leg_lex::{Cursor, FaultKind, ReadFault, UNITS_LIMIT};
+use leg_lex::{Cursor, FaultKind, Need, ReadFault, UNITS_LIMIT};
 
 /// The word after this keyword, and its `;`.
 #[tactic(auto, unfolding(crate::specs::Header::word_after))]
@@ -57,7 +57,7 @@ fn units_after(words: &mut Cursor<'_, '_>) -> Result<u32, ReadFault>
     words.mark(b';')?;
     match u32::try_from(n) {
         Ok(n) if n >= 1 && n <= UNITS_LIMIT => Ok(n),
-        _ => Err(number.fault(FaultKind::TooLarge)),
+        _ => Err(number.need(FaultKind::TooLarge, Need::Units)),
     }
 }
 

@@ -17,7 +17,7 @@ use leg_floorplan::die::die;
 use leg_floorplan::row::row;
 use leg_floorplan::track::track;
 use leg_geom::Rect;
-use leg_lex::{Cursor, FaultKind, Name, NamedList, ReadFault};
+use leg_lex::{Cursor, Entry, FaultKind, Keyword, Name, NamedList, Need, ReadFault};
 use leg_nets::{NetTable, add_lone_pins};
 use std::alloc::{AllocError, Allocator};
 use std::marker::Model;
@@ -162,7 +162,7 @@ impl<'a, A: Allocator + Copy> Parts<'a, A> {
         once(self.has.units, words)?;
         let start = words.again();
         if units(words)? != self.library.units() {
-            return Err(at_number(start)?.fault(FaultKind::Unexpected));
+            return Err(at_number(start)?.need(FaultKind::Unexpected, Need::SameUnits));
         }
         self.has.units = true;
         Ok(())
@@ -209,6 +209,17 @@ impl<'a, A: Allocator + Copy> Parts<'a, A> {
         self.name.is_some() && self.has.units && self.die.is_some()
     }
 
+    /// The first of `DESIGN`, `UNITS` and `DIEAREA` that has not appeared, or the last of them.
+    fn missing(&self) -> &'static [u8] {
+        if self.name.is_none() {
+            b"DESIGN"
+        } else if !self.has.units {
+            b"UNITS"
+        } else {
+            b"DIEAREA"
+        }
+    }
+
     /// Adds the lone pins to the nets. If an allocation fails, nothing is known of the nets.
     fn add_lone_pins(&mut self) -> Result<(), AllocError>
         requires { terminal_count self.old.design.nets + terminal_count self.old.design.special ≤ PART_LIMIT }
@@ -226,15 +237,16 @@ impl<'a, A: Allocator + Copy> Parts<'a, A> {
         ensures die { OnOk result (self.new.has.die ≡ true) }
     {
         if !self.is_complete() {
-            return Err(end.fault(FaultKind::Unexpected));
+            let need = Need::Statement(Keyword::new(self.missing()));
+            return Err(end.need(FaultKind::Unexpected, need));
         }
         // Sections are refused where they list too many, so this is not found here; lone pins are counted from it on.
         if are_too_many(&self.nets, &self.special) {
-            return Err(end.fault(FaultKind::TooMany));
+            return Err(end.need(FaultKind::TooMany, Need::Fewer(Entry::NetPart)));
         }
         self.add_lone_pins()?;
         if are_too_many(&self.nets, &self.special) {
-            return Err(end.fault(FaultKind::TooMany));
+            return Err(end.need(FaultKind::TooMany, Need::Fewer(Entry::NetPart)));
         }
         Ok(())
     }
@@ -277,7 +289,7 @@ fn once(has: bool, words: &Cursor<'_, '_>) -> Result<(), ReadFault>
     ensures { Means (λ x. x) result (unless has) }
 {
     if has {
-        return Err(words.fault(FaultKind::Unexpected));
+        return Err(words.need(FaultKind::Unexpected, Need::NoSecond));
     }
     Ok(())
 }

@@ -4,7 +4,7 @@ ghost use Rattle.std.specs.Prelude.{◌≡◌, codes};
 ghost use Rattle.leg_lex.specs.Words.{Reads};
 ghost use Rattle.leg_design.specs.Skipped.{is_past_statement, is_past_section, past_def_section, past_def_extension, past_def_form};
 
-use leg_lex::{Cursor, FaultKind, ReadFault};
+use leg_lex::{Cursor, FaultKind, Need, ReadFault};
 
 /// Whether a statement without effect comes next.
 fn is_past_statement(words: &Cursor<'_, '_>) -> bool
@@ -55,7 +55,7 @@ fn no_form(words: &Cursor<'_, '_>) -> ReadFault {
     if words.is_at_end() {
         words.fault(FaultKind::UnexpectedEnd)
     } else {
-        words.fault(FaultKind::Unexpected)
+        words.need(FaultKind::Unexpected, Need::Form)
     }
 }
 

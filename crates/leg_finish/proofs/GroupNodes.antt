@@ -16,11 +16,6 @@ use Rattle.leg_grid.specs.Numbered.{IsOneOf}
 use Rattle.leg_finish.specs.Reach.{MeetsJoinedTo, MeetsOthers, IsUnreachable}
 use Rattle.leg_finish.specs.Steps.GroupSlots.{IsJoinedAs, MeetsShapeOf, AreSlotsOf}
 
--- each number of a net's shapes is that of a shape
-pub numbers_within : (shapes : List Shape) (net : ℕ) (numbers : List ℕ) → AreNumbersOf shapes net numbers → All (λ k. k < length shapes) numbers
-numbers_within shapes net numbers are =
-    All-from_contains (λ k. k < length shapes) numbers (λ k has. let of_net = are.each k has in slice_get_within shapes k of_net.shape of_net.at)
-
 -- a piece that is the least of those that it is joined to
 pub own_at : (firsts : List ℕ) (k first : ℕ) → k < length firsts → first ≡ get_or firsts k 0 → first ≡ k → slice_get firsts first ≡ Some first
 own_at firsts k first within read same = subst (λ j. slice_get firsts j ≡ Some first) (sym same) (slice_get-get_or firsts k 0 within ∙ ap Some (sym read))

@@ -11,6 +11,7 @@ use Rattle.leg_wire.specs.Open.{IsOpenNet}
 use Rattle.leg_grown.specs.Finished.{AreByNet}
 use Rattle.leg_grown.specs.Growth.{AddedWire, Grows, of_net}
 use Rattle.leg_finish.specs.Steps.Judged.{IsLaidOut, IsMoreLaid}
+use Rattle.leg_grown.proofs.Places.{set_elsewhere}
 
 abbrev pub NoWiresByNet : Type 0
 NoWiresByNet = (count : ℕ) → AreByNet count [] (replicate count [])
@@ -24,14 +25,6 @@ abbrev pub MoreWiresByNet : Type 0
 MoreWiresByNet =
     (count : ℕ) (added : List AddedWire) (lists : List (List Wire)) (net : ℕ) (before wires : List Wire) → AreByNet count added lists → net < count
     → slice_get lists net ≡ Some before → AreByNet count (added ++ of_net net wires) (slice_set lists net (before ++ wires))
-
--- an element of a list of which one was replaced
-set_elsewhere : {X : Type 0} (xs : List X) (n m : ℕ) (y : X) → n ≢ m → slice_get (set xs n y) m ≡ slice_get xs m
-set_elsewhere [] n m y other = refl
-set_elsewhere (z ∷ xs) zero zero y other = absurd (other refl)
-set_elsewhere (z ∷ xs) zero (suc m) y other = refl
-set_elsewhere (z ∷ xs) (suc n) zero y other = refl
-set_elsewhere (z ∷ xs) (suc n) (suc m) y other = set_elsewhere xs n m y (λ same. other (ap suc same))
 
 replicated : {X : Type 0} (count n : ℕ) (x y : X) → slice_get (replicate count x) n ≡ Some y → y ≡ x
 replicated zero n x y there = absurd (none-some y there)

@@ -14,13 +14,6 @@ use Rattle.leg_finish.specs.Refusal.{AreUnfinished}
 use Rattle.leg_finish.specs.Steps.OpenNets.{IsOpenWith, AreOpenNets}
 use Rattle.leg_finish.specs.Steps.Places.{ArePlacesIn, IsNetAt}
 
--- each entry of NETS has the pieces of its number in a flat of the design
-pub nets_within : (design : DesignContents) (flat : FlatSaid) → IsFlatOf design flat → length design.nets ≤ length flat.pieces
-nets_within design flat is =
-    let entries = length design.nets + length design.special in
-    let many : length (map (pieces_of design) (range_with_len 0 entries)) ≡ entries = length-map-range_with_len (pieces_of design) 0 entries in
-    rw is.pieces (omega (arith, many))
-
 module _ {A : Type 0} (design : DesignContents) (flat : FlatSaid) (nets : List (OpenNet A)) (are : AreOpenNets design flat nets) where
   -- there are no more open nets than entries
   at_least : (k : ℕ) (d : OpenNet A) → k < length nets → k ≤ (get_or nets k d).net

@@ -12,7 +12,7 @@ use Rattle.leg_grid.specs.declared.fault.GridFault.TheVariants as grid_fault
 use Rattle.leg_grid.specs.declared.limits.TheConstants.{GREATEST_GRID}
 use Rattle.leg_grid.specs.GridSize.{IsGridBeyond}
 use Rattle.leg_grid.specs.Refusals.{IsNotClean}
-use Rattle.leg_route.specs.Refusal.{IsCleanIn}
+use Rattle.leg_rules.specs.Legal.{IsCleanIn}
 use Rattle.leg_finish.specs.Reach.{IsFirstUnreachable, AreReachable}
 use Rattle.leg_finish.specs.declared.fault.FinishFault.{FinishFault}
 use Rattle.leg_finish.specs.declared.fault.FinishFault.TheVariants.{NotClean, GridTooLarge, Unreachable, Unfinished, TooMany, Memory}

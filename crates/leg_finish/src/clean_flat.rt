@@ -1,7 +1,7 @@
 //! The flat of a design of which nothing is wrong but that nets are open.
 
 ghost use Rattle.std.specs.Prelude.{◌≡◌, IfOk, IfErr};
-ghost use Rattle.leg_route.specs.Refusal.{IsCleanIn};
+ghost use Rattle.leg_rules.specs.Legal.{IsCleanIn};
 ghost use Rattle.leg_finish.specs.Refusal.{IsRefusal};
 
 use crate::fault::FinishFault;

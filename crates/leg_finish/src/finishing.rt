@@ -6,7 +6,7 @@ ghost use Rattle.leg_flat.specs.Metal.{metal_of};
 ghost use Rattle.leg_grid.specs.declared.limits.TheConstants.{GREATEST_GRID};
 ghost use Rattle.leg_grid.specs.GridSize.{IsGridBeyond};
 ghost use Rattle.leg_rules.specs.Legal.{IsLegal};
-ghost use Rattle.leg_route.specs.SameButForWires.{IsSameButForWires};
+ghost use Rattle.leg_grown.specs.SameButForWires.{IsSameButForWires};
 ghost use Rattle.leg_finish.specs.Refusal.{IsRefusal};
 ghost use Rattle.leg_finish.specs.Wires.{AddsToOpenNets, HaveTotals};
 ghost use Rattle.leg_finish.specs.Steps.Judged.{AreFinishing};
@@ -24,10 +24,10 @@ use leg_cells::Library;
 use leg_flat::laws::{design_has_one_flat, every_design_has_a_flat};
 use leg_grid::{GREATEST_GRID, Grid};
 use leg_grown::laws::{
-    finished_design_is_legal, no_wires_by_net, placement_stays, shapes_stay_as_many,
+    finished_design_is_legal, finished_design_is_same, no_wires_by_net, placement_stays,
+    shapes_stay_as_many,
 };
 use leg_ripup::{Budget, Progress};
-use leg_route::laws::finished_run;
 use std::alloc::Allocator;
 
 /// The design with all its nets routed (lefdef's own rules), within the budget that lefdef takes. See `finish_within`.
@@ -101,7 +101,7 @@ fn add_all<'a, A: Allocator + Copy>(
     ensures unchanged { IfErr result (λ back. back.0 ≡ design.entry) }
     ensures refused { IfErr result (λ back. IsRefusal design.entry back.1) }
 {
-    finished_run();
+    finished_design_is_same();
     shapes_stay_as_many();
     design_has_one_flat();
     finished_design_is_legal();

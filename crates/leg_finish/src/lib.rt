@@ -1,5 +1,4 @@
-//! The router that finishes: it adds wires to all nets that are open, by negotiation, and gives the result only if nothing is wrong
-//! with it.
+//! The router that finishes: wires for all open nets, found by negotiation and judged before they are given.
 #![tactic(auto)]
 
 mod clean_flat;

@@ -10,7 +10,7 @@ ghost use Rattle.leg_floorplan.specs.Blockage.{blocked_layer_at, push_down, at_n
 use leg_block::{Blockage, ENTRY_LIMIT, PART_LIMIT};
 use leg_cells::{Items, Library};
 use leg_geom::Rect;
-use leg_lex::{Cursor, FaultKind, ReadFault};
+use leg_lex::{Cursor, Entry, FaultKind, Need, ReadFault};
 use leg_section::layers::{has_metal, layer};
 use leg_section::placement::rect;
 use leg_section::section_start;
@@ -117,17 +117,9 @@ fn push_down_keyword(words: &mut Cursor<'_, '_>) -> Result<(), ReadFault>
     ensures { Reads (λ x. x) result words.new (keyword_at (codes "PUSHDOWN") words.old) }
 {
     match words.keyword(b"PUSHDOWN") {
-        Err(
-            ReadFault {
-                file,
-                line,
-                kind: FaultKind::Unexpected,
-            },
-        ) => Err(ReadFault {
-            file,
-            line,
-            kind: FaultKind::Unsupported,
-        }),
+        Err(fault) if fault.kind == FaultKind::Unexpected => {
+            Err(fault.of_kind(FaultKind::Unsupported))
+        }
         answer => answer,
     }
 }
@@ -240,7 +232,7 @@ fn entry<A: Allocator + Copy>(
         return Ok(());
     }
     if !blockages.has_room_for(&blockage) {
-        return Err(dash.fault(FaultKind::TooMany));
+        return Err(dash.need(FaultKind::TooMany, Need::Fewer(Entry::Blockage)));
     }
     blockages.push(blockage)?;
     Ok(())

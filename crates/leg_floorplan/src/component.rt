@@ -10,7 +10,9 @@ ghost use Rattle.leg_floorplan.specs.Component.{is_placement, unplaced_in, place
 use leg_block::{Component, ENTRY_LIMIT, Status};
 use leg_cells::Library;
 use leg_geom::Place;
-use leg_lex::{Cursor, FaultKind, Name, NamedList, ReadFault, clauses, is_keyword};
+use leg_lex::{
+    Cursor, Entry, FaultKind, Name, NameKind, NamedList, Need, ReadFault, clauses, is_keyword,
+};
 use leg_section::clause::all_clauses;
 use leg_section::placement::{placed, says_place};
 use leg_section::section_start;
@@ -55,7 +57,7 @@ fn placement_clause<'t, 'a>(clauses: &[Cursor<'t, 'a>]) -> Result<Option<Cursor<
     for clause in clauses {
         if is_placement(clause) {
             if found.is_some() {
-                return Err(clause.fault(FaultKind::Unexpected));
+                return Err(clause.need(FaultKind::Unexpected, Need::NoSecond));
             }
             found = Some(clause.again());
         }
@@ -86,10 +88,10 @@ fn new_name<'a, A: Allocator + Copy>(
     let first = head.again();
     let name = head.name()?;
     if is_keyword(b"PIN", name) {
-        return Err(first.fault(FaultKind::Unexpected));
+        return Err(first.need(FaultKind::Unexpected, Need::Name));
     }
     if components.place_of(name).is_some() {
-        return Err(first.fault(FaultKind::DuplicateName));
+        return Err(first.need(FaultKind::DuplicateName, Need::New(NameKind::Component)));
     }
     Ok(name)
 }
@@ -106,7 +108,7 @@ fn master<A: Allocator + Copy>(
     let name = head.name()?;
     match library.master_named(name) {
         Some(number) => Ok(number),
-        None => Err(first.fault(FaultKind::UnknownName)),
+        None => Err(first.need(FaultKind::UnknownName, Need::Known(NameKind::Macro))),
     }
 }
 
@@ -160,7 +162,7 @@ fn entry<'a, A: Allocator + Copy>(
     ensures { Reads (λ _. components.new) result words.new (component_entry library.now components.old words.old) }
 {
     if components.len() as u64 >= ENTRY_LIMIT {
-        return Err(words.fault(FaultKind::TooMany));
+        return Err(words.need(FaultKind::TooMany, Need::Fewer(Entry::Component)));
     }
     let statement = words.statement()?;
     let parts = clauses(alloc, &statement)?;
@@ -195,7 +197,11 @@ pub fn components<'a, A: Allocator + Copy>(
     ensures { Reads (λ t. t) result words.new (components_at library.now words.old) }
 {
     section_start(b"COMPONENTS", words)?;
-    let components = entries(alloc, library, words)?;
+    let start = words.again();
+    let components = match entries(alloc, library, words) {
+        Ok(components) => components,
+        Err(fault) => return Err(start.with_first_entry(fault)),
+    };
     words.end(b"COMPONENTS")?;
     Ok(components)
 }

@@ -6,7 +6,7 @@ ghost use Rattle.leg_lex.specs.Until.{until};
 ghost use Rattle.leg_floorplan.specs.Die.{at_no_spot, one_spot, have_one_x, have_one_y, go_round, die_of, die_at};
 
 use leg_geom::{Point, Rect};
-use leg_lex::{Cursor, FaultKind, ReadFault};
+use leg_lex::{Cursor, FaultKind, Need, ReadFault};
 use leg_section::placement::{point, rect_between};
 use std::alloc::Allocator;
 
@@ -71,6 +71,6 @@ pub fn die<A: Allocator + Copy>(alloc: A, words: &mut Cursor<'_, '_>) -> Result<
     match die_of(&points) {
         Some(die) => Ok(die),
         None if points.len() == 2 => Err(first.fault(FaultKind::EmptyRect)),
-        None => Err(first.fault(FaultKind::Unsupported)),
+        None => Err(first.need(FaultKind::Unsupported, Need::PlainDie)),
     }
 }

@@ -10,7 +10,7 @@ ghost use Rattle.leg_floorplan.specs.Pin.{pin_head, pin_in, pin_entry, pins_at};
 use crate::pin_parts::all_parts;
 use leg_block::{ENTRY_LIMIT, Pin};
 use leg_cells::{Items, Library};
-use leg_lex::{Cursor, FaultKind, Name, NamedList, ReadFault, clauses};
+use leg_lex::{Cursor, Entry, FaultKind, Name, NameKind, NamedList, Need, ReadFault, clauses};
 use leg_section::section_start;
 use std::alloc::Allocator;
 
@@ -26,7 +26,7 @@ fn pin_head<'a, A: Allocator + Copy>(
     let named = head.again();
     let name = head.name()?;
     if pins.place_of(name).is_some() {
-        return Err(named.fault(FaultKind::DuplicateName));
+        return Err(named.need(FaultKind::DuplicateName, Need::New(NameKind::Pin)));
     }
     head.nothing_more()?;
     Ok(name)
@@ -69,7 +69,7 @@ fn entry<'a, A: Allocator + Copy>(
     ensures { Reads (λ _. pins.new) result words.new (pin_entry library.now pins.old words.old) }
 {
     if pins.len() as u64 >= ENTRY_LIMIT {
-        return Err(words.fault(FaultKind::TooMany));
+        return Err(words.need(FaultKind::TooMany, Need::Fewer(Entry::Pin)));
     }
     let statement = words.statement()?;
     let parts = clauses(alloc, &statement)?;
@@ -104,7 +104,11 @@ pub fn pins<'a, A: Allocator + Copy>(
     ensures { Reads (λ t. t) result words.new (pins_at library.now words.old) }
 {
     section_start(b"PINS", words)?;
-    let pins = entries(alloc, library, words)?;
+    let start = words.again();
+    let pins = match entries(alloc, library, words) {
+        Ok(pins) => pins,
+        Err(fault) => return Err(start.with_first_entry(fault)),
+    };
     words.end(b"PINS")?;
     Ok(pins)
 }

@@ -8,7 +8,7 @@ ghost use Rattle.leg_floorplan.specs.PinClauses.{no_pin_clauses, net_of_pin, wor
 use crate::port::{OpenPort, layer_rect};
 use leg_block::Port;
 use leg_cells::Library;
-use leg_lex::{Cursor, FaultKind, Name, ReadFault};
+use leg_lex::{Cursor, FaultKind, Name, Need, ReadFault};
 use leg_section::clause::clause;
 use leg_section::layers::push_rect;
 use leg_section::placement::{placed, says_place};
@@ -97,7 +97,7 @@ impl<'a, A: Allocator + Copy> PinParts<'a, A> {
         ensures { Means (λ _. self.new) result (pin_net_clause self.old clause.old) }
     {
         if self.net_name.is_some() {
-            return Err(clause.fault(FaultKind::Unexpected));
+            return Err(clause.need(FaultKind::Unexpected, Need::NoSecond));
         }
         self.net_name = Some(Name::new(net_name(clause)?));
         Ok(())
@@ -109,7 +109,7 @@ impl<'a, A: Allocator + Copy> PinParts<'a, A> {
         ensures { Means (λ _. self.new) result (direction_clause self.old clause.old) }
     {
         if self.direction.is_some() {
-            return Err(clause.fault(FaultKind::Unexpected));
+            return Err(clause.need(FaultKind::Unexpected, Need::NoSecond));
         }
         self.direction = Some(Name::new(word_after(b"DIRECTION", clause)?));
         Ok(())
@@ -121,7 +121,7 @@ impl<'a, A: Allocator + Copy> PinParts<'a, A> {
         ensures { Means (λ _. self.new) result (pin_use_clause self.old clause.old) }
     {
         if self.usage.is_some() {
-            return Err(clause.fault(FaultKind::Unexpected));
+            return Err(clause.need(FaultKind::Unexpected, Need::NoSecond));
         }
         self.usage = Some(Name::new(word_after(b"USE", clause)?));
         Ok(())
@@ -163,7 +163,7 @@ impl<'a, A: Allocator + Copy> PinParts<'a, A> {
     {
         let mut port = self.take_last(alloc);
         if port.place.is_some() {
-            return Err(clause.fault(FaultKind::Unexpected));
+            return Err(clause.need(FaultKind::Unexpected, Need::NoSecond));
         }
         let (status, place) = placed(clause)?;
         port.status = status;

@@ -10,7 +10,7 @@ ghost use Rattle.leg_floorplan.specs.Row.{site_named_at, step_in, sites_in, row_
 use leg_block::Row;
 use leg_cells::{Library, Site};
 use leg_geom::{Orient, Point};
-use leg_lex::{Cursor, FaultKind, NUMBER_LIMIT, Name, ReadFault, clauses};
+use leg_lex::{Cursor, FaultKind, NUMBER_LIMIT, Name, NameKind, Need, ReadFault, clauses};
 use leg_section::placement::orient;
 use std::alloc::Allocator;
 
@@ -44,7 +44,7 @@ fn site<'l, 'a, A: Allocator + Copy>(
     let name = words.name()?;
     match library.site_named(name) {
         Some(number) => Ok((number, &library.sites()[number])),
-        None => Err(first.fault(FaultKind::UnknownName)),
+        None => Err(first.need(FaultKind::UnknownName, Need::Known(NameKind::Site))),
     }
 }
 
@@ -65,7 +65,7 @@ fn step(width: i64, count: i64, words: &mut Cursor<'_, '_>) -> Result<(), ReadFa
     if count == 1 || x == width {
         Ok(())
     } else {
-        Err(first.fault(FaultKind::BadRow))
+        Err(first.need(FaultKind::BadRow, Need::SiteStep(width)))
     }
 }
 
@@ -86,10 +86,10 @@ fn sites(width: i64, words: &mut Cursor<'_, '_>) -> Result<i64, ReadFault>
     let lines = words.again();
     let line_count = words.whole()?;
     if count < 1 {
-        return Err(number.fault(FaultKind::TooLarge));
+        return Err(number.need(FaultKind::TooLarge, Need::AtLeast(1)));
     }
     if line_count != 1 {
-        return Err(lines.fault(FaultKind::BadRow));
+        return Err(lines.need(FaultKind::BadRow, Need::OneLine));
     }
     step(width, count, words)?;
     Ok(count)
@@ -115,12 +115,12 @@ fn row_of<'a, A: Allocator + Copy>(
     let turn = head.again();
     let orient = orient(head)?;
     if !is_upright(orient) {
-        return Err(turn.fault(FaultKind::BadRow));
+        return Err(turn.need(FaultKind::BadRow, Need::RowOrient));
     }
     let width = site.size.width();
     let count = sites(width, head)?;
     if !ends_within(x, count, width) {
-        return Err(corner.fault(FaultKind::TooLarge));
+        return Err(corner.need(FaultKind::TooLarge, Need::EndInRange));
     }
     Ok(Row {
         name: Name::new(name),

@@ -8,7 +8,7 @@ ghost use Rattle.leg_floorplan.specs.Track.{axis_at, one_layer, layers_in, track
 use crate::row::ends_within;
 use leg_block::{Axis, Track};
 use leg_cells::{Items, Library};
-use leg_lex::{Cursor, FaultKind, ReadFault};
+use leg_lex::{Cursor, FaultKind, NameKind, Need, ReadFault};
 use std::alloc::Allocator;
 
 /// `X` or `Y`.
@@ -37,7 +37,7 @@ fn one_layer<A: Allocator + Copy>(
     let first = words.again();
     let name = words.name()?;
     let Some(number) = library.layer_named(name) else {
-        return Err(first.fault(FaultKind::UnknownName));
+        return Err(first.need(FaultKind::UnknownName, Need::Known(NameKind::Layer)));
     };
     numbers.push(number)?;
     Ok(())
@@ -97,16 +97,16 @@ fn track_of<A: Allocator + Copy>(
     let number = statement.again();
     let count = statement.whole()?;
     if count < 1 {
-        return Err(number.fault(FaultKind::TooLarge));
+        return Err(number.need(FaultKind::TooLarge, Need::AtLeast(1)));
     }
     statement.keyword(b"STEP")?;
     let distance = statement.again();
     let step = statement.whole()?;
     if step < 1 {
-        return Err(distance.fault(FaultKind::TooLarge));
+        return Err(distance.need(FaultKind::TooLarge, Need::AtLeast(1)));
     }
     if !ends_within(start, count - 1, step) {
-        return Err(place.fault(FaultKind::TooLarge));
+        return Err(place.need(FaultKind::TooLarge, Need::EndInRange));
     }
     let layers = layers(alloc, library, statement)?;
     Ok(Track {

@@ -7,7 +7,7 @@ ghost use Rattle.leg_lex.specs.Statements.{at_end};
 ghost use Rattle.leg_floorplan.specs.Via.{via_rect, is_other_via, via_clause, via_head, via_in, via_entry, vias_at};
 
 use leg_cells::{Items, Library, Shape, Via};
-use leg_lex::{Cursor, FaultKind, Name, NamedList, ReadFault, clauses};
+use leg_lex::{Cursor, FaultKind, Name, NameKind, NamedList, Need, ReadFault, clauses};
 use leg_section::clause::{clause, rect_or_mask};
 use leg_section::layers::{layer, push_rect};
 use leg_section::section_start;
@@ -92,7 +92,7 @@ fn via_head<'a, A: Allocator + Copy>(
     let named = head.again();
     let name = head.name()?;
     if library.via_named(name).is_some() || vias.place_of(name).is_some() {
-        return Err(named.fault(FaultKind::DuplicateName));
+        return Err(named.need(FaultKind::DuplicateName, Need::New(NameKind::Via)));
     }
     head.nothing_more()?;
     Ok(name)
@@ -166,7 +166,11 @@ pub fn vias<'a, A: Allocator + Copy>(
     ensures { Reads (λ t. t) result words.new (vias_at library.now words.old) }
 {
     section_start(b"VIAS", words)?;
-    let vias = entries(alloc, library, words)?;
+    let start = words.again();
+    let vias = match entries(alloc, library, words) {
+        Ok(vias) => vias,
+        Err(fault) => return Err(start.with_first_entry(fault)),
+    };
     words.end(b"VIAS")?;
     Ok(vias)
 }

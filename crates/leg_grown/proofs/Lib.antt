@@ -1,5 +1,6 @@
--- Lists, and the pieces of nets
-mod Places
+-- Lists, and the pieces of nets; the first two are cited by routers
+pub mod Places
+pub mod Within
 mod PiecesWith
 -- Shapes that are clear of one another
 mod Clear
@@ -28,3 +29,6 @@ mod MetalCount
 mod Opens
 mod Placement
 mod Legal
+-- What stays the same
+mod SameButFor
+mod FewWires

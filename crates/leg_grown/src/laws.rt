@@ -1,6 +1,6 @@
 //! Laws of flats and designs that grow by wires. Each function does nothing: its contract is the law.
 
-ghost use Rattle.std.specs.Prelude.{◌≡◌, ◌≢◌, ◌↔◌, ◌<◌, ◌+◌, ◌⊎◌, ◌++◌, ◌-◌, ◌+ℤ◌, ◌∷◌, [], ◌≤ℤ◌, ℕ, ℤ, Bool, pos, List, All, Contains, length, replicate, Some, slice_get, slice_set};
+ghost use Rattle.std.specs.Prelude.{◌≡◌, ◌≢◌, ◌↔◌, ◌<◌, ◌+◌, ◌⊎◌, ◌++◌, ◌-◌, ◌+ℤ◌, ◌∷◌, [], ◌≤ℤ◌, ◌≤◌, ℕ, ℤ, Bool, false, pos, List, All, Contains, length, replicate, Some, slice_get, slice_set};
 ghost use Rattle.std.specs.List.{range_with_len};
 ghost use Rattle.leg_geom.specs.Plane.{Spot, Sides, HasPoint};
 ghost use Rattle.leg_cells.specs.Scale.{IsEven};
@@ -8,7 +8,11 @@ ghost use Rattle.leg_cells.specs.Records.{Contents};
 ghost use Rattle.leg_block.specs.declared.fault.Fault.{Fault};
 ghost use Rattle.leg_block.specs.declared.records.Wire.{Wire};
 ghost use Rattle.leg_block.specs.declared.records.Wire.TheVariants.{Segment, Patch};
-ghost use Rattle.leg_block.specs.Records.{DesignContents};
+ghost use Rattle.leg_block.specs.Records.{DesignContents, wire_count};
+ghost use Rattle.leg_block.specs.MoreWires.{with_more_wires};
+ghost use Rattle.leg_block.specs.WellFormed.{IsWellFormed};
+ghost use Rattle.leg_block.specs.WellFormedNets.{IsWire};
+ghost use Rattle.leg_cells.specs.Sound.{IsSound};
 ghost use Rattle.leg_place.specs.Faults as place;
 ghost use Rattle.leg_flat.specs.Nets.{terminals_of, regular_entry, entry_wires};
 ghost use Rattle.leg_flat.specs.Metal.{OnLayer, wire_outlines, metal_of};
@@ -21,10 +25,12 @@ ghost use Rattle.leg_grown.specs.Growth.{AddedWire, Grows, of_net, HasGrown};
 ghost use Rattle.leg_grown.specs.CleanWire.{HasNoSpacingFault, IsRectOf, IsCleanWire, HasCleanRect, LiesInClean};
 ghost use Rattle.leg_grown.specs.Lines.{EachStep, last_spot, AreInLine, line, square};
 ghost use Rattle.leg_grown.specs.Finished.{finished, AreByNet, IsFinishedFrom};
+ghost use Rattle.leg_grown.specs.SameButForWires.{IsSameButForWires};
 ghost use Rattle.leg_rules.specs.Violations.{IsViolationIn};
 ghost use Rattle.leg_grown.specs.Violations.{HasShort, HasTooNear};
 ghost use Rattle.leg_wire.specs.Open.{IsOpenNet};
 
+use leg_cells::laws::good_vias_join_layers;
 use leg_flat::laws::{metal_has_its_piece, piece_has_its_metal};
 use leg_wire::laws::{joined_both_ways, joined_onward};
 
@@ -116,6 +122,17 @@ pub fn more_wires_by_net()
         → AreByNet count added lists → net < count → slice_get lists net ≡ Some before
         → AreByNet count (added ++ of_net net wires) (slice_set lists net (before ++ wires)) }
 {}
+
+/// A design that got wires is the same but for them, and has at least as many shapes as wires if each of those that it got is
+/// spelled in its library and with its vias.
+pub fn finished_design_is_same()
+    ensures same { (design : DesignContents) (lists : List (List Wire)) → IsSameButForWires design (finished design lists) }
+    ensures wires { (design : DesignContents) (lists : List (List Wire)) → IsSound design.library → IsWellFormed design
+        → All (All (IsWire design.library design.vias false)) lists
+        → wire_count (with_more_wires design.nets lists) + wire_count design.special ≤ length (metal_of (finished design lists)) }
+{
+    good_vias_join_layers();
+}
 
 /// A design that got the wires that its flat grew by has as many shapes as the grown flat.
 pub fn shapes_stay_as_many()

@@ -9,4 +9,5 @@ pub mod Statements
 pub mod Past
 pub mod NameLookup
 pub mod Say
+pub mod Keyword
 pub mod Steps

@@ -5,7 +5,7 @@ ghost use Rattle.leg_lex.specs.Words.{Means};
 ghost use Rattle.leg_lex.specs.Statements.{only, the, clauses_of};
 
 use crate::cursor::Cursor;
-use crate::read_fault::{FaultKind, ReadFault};
+use crate::read_fault::{FaultKind, Keyword, Need, ReadFault};
 use std::alloc::{AllocError, Allocator};
 
 /// The statement of this keyword, if there is one. A second one is `Unexpected`.
@@ -21,7 +21,7 @@ pub fn only<'t, 'a>(
     for statement in statements {
         if statement.is_at(keyword) {
             if found.is_some() {
-                return Err(statement.fault(FaultKind::Unexpected));
+                return Err(statement.need(FaultKind::Unexpected, Need::NoSecond));
             }
             found = Some(statement.again());
         }
@@ -42,7 +42,10 @@ pub fn the<'t, 'a>(
 {
     match only(statements, keyword)? {
         Some(statement) => Ok(statement),
-        None => Err(end.fault(FaultKind::Unexpected)),
+        None => Err(end.need(
+            FaultKind::Unexpected,
+            Need::Statement(Keyword::new(keyword)),
+        )),
     }
 }
 

@@ -8,7 +8,7 @@ ghost use Rattle.leg_lex.specs.Statements.{up_to, statement_at, statements_at};
 ghost use Rattle.leg_lex.specs.WordPlaces.{bytes_at, IsPlaceIn};
 
 use crate::length::Micron;
-use crate::read_fault::{FaultKind, ReadFault};
+use crate::read_fault::{FaultKind, Keyword, Need, ReadFault};
 use crate::word_place::{WordPlace, bytes_at};
 use crate::words::Words;
 use crate::{number, word};
@@ -21,11 +21,10 @@ use std::marker::Model;
 pub struct Cursor<'t, 'a> {
     text: &'a [u8],
     rest: &'t [WordPlace],
-    // For faults: the text's number, the line of the word before, and the line of the mark that ends
-    // these words, if a mark does.
+    // For faults: the text's number, the word before, and the mark that ends these words, if a mark does.
     file: u32,
-    line: u32,
-    closed_at: Option<u32>,
+    before: WordPlace,
+    closed_at: Option<WordPlace>,
 }
 
 impl<'t, 'a> Model for Cursor<'t, 'a> {
@@ -48,7 +47,11 @@ impl<'t, 'a> Cursor<'t, 'a> {
             text: words.text,
             rest: words.places.as_slice(),
             file,
-            line: 1,
+            before: WordPlace {
+                start: 0,
+                end: 0,
+                line: 1,
+            },
             closed_at: None,
         }
     }
@@ -61,7 +64,7 @@ impl<'t, 'a> Cursor<'t, 'a> {
             text: self.text,
             rest: self.rest,
             file: self.file,
-            line: self.line,
+            before: self.before,
             closed_at: self.closed_at,
         }
     }
@@ -71,19 +74,50 @@ impl<'t, 'a> Cursor<'t, 'a> {
     pub fn fault(&self, kind: FaultKind) -> ReadFault
         ensures { result.kind ≡ kind }
     {
-        let line = match self.rest {
-            [next, ..] => next.line,
-            [] => self.end_line(),
+        self.need(kind, Need::OfKind)
+    }
+
+    /// The same, where this is needed.
+    pub fn need(&self, kind: FaultKind, need: Need) -> ReadFault
+        ensures { result.kind ≡ kind }
+    {
+        let word = match self.rest {
+            [next, ..] => *next,
+            [] => self.last(),
         };
-        ReadFault {
-            file: self.file,
-            line,
-            kind,
+        self.fault_at(&word, kind, need)
+    }
+
+    /// The same fault of one of these words; where the name of an entry `- NAME` is that of an entry before, with the line of the first
+    /// one.
+    pub fn with_first_entry(&self, fault: ReadFault) -> ReadFault
+        ensures { result.kind ≡ fault.kind }
+    {
+        let Need::New(kind) = fault.need else {
+            return fault;
+        };
+        match first_entry(self.text, self.rest, &fault) {
+            Some(line) => fault.needs(Need::NewSince(kind, line)),
+            None => fault,
         }
     }
 
-    // The fault of words that end too early. Where a mark ends them, it is in the place of what is wanted.
-    fn cut_short(&self, in_place: FaultKind) -> ReadFault
+    // A fault at this word.
+    fn fault_at(&self, word: &WordPlace, kind: FaultKind, need: Need) -> ReadFault
+        ensures { result.kind ≡ kind }
+    {
+        ReadFault {
+            file: self.file,
+            line: word.line,
+            start: word.start,
+            end: word.end,
+            kind,
+            need,
+        }
+    }
+
+    // The fault of words that end too early. Where a mark ends them, it is in the place of what is needed.
+    fn cut_short(&self, in_place: FaultKind, need: Need) -> ReadFault
         requires { in_place ≢ FaultKind.Memory }
         ensures { result.kind ≢ FaultKind.Memory }
     {
@@ -91,19 +125,15 @@ impl<'t, 'a> Cursor<'t, 'a> {
             Some(_) => in_place,
             None => FaultKind::UnexpectedEnd,
         };
-        ReadFault {
-            file: self.file,
-            line: self.end_line(),
-            kind,
-        }
+        self.fault_at(&self.last(), kind, need)
     }
 
-    // The line of the mark that ends the words; without one, that of the last word.
-    fn end_line(&self) -> u32 {
+    // The mark that ends the words; without one, the last word.
+    fn last(&self) -> WordPlace {
         match (self.closed_at, self.rest) {
-            (Some(line), _) => line,
-            (None, [.., last]) => last.line,
-            (None, []) => self.line,
+            (Some(mark), _) => mark,
+            (None, [.., last]) => *last,
+            (None, []) => self.before,
         }
     }
 
@@ -161,24 +191,24 @@ impl<'t, 'a> Cursor<'t, 'a> {
         }
     }
 
-    // The next word; the cursor stays before it.
-    fn next(&self) -> Result<&'a [u8], ReadFault>
+    // The next word, where this is needed; the cursor stays before it.
+    fn next(&self, need: Need) -> Result<&'a [u8], ReadFault>
         ensures means { Means (λ word. (word.now, drop 1 self.now)) result (next_at self.now) }
         ensures no_memory { IfErr result (λ fault. fault.kind ≢ FaultKind.Memory) }
     {
-        self.next_or(FaultKind::Unexpected)
+        self.next_or(FaultKind::Unexpected, need)
     }
 
     // The same, where a mark in place of the word is such a fault.
     #[tactic(auto, unfolding(crate::specs::Words::next_at))]
-    fn next_or(&self, in_place: FaultKind) -> Result<&'a [u8], ReadFault>
+    fn next_or(&self, in_place: FaultKind, need: Need) -> Result<&'a [u8], ReadFault>
         requires { in_place ≢ FaultKind.Memory }
         ensures means { Means (λ word. (word.now, drop 1 self.now)) result (next_at self.now) }
         ensures no_memory { IfErr result (λ fault. fault.kind ≢ FaultKind.Memory) }
     {
         match self.rest {
             [next, ..] => Ok(bytes_at(self.text, next)),
-            [] => Err(self.cut_short(in_place)),
+            [] => Err(self.cut_short(in_place, need)),
         }
     }
 
@@ -187,7 +217,7 @@ impl<'t, 'a> Cursor<'t, 'a> {
         ensures { self.new ≡ drop 1 self.old }
     {
         if let [next, rest @ ..] = self.rest {
-            self.line = next.line;
+            self.before = *next;
             self.rest = rest;
         }
     }
@@ -197,7 +227,7 @@ impl<'t, 'a> Cursor<'t, 'a> {
         ensures reads { Reads (λ word. word.now) result self.new (next_at self.old) }
         ensures no_memory { IfErr result (λ fault. fault.kind ≢ FaultKind.Memory) }
     {
-        let word = self.next()?;
+        let word = self.next(Need::AnyWord)?;
         self.skip();
         Ok(word)
     }
@@ -208,9 +238,13 @@ impl<'t, 'a> Cursor<'t, 'a> {
         ensures reads { Reads (λ x. x) result self.new (keyword_at keyword.now self.old) }
         ensures no_memory { IfErr result (λ fault. fault.kind ≢ FaultKind.Memory) }
     {
-        let word = self.next()?;
+        let word = match self.next(Need::OfKind) {
+            Ok(word) => word,
+            Err(fault) => return Err(fault.needs(Need::Keyword(Keyword::new(keyword)))),
+        };
         if !word::is_keyword(keyword, word) {
-            return Err(self.fault(FaultKind::Unexpected));
+            let need = Need::Keyword(Keyword::new(keyword));
+            return Err(self.need(FaultKind::Unexpected, need));
         }
         self.skip();
         Ok(())
@@ -222,9 +256,9 @@ impl<'t, 'a> Cursor<'t, 'a> {
         ensures reads { Reads (λ x. x) result self.new (mark_at mark self.old) }
         ensures no_memory { IfErr result (λ fault. fault.kind ≢ FaultKind.Memory) }
     {
-        let word = self.next()?;
+        let word = self.next(Need::Mark(mark))?;
         if word != [mark].as_slice() {
-            return Err(self.fault(FaultKind::Unexpected));
+            return Err(self.need(FaultKind::Unexpected, Need::Mark(mark)));
         }
         self.skip();
         Ok(())
@@ -236,9 +270,9 @@ impl<'t, 'a> Cursor<'t, 'a> {
         ensures reads { Reads (λ name. name.now) result self.new (name_at self.old) }
         ensures no_memory { IfErr result (λ fault. fault.kind ≢ FaultKind.Memory) }
     {
-        let word = self.next()?;
+        let word = self.next(Need::Name)?;
         if !word::is_name(word) {
-            return Err(self.fault(FaultKind::Unexpected));
+            return Err(self.need(FaultKind::Unexpected, Need::Name));
         }
         self.skip();
         Ok(word)
@@ -250,9 +284,9 @@ impl<'t, 'a> Cursor<'t, 'a> {
         ensures reads { Reads (λ word. word.now) result self.new (word_at self.old) }
         ensures no_memory { IfErr result (λ fault. fault.kind ≢ FaultKind.Memory) }
     {
-        let word = self.next()?;
+        let word = self.next(Need::Word)?;
         if !word::is_word(word) {
-            return Err(self.fault(FaultKind::Unexpected));
+            return Err(self.need(FaultKind::Unexpected, Need::Word));
         }
         self.skip();
         Ok(word)
@@ -264,13 +298,13 @@ impl<'t, 'a> Cursor<'t, 'a> {
         ensures reads { Reads (λ z. z) result self.new (whole_at self.old) }
         ensures no_memory { IfErr result (λ fault. fault.kind ≢ FaultKind.Memory) }
     {
-        let word = self.next_or(FaultKind::BadNumber)?;
+        let word = self.next_or(FaultKind::BadNumber, Need::Whole)?;
         match number::whole(word) {
             Ok(whole) => {
                 self.skip();
                 Ok(whole)
             }
-            Err(fault) => Err(self.fault(FaultKind::from(fault))),
+            Err(fault) => Err(self.need(FaultKind::from(fault), Need::Whole)),
         }
     }
 
@@ -280,13 +314,13 @@ impl<'t, 'a> Cursor<'t, 'a> {
         ensures reads { Reads (λ m. m) result self.new (length_at self.old) }
         ensures no_memory { IfErr result (λ fault. fault.kind ≢ FaultKind.Memory) }
     {
-        let word = self.next_or(FaultKind::BadNumber)?;
+        let word = self.next_or(FaultKind::BadNumber, Need::Length)?;
         match number::micron(word) {
             Ok(micron) => {
                 self.skip();
                 Ok(micron)
             }
-            Err(fault) => Err(self.fault(FaultKind::from(fault))),
+            Err(fault) => Err(self.need(FaultKind::from(fault), Need::Length)),
         }
     }
 
@@ -307,9 +341,9 @@ impl<'t, 'a> Cursor<'t, 'a> {
         ensures no_memory { IfErr result (λ fault. fault.kind ≢ FaultKind.Memory) }
     {
         self.keyword(b"END")?;
-        let word = self.next()?;
+        let word = self.next(Need::FormName)?;
         if word != name || !word::is_name(word) {
-            return Err(self.fault(FaultKind::Unexpected));
+            return Err(self.need(FaultKind::Unexpected, Need::FormName));
         }
         self.skip();
         Ok(())
@@ -324,7 +358,7 @@ impl<'t, 'a> Cursor<'t, 'a> {
         if self.is_at_end() {
             Ok(())
         } else {
-            Err(self.fault(FaultKind::Unexpected))
+            Err(self.need(FaultKind::Unexpected, Need::Nothing))
         }
     }
 
@@ -336,7 +370,7 @@ impl<'t, 'a> Cursor<'t, 'a> {
     {
         match self.up_to(b';') {
             Some(statement) => Ok(statement),
-            None => Err(self.cut_short(FaultKind::Unexpected)),
+            None => Err(self.cut_short(FaultKind::Unexpected, Need::Mark(b';'))),
         }
     }
 
@@ -354,10 +388,10 @@ impl<'t, 'a> Cursor<'t, 'a> {
             text: self.text,
             rest: &words[..end],
             file: self.file,
-            line: self.line,
-            closed_at: Some(last.line),
+            before: self.before,
+            closed_at: Some(*last),
         };
-        self.line = last.line;
+        self.before = *last;
         self.rest = &words[end + 1..];
         Some(front)
     }
@@ -375,6 +409,36 @@ impl<'t, 'a> Cursor<'t, 'a> {
             statements.push(self.statement()?)?;
         }
         Ok(statements)
+    }
+}
+
+// The line of the first entry whose name is the word at fault, of the words at these places of the text, if it is another one.
+fn first_entry(text: &[u8], words: &[WordPlace], fault: &ReadFault) -> Option<u32> {
+    let name = text.get(fault.start as usize..fault.end as usize)?;
+    let at = words
+        .windows(2)
+        .position(|two| begins_entry(text, two, name))?;
+    let entry = words.get(at)?;
+    if entry.start < fault.start {
+        Some(entry.line)
+    } else {
+        None
+    }
+}
+
+// Whether an entry of this name begins with the words at these places of the text.
+fn begins_entry(text: &[u8], words: &[WordPlace], name: &[u8]) -> bool {
+    match words {
+        [dash, named] => is_there(text, dash, b"-") && is_there(text, named, name),
+        _ => false,
+    }
+}
+
+// Whether the word at this place of the text is this one.
+fn is_there(text: &[u8], place: &WordPlace, word: &[u8]) -> bool {
+    match text.get(place.start as usize..place.end as usize) {
+        Some(bytes) => bytes == word,
+        None => false,
     }
 }
 

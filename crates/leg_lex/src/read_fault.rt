@@ -2,6 +2,7 @@
 
 ghost use Rattle.std.specs.Prelude.{◌≡◌, ◌≢◌, ◌↔◌};
 ghost use Rattle.leg_lex.specs.declared.read_fault.FaultKind.TheVariants.{Memory};
+ghost use Rattle.leg_lex.specs.Keyword.{keyword_text};
 
 use crate::fault::{LexFault, NumFault};
 use std::alloc::{AllocError, AllocFailed};
@@ -63,6 +64,140 @@ pub enum FaultKind {
     Memory,
 }
 
+/// What names are of.
+#[derive(Clone, Copy, PartialEq, Eq, Debug)]
+pub enum NameKind {
+    /// A layer of the LEFs.
+    Layer,
+    /// A site of the LEFs.
+    Site,
+    /// A macro of the LEFs.
+    Macro,
+    /// A via, of the LEFs or of `VIAS`.
+    Via,
+    /// A component.
+    Component,
+    /// A pin of the block.
+    Pin,
+    /// A pin of a macro.
+    MacroPin,
+    /// An entry of `NETS` or of `SPECIALNETS`.
+    Net,
+}
+
+/// What has a limit in number.
+#[derive(Clone, Copy, PartialEq, Eq, Debug)]
+pub enum Entry {
+    /// Components.
+    Component,
+    /// Pins of the block.
+    Pin,
+    /// Entries of `NETS` and `SPECIALNETS` together.
+    Net,
+    /// Terminals of nets, or wires.
+    NetPart,
+    /// Blockages, or their rectangles.
+    Blockage,
+}
+
+/// How many bytes of a keyword are kept.
+const KEPT: usize = 16;
+
+/// A keyword, or its first 16 bytes: it is copied, so that a fault refers to nothing.
+#[derive(Clone, Copy, PartialEq, Eq, Debug)]
+pub struct Keyword {
+    bytes: [u8; KEPT],
+    len: usize,
+}
+
+impl Keyword {
+    /// The keyword of these bytes.
+    pub fn new(keyword: &[u8]) -> Keyword {
+        let len = keyword.len().min(KEPT);
+        let mut bytes = [0; KEPT];
+        bytes[..len].copy_from_slice(&keyword[..len]);
+        Keyword { bytes, len }
+    }
+
+    /// Its bytes.
+    pub fn bytes(&self) -> &[u8]
+        ensures { result.now ≡ keyword_text self.now }
+    {
+        &self.bytes[..self.len.min(KEPT)]
+    }
+}
+
+/// What is needed in the place of the word at fault.
+#[derive(Clone, Copy, PartialEq, Eq, Debug)]
+pub enum Need {
+    /// What the kind of the fault says.
+    OfKind,
+    /// This keyword.
+    Keyword(Keyword),
+    /// This mark of one byte.
+    Mark(u8),
+    /// A word.
+    AnyWord,
+    /// A name.
+    Name,
+    /// A name or a quoted word.
+    Word,
+    /// The name of the form that ends.
+    FormName,
+    /// A whole number.
+    Whole,
+    /// A length in microns.
+    Length,
+    /// No word: a statement ends there.
+    Nothing,
+    /// The beginning of a form.
+    Form,
+    /// A statement of this keyword, which the form that ends there lacks.
+    Statement(Keyword),
+    /// No second one of these.
+    NoSecond,
+    /// A direction: `HORIZONTAL` or `VERTICAL`.
+    Direction,
+    /// One of the eight orientations.
+    Orient,
+    /// A layer on which wires run.
+    RoutingLayer,
+    /// A number of the units that are those of the library.
+    SameUnits,
+    /// A name that is defined before.
+    Known(NameKind),
+    /// A pin of the macro of this number.
+    KnownPin(usize),
+    /// A name that is not defined before.
+    New(NameKind),
+    /// The same of a name that this line of the text defines.
+    NewSince(NameKind, u32),
+    /// The same of a name that the text of this number defines, in this line.
+    NewSinceText(NameKind, u32, u32),
+    /// A number that is not below this one.
+    AtLeast(u32),
+    /// A length above 0.
+    AboveZero,
+    /// A number of units to the micron.
+    Units,
+    /// A last site or track within the limit of numbers.
+    EndInRange,
+    /// No more of these.
+    Fewer(Entry),
+    /// One line of sites: `BY 1`.
+    OneLine,
+    /// The width of the site, which is this, as the step in x.
+    SiteStep(i64),
+    /// An orientation of rows.
+    RowOrient,
+    /// A rectangle without a mask.
+    NoMask,
+    /// A site without a pattern behind its name.
+    PlainSite,
+    /// A die of two corners, or of four that go round a rectangle.
+    PlainDie,
+}
+
 /// Why a text is refused, and where.
 #[derive(Clone, Copy, PartialEq, Eq, Debug, Error)]
 #[error("file {file}, line {line}: {kind}")]
@@ -71,8 +206,14 @@ pub struct ReadFault {
     pub file: u32,
     /// The line of the word at fault, from 1; of the last word where the text ends too early.
     pub line: u32,
+    /// Where this word begins: so many bytes of the text are before it.
+    pub start: u32,
+    /// How many bytes of the text are before its end; none where no word is at fault.
+    pub end: u32,
     /// What is wrong.
     pub kind: FaultKind,
+    /// What is needed there.
+    pub need: Need,
 }
 
 impl ReadFault {
@@ -80,8 +221,29 @@ impl ReadFault {
     const OUT_OF_MEMORY: ReadFault = ReadFault {
         file: 0,
         line: 1,
+        start: 0,
+        end: 0,
         kind: FaultKind::Memory,
+        need: Need::OfKind,
     };
+
+    /// A fault at the same word, where this is wrong.
+    pub fn of_kind(self, kind: FaultKind) -> ReadFault
+        ensures { result.kind ≡ kind }
+    {
+        ReadFault {
+            kind,
+            need: Need::OfKind,
+            ..self
+        }
+    }
+
+    /// The same fault, where this is needed.
+    pub fn needs(self, need: Need) -> ReadFault
+        ensures { result.kind ≡ self.kind }
+    {
+        ReadFault { need, ..self }
+    }
 
     /// The fault of the text of this number that has no words.
     pub fn of_text(file: u32, fault: LexFault) -> ReadFault
@@ -92,7 +254,14 @@ impl ReadFault {
             LexFault::TooLong => (1, FaultKind::TooLarge),
             LexFault::Memory => (1, FaultKind::Memory),
         };
-        ReadFault { file, line, kind }
+        ReadFault {
+            file,
+            line,
+            start: 0,
+            end: 0,
+            kind,
+            need: Need::OfKind,
+        }
     }
 }
 

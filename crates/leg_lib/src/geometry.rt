@@ -9,7 +9,7 @@ ghost use Rattle.leg_lib.specs.Geometry.{draws_metal, is_off_metal, is_other_sha
 
 use crate::point::rect;
 use leg_cells::{RawKind, RawLayer, RawLibrary, RawShape};
-use leg_lex::{Cursor, FaultKind, ReadFault};
+use leg_lex::{Cursor, FaultKind, Keyword, NameKind, Need, ReadFault};
 use std::alloc::Allocator;
 use std::marker::Model;
 
@@ -51,7 +51,7 @@ fn layer_of_geometry<A: Allocator + Copy>(
     let named = statement.again();
     let name = statement.name()?;
     let Some(number) = library.layer_named(name) else {
-        return Err(named.fault(FaultKind::UnknownName));
+        return Err(named.need(FaultKind::UnknownName, Need::Known(NameKind::Layer)));
     };
     nothing_said(statement)?;
     Ok(number)
@@ -107,7 +107,10 @@ impl<A: Allocator + Copy> Drawing<A> {
         ensures { Means (λ _. self.new) result (drawn_rect library.now self.old statement.old) }
     {
         let Some(layer) = self.on else {
-            return Err(statement.fault(FaultKind::Unexpected));
+            return Err(statement.need(
+                FaultKind::Unexpected,
+                Need::Keyword(Keyword::new(b"LAYER")),
+            ));
         };
         if has_metal(library.layers(), layer) {
             let rect = rect(statement)?;
@@ -126,17 +129,9 @@ impl<A: Allocator + Copy> Drawing<A> {
     {
         let first = statement.again();
         match self.draw_rect(library, statement) {
-            Err(
-                ReadFault {
-                    file,
-                    line,
-                    kind: FaultKind::BadNumber,
-                },
-            ) if is_masked_or_iterated(&first) => Err(ReadFault {
-                file,
-                line,
-                kind: FaultKind::Unsupported,
-            }),
+            Err(fault) if fault.kind == FaultKind::BadNumber && is_masked_or_iterated(&first) => {
+                Err(fault.of_kind(FaultKind::Unsupported))
+            }
             drawn => drawn,
         }
     }
@@ -169,7 +164,7 @@ impl<A: Allocator + Copy> Drawing<A> {
         } else if statement.is_at(b"WIDTH") || statement.is_at(b"CLASS") {
             Ok(())
         } else if !is_other_shape(statement) {
-            Err(statement.fault(FaultKind::Unexpected))
+            Err(statement.need(FaultKind::Unexpected, Need::Form))
         } else if self.is_off_metal(library) {
             Ok(())
         } else {

@@ -7,7 +7,9 @@ ghost use Rattle.leg_lib.specs.Layer.{type_in, direction_of, direction_in, direc
 use crate::named::second_definition;
 use crate::spacing::spacing_of;
 use leg_cells::{Direction, RawKind, RawLayer, RawLibrary};
-use leg_lex::{Cursor, FaultKind, Micron, Name, ReadFault, is_keyword, only, the};
+use leg_lex::{
+    Cursor, FaultKind, Keyword, Micron, Name, NameKind, Need, ReadFault, is_keyword, only, the,
+};
 use std::alloc::Allocator;
 
 /// The word of a `TYPE` statement.
@@ -52,7 +54,7 @@ fn direction(statement: &mut Cursor<'_, '_>) -> Result<Direction, ReadFault>
     let said = statement.again();
     let word = statement.any()?;
     let Some(direction) = direction_of(word) else {
-        return Err(said.fault(no_direction(word)));
+        return Err(said.need(no_direction(word), Need::Direction));
     };
     statement.nothing_more()?;
     Ok(direction)
@@ -103,7 +105,7 @@ fn width(statement: &mut Cursor<'_, '_>) -> Result<Micron, ReadFault>
     if width.millionths() > 0 {
         Ok(width)
     } else {
-        Err(number.fault(FaultKind::TooLarge))
+        Err(number.need(FaultKind::TooLarge, Need::AboveZero))
     }
 }
 
@@ -115,6 +117,16 @@ fn width_of_any(statement: Option<Cursor<'_, '_>>) -> Result<Option<Micron>, Rea
         Some(mut statement) => Ok(Some(width(&mut statement)?)),
         None => Ok(None),
     }
+}
+
+/// The fault of a form without a statement of this keyword, at the next word of `end`.
+fn lacking(end: &Cursor<'_, '_>, keyword: &[u8]) -> ReadFault
+    ensures { result.kind ≡ FaultKind.Unexpected }
+{
+    end.need(
+        FaultKind::Unexpected,
+        Need::Statement(Keyword::new(keyword)),
+    )
 }
 
 /// What a layer of this type is for. A routing layer without direction or width is `Unexpected` at the
@@ -130,7 +142,8 @@ fn kind_of(
     if is_keyword(b"ROUTING", word) {
         match (direction, width) {
             (Some(direction), Some(width)) => Ok(RawKind::Routing { direction, width }),
-            _ => Err(end.fault(FaultKind::Unexpected)),
+            (None, _) => Err(lacking(end, b"DIRECTION")),
+            (Some(_), None) => Err(lacking(end, b"WIDTH")),
         }
     } else if is_keyword(b"CUT", word) {
         Ok(RawKind::Cut)
@@ -184,7 +197,7 @@ pub(crate) fn layer_form<'a, A: Allocator + Copy>(
     let first = words.again();
     let layer = layer(alloc, words)?;
     if library.layer_named(layer.name.bytes()).is_some() {
-        return Err(second_definition(&first));
+        return Err(second_definition(&first, NameKind::Layer));
     }
     library.push_layer(layer)?;
     Ok(())

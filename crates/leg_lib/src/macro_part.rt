@@ -11,7 +11,7 @@ use crate::geometry::geometry;
 use crate::named::second_definition;
 use crate::pin::pin;
 use leg_cells::{RawLibrary, RawPin, RawShape};
-use leg_lex::{Cursor, Names, ReadFault};
+use leg_lex::{Cursor, NameKind, Names, ReadFault};
 use std::alloc::{AllocError, Allocator};
 use std::marker::Model;
 
@@ -74,7 +74,7 @@ impl<'t, 'a, A: Allocator + Copy> MacroParts<'t, 'a, A> {
         let first = words.again();
         let pin = pin(alloc, library, words)?;
         if self.pin_names.place_of(pin.name.bytes()).is_some() {
-            return Err(second_definition(&first));
+            return Err(second_definition(&first, NameKind::MacroPin));
         }
         self.push_pin(pin)?;
         Ok(())

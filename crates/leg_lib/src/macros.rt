@@ -10,7 +10,7 @@ use crate::macro_part::MacroParts;
 use crate::named::second_definition;
 use crate::point;
 use leg_cells::{Items, RawExtent, RawLibrary, RawMaster, RawPoint};
-use leg_lex::{Cursor, FaultKind, Micron, Name, ReadFault, is_keyword, only, the};
+use leg_lex::{Cursor, FaultKind, Micron, Name, NameKind, Need, ReadFault, is_keyword, only, the};
 use std::alloc::Allocator;
 
 /// The point of an `ORIGIN` statement.
@@ -76,17 +76,9 @@ fn site_statement<'t, 'a>(
     ensures { Means (λ found. found) result (only (codes "SITE") statements.now) }
 {
     match only(statements, b"SITE") {
-        Err(
-            ReadFault {
-                file,
-                line,
-                kind: FaultKind::Unexpected,
-            },
-        ) => Err(ReadFault {
-            file,
-            line,
-            kind: FaultKind::Unsupported,
-        }),
+        Err(fault) if fault.kind == FaultKind::Unexpected => {
+            Err(fault.of_kind(FaultKind::Unsupported))
+        }
         found => found,
     }
 }
@@ -103,10 +95,10 @@ fn site<A: Allocator + Copy>(
     let named = statement.again();
     let name = statement.name()?;
     let Some(number) = library.site_named(name) else {
-        return Err(named.fault(FaultKind::UnknownName));
+        return Err(named.need(FaultKind::UnknownName, Need::Known(NameKind::Site)));
     };
     if !statement.is_at_end() {
-        return Err(statement.fault(FaultKind::Unsupported));
+        return Err(statement.need(FaultKind::Unsupported, Need::PlainSite));
     }
     Ok(number)
 }
@@ -193,7 +185,7 @@ pub(crate) fn macro_form<'a, A: Allocator + Copy>(
     let first = words.again();
     let master = master(alloc, library, words)?;
     if library.master_named(master.name.bytes()).is_some() {
-        return Err(second_definition(&first));
+        return Err(second_definition(&first, NameKind::Macro));
     }
     library.push_master(master)?;
     Ok(())

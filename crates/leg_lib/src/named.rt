@@ -2,13 +2,13 @@
 
 ghost use Rattle.std.specs.Prelude.{◌≡◌};
 
-use leg_lex::{Cursor, FaultKind, ReadFault};
+use leg_lex::{Cursor, FaultKind, NameKind, Need, ReadFault};
 
-/// The fault of a form whose name was defined before, at that name.
-pub(crate) fn second_definition(form: &Cursor<'_, '_>) -> ReadFault
+/// The fault of a form whose name, which is one of these, was defined before; it is at that name.
+pub(crate) fn second_definition(form: &Cursor<'_, '_>, kind: NameKind) -> ReadFault
     ensures { result.kind ≡ FaultKind.DuplicateName }
 {
     let mut name = form.again();
     let _keyword = name.any();
-    name.fault(FaultKind::DuplicateName)
+    name.need(FaultKind::DuplicateName, Need::New(kind))
 }

@@ -7,7 +7,7 @@ ghost use Rattle.leg_lib.specs.Site.{site_at, site_named, with_site};
 use crate::named::second_definition;
 use crate::point;
 use leg_cells::{RawLibrary, RawSite};
-use leg_lex::{Cursor, Name, ReadFault, the};
+use leg_lex::{Cursor, Name, NameKind, ReadFault, the};
 use std::alloc::Allocator;
 
 /// A site, from `SITE` to its `END`.
@@ -54,7 +54,7 @@ pub(crate) fn site_form<'a, A: Allocator + Copy>(
     let site = site(alloc, words)?;
     match site_named(library, site.name.bytes()) {
         Some(before) if before.size == site.size => Ok(()),
-        Some(_) => Err(second_definition(&first)),
+        Some(_) => Err(second_definition(&first, NameKind::Site)),
         None => {
             library.push_site(site)?;
             Ok(())

@@ -7,7 +7,7 @@ ghost use Rattle.leg_lex.specs.Words.{Means};
 ghost use Rattle.leg_lib.specs.Layer.{spacing_in, spacing_of_any, is_table, at_row_end, second_in_row, table_value, table_value_of_any, spacing_of};
 
 use crate::layer::first_of_one_word;
-use leg_lex::{Cursor, FaultKind, Micron, ReadFault};
+use leg_lex::{Cursor, FaultKind, Micron, Need, ReadFault};
 
 /// The spacing that a `SPACING` statement gives, at least 0.
 #[tactic(auto, unfolding(crate::specs::Layer::spacing_in, crate::specs::Layer::length_in))]
@@ -18,7 +18,7 @@ fn spacing(statement: &mut Cursor<'_, '_>) -> Result<Micron, ReadFault>
     let number = statement.again();
     let spacing = statement.length()?;
     if spacing.millionths() < 0 {
-        Err(number.fault(FaultKind::TooLarge))
+        Err(number.need(FaultKind::TooLarge, Need::AtLeast(0)))
     } else {
         Ok(spacing)
     }
@@ -82,7 +82,7 @@ fn second_in_row(row: &mut Cursor<'_, '_>) -> Result<Option<Micron>, ReadFault>
     let second = row.again();
     let spacing = row.length()?;
     if spacing.millionths() < 0 {
-        return Err(second.fault(FaultKind::TooLarge));
+        return Err(second.need(FaultKind::TooLarge, Need::AtLeast(0)));
     }
     Ok(Some(spacing))
 }

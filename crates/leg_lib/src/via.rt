@@ -8,7 +8,7 @@ ghost use Rattle.leg_lib.specs.Via.{flag_at, flags_at, no_via_parts, layer_of_vi
 use crate::geometry::Drawing;
 use crate::named::second_definition;
 use leg_cells::{Items, RawLibrary, RawShape, RawVia, is_wiring_word};
-use leg_lex::{Cursor, FaultKind, Name, ReadFault};
+use leg_lex::{Cursor, FaultKind, Name, NameKind, Need, ReadFault};
 use std::alloc::{AllocError, Allocator};
 use std::marker::Model;
 
@@ -113,7 +113,7 @@ fn layer<A: Allocator + Copy>(
     let named = statement.again();
     let name = statement.name()?;
     let Some(number) = library.layer_named(name) else {
-        return Err(named.fault(FaultKind::UnknownName));
+        return Err(named.need(FaultKind::UnknownName, Need::Known(NameKind::Layer)));
     };
     statement.nothing_more()?;
     Ok(number)
@@ -250,7 +250,7 @@ pub(crate) fn via_form<'a, A: Allocator + Copy>(
     let first = words.again();
     let via = via(alloc, library, words)?;
     if library.via_named(via.name.bytes()).is_some() {
-        return Err(second_definition(&first));
+        return Err(second_definition(&first, NameKind::Via));
     }
     library.push_via(via)?;
     Ok(())

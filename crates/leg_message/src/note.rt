@@ -1,11 +1,11 @@
 //! What a text seems to be that is no LEF or DEF, or the other one of the two.
 
 ghost use Rattle.std.specs.Prelude.{◌≡◌};
-ghost use Rattle.leg_message.specs.Note.{note_line};
+ghost use Rattle.leg_message.specs.Note.{note_line, hides_line};
 ghost use Rattle.leg_message.specs.Steps.Signatures.{signature_note};
 
 use crate::text_line::is_white;
-use leg_lex::{FaultKind, is_keyword};
+use leg_lex::{FaultKind, ReadFault, TEXT_LIMIT, is_keyword};
 use memchr::memchr;
 
 /// One of the two formats.
@@ -36,6 +36,10 @@ pub(crate) enum Note {
     DefForLef,
     /// A DEF in which the word `UNITS` isn't found.
     NoUnits,
+    /// A text whose last word is the one at fault.
+    LastWord,
+    /// A text that names what is not known, after a LEF that has nothing but white space.
+    EmptyLef,
 }
 
 /// The line of a note, after the message on the fault.
@@ -44,7 +48,7 @@ pub(crate) fn note_line(note: Option<Note>) -> &'static [u8]
 {
     match note {
         None => b"",
-        Some(Note::Empty) => b"note: the text is empty\n",
+        Some(Note::Empty) => b"note: the text is empty, or has only white space\n",
         Some(Note::Gzip) => b"note: the text is compressed: unpack it first, with gunzip\n",
         Some(Note::Utf8Mark) =>
             b"note: the text begins with a byte order mark: save it without one\n",
@@ -53,16 +57,31 @@ pub(crate) fn note_line(note: Option<Note>) -> &'static [u8]
         Some(Note::Elf) => b"note: this is a program or an object file (ELF), and no text\n",
         Some(Note::Binary) => b"note: this is no text: it has a byte 0\n",
         Some(Note::LefForDef) =>
-            b"note: this seems to be a LEF, where the DEF is needed (of files the DEF is named first; on standard input the LEF comes first)\n",
+            b"note: this looks like a LEF, and a DEF is expected here (of files the DEF is named first; on standard input the LEF comes first)\n",
         Some(Note::DefForLef) =>
-            b"note: this seems to be a DEF, where a LEF is needed (of files the DEF is named first; on standard input the LEF comes first)\n",
+            b"note: this looks like a DEF, and a LEF is expected here (of files the DEF is named first; on standard input the LEF comes first)\n",
         Some(Note::NoUnits) =>
             b"note: a DEF needs UNITS DISTANCE MICRONS n ; and this one has no UNITS\n",
+        Some(Note::LastWord) => b"note: the text ends with this word: has it been cut?\n",
+        Some(Note::EmptyLef) => b"note: a LEF that is given is empty, or has only white space\n",
     }
 }
 
-/// What a refused text seems to be, which has to be a LEF or else a DEF; none where it may be that.
+/// Whether no line is shown: of a file that is no text, or of an empty one.
+pub(crate) fn hides_line(note: Option<Note>) -> bool
+    ensures { result ≡ hides_line note }
+{
+    matches!(
+        note,
+        Some(Note::Empty | Note::Gzip | Note::Utf16Mark | Note::Elf | Note::Binary)
+    )
+}
+
+/// What a refused text seems to be, which has to be a LEF or else a DEF; none where it may be that, and of a text that is too long.
 pub(crate) fn note_of(text: &[u8], is_lef: bool, kind: FaultKind) -> Option<Note> {
+    if text.len() as u64 > TEXT_LIMIT {
+        return None;
+    }
     let Some(start) = text.iter().position(|byte| !is_white(*byte)) else {
         return Some(Note::Empty);
     };
@@ -78,6 +97,33 @@ pub(crate) fn note_of(text: &[u8], is_lef: bool, kind: FaultKind) -> Option<Note
         (false, _) if kind == FaultKind::UnexpectedEnd && !has_units(text) => Some(Note::NoUnits),
         _ => None,
     }
+}
+
+/// That the word at fault is the last one of the text, where the kind of the fault does not say so.
+pub(crate) fn last_word_note(text: &[u8], fault: &ReadFault) -> Option<Note> {
+    if fault.kind == FaultKind::UnexpectedEnd || fault.end == 0 {
+        return None;
+    }
+    let rest = text.get(fault.end as usize..)?;
+    if rest.iter().all(|byte| is_white(*byte)) {
+        Some(Note::LastWord)
+    } else {
+        None
+    }
+}
+
+/// That one of the LEFs has nothing but white space, where a name is not known.
+pub(crate) fn empty_lef_note(lefs: &[&[u8]], fault: &ReadFault) -> Option<Note> {
+    if fault.kind == FaultKind::UnknownName && lefs.iter().any(|lef| has_no_word(lef)) {
+        Some(Note::EmptyLef)
+    } else {
+        None
+    }
+}
+
+/// Whether the text has nothing but white space.
+fn has_no_word(text: &[u8]) -> bool {
+    text.iter().all(|byte| is_white(*byte))
 }
 
 /// What the first bytes of a file say that isn't plain text.

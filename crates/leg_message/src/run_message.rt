@@ -2,7 +2,6 @@
 
 ghost use Rattle.std.specs.Prelude.{◌≡◌, [], Option, codes, IfOk};
 ghost use Rattle.leg_message.specs.declared.note.Note.{Note};
-ghost use Rattle.leg_message.specs.Note.{note_line};
 ghost use Rattle.leg_message.specs.Message.{advice_message, line_message, stream_texts, IsMessage, IsRefusal, IsStreamMessage};
 
 use crate::advice::advice_of;
@@ -98,7 +97,7 @@ fn no_library_message<A: Allocator + Copy>(
     stream: &[u8],
 ) -> Result<Vec<u8, A>, AllocError>
     ensures { IfOk result (λ m. (note : Option Note) × (m.items ≡ line_message (stream_texts stream.now []) 0 1
-        (codes "no END LIBRARY, with which the LEF ends: the DEF comes after it") (note_line note))) }
+        (codes "no END LIBRARY, with which the LEF ends: the DEF comes after it") note)) }
 {
     let texts: Texts<'_, A> = Texts {
         line: None,

@@ -93,7 +93,7 @@ fn push_reason<A: Allocator>(
     ensures { OnOk result (message.new.items ≡ message.old.items ++ scale_reason kind units) }
 {
     push_parts(message, &[b" ", scale_sentence_of(kind), b" (the DEF has "])?;
-    push_number(message, units)?;
+    push_number(message, units as usize)?;
     message.extend_from_slice(b" units to the micron)\n")
 }
 

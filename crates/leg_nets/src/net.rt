@@ -16,7 +16,7 @@ use crate::net_table::{NetTable, NetsBegun};
 use crate::terminal::terminals;
 use crate::wiring::{is_wiring, wiring};
 use leg_block::{ENTRY_LIMIT, Terminal, Wire};
-use leg_lex::{Cursor, FaultKind, Name, ReadFault, is_keyword};
+use leg_lex::{Cursor, Entry, FaultKind, Name, NameKind, Need, ReadFault, is_keyword};
 use leg_section::{Known, section_start};
 use std::alloc::Allocator;
 use std::marker::Model;
@@ -75,7 +75,7 @@ impl<'a, A: Allocator + Copy> Parts<'a, A> {
         ensures { Reads (λ _. self.new) result clause.new (use_clause self.old clause.old) }
     {
         if self.usage.is_some() {
-            return Err(clause.fault(FaultKind::Unexpected));
+            return Err(clause.need(FaultKind::Unexpected, Need::NoSecond));
         }
         clause.keyword(b"USE")?;
         let word = clause.word()?;
@@ -244,7 +244,7 @@ fn net_name<'a, A: Allocator + Copy>(
         return Err(first.fault(FaultKind::Unsupported));
     }
     if table.has_name(name) {
-        return Err(first.fault(FaultKind::DuplicateName));
+        return Err(first.need(FaultKind::DuplicateName, Need::New(NameKind::Net)));
     }
     Ok(name)
 }
@@ -295,12 +295,12 @@ fn entry<'a, A: Allocator + Copy>(
 {
     let first = words.again();
     if is_full(table.len(), others.len()) {
-        return Err(first.fault(FaultKind::TooMany));
+        return Err(first.need(FaultKind::TooMany, Need::Fewer(Entry::Net)));
     }
     let mut statement = words.statement()?;
     let (name, parts) = net(alloc, known, special, others, table, &mut statement)?;
     if table.is_too_large(others, parts.wires.len()) {
-        return Err(first.fault(FaultKind::TooMany));
+        return Err(first.need(FaultKind::TooMany, Need::Fewer(Entry::NetPart)));
     }
     table.close(alloc, name, parts.usage, parts.wires)?;
     Ok(())
@@ -357,7 +357,11 @@ pub fn nets<'a, A: Allocator + Copy>(
     ensures { Reads (λ t. t) result words.new (nets_at known.now special others.now words.old) }
 {
     section_start(section_word(special), words)?;
-    let table = indexed_entries(alloc, known, special, others, words)?;
+    let start = words.again();
+    let table = match indexed_entries(alloc, known, special, others, words) {
+        Ok(table) => table,
+        Err(fault) => return Err(start.with_first_entry(fault)),
+    };
     words.end(section_word(special))?;
     Ok(table)
 }

@@ -12,7 +12,7 @@ use crate::coordinate::{Coordinate, coordinate_or};
 use leg_block::Wire;
 use leg_cells::{Library, Shape};
 use leg_geom::{Point, Rect};
-use leg_lex::{Cursor, FaultKind, ReadFault};
+use leg_lex::{Cursor, FaultKind, NameKind, Need, ReadFault};
 use leg_section::Known;
 use leg_section::layers::{is_routing, width_of_layer};
 use std::alloc::Allocator;
@@ -132,11 +132,11 @@ fn segment_width<A: Allocator + Copy>(
     let Some(width) = written else {
         return match width_of_layer(library, layer) {
             Some(width) => Ok(width),
-            None => Err(place.fault(FaultKind::Unexpected)),
+            None => Err(place.need(FaultKind::Unexpected, Need::RoutingLayer)),
         };
     };
     if width == 0 {
-        return Err(place.fault(FaultKind::EmptyRect));
+        return Err(place.need(FaultKind::EmptyRect, Need::AboveZero));
     }
     Ok(width)
 }
@@ -199,7 +199,7 @@ fn across<A: Allocator + Copy>(
     ensures { Means (λ other. other) result (across known.now number layer) }
 {
     let Some(via) = known.via_numbered(number) else {
-        return Err(place.fault(FaultKind::UnknownName));
+        return Err(place.need(FaultKind::UnknownName, Need::Known(NameKind::Via)));
     };
     if !via.good {
         return Err(place.fault(FaultKind::BadVia));

@@ -9,7 +9,7 @@ use crate::coordinate::{Coordinate, point};
 use crate::path::{Item, ItemAt};
 use leg_cells::is_wiring_word;
 use leg_geom::Point;
-use leg_lex::{Cursor, FaultKind, ReadFault, is_keyword};
+use leg_lex::{Cursor, FaultKind, NameKind, Need, ReadFault, is_keyword};
 use leg_section::Known;
 use leg_section::placement::rect_between;
 use std::alloc::Allocator;
@@ -28,7 +28,7 @@ pub(crate) fn count(words: &mut Cursor<'_, '_>) -> Result<i64, ReadFault>
     let first = words.again();
     let number = words.whole()?;
     if number < 0 {
-        return Err(first.fault(FaultKind::TooLarge));
+        return Err(first.need(FaultKind::TooLarge, Need::AtLeast(0)));
     }
     Ok(number)
 }
@@ -156,7 +156,7 @@ fn via_item<A: Allocator + Copy>(
         return Err(first.fault(kind_of_wiring_word(name)));
     }
     let Some(number) = known.via_named(name) else {
-        return Err(first.fault(FaultKind::UnknownName));
+        return Err(first.need(FaultKind::UnknownName, Need::Known(NameKind::Via)));
     };
     past_north(words)?;
     Ok(Item::AtVia(number))

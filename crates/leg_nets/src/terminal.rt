@@ -5,10 +5,18 @@ ghost use Rattle.leg_lex.specs.Words.{Reads, Means, is_at};
 ghost use Rattle.leg_nets.specs.Terminal.{component_terminal, pin_terminal, one_terminal_at, all_terminals_at, past_synthesized, terminals_at};
 
 use crate::known_pins::KnownPins;
-use leg_block::Terminal;
-use leg_lex::{Cursor, FaultKind, ReadFault, is_keyword};
+use leg_block::{Component, Terminal};
+use leg_lex::{Cursor, FaultKind, NameKind, Need, ReadFault, is_keyword};
 use leg_section::Known;
 use std::alloc::Allocator;
+
+/// That a pin of the component of this number is needed.
+fn pin_of(components: &[Component<'_>], number: usize) -> Need {
+    match components.get(number) {
+        Some(component) => Need::KnownPin(component.master),
+        None => Need::Known(NameKind::MacroPin),
+    }
+}
 
 /// The component of this name, with its pin of this name. The fault of an unknown name is at the words `of_component` or
 /// `of_pin`.
@@ -23,10 +31,11 @@ fn component_terminal<A: Allocator + Copy>(
 {
     let components = known.known().components;
     let Some(c) = components.place_of(component) else {
-        return Err(of_component.fault(FaultKind::UnknownName));
+        return Err(of_component.need(FaultKind::UnknownName, Need::Known(NameKind::Component)));
     };
     let Some(pin) = known.pin_of_numbered(c, pin) else {
-        return Err(of_pin.fault(FaultKind::UnknownName));
+        let need = pin_of(components.as_slice(), c);
+        return Err(of_pin.need(FaultKind::UnknownName, need));
     };
     Ok(Terminal::Comp {
         component: c as u32,
@@ -43,7 +52,7 @@ fn pin_terminal<A: Allocator + Copy>(
     ensures { Means (λ t. t) result (pin_terminal known.now pin.now) }
 {
     let Some(p) = known.pins.place_of(pin) else {
-        return Err(of_pin.fault(FaultKind::UnknownName));
+        return Err(of_pin.need(FaultKind::UnknownName, Need::Known(NameKind::Pin)));
     };
     Ok(Terminal::Pin(p as u32))
 }

@@ -10,7 +10,7 @@ use crate::path::{half, path_wires};
 use crate::path_item::{add_items, count, first_point};
 use leg_block::Wire;
 use leg_cells::Library;
-use leg_lex::{Cursor, FaultKind, ReadFault};
+use leg_lex::{Cursor, FaultKind, NameKind, Need, ReadFault};
 use leg_section::Known;
 use leg_section::layers::is_routing;
 use std::alloc::Allocator;
@@ -26,10 +26,10 @@ fn routing<A: Allocator + Copy>(
     let first = words.again();
     let name = words.name()?;
     let Some(number) = library.layer_named(name) else {
-        return Err(first.fault(FaultKind::UnknownName));
+        return Err(first.need(FaultKind::UnknownName, Need::Known(NameKind::Layer)));
     };
     if !is_routing(library, number) {
-        return Err(first.fault(FaultKind::Unexpected));
+        return Err(first.need(FaultKind::Unexpected, Need::RoutingLayer));
     }
     Ok(number)
 }

@@ -1,8 +1,6 @@
 -- The design that got the wires of a run which came to its end.
 use Rattle.std.proofs.Common.{◌≡◌, ℕ, zero, suc, List, [], ◌∷◌, ◌++◌, length, inl, inr, Some, slice_get, refl, sym, ap, ◌∙◌}
-use Rattle.std.proofs.lemmas.List.{append-nil}
 use Rattle.std.proofs.lemmas.Option.{same_Some, none-some, slice_get_within}
-use Rattle.leg_cells.specs.Scale.{OneForOne}
 use Rattle.leg_cells.specs.Sound.{IsSound}
 use Rattle.leg_block.specs.declared.fault.Fault.{Fault}
 use Rattle.leg_block.specs.declared.records.Wire.{Wire}
@@ -14,21 +12,10 @@ use Rattle.leg_flat.specs.Flat.{FlatSaid, IsFlatOf}
 use Rattle.leg_grid.specs.Run.{Added, Run, IsDone}
 use Rattle.leg_rules.specs.Violations.{IsViolationIn, IsViolation, IsOtherThanOpen}
 use Rattle.leg_grown.specs.Finished.{finished, AreByNet, IsFinishedFrom}
-use Rattle.leg_route.specs.SameButForWires.{IsSameNetButForWires, IsSameButForWires}
 use Rattle.leg_route.specs.Routed.{wires_for, HasAdded, IsRouted}
 use Rattle.leg_route.specs.AddedLists.{AreListsOf}
 use Rattle.leg_route.proofs.GrownLaws.{RunOfCleanWires, CleanWiresStay, GrowthGoesOn, FinishedIsLegal, PlacementStays, ShapesStayAsMany}
 use Rattle.leg_route.proofs.RunFacts.{told, added_for, run_grows, run_nets, run_clean}
-
--- each entry is as it was, with wires behind its own
-one_for_one : (nets : List NetSaid) (lists : List (List Wire)) → OneForOne IsSameNetButForWires nets (with_more_wires nets lists)
-unfolding each_with
-one_for_one [] lists = tt
-one_for_one (net ∷ nets) [] = (record { more = []; is = ap (λ wires. record net { wires = wires }) (sym (append-nil net.wires)) }, all_same nets) where
-  all_same : (nets : List NetSaid) → OneForOne IsSameNetButForWires nets nets
-  all_same [] = tt
-  all_same (net ∷ nets) = (record { more = []; is = ap (λ wires. record net { wires = wires }) (sym (append-nil net.wires)) }, all_same nets)
-one_for_one (net ∷ nets) (wires ∷ lists) = (record { more = wires; is = refl }, one_for_one nets lists)
 
 entry_count : (nets : List NetSaid) (lists : List (List Wire)) → length (with_more_wires nets lists) ≡ length nets
 unfolding each_with
@@ -45,9 +32,6 @@ entry_with (first ∷ nets) (own ∷ lists) zero net wires there list =
     ap (λ (it : NetSaid). Some (record it { wires = it.wires ++ own })) (same_Some first net there)
     ∙ ap (λ ws. Some (record net { wires = net.wires ++ ws })) (same_Some own wires list)
 entry_with (first ∷ nets) (own ∷ lists) (suc n) net wires there list = entry_with nets lists n net wires there list
-
-pub same_but_for_wires : (design : DesignContents) (lists : List (List Wire)) → IsSameButForWires design (finished design lists)
-same_but_for_wires design lists = record { rest = refl; nets = one_for_one design.nets lists }
 
 pub has_added : (design : DesignContents) (added : List Added) (lists : List (List Wire)) → AreListsOf (length design.nets) added lists → HasAdded design added (finished design lists)
 has_added design added lists are = record {

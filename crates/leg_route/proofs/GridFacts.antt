@@ -11,7 +11,7 @@ use Rattle.leg_grid.specs.declared.node.Node.{Node}
 use Rattle.leg_grid.specs.Tracks.{Runs}
 use Rattle.leg_grid.specs.Between.{JoinsLayers, JoinsByDefault, IsFirst, IsVia}
 use Rattle.leg_grid.specs.Neighbours.{IsOver}
-use Rattle.leg_route.proofs.Places.{contains_at}
+use Rattle.leg_grown.proofs.Places.{contains_at}
 
 one_width : (d e : Direction) (v w : ℤ) → Routing d v ≡ Routing e w → v ≡ w
 one_width d e v w same = cc

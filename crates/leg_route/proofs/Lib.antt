@@ -1,4 +1,3 @@
-mod Places
 mod GrownLaws
 mod GridFacts
 mod Straight
@@ -8,7 +7,6 @@ mod Finished
 mod MoreWires
 mod Turn
 mod Onward
-mod FewWires
 mod Noted
 mod Ready
 mod NetSlots

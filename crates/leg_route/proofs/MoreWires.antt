@@ -25,20 +25,8 @@ use Rattle.leg_grid.specs.Spelling.{Spells, AreWiresOf}
 use Rattle.leg_grid.specs.Spelling.Spells.{done, along}
 use Rattle.leg_grid.specs.Spelling.Spells.{through as by_via}
 use Rattle.leg_grid.specs.Spelling.AreWiresOf.{stays, goes}
-use Rattle.leg_route.proofs.Places.{contains_at}
-
--- a list with one element replaced
-set_here : {X : Type 0} (xs : List X) (n : ℕ) (x y : X) → slice_get xs n ≡ Some x → slice_get (set xs n y) n ≡ Some y
-set_here [] n x y there = absurd (none-some x there)
-set_here (z ∷ xs) zero x y there = refl
-set_here (z ∷ xs) (suc n) x y there = set_here xs n x y there
-
-set_elsewhere : {X : Type 0} (xs : List X) (n m : ℕ) (y : X) → ¬ (n ≡ m) → slice_get (set xs n y) m ≡ slice_get xs m
-set_elsewhere [] n m y other = refl
-set_elsewhere (z ∷ xs) zero zero y other = absurd (other refl)
-set_elsewhere (z ∷ xs) zero (suc m) y other = refl
-set_elsewhere (z ∷ xs) (suc n) zero y other = refl
-set_elsewhere (z ∷ xs) (suc n) (suc m) y other = set_elsewhere xs n m y (λ same. other (ap suc same))
+use Rattle.leg_grown.proofs.Places.{contains_at}
+use Rattle.leg_grown.proofs.Places.{set_here, set_elsewhere}
 
 -- how many pieces a net has
 count_at : (flat : FlatSaid) (net : ℕ) (own : List Piece) → slice_get flat.pieces net ≡ Some own → piece_count flat net ≡ length own

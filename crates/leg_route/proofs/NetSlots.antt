@@ -219,8 +219,3 @@ module _ (flat : FlatSaid) (net : ℕ) (numbers : List ℕ) (are : AreNumbersOf 
             holds = meets_marked false one.node one.holds.piece one.holds.meets (rest_marked one.holds.piece one.holds.meets.of_piece.there one.holds.rest);
           }),
     )
-
--- each number of a net's shapes is that of a shape
-pub numbers_within : (shapes : List Shape) (net : ℕ) (numbers : List ℕ) → AreNumbersOf shapes net numbers → All (λ k. k < length shapes) numbers
-numbers_within shapes net numbers are =
-    All-from_contains (λ k. k < length shapes) numbers (λ k has. let of_net = are.each k has in slice_get_within shapes k of_net.shape of_net.at)

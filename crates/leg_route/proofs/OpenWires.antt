@@ -22,7 +22,7 @@ use Rattle.leg_grid.specs.Spelling.IsStraight.{one, more}
 use Rattle.leg_grid.specs.Spelling.Spells.{done, through, along}
 use Rattle.leg_grid.specs.Spelling.AreWiresOf.{stays, goes}
 use Rattle.leg_grown.specs.Lines.{EachStep, last_spot}
-use Rattle.leg_route.proofs.Places.{contains_at}
+use Rattle.leg_grown.proofs.Places.{contains_at}
 use Rattle.leg_route.proofs.GrownLaws.{RunOfCleanWires}
 use Rattle.leg_route.proofs.GridFacts.{same_width, over_up, via_once}
 use Rattle.leg_route.proofs.Straight.{points, beside_layer, straight_last, straight_ahead, straight_apart, straight_keeps, ahead_apart, in_line}

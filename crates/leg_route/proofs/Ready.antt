@@ -25,13 +25,6 @@ use Rattle.leg_wire.specs.Open.{IsOpenNet}
 use Rattle.leg_grown.specs.Growth.{Grows, of_net}
 use Rattle.leg_route.specs.Steps.Ready.{AreNumbersByNet, TellsShapes, AreReady}
 
--- each entry of NETS has the pieces of its number in a flat of the design
-pub nets_within : (design : DesignContents) (flat : FlatSaid) → IsFlatOf design flat → length design.nets ≤ length flat.pieces
-nets_within design flat is =
-    let entries = length design.nets + length design.special in
-    let many : length (map (pieces_of design) (range_with_len 0 entries)) ≡ entries = length-map-range_with_len (pieces_of design) 0 entries in
-    rw is.pieces (omega (arith, many))
-
 -- a piece without a mark is one that isn't joined
 pub unmarked_is_open : (design : DesignContents) (flat : FlatSaid) (net : ℕ) (marks : List Bool) → net < length design.nets
     → AreMarks (AreJoined flat net 0) (piece_count flat net) marks → Contains marks false → IsOpenNet design flat net

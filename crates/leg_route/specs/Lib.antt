@@ -1,4 +1,3 @@
-pub mod SameButForWires
 pub mod Routed
 pub mod Refusal
 pub mod AddedLists

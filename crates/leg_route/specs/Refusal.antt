@@ -1,7 +1,6 @@
 -- When the router refuses a design (lefdef's own rules): the first cause that holds.
 use Rattle.std.specs.Prelude.{◌<◌, length}
 use Rattle.leg_block.specs.declared.limits.TheConstants.{PART_LIMIT}
-use Rattle.leg_block.specs.declared.fault.Fault.{Fault}
 use Rattle.leg_block.specs.Records.{DesignContents}
 use Rattle.leg_flat.specs.declared.fault.FlatFault.{FlatFault}
 use Rattle.leg_flat.specs.declared.fault.FlatFault.TheVariants as flat_fault
@@ -10,17 +9,12 @@ use Rattle.leg_flat.specs.Flat.{FlatSaid, IsJudgedBy}
 use Rattle.leg_grid.specs.declared.fault.GridFault.{GridFault}
 use Rattle.leg_grid.specs.declared.fault.GridFault.TheVariants as grid_fault
 use Rattle.leg_grid.specs.GridSize.{IsGridTooLarge}
-use Rattle.leg_rules.specs.Violations.{IsOtherThanOpen}
+use Rattle.leg_rules.specs.Legal.{IsCleanIn}
 use Rattle.leg_grid.specs.Refusals.{IsNotClean, IsUnroutable, HasTooManyShapes}
 use Rattle.leg_route.specs.declared.fault.RouteFault.{RouteFault}
 use Rattle.leg_route.specs.declared.fault.RouteFault.TheVariants.{NotClean, GridTooLarge, Unroutable, TooMany, Memory}
 
--- the design's metal keeps the limit of shapes, and no violation of any kind but Open holds in this flat of it
-pub record IsCleanIn (design : DesignContents) (flat : FlatSaid) : Type 0 where
-  pub judged : IsJudgedBy design flat
-  pub none : (fault : Fault) → ¬ IsOtherThanOpen design flat fault
-
--- such a design, whose grid isn't too large, so that it comes to a routing run
+-- a design in whose flat no violation but open nets holds, and whose grid isn't too large, so that it comes to a routing run
 pub record ComesToRun (design : DesignContents) (flat : FlatSaid) : Type 0 where
   pub clean : IsCleanIn design flat
   pub fits : ¬ IsGridTooLarge design

@@ -1,7 +1,8 @@
 //! The flat of a design of which nothing is wrong but that nets are open.
 
 ghost use Rattle.std.specs.Prelude.{◌≡◌, IfOk, IfErr};
-ghost use Rattle.leg_route.specs.Refusal.{IsCleanIn, IsRefusal};
+ghost use Rattle.leg_rules.specs.Legal.{IsCleanIn};
+ghost use Rattle.leg_route.specs.Refusal.{IsRefusal};
 
 use crate::fault::RouteFault;
 use leg_block::Design;

@@ -6,7 +6,7 @@ ghost use Rattle.leg_block.specs.WellFormedNets.{IsWire};
 ghost use Rattle.leg_flat.specs.Metal.{metal_of};
 ghost use Rattle.leg_grid.specs.GridSize.{IsGridTooLarge};
 ghost use Rattle.leg_rules.specs.Legal.{IsLegal};
-ghost use Rattle.leg_route.specs.SameButForWires.{IsSameButForWires};
+ghost use Rattle.leg_grown.specs.SameButForWires.{IsSameButForWires};
 ghost use Rattle.leg_route.specs.Routed.{IsRouted};
 ghost use Rattle.leg_route.specs.Refusal.{IsRefusal};
 ghost use Rattle.leg_route.specs.FinishedRun.{IsFinishedRun};

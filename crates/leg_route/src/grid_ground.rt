@@ -5,7 +5,8 @@ ghost use Rattle.std.specs.List.{range_with_len};
 ghost use Rattle.leg_flat.specs.declared.shape.Shape.{Shape};
 ghost use Rattle.leg_flat.specs.Flat.{IsWithin};
 ghost use Rattle.leg_grid.specs.Grid.{slot_total};
-ghost use Rattle.leg_route.specs.Refusal.{IsCleanIn, ComesToRun, IsRefusal};
+ghost use Rattle.leg_rules.specs.Legal.{IsCleanIn};
+ghost use Rattle.leg_route.specs.Refusal.{ComesToRun, IsRefusal};
 ghost use Rattle.leg_route.specs.Steps.Ready.{TellsShapes, AreReady};
 
 use crate::fault::RouteFault;

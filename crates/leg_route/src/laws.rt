@@ -15,14 +15,13 @@ ghost use Rattle.leg_wire.specs.Open.{IsOpenNet};
 ghost use Rattle.leg_rules.specs.Violations.{IsViolation, IsOtherThanOpen};
 ghost use Rattle.leg_grown.specs.CleanWire.{HasNoSpacingFault};
 ghost use Rattle.leg_grown.specs.Finished.{finished};
-ghost use Rattle.leg_route.specs.SameButForWires.{IsSameButForWires};
+ghost use Rattle.leg_grown.specs.SameButForWires.{IsSameButForWires};
 ghost use Rattle.leg_route.specs.Routed.{IsRouted, wires_for};
 ghost use Rattle.leg_route.specs.AddedLists.{AreListsOf};
 
-use leg_cells::laws::good_vias_join_layers;
 use leg_grown::laws::{
-    clean_wires_stay_clean, finished_design_is_legal, growth_goes_on, placement_stays,
-    run_of_clean_wires_is_clean, shapes_stay_as_many,
+    clean_wires_stay_clean, finished_design_is_legal, finished_design_is_same, growth_goes_on,
+    placement_stays, run_of_clean_wires_is_clean, shapes_stay_as_many,
 };
 
 /// A flat without shorts and without shapes too near one another stays so over a routing run.
@@ -65,7 +64,7 @@ pub fn finished_run()
         → All (All (IsWire design.library design.vias false)) lists
         → wire_count (with_more_wires design.nets lists) + wire_count design.special ≤ length (metal_of (finished design lists)) }
 {
-    good_vias_join_layers();
+    finished_design_is_same();
     shapes_stay_as_many();
     run_of_clean_wires_is_clean();
     clean_wires_stay_clean();

@@ -10,7 +10,7 @@ ghost use Rattle.leg_section.specs.Placement.{rect_at};
 
 use crate::placement::rect;
 use leg_geom::Rect;
-use leg_lex::{Cursor, FaultKind, ReadFault};
+use leg_lex::{Cursor, FaultKind, Need, ReadFault};
 
 /// That a clause begins with a name or a quoted word.
 #[tactic(auto, using(crate::proofs::Clauses::is_one, crate::proofs::Clauses::is_none))]
@@ -28,17 +28,9 @@ pub fn rect_or_mask(is_masked: bool, clause: &mut Cursor<'_, '_>) -> Result<Rect
     ensures no_memory { IfErr result (λ fault. fault.kind ≢ Memory) }
 {
     match rect(clause) {
-        Err(
-            ReadFault {
-                file,
-                line,
-                kind: FaultKind::Unexpected,
-            },
-        ) if is_masked => Err(ReadFault {
-            file,
-            line,
-            kind: FaultKind::Unsupported,
-        }),
+        Err(fault) if is_masked && fault.kind == FaultKind::Unexpected => {
+            Err(fault.of_kind(FaultKind::Unsupported).needs(Need::NoMask))
+        }
         answer => answer,
     }
 }

@@ -9,7 +9,7 @@ ghost use Rattle.leg_block.specs.Layers.{wire_width, width_of_layer, is_routing,
 
 use leg_cells::{LayerKind, Library, Shape};
 use leg_geom::Rect;
-use leg_lex::{Cursor, FaultKind, ReadFault};
+use leg_lex::{Cursor, FaultKind, NameKind, Need, ReadFault};
 use std::alloc::{AllocError, Allocator};
 
 /// A layer of the library, by its number.
@@ -25,7 +25,7 @@ pub fn layer<A: Allocator + Copy>(
     let name = words.name()?;
     match library.layer_named(name) {
         Some(number) => Ok(number),
-        None => Err(first.fault(FaultKind::UnknownName)),
+        None => Err(first.need(FaultKind::UnknownName, Need::Known(NameKind::Layer))),
     }
 }
 

@@ -8,7 +8,7 @@ ghost use Rattle.leg_section.specs.Placement.{spot_at, rect_at, orient_of, orien
 
 use leg_block::Status;
 use leg_geom::{Orient, Place, Point, Rect};
-use leg_lex::{Cursor, FaultKind, ReadFault, is_keyword};
+use leg_lex::{Cursor, FaultKind, Need, ReadFault, is_keyword};
 
 /// A point: `( x y )`.
 #[tactic(auto, using(crate::proofs::Numbers::whole_is_coordinate), unfolding(crate::specs::Placement::spot_at))]
@@ -87,7 +87,7 @@ pub fn orient(words: &mut Cursor<'_, '_>) -> Result<Orient, ReadFault>
     let word = words.any()?;
     match orient_of(word) {
         Some(orient) => Ok(orient),
-        None => Err(first.fault(FaultKind::Unexpected)),
+        None => Err(first.need(FaultKind::Unexpected, Need::Orient)),
     }
 }
 

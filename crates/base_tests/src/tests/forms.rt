@@ -1,6 +1,8 @@
 //! Forms read from words.
 
-use leg_lex::{Cursor, FaultKind, Names, ReadFault, Words, clauses, is_name, is_word, only, the};
+use leg_lex::{
+    Cursor, FaultKind, Keyword, Names, Need, ReadFault, Words, clauses, is_name, is_word, only, the,
+};
 use std::alloc::Global;
 use std::process::Abort;
 
@@ -113,14 +115,17 @@ fn reads_past_forms(rt: HostRuntime) {
 
 #[test]
 fn tells_the_word_at_fault(rt: HostRuntime) {
-    static SIZE: [Step; 5] = [
+    let size_steps = [
         Step::Any(b"SIZE"),
         Step::NoKeyword(
             b"BY",
             ReadFault {
                 file: 3,
                 line: 2,
+                start: 5,
+                end: 6,
                 kind: FaultKind::Unexpected,
+                need: Need::Keyword(Keyword::new(b"BY")),
             },
         ),
         Step::Whole(1),
@@ -129,19 +134,25 @@ fn tells_the_word_at_fault(rt: HostRuntime) {
         Step::NoWhole(ReadFault {
             file: 3,
             line: 4,
+            start: 10,
+            end: 11,
             kind: FaultKind::BadNumber,
+            need: Need::Whole,
         }),
     ];
     // The text ends too early, at its last word.
     static REST: [Step; 1] = [Step::NoStatement(ReadFault {
         file: 3,
         line: 6,
+        start: 17,
+        end: 18,
         kind: FaultKind::UnexpectedEnd,
+        need: Need::Mark(b';'),
     })];
     let words = words_of(&rt, rt.alloc(), b"SIZE\n1\nBY\n;\nSIZE\nx");
     let mut cursor = Cursor::new(3, &words);
     let mut size = cursor.statement().expect(&rt, "no statement");
-    check_steps(&rt, &mut size, &SIZE);
+    check_steps(&rt, &mut size, &size_steps);
     check_steps(&rt, &mut cursor, &REST);
 }
 

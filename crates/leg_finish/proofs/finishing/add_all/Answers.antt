@@ -11,7 +11,7 @@ use Rattle.leg_finish.proofs.finishing.add_all.Goals as goal
 
 pub totals_of-totals-requires : goal.totals_of-totals-requires
 totals_of-totals-requires g c =
-    let few = few_added c.args.design (map (λ wires. wires.items) c.args.lists.items) c.requires c.shapes_stay_as_many.ensures c.finished_run.ensures.wires c.design_is_sound.ensures.library c.design_is_sound.ensures.proper in
+    let few = few_added c.args.design (map (λ wires. wires.items) c.args.lists.items) c.requires c.shapes_stay_as_many.ensures c.finished_design_is_same.ensures.wires c.design_is_sound.ensures.library c.design_is_sound.ensures.proper in
     let same = sum_mapped c.args.lists.items (λ wires. wires.items) (λ (wires : List Wire). length wires) in
     rw c.deref.ensures.value (omega (arith, few, same))
 
@@ -20,7 +20,7 @@ with_all_wires-requires-clause-spelled g c =
     all_before c.args.lists.items (λ wires. wires.items) (All (IsWire c.args.design.library c.args.design.vias false)) c.requires.laid.spelled
 
 pub with_all_wires-requires-clause-few : goal.with_all_wires-requires-clause-few
-with_all_wires-requires-clause-few g c = few_wires c.args.design (map (λ wires. wires.items) c.args.lists.items) c.requires c.shapes_stay_as_many.ensures c.finished_run.ensures.wires c.design_is_sound.ensures.library c.design_is_sound.ensures.proper
+with_all_wires-requires-clause-few g c = few_wires c.args.design (map (λ wires. wires.items) c.args.lists.items) c.requires c.shapes_stay_as_many.ensures c.finished_design_is_same.ensures.wires c.design_is_sound.ensures.library c.design_is_sound.ensures.proper
 
 pub returns-in-Ok-clause-legal : goal.returns-in-Ok-clause-legal
 returns-in-Ok-clause-legal g c =
@@ -33,7 +33,7 @@ returns-in-Ok-clause-legal g c =
     rw is legal
 
 pub returns-in-Ok-clause-same : goal.returns-in-Ok-clause-same
-returns-in-Ok-clause-same g c = rw c.in-Ok.ensures.added (c.finished_run.ensures.same c.args.design (map (λ wires. wires.items) c.args.lists.items))
+returns-in-Ok-clause-same g c = rw c.in-Ok.ensures.added (c.finished_design_is_same.ensures.same c.args.design (map (λ wires. wires.items) c.args.lists.items))
 
 pub returns-in-Ok-clause-open_only : goal.returns-in-Ok-clause-open_only
 returns-in-Ok-clause-open_only g c =

@@ -4,7 +4,7 @@ use Rattle.leg_flat.specs.Flat.{FlatSaid}
 use Rattle.leg_finish.specs.Steps.OpenNets.{AreOpenNets}
 use Rattle.leg_finish.proofs.Judged.{none_open}
 use Rattle.leg_finish.proofs.LaidOut.{laid_first}
-use Rattle.leg_finish.proofs.NetsLeft.{nets_within}
+use Rattle.leg_grown.proofs.Within.{nets_within}
 use Rattle.leg_finish.proofs.finishing.wires_for.Goals as goal
 
 pub open_nets-requires : goal.open_nets-requires

@@ -3,7 +3,7 @@ use Rattle.std.proofs.lemmas.List.Elements.{All-weaker}
 use Rattle.leg_grid.specs.Told.{TellsSlots}
 use Rattle.leg_finish.specs.declared.groups.OpenNet.{OpenNet}
 use Rattle.leg_finish.specs.Steps.OpenNets.{IsOpenWith}
-use Rattle.leg_finish.proofs.GroupNodes.{numbers_within}
+use Rattle.leg_grown.proofs.Within.{numbers_within}
 use Rattle.leg_finish.proofs.found.walks_for.Goals as goal
 
 pub nets_to_join-requires-clause-count : goal.nets_to_join-requires-clause-count

@@ -1,12 +1,11 @@
-use Rattle.leg_route.proofs.Finished.{same_but_for_wires, routed_then, legal_then, as_many}
-use Rattle.leg_route.proofs.FewWires.{few_wires}
+use Rattle.leg_route.proofs.Finished.{routed_then, legal_then, as_many}
 use Rattle.leg_route.proofs.laws.finished_run.Goals as goal
 
 pub returns : goal.returns
 returns c = record {
-  same = same_but_for_wires;
+  same = c.finished_design_is_same.ensures.same;
   routed = routed_then;
   legal = legal_then c.run_of_clean_wires_is_clean.ensures c.clean_wires_stay_clean.ensures c.growth_goes_on.ensures c.finished_design_is_legal.ensures c.placement_stays.ensures;
   shapes = as_many c.growth_goes_on.ensures c.shapes_stay_as_many.ensures;
-  wires = few_wires c.good_vias_join_layers.ensures.joined;
+  wires = c.finished_design_is_same.ensures.wires;
 }

@@ -4,7 +4,8 @@ use Rattle.leg_grid.specs.Grid.{IsNumberOf}
 use Rattle.leg_grid.specs.Numbered.{IsNextWalkAt}
 use Rattle.leg_grid.specs.Run.{IsNextWalk}
 use Rattle.leg_route.specs.Steps.NetSlots.{AreMarkedSlots}
-use Rattle.leg_route.proofs.NetSlots.{numbers_within, starts_are, ends_are}
+use Rattle.leg_grown.proofs.Within.{numbers_within}
+use Rattle.leg_route.proofs.NetSlots.{starts_are, ends_are}
 use Rattle.leg_route.proofs.NextWalk.{walk_of}
 use Rattle.leg_route.proofs.next_wires.next_wires.Goals as goal
 

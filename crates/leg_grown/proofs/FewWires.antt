@@ -23,7 +23,7 @@ use Rattle.leg_flat.specs.Nets.{terminals_of, number_of_special, regular_entry, 
 use Rattle.leg_flat.specs.Metal.{Belonging, belonging, wire_outlines, via_outlines, wires_metal, nets_metal, special_metal, specials_metal, metal_parts, metal_of}
 use Rattle.leg_flat.proofs.Parts.{whole_length}
 use Rattle.leg_grown.specs.Finished.{finished}
-use Rattle.leg_route.proofs.Places.{contains_at}
+use Rattle.leg_grown.proofs.Places.{contains_at}
 
 abbrev pub GoodViasJoin : Type 0
 GoodViasJoin = (layers : List LayerUse) (parts : List ViaPart) → IsTrue (join_layers layers parts) ↔ ((low : ℕ) × (cut : ℕ) × (high : ℕ) × Joins layers parts low cut high)

@@ -1,7 +1,7 @@
 use Rattle.std.proofs.Common.{map, take, drop}
 use Rattle.leg_cells.specs.Records.{empty_library, RawContents}
 use Rattle.leg_lib.specs.Say.{Extend}
-use Rattle.leg_lib.proofs.read.read_lefs.Given as goal
+use Rattle.leg_lib.proofs.read.all_lefs.Given as goal
 
 abbrev pub invariant-lefs : goal.invariant-lefs
 invariant-lefs g l = record {
