@@ -21,7 +21,7 @@ class UnprovedTests(unittest.TestCase):
         found = tried('check', 'examples/misspelt.def', 'examples/standard.lef')
         self.assertEqual(found.stdout, 'REFUSED 1 10 UnknownName\n')
         self.assertTrue(found.stderr.startswith('examples/misspelt.def:10:6: `INVX` is not the name of a macro of the LEFs: '), found.stderr)
-        self.assertTrue(found.stderr.endswith('    - u2 INVX + PLACED ( 400 0 ) N ;\n'), found.stderr)
+        self.assertTrue(found.stderr.endswith('    - u2 INVX + PLACED ( 400 0 ) N ;\n         ^^^^\n'), found.stderr)
         self.assertEqual(found.returncode, 2)
 
     def test_too_few_words_show_how_it_is_used(self):
