@@ -58,7 +58,7 @@ struct lefdef_memory {
  * beyond the answer stays as it was. An answer that is longer than `out` is cut, and only `*length` tells it: then `out` has to be
  * larger, and the command has to be asked again.
  *
- * lefdef_answer, below, keeps most of these rules for its caller. Nothing checks them:
+ * lefdef_answer, below, keeps most of these rules for its caller (and lefdef_answer_explained those of lefdef_run_explained). Nothing checks them:
  *
  *  - `memory` is as its struct says, and nobody else reads or writes these bytes during the call.
  *  - No pointer is null, not even to none: `lefs` points to `lef_count` texts, `def` to `def_length` bytes, `out` to `out_size` bytes and
@@ -76,13 +76,15 @@ struct lefdef_memory {
 uint32_t lefdef_run(struct lefdef_memory memory, uint32_t command, const struct lefdef_text *lefs, size_t lef_count, const uint8_t *def,
                     size_t def_length, uint8_t *out, size_t out_size, size_t *length);
 
-/* Gives the message that the program writes on standard error after an answer with the status LEFDEF_REFUSED or LEFDEF_UNSOLVED to the
- * same texts: where a text is refused and why, or what can be done. `lef_names` are the names of the LEFs' files and `def_name` that of the
- * DEF's, in UTF-8, and `word` is the first word of the answer's last line. Memory, `out` and `length` are as for lefdef_run. Returns 0, or
- * LEFDEF_MEMORY where the memory was not enough, or LEFDEF_USAGE where a name is not UTF-8; then `*length` is 0 and `out` as it was. */
-uint32_t lefdef_message(struct lefdef_memory memory, const struct lefdef_text *lef_names, size_t lef_name_count, const uint8_t *def_name,
-                        size_t def_name_length, const struct lefdef_text *lefs, size_t lef_count, const uint8_t *def, size_t def_length,
-                        const uint8_t *word, size_t word_length, uint8_t *out, size_t out_size, size_t *length);
+/* Answers as lefdef_run does, and gives with the answer the message that the program writes on standard error for files of these names:
+ * where a text is refused and why, or what can be done. The message is empty where the status is not LEFDEF_REFUSED or LEFDEF_UNSOLVED,
+ * and where the memory was not enough for it. `lef_names` are the names of the LEFs' files, one for each LEF, and `def_name` that of the
+ * DEF's; bytes that are not UTF-8 come back as they are. As much of the message's front as fits is in `message`, and `*message_length`
+ * becomes its length in bytes. All else is as for lefdef_run; `message` and `*message_length` overlap nothing else that is written. */
+uint32_t lefdef_run_explained(struct lefdef_memory memory, uint32_t command, const struct lefdef_text *lef_names, size_t lef_name_count,
+                              const uint8_t *def_name, size_t def_name_length, const struct lefdef_text *lefs, size_t lef_count,
+                              const uint8_t *def, size_t def_length, uint8_t *out, size_t out_size, size_t *length, uint8_t *message,
+                              size_t message_size, size_t *message_length);
 
 /* A text of these bytes. The pointer may be null where there are none. */
 static inline struct lefdef_text lefdef_text_of(const void *bytes, size_t length)
@@ -120,6 +122,28 @@ static inline uint32_t lefdef_answer(void *region, size_t size, uint32_t command
     def = lefdef_text_of(def.bytes, def.length);
     return lefdef_run(memory, command, lef_count > 0 ? lefs : &none, lef_count, def.bytes, def.length,
                       out_size > 0 ? (uint8_t *)out : &nowhere, out_size, length);
+}
+
+/* lefdef_run_explained in the same way: with as many names of LEFs as there are LEFs, and a `message` that may be null where it has no
+ * bytes. */
+static inline uint32_t lefdef_answer_explained(void *region, size_t size, uint32_t command, const struct lefdef_text *lef_names,
+                                               struct lefdef_text def_name, const struct lefdef_text *lefs, size_t lef_count,
+                                               struct lefdef_text def, void *out, size_t out_size, size_t *length, void *message,
+                                               size_t message_size, size_t *message_length)
+{
+    uint8_t unit[2 * LEFDEF_UNIT - 1];
+    uint8_t nowhere[2] = {0, 0};
+    struct lefdef_text none = lefdef_text_of(NULL, 0);
+    struct lefdef_memory memory = lefdef_lend(region, size);
+    if (memory.size == 0) {
+        memory = lefdef_lend(unit, sizeof unit);
+    }
+    def = lefdef_text_of(def.bytes, def.length);
+    def_name = lefdef_text_of(def_name.bytes, def_name.length);
+    return lefdef_run_explained(memory, command, lef_count > 0 ? lef_names : &none, lef_count, def_name.bytes, def_name.length,
+                                lef_count > 0 ? lefs : &none, lef_count, def.bytes, def.length,
+                                out_size > 0 ? (uint8_t *)out : &nowhere[0], out_size, length,
+                                message_size > 0 ? (uint8_t *)message : &nowhere[1], message_size, message_length);
 }
 
 #ifdef __cplusplus

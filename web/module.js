@@ -4,7 +4,7 @@
 // address of such pairs and their number, and the memory that a call may use as the address of a pair of its own.
 
 const COMMAND_NAMES = ['check', 'place-check', 'measure', 'legalise', 'route', 'flow', 'finish'];
-const [REFUSED, UNSOLVED, NO_MEMORY] = [2, 3, 4];
+const [REFUSED, NO_MEMORY] = [2, 4];
 const PAGE = 65536;
 const UNIT = 16;
 // How much memory is lent at first: for each byte of the texts so many, and the least. It is doubled as long as the answer is that it is
@@ -13,6 +13,7 @@ const LENT_A_BYTE = 20;
 const LEAST_LENT = 2 ** 20;
 const MOST_LENT = 2 ** 33;
 const FIRST_OUT = 2 ** 20;
+const FIRST_MESSAGE = 2 ** 12;
 // The program reads no more of a file.
 const FILE_LIMIT = 2 ** 28 + 1;
 
@@ -85,49 +86,38 @@ class Module {
     this.module = module;
   }
 
-  // Returns the status and the text with which lefdef answers a command.
-  run(command, lefs, def) {
-    const words = (layout) => [COMMAND_NAMES.indexOf(command), ...layout.slices(lefs), ...layout.bytes(def)];
-    return this.answer('lefdef_run', words, [...lefs, def]) ?? { status: NO_MEMORY, text: new TextEncoder().encode('MEMORY\n') };
-  }
-
-  // Returns the message that the program writes on standard error after this answer to texts of files with these names.
-  message({ status, text }, names, lefs, def) {
-    if (status !== REFUSED && status !== UNSOLVED) return new Uint8Array();
+  // Returns the status and the text with which lefdef answers a command to texts of files with these names, the DEF's first, and the message
+  // that the program writes on standard error. It is called with more memory and more room until both are enough. Where the browser does not
+  // grant so much memory, half of it may do.
+  run(command, names, lefs, def) {
     const [defName, ...lefNames] = names.map((name) => new TextEncoder().encode(name));
     const words = (layout) => [
-      ...layout.slices(lefNames), ...layout.bytes(defName), ...layout.slices(lefs), ...layout.bytes(def), ...layout.bytes(lastWord(text))];
-    const answer = this.answer('lefdef_message', words, [...lefs, def]);
-    return answer && answer.status === 0 ? answer.text : new Uint8Array();
-  }
-
-  // Calls an export with more memory and more room for the text until both are enough. Where the browser does not grant so much memory, half
-  // of it may do. Returns null where there is not enough.
-  answer(name, wordsOf, texts) {
-    const size = texts.reduce((sum, text) => sum + text.length, 0);
-    let [lent, most, room] = [LEAST_LENT + LENT_A_BYTE * size, MOST_LENT, FIRST_OUT + size];
+      COMMAND_NAMES.indexOf(command), ...layout.slices(lefNames), ...layout.bytes(defName), ...layout.slices(lefs), ...layout.bytes(def)];
+    const size = [...lefs, def].reduce((sum, text) => sum + text.length, 0);
+    let [lent, most, room, messageRoom] = [LEAST_LENT + LENT_A_BYTE * size, MOST_LENT, FIRST_OUT + size, FIRST_MESSAGE];
     while (lent <= most && lent >= LEAST_LENT) {
-      const answer = this.call(name, wordsOf, lent, room);
+      const answer = this.call(words, lent, room, messageRoom);
       if (!answer) {
         lent /= 2;
         most = lent;
       } else if (answer.status === NO_MEMORY) {
         lent *= 2;
-      } else if (answer.length > room) {
-        room = answer.length;
+      } else if (answer.length > room || answer.messageLength > messageRoom) {
+        room = Math.max(room, answer.length);
+        messageRoom = Math.max(messageRoom, answer.messageLength);
       } else {
         return answer;
       }
     }
-    return null;
+    return { status: NO_MEMORY, text: new TextEncoder().encode('MEMORY\n'), message: new Uint8Array() };
   }
 
-  // Calls an export once, with a memory of its own. Returns null where the memory does not grow so far.
-  call(name, wordsOf, lent, room) {
+  // Calls the export once, with a memory of its own. Returns null where the memory does not grow so far.
+  call(wordsOf, lent, room, messageRoom) {
     const { exports } = new WebAssembly.Instance(this.module);
     const layout = new Layout(exports);
     const words = wordsOf(layout);
-    const [out, length] = [layout.take(room), layout.take(8)];
+    const [out, length, message, messageLength] = [layout.take(room), layout.take(8), layout.take(messageRoom), layout.take(8)];
     const memory = layout.words([layout.take(lent), Math.floor(lent / UNIT) * UNIT]);
     try {
       layout.fill();
@@ -135,19 +125,16 @@ class Module {
       if (error instanceof RangeError) return null;
       throw error;
     }
-    const status = exports[name](...[memory, ...words, out, room, length].map((word, at) => (isNumber(name, at) ? word : BigInt(word))));
-    const count = Number(new BigUint64Array(exports.memory.buffer, length, 1)[0]);
-    return { status, length: count, text: layout.read(out, Math.min(count, room)) };
+    const [command, ...rest] = words;
+    const addresses = [...rest, out, room, length, message, messageRoom, messageLength].map(BigInt);
+    const status = exports.lefdef_run_explained(BigInt(memory), command, ...addresses);
+    const count = (at) => Number(new BigUint64Array(exports.memory.buffer, at, 1)[0]);
+    return {
+      status,
+      length: count(length),
+      messageLength: count(messageLength),
+      text: layout.read(out, Math.min(count(length), room)),
+      message: layout.read(message, Math.min(count(messageLength), messageRoom)),
+    };
   }
-}
-
-// Whether an argument is a number of 32 bits: of `lefdef_run` the second one, the command.
-function isNumber(name, at) {
-  return name === 'lefdef_run' && at === 1;
-}
-
-// Returns the first word of the last line of an answer, or its first bytes.
-function lastWord(text) {
-  const line = new TextDecoder().decode(text.subarray(text.lastIndexOf(10, text.length - 2) + 1));
-  return new TextEncoder().encode(line.split(/[\t-\r ]/)[0]).subarray(0, 16);
 }

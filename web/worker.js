@@ -22,18 +22,18 @@ class Unreadable extends Error {}
 
 // Returns the answer to a command on texts: its status, its bytes and the message on it.
 function asked(module, command, names, lefs, def) {
-  const answer = module.run(command, lefs, def);
-  return { ...answer, message: textOf(module.message(answer, names, lefs, def)) };
+  const { status, text, message } = module.run(command, names, lefs, def);
+  return { status, text, message: textOf(message) };
 }
 
 // Returns what is to be drawn after an answer, or null: the design that was printed and the one before, or the one that was read, with its
 // violations where they were listed.
-function drawnOf(module, command, lefs, def, { status, text }) {
+function drawnOf(module, command, names, lefs, def, { status, text }) {
   if (status === REFUSED || status === NO_MEMORY || def.length > MOST_DRAWN) return null;
   if (status === 0 && DESIGN_COMMANDS.has(command)) return { def: text, before: def, lines: null };
   const lines = violationLines(textOf(text));
   // (what `flow` lists is of the legalised block, where it could be legalised)
-  const legalised = lines && command === 'flow' ? module.run('legalise', lefs, def) : null;
+  const legalised = lines && command === 'flow' ? module.run('legalise', names, lefs, def) : null;
   return legalised && legalised.status === 0 ? { def: legalised.text, before: def, lines } : { def, before: null, lines };
 }
 
@@ -59,7 +59,7 @@ async function answer({ id, command, lefs, def }) {
   const began = performance.now();
   const answered = asked(module, command, names, texts, read);
   postMessage({ id, answer: { ...answered, seconds: (performance.now() - began) / 1000 } });
-  const drawn = drawnOf(module, command, texts, read, answered);
+  const drawn = drawnOf(module, command, names, texts, read, answered);
   const picture = drawn ? pictureOf(texts, drawn) : null;
   postMessage({ id, picture }, picture ? buffersOf(picture) : []);
 }

@@ -3,7 +3,7 @@
  *     cc -O2 -I library library/examples/check.c liblefdef.a -o check
  *     ./check check examples/unfinished.def examples/standard.lef
  *
- * It answers as the program `lefdef` does, but for its messages. The exit statuses are those of lefdef, among them 4 where memory runs
+ * It answers as the program `lefdef` does, with its messages. The exit statuses are those of lefdef, among them 4 where memory runs
  * out, and 5 where a file cannot be read or the answer cannot be written.
  */
 #include "lefdef.h"
@@ -74,27 +74,60 @@ static struct lefdef_text file(const char *path)
     return lefdef_text_of(bytes, length);
 }
 
-/* An answer and how the command ended. */
-struct answer {
-    uint32_t status;
+/* A command, its texts and the names of their files. */
+struct question {
+    uint32_t command;
+    const struct lefdef_text *lef_names;
+    struct lefdef_text def_name;
+    const struct lefdef_text *lefs;
+    size_t count;
+    struct lefdef_text def;
+};
+
+/* Bytes, and how many of them there are. */
+struct bytes {
     uint8_t *bytes;
     size_t length;
 };
 
-/* Asks once, with this much memory. Where the answer is longer than was guessed, its length is known then, and it is asked again. */
-static struct answer ask(size_t size, uint32_t command, const struct lefdef_text *lefs, size_t count, struct lefdef_text def)
+/* An answer, the message on it, and how the command ended. */
+struct answer {
+    uint32_t status;
+    struct bytes text;
+    struct bytes message;
+};
+
+/* Makes room for all bytes, and returns it. */
+static size_t fitted(struct bytes *bytes)
+{
+    free(bytes->bytes);
+    bytes->bytes = memory_of(bytes->length);
+    return bytes->length;
+}
+
+/* Asks once, with this much memory. Where a text is longer than was guessed, its length is known then, and it is asked again. */
+static struct answer ask(size_t size, struct question it)
 {
     void *region = memory_of(size);
-    struct answer answer = {0, NULL, 2 * def.length + (1 << 12)};
-    size_t room = 0;
-    while (answer.length > room) {
-        free(answer.bytes);
-        room = answer.length;
-        answer.bytes = memory_of(room);
-        answer.status = lefdef_answer(region, size, command, lefs, count, def, answer.bytes, room, &answer.length);
+    struct answer answer = {0, {NULL, 2 * it.def.length + (1 << 12)}, {NULL, 1 << 12}};
+    size_t room = 0, message_room = 0;
+    while (answer.text.length > room || answer.message.length > message_room) {
+        room = fitted(&answer.text);
+        message_room = fitted(&answer.message);
+        answer.status = lefdef_answer_explained(region, size, it.command, it.lef_names, it.def_name, it.lefs, it.count, it.def,
+                                                answer.text.bytes, room, &answer.text.length, answer.message.bytes, message_room,
+                                                &answer.message.length);
     }
     free(region);
     return answer;
+}
+
+/* Writes bytes, or stops the program. */
+static void write_out(struct bytes bytes, FILE *to)
+{
+    if (fwrite(bytes.bytes, 1, bytes.length, to) != bytes.length || fflush(to) != 0) {
+        stop(5, "cannot write", "");
+    }
 }
 
 int main(int words, char **word)
@@ -103,25 +136,28 @@ int main(int words, char **word)
         stop(LEFDEF_USAGE, "usage: check COMMAND DEF LEF...", "");
     }
     size_t count = (size_t)words - 3;
+    struct lefdef_text *names = memory_of(count * sizeof *names);
     struct lefdef_text *lefs = memory_of(count * sizeof *lefs);
     for (size_t at = 0; at < count; at++) {
+        names[at] = lefdef_text_of(word[at + 3], strlen(word[at + 3]));
         lefs[at] = file(word[at + 3]);
     }
-    struct lefdef_text def = file(word[2]);
+    struct lefdef_text def_name = lefdef_text_of(word[2], strlen(word[2]));
+    struct question question = {number_of(word[1]), names, def_name, lefs, count, file(word[2])};
 
-    size_t length = def.length;
+    size_t length = question.def.length;
     for (size_t at = 0; at < count; at++) {
         length += lefs[at].length;
     }
     size_t size = 20 * length + (1 << 20);
-    struct answer answer = ask(size, number_of(word[1]), lefs, count, def);
+    struct answer answer = ask(size, question);
     while (answer.status == LEFDEF_MEMORY && size <= GREATEST / 2) {
         size *= 2;
-        free(answer.bytes);
-        answer = ask(size, number_of(word[1]), lefs, count, def);
+        free(answer.text.bytes);
+        free(answer.message.bytes);
+        answer = ask(size, question);
     }
-    if (fwrite(answer.bytes, 1, answer.length, stdout) != answer.length || fflush(stdout) != 0) {
-        stop(5, "cannot write", "");
-    }
+    write_out(answer.text, stdout);
+    write_out(answer.message, stderr);
     return (int)answer.status;
 }

@@ -3,6 +3,7 @@
 mod blockages;
 mod finish;
 mod input;
+mod judged;
 mod metal;
 
 ghost use Rattle.std.specs.Prelude.{Some};

@@ -23,8 +23,10 @@ pub fn report_on<'a, A: Allocator + Copy>(
     let raw = read_lefs(alloc, &[lef])?;
     let text = DefText::new(alloc, def).map_err(in_def)?;
     let units = text.units().map_err(in_def)?;
-    let library = raw.at(alloc, units)?;
-    report_under(alloc, &library, text)
+    match raw.at(alloc, units) {
+        Ok(library) => report_under(alloc, &library, text),
+        Err(fault) => Err(TextFault::Scale(fault, units)),
+    }
 }
 
 // The report on the block that the DEF denotes under the library.

@@ -9,12 +9,12 @@ mod rounds;
 
 use help::help_text;
 use leg_app::{
-    Asked, FILE_LIMIT, Halt, InputFault, Line, Progress, RunFault, STREAM_LIMIT, Status, asked_by,
-    read_all, run_help, run_out, run_stream, run_with_progress,
+    Asked, FILE_LIMIT, Halt, InputFault, Line, Progress, Reason, RunFault, STREAM_LIMIT, Status,
+    asked_by, read_all, run_explained, run_help, run_out, run_stream_explained,
 };
-use leg_message::{NotingWriter, Texts, message, stream_message};
+use leg_message::{NotingWriter, Paths, Texts, message, stream_message};
 use rounds::Rounds;
-use std::alloc::{AllocError, Allocator};
+use std::alloc::{AllocError, Allocator, Global};
 use std::fs::File;
 use std::io::IsTerminal;
 use std::process::ExitCode;
@@ -129,18 +129,36 @@ fn on_texts<R: Runtime + AllocGlobal, A: Allocator, P: Progress>(
     def: &[u8],
     progress: &mut P,
 ) -> Result<Status, Stop<'static>> {
+    let mut out = NotingWriter::new(io::writer(rt));
+    let ran = run_explained(rt.alloc(), line.command, lefs, def, &mut out, progress);
+    let ended = written(ran, out.error())?;
+    if let Some(reason) = &ended.reason {
+        explain(rt, message_on(rt, line, lefs, def, reason));
+    }
+    Ok(ended.status)
+}
+
+// The message on a run over the texts of files that stopped for this reason.
+fn message_on<'t, R: Runtime + AllocGlobal, A: Allocator>(
+    rt: &R,
+    line: &'t Line<'t, A>,
+    lefs: &'t [&'t [u8]],
+    def: &'t [u8],
+    reason: &Reason<'_, Global>,
+) -> Result<Vec<u8>, AllocError> {
+    let mut paths = Vec::new(rt.alloc());
+    for path in line.lefs {
+        paths.push(path.as_bytes())?;
+    }
     let texts = Texts {
-        line: Some(line),
+        paths: Some(Paths {
+            lefs: &paths,
+            def: line.def.as_bytes(),
+        }),
         lefs,
         def,
     };
-    let mut out = NotingWriter::new(io::writer(rt));
-    let ran = run_with_progress(rt.alloc(), line.command, lefs, def, &mut out, progress);
-    let status = written(ran, out.error())?;
-    if is_explained(status) {
-        explain(rt, message(rt.alloc(), &texts, out.word()));
-    }
-    Ok(status)
+    message(rt.alloc(), &texts, reason)
 }
 
 // The bytes of a file.
@@ -169,12 +187,12 @@ fn on_stream_text<R: Runtime + AllocGlobal>(
     stream: &[u8],
 ) -> Result<Status, Stop<'static>> {
     let mut out = NotingWriter::new(io::writer(rt));
-    let ran = run_stream(rt.alloc(), stream, &mut out);
-    let status = written(ran, out.error())?;
-    if is_explained(status) {
-        explain(rt, stream_message(rt.alloc(), stream, out.word()));
+    let ran = run_stream_explained(rt.alloc(), stream, &mut out);
+    let ended = written(ran, out.error())?;
+    if let Some(reason) = &ended.reason {
+        explain(rt, stream_message(rt.alloc(), stream, reason));
     }
-    Ok(status)
+    Ok(ended.status)
 }
 
 // Why an input ends the program.
@@ -194,20 +212,15 @@ fn not_read(cause: io::Error, path: &str) -> Stop<'_> {
     }
 }
 
-// The status of a run, or that its output failed, for this cause.
-fn written(
-    ran: Result<Status, RunFault>,
+// How a run ended, or that its output failed, for this cause.
+fn written<T: Drop>(
+    ran: Result<T, RunFault>,
     cause: Option<io::Error>,
-) -> Result<Status, Stop<'static>> {
+) -> Result<T, Stop<'static>> {
     match ran {
-        Ok(status) => Ok(status),
+        Ok(ended) => Ok(ended),
         Err(fault) => Err(Stop::Halt(Halt::from(fault), cause)),
     }
-}
-
-// Whether there is a message on a run that ended so.
-fn is_explained(status: Status) -> bool {
-    matches!(status, Status::Refused | Status::Unsolved)
 }
 
 // Writes a message on standard error. One that can't be made or written changes no status.

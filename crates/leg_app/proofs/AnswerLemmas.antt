@@ -18,23 +18,37 @@ use Rattle.leg_app.specs.Lines.{no_library_text}
 use Rattle.leg_app.specs.Answer.{Lists, IsShown, IsAnswer}
 use Rattle.leg_app.specs.Answer.{IsListing}
 use Rattle.leg_app.specs.Steps.Making.{IsMaking}
+use Rattle.leg_app.specs.Steps.SaidLibrary.{SayNoLibrary}
+use Rattle.leg_app.specs.Steps.Unread.{IsOfMaster}
 
 -- what is weaker holds of what is answered too
 pub ok_weaker : {T E : Type 0} (P Q : T → Type 0) (r : Result T E) → ((t : T) → P t → Q t) → IfOk r P → IfOk r Q
 ok_weaker P Q (Ok t) weaker holds = weaker t holds
 ok_weaker P Q (Err e) weaker holds = tt
 
+-- what two clauses say holds of one answer
+pub ok_both : {T E : Type 0} (P Q : T → Type 0) (r : Result T E) → IfOk r P → IfOk r Q → IfOk r (λ t. P t × Q t)
+ok_both P Q (Ok t) one other = (one, other)
+ok_both P Q (Err e) one other = tt
+
 -- why texts are refused tells no less where less is said by a refusal
 pub refuses_weaker : {nothing other much more : Type 0} (fault : TextFault) → (nothing → other) → (much → more) → Refuses nothing much fault → Refuses other more fault
 refuses_weaker (faults.Read fault) weaker greater h = λ not_memory. weaker (h not_memory)
-refuses_weaker (faults.Scale fault) weaker greater h = λ not_memory. weaker (h not_memory)
+refuses_weaker (faults.Scale fault units) weaker greater h = λ not_memory. weaker (h not_memory)
 refuses_weaker faults.TooMany weaker greater h = greater h
 refuses_weaker faults.Memory weaker greater h = tt
+
+-- where no library is said, no macro of it is needed
+pub master_of_none : (lefs : List (List ℕ)) (def : List ℕ) (fault : TextFault) → Refuses (SayNoLibrary lefs def) ⊥ fault → IsOfMaster lefs def fault None
+master_of_none lefs def (faults.Read fault) none = λ not_memory library say. absurd (none not_memory library say)
+master_of_none lefs def (faults.Scale fault units) none = tt
+master_of_none lefs def faults.TooMany none = tt
+master_of_none lefs def faults.Memory none = tt
 
 -- where there is too much, and memory has not run out, that is why texts are refused
 pub much_is_why : {nothing much : Type 0} (fault : TextFault) → (much → nothing → ⊥) → (IsOutOfMemory fault → ⊥) → Refuses nothing much fault → much → fault ≡ faults.TooMany
 much_is_why (faults.Read fault) apart known h much = absurd (apart much (h known))
-much_is_why (faults.Scale fault) apart known h much = absurd (apart much (h known))
+much_is_why (faults.Scale fault units) apart known h much = absurd (apart much (h known))
 much_is_why faults.TooMany apart known h much = refl
 much_is_why faults.Memory apart known h much = absurd (known tt)
 

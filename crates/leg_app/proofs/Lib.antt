@@ -8,3 +8,4 @@ mod OneAnswer
 mod CutTexts
 mod CutStreams
 mod OneStream
+mod Reasons

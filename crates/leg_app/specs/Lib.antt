@@ -11,5 +11,6 @@ pub mod Finished
 pub mod Flow
 pub mod Made
 pub mod Answer
+pub mod Reason
 pub mod End
 pub mod Steps

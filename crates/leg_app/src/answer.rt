@@ -1,12 +1,15 @@
 //! What a command answers.
 
-ghost use Rattle.std.specs.Prelude.{◌≡◌, ℕ, List, map, option_map, IfOk};
+ghost use Rattle.std.specs.Prelude.{◌≡◌, ℕ, List, None, Some, map, option_map, IfOk};
 ghost use Rattle.leg_input.specs.declared.command.Command.TheVariants.{PlaceCheck, Check, Measure};
-ghost use Rattle.leg_app.specs.Say.{SayDesign, SayNothing, SayTooMany};
+ghost use Rattle.leg_app.specs.declared.status.Status.TheVariants.{Unsolved};
+ghost use Rattle.leg_app.specs.declared.text_fault.TextFault.TheVariants.{Read};
+ghost use Rattle.leg_app.specs.Say.{SayDesign, SayNothing};
 ghost use Rattle.leg_app.specs.Steps.SaidLibrary.{SaysJust};
-ghost use Rattle.leg_app.specs.Refusal.{Refuses};
-ghost use Rattle.leg_app.specs.Answer.{IsAnswer};
+ghost use Rattle.leg_app.specs.Refusal.{Refuses, HasUnitsOf};
 ghost use Rattle.leg_app.specs.Answer.{IsListing};
+ghost use Rattle.leg_app.specs.Reason.{IsExplained, needed_master};
+ghost use Rattle.leg_app.specs.Steps.Unread.{IsOfMaster};
 
 use crate::check::check_design;
 use crate::finish_answer::finish_answer;
@@ -18,68 +21,115 @@ use crate::status::Status;
 use crate::text_fault::TextFault;
 use crate::texts::{behind_lefs, library_for};
 use leg_block::{Design, Fault};
-use leg_cells::{Library, ScaleKind};
+use leg_cells::{Items, Library, ScaleKind};
 use leg_design::DefText;
 use leg_finish::Progress;
 use leg_flat::{Flat, FlatFault};
 use leg_input::Command;
-use leg_lex::FaultKind;
+use leg_lex::{FaultKind, Need, ReadFault};
 use leg_place::place_faults;
 use leg_print::hpwl;
+use leg_reason::Reason;
 use std::alloc::{AllocError, Allocator};
 
-/// A text to be written, and the status that goes with it.
+/// What a command answers: a text to be written, the status that goes with it, and the reason where nothing else is written.
 #[derive(Drop)]
-pub(crate) struct Answer<A: Allocator> {
-    pub(crate) status: Status,
-    pub(crate) text: Vec<u8, A>,
+pub struct Answer<'a, A: Allocator> {
+    /// How the command ended. It is not `Memory`.
+    pub status: Status,
+    /// The whole text.
+    pub text: Vec<u8, A>,
+    /// Why the text is no design, list or length, if it is none.
+    pub reason: Option<Reason<'a, A>>,
 }
 
-/// What the command answers to these texts. The progress is told of each round of `finish`.
-pub(crate) fn answer_to<'a, A: Allocator + Copy, P: Progress>(
+/// The answer of a command that makes no design, for this reason.
+pub(crate) fn unsolved<'e, A: Allocator>(text: Vec<u8, A>, reason: Reason<'e, A>) -> Answer<'e, A>
+    ensures { result ≡ record { status = Unsolved; text = text; reason = Some reason.entry } }
+{
+    Answer {
+        status: Status::Unsolved,
+        text,
+        reason: Some(reason),
+    }
+}
+
+/// What the command answers to the texts of the LEFs, in order, and of the DEF. The progress is told of each round of `finish`.
+pub fn answer_to<'a, A: Allocator + Copy, P: Progress>(
     alloc: A,
     command: Command,
     lefs: &[&'a [u8]],
-    def: &'a [u8],
+    def: &[u8],
     progress: &mut P,
-) -> Result<Answer<A>, AllocError>
+) -> Result<Answer<'a, A>, AllocError>
     ensures { IfOk result (λ answer.
-        IsAnswer command (map (λ t. t.now) lefs.now) def.now answer.status answer.text.items) }
+        IsExplained command (map (λ t. t.now) lefs.now) def.now answer.reason answer.status answer.text.items) }
 {
     match library_for(alloc, lefs, def) {
         Ok((library, text)) => library_answer(alloc, command, lefs.len(), &library, text, progress),
-        Err(fault) => refusal(alloc, command, &fault),
+        Err(fault) => refusal(alloc, command, fault, None),
     }
 }
 
 // What is answered to a DEF after this many LEFs, where the texts denote this library and no other.
-fn library_answer<A: Allocator + Copy, P: Progress>(
+fn library_answer<'e, A: Allocator + Copy, P: Progress>(
     alloc: A,
     command: Command,
     count: usize,
     library: &Library<'_, A>,
     def: DefText<'_, A>,
     progress: &mut P,
-) -> Result<Answer<A>, AllocError>
-    ensures { IfOk result (λ answer. (lefs : List (List ℕ)) →
-        SaysJust lefs def.entry library.now → IsAnswer command lefs def.entry answer.status answer.text.items) }
+) -> Result<Answer<'e, A>, AllocError>
+    ensures { IfOk result (λ answer. (lefs : List (List ℕ)) → SaysJust lefs def.entry library.now
+        → IsExplained command lefs def.entry answer.reason answer.status answer.text.items) }
 {
     match def.design(alloc, library) {
         Ok(design) => design_answer(alloc, command, design, progress),
-        Err(fault) => refusal(alloc, command, &TextFault::Read(behind_lefs(count, fault))),
+        Err(fault) => {
+            let master = needed_master(alloc, library, fault.need)?;
+            let fault = TextFault::Read(behind_lefs(count, fault));
+            refusal(alloc, command, fault, master)
+        }
     }
 }
 
+// The name of the macro whose pin is needed, if one is.
+fn needed_master<A: Allocator + Copy>(
+    alloc: A,
+    library: &Library<'_, A>,
+    need: Need,
+) -> Result<Option<Items<u8, A>>, AllocError>
+    ensures { IfOk result (λ name. name ≡ needed_master library.now need) }
+{
+    match need {
+        Need::KnownPin(number) => {
+            let name = match library.masters().get(number) {
+                Some(master) => master.name.bytes(),
+                None => b"",
+            };
+            Ok(Some(copied(alloc, name)?))
+        }
+        _ => Ok(None),
+    }
+}
+
+/// A copy of a name.
+pub(crate) fn copied<A: Allocator + Copy>(alloc: A, name: &[u8]) -> Result<Items<u8, A>, AllocError>
+    ensures { IfOk result (λ copy. copy ≡ name.now) }
+{
+    Ok(Items::from_vec(Vec::from_slice(alloc, name)?))
+}
+
 // What is answered to texts that denote this design.
-fn design_answer<A: Allocator + Copy, P: Progress>(
+fn design_answer<'e, A: Allocator + Copy, P: Progress>(
     alloc: A,
     command: Command,
     design: Design<'_, A>,
     progress: &mut P,
-) -> Result<Answer<A>, AllocError>
+) -> Result<Answer<'e, A>, AllocError>
     ensures { IfOk result (λ answer. (lefs : List (List ℕ)) (def : List ℕ) →
         SayDesign lefs def design.entry.library design.entry →
-        IsAnswer command lefs def answer.status answer.text.items) }
+        IsExplained command lefs def answer.reason answer.status answer.text.items) }
 {
     match command {
         Command::Check => whole_answer(alloc, &design),
@@ -92,92 +142,125 @@ fn design_answer<A: Allocator + Copy, P: Progress>(
     }
 }
 
-fn placement_answer<A: Allocator + Copy>(
+fn placement_answer<'e, A: Allocator + Copy>(
     alloc: A,
     design: &Design<'_, A>,
-) -> Result<Answer<A>, AllocError>
+) -> Result<Answer<'e, A>, AllocError>
     ensures { IfOk result (λ answer. (lefs : List (List ℕ)) (def : List ℕ) →
         SayDesign lefs def design.now.library design.now →
-        IsAnswer PlaceCheck lefs def answer.status answer.text.items) }
+        IsExplained PlaceCheck lefs def answer.reason answer.status answer.text.items) }
 {
     let violations = place_faults(alloc, design.library(), design)?;
     let no_flat: Option<Flat<A>> = None;
     listing(alloc, design, no_flat.as_ref(), &violations)
 }
 
-fn whole_answer<A: Allocator + Copy>(
+fn whole_answer<'e, A: Allocator + Copy>(
     alloc: A,
     design: &Design<'_, A>,
-) -> Result<Answer<A>, AllocError>
+) -> Result<Answer<'e, A>, AllocError>
     ensures { IfOk result (λ answer. (lefs : List (List ℕ)) (def : List ℕ) →
         SayDesign lefs def design.now.library design.now →
-        IsAnswer Check lefs def answer.status answer.text.items) }
+        IsExplained Check lefs def answer.reason answer.status answer.text.items) }
 {
     match check_design(alloc, design) {
         Ok(checked) => listing(alloc, design, Some(&checked.flat), &checked.violations),
-        Err(FlatFault::TooMany) => refusal(alloc, Command::Check, &TextFault::TooMany),
+        Err(FlatFault::TooMany) => Ok(Answer {
+            status: Status::Refused,
+            text: Vec::from_slice(alloc, b"TOOMANY\n")?,
+            reason: Some(Reason::TooMany),
+        }),
         Err(FlatFault::Memory) => Err(AllocError),
     }
 }
 
-fn measure_answer<A: Allocator + Copy>(
+fn measure_answer<'e, A: Allocator + Copy>(
     alloc: A,
     design: &Design<'_, A>,
-) -> Result<Answer<A>, AllocError>
+) -> Result<Answer<'e, A>, AllocError>
     ensures { IfOk result (λ answer. (lefs : List (List ℕ)) (def : List ℕ) →
         SayDesign lefs def design.now.library design.now →
-        IsAnswer Measure lefs def answer.status answer.text.items) }
+        IsExplained Measure lefs def answer.reason answer.status answer.text.items) }
 {
     let length = hpwl(design.library(), design);
     let text = wirelength_text(alloc, length)?;
     Ok(Answer {
         status: Status::Success,
         text,
+        reason: None,
     })
 }
 
 // The violations are listed, or there are none.
-fn listing<A: Allocator + Copy>(
+fn listing<'e, A: Allocator + Copy>(
     alloc: A,
     design: &Design<'_, A>,
     flat: Option<&Flat<A>>,
     violations: &[Fault],
-) -> Result<Answer<A>, AllocError>
-    ensures { IfOk result (λ answer.
+) -> Result<Answer<'e, A>, AllocError>
+    ensures listed { IfOk result (λ answer.
         IsListing design.now (option_map (λ flat. flat.now) flat.entry) violations.now answer.status answer.text.items) }
+    ensures no_reason { IfOk result (λ answer. answer.reason ≡ None) }
 {
     if violations.is_empty() {
         let text = Vec::from_slice(alloc, b"legal\n")?;
         return Ok(Answer {
             status: Status::Success,
             text,
+            reason: None,
         });
     }
     let text = listing_text(alloc, design, flat, violations)?;
     Ok(Answer {
         status: Status::Violations,
         text,
+        reason: None,
     })
 }
 
-// What is answered to texts that are refused so.
-fn refusal<A: Allocator + Copy>(
+// What is answered to texts that are refused so, where a pin of this macro is needed, if one is.
+fn refusal<'a, A: Allocator + Copy>(
     alloc: A,
     command: Command,
-    fault: &TextFault<'_>,
-) -> Result<Answer<A>, AllocError>
+    fault: TextFault<'a>,
+    master: Option<Items<u8, A>>,
+) -> Result<Answer<'a, A>, AllocError>
     ensures { IfOk result (λ answer. (lefs : List (List ℕ)) (def : List ℕ) →
-        Refuses (SayNothing lefs def) (command ≡ Check × SayTooMany lefs def) fault.now →
-        IsAnswer command lefs def answer.status answer.text.items) }
+        Refuses (SayNothing lefs def) ⊥ fault.entry → HasUnitsOf def fault.entry → IsOfMaster lefs def fault.entry master →
+        IsExplained command lefs def answer.reason answer.status answer.text.items) }
 {
-    let text = match fault {
-        TextFault::Read(fault) if fault.kind != FaultKind::Memory => refused_text(alloc, fault)?,
-        TextFault::Scale(fault) if fault.kind != ScaleKind::Memory => scale_text(alloc, fault)?,
-        TextFault::TooMany => Vec::from_slice(alloc, b"TOOMANY\n")?,
-        _ => return Err(AllocError),
-    };
+    match fault {
+        TextFault::Read(fault) => unread(alloc, command, fault, master),
+        TextFault::Scale(fault, units) if fault.kind != ScaleKind::Memory => {
+            let text = scale_text(alloc, &fault)?;
+            Ok(Answer {
+                status: Status::Refused,
+                text,
+                reason: Some(Reason::Scale(fault, units)),
+            })
+        }
+        _ => Err(AllocError),
+    }
+}
+
+// What is answered to texts of which one is not read, for this fault, where a pin of this macro is needed, if one is.
+fn unread<'e, A: Allocator + Copy>(
+    alloc: A,
+    command: Command,
+    fault: ReadFault,
+    master: Option<Items<u8, A>>,
+) -> Result<Answer<'e, A>, AllocError>
+    ensures { IfOk result (λ answer. (lefs : List (List ℕ)) (def : List ℕ) →
+        Refuses (SayNothing lefs def) ⊥ (Read fault) → IsOfMaster lefs def (Read fault) master →
+        IsExplained command lefs def answer.reason answer.status answer.text.items) }
+{
+    if fault.kind == FaultKind::Memory {
+        return Err(AllocError);
+    }
+    let text = refused_text(alloc, &fault)?;
     Ok(Answer {
         status: Status::Refused,
         text,
+        reason: Some(Reason::Read(fault, master)),
     })
 }

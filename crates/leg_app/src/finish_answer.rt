@@ -1,27 +1,32 @@
 //! What `finish` answers.
 
-ghost use Rattle.std.specs.Prelude.{IfOk};
+ghost use Rattle.std.specs.Prelude.{◌≡◌, IfOk};
 ghost use Rattle.leg_finish.specs.Refusal.{IsRefusal};
 ghost use Rattle.leg_input.specs.declared.command.Command.TheVariants.{Finish};
+ghost use Rattle.leg_app.specs.declared.status.Status.TheVariants.{Unsolved};
 ghost use Rattle.leg_app.specs.Finished.{TellsNotFinished};
+ghost use Rattle.leg_app.specs.Reason.{Explains, Holds};
 ghost use Rattle.leg_app.specs.Steps.Making.{IsMaking};
 
-use crate::answer::Answer;
-use crate::finish_lines::{finished_text, unfinished_text, unreachable_text};
-use crate::route_lines::not_clean_text;
+use crate::answer::{Answer, copied, unsolved};
+use crate::finish_lines::{finished_text, piece_name, unfinished_text, unreachable_text};
+use crate::route_lines::{flat_again, net_name, not_clean_text};
 use crate::status::Status;
 use leg_block::Design;
 use leg_block::laws::design_is_sound;
 use leg_finish::{FinishFault, Progress, finish};
+use leg_grid::GREATEST_GRID;
+use leg_reason::{Reason, Stage};
 use std::alloc::{AllocError, Allocator};
 
 /// What is answered where this design is to be finished. The progress is told of each round.
-pub(crate) fn finish_answer<A: Allocator + Copy, P: Progress>(
+pub(crate) fn finish_answer<'e, A: Allocator + Copy, P: Progress>(
     alloc: A,
     design: Design<'_, A>,
     progress: &mut P,
-) -> Result<Answer<A>, AllocError>
-    ensures { IfOk result (λ answer. IsMaking Finish design.entry answer.status answer.text.items) }
+) -> Result<Answer<'e, A>, AllocError>
+    ensures is { IfOk result (λ answer. IsMaking Finish design.entry answer.status answer.text.items) }
+    ensures explains { IfOk result (λ answer. Explains (Holds Finish design.entry) answer.status answer.reason answer.text.items) }
 {
     let library = design.library();
     match finish(alloc, library, design, progress) {
@@ -31,33 +36,48 @@ pub(crate) fn finish_answer<A: Allocator + Copy, P: Progress>(
             Ok(Answer {
                 status: Status::Success,
                 text,
+                reason: None,
             })
         }
-        Err((kept, fault)) => {
-            let text = not_finished_text(alloc, &kept, &fault)?;
-            Ok(Answer {
-                status: Status::Unsolved,
-                text,
-            })
-        }
+        Err((kept, fault)) => not_finished(alloc, &kept, &fault),
     }
 }
 
 /// Why the design is not finished. It fails where memory was the reason.
-fn not_finished_text<A: Allocator + Copy>(
+fn not_finished<'e, A: Allocator + Copy>(
     alloc: A,
     design: &Design<'_, A>,
     fault: &FinishFault<A>,
-) -> Result<Vec<u8, A>, AllocError>
+) -> Result<Answer<'e, A>, AllocError>
     requires { IsRefusal design.now fault.now }
-    ensures { IfOk result (λ text. TellsNotFinished design.now text.items) }
+    ensures status { IfOk result (λ answer. answer.status ≡ Unsolved) }
+    ensures tells { IfOk result (λ answer. TellsNotFinished design.now answer.text.items) }
+    ensures explains { IfOk result (λ answer. Explains (Holds Finish design.now) answer.status answer.reason answer.text.items) }
 {
     match fault {
-        FinishFault::NotClean(violations) => not_clean_text(alloc, design, violations.as_slice()),
-        FinishFault::GridTooLarge => Vec::from_slice(alloc, b"GRIDTOOLARGE\n"),
-        FinishFault::Unreachable(net, piece) => unreachable_text(alloc, design, *net, *piece),
-        FinishFault::Unfinished(nets) => unfinished_text(alloc, design, nets.as_slice()),
-        FinishFault::TooMany => Vec::from_slice(alloc, b"TOOMANY\n"),
+        FinishFault::NotClean(violations) => {
+            let text = not_clean_text(alloc, design, violations.as_slice())?;
+            Ok(unsolved(text, Reason::NotClean(Stage::Given)))
+        }
+        FinishFault::GridTooLarge => {
+            let text = Vec::from_slice(alloc, b"GRIDTOOLARGE\n")?;
+            Ok(unsolved(text, Reason::GridTooLarge(GREATEST_GRID)))
+        }
+        FinishFault::Unreachable(net, piece) => {
+            let flat = flat_again(alloc, design)?;
+            let piece = piece_name(alloc, design, &flat, *net, *piece)?;
+            let net = copied(alloc, net_name(design, *net))?;
+            let text = unreachable_text(alloc, net.as_slice(), piece.as_slice())?;
+            Ok(unsolved(text, Reason::Unreachable(net, piece)))
+        }
+        FinishFault::Unfinished(nets) => {
+            let text = unfinished_text(alloc, design, nets.as_slice())?;
+            Ok(unsolved(text, Reason::Unfinished))
+        }
+        FinishFault::TooMany => {
+            let text = Vec::from_slice(alloc, b"TOOMANY\n")?;
+            Ok(unsolved(text, Reason::TooMany))
+        }
         FinishFault::Memory => Err(AllocError),
     }
 }

@@ -1,17 +1,15 @@
 //! The lines that `finish` prints.
 
-ghost use Rattle.std.specs.Prelude.{◌≡◌, ◌≤◌, ◌++◌, Some, length, option_map, IfOk, OnOk};
+ghost use Rattle.std.specs.Prelude.{◌≡◌, ◌++◌, Some, option_map, codes, IfOk, OnOk};
 ghost use Rattle.std.specs.List.{flat_map};
-ghost use Rattle.leg_block.specs.declared.limits.TheConstants.{PART_LIMIT};
-ghost use Rattle.leg_flat.specs.Flat.{FlatSaid, IsFlatOf};
-ghost use Rattle.leg_flat.specs.Metal.{metal_of};
 ghost use Rattle.leg_print.specs.Names.{name_by, piece_text};
 ghost use Rattle.leg_print.specs.Lines.{piece_at};
-ghost use Rattle.leg_app.specs.FinishLines.{number_line, finished_text, unreachable_text, unfinished_line, unfinished_text};
+ghost use Rattle.leg_app.specs.FinishLines.{number_line, finished_text, unfinished_line, unfinished_text};
 
 use crate::lines::push_number;
-use crate::route_lines::{flat_again, net_name};
+use crate::route_lines::net_name;
 use leg_block::Design;
+use leg_cells::Items;
 use leg_finish::WireTotals;
 use leg_flat::{Flat, Piece};
 use leg_print::{print_def, push_piece};
@@ -44,37 +42,35 @@ fn push_number_line<A: Allocator>(
     text.extend_from_slice(b"\n")
 }
 
-/// The line of a piece that cannot be reached, of a design that keeps the limit of shapes. The piece is one of the design's flat, which
-/// is made anew.
+/// The line of a piece of this name that cannot be reached, in the net of this name.
 pub(crate) fn unreachable_text<A: Allocator + Copy>(
     alloc: A,
-    design: &Design<'_, A>,
-    net: u32,
-    piece: u32,
+    net: &[u8],
+    piece: &[u8],
 ) -> Result<Vec<u8, A>, AllocError>
-    requires { length (metal_of design.now) ≤ PART_LIMIT }
-    ensures { IfOk result (λ text. (flat : FlatSaid) → IsFlatOf design.now flat → text.items ≡ unreachable_text design.now flat net piece) }
+    ensures { IfOk result (λ text. text.items ≡ codes "UNREACHABLE " ++ net.now ++ codes " " ++ piece.now ++ codes "\n") }
 {
-    let flat = flat_again(alloc, design)?;
-    text_of_piece(alloc, design, &flat, net, piece)
+    let mut text = Vec::from_slice(alloc, b"UNREACHABLE ")?;
+    text.extend_from_slice(net)?;
+    text.extend_from_slice(b" ")?;
+    text.extend_from_slice(piece)?;
+    text.extend_from_slice(b"\n")?;
+    Ok(text)
 }
 
-/// The line of a piece of the flat that cannot be reached.
-fn text_of_piece<A: Allocator + Copy>(
+/// The name of the piece of this number of a net of the flat; empty where there is none.
+pub(crate) fn piece_name<A: Allocator + Copy>(
     alloc: A,
     design: &Design<'_, A>,
     flat: &Flat<A>,
     net: u32,
     piece: u32,
-) -> Result<Vec<u8, A>, AllocError>
-    ensures { IfOk result (λ text. text.items ≡ unreachable_text design.now flat.now net piece) }
+) -> Result<Items<u8, A>, AllocError>
+    ensures { IfOk result (λ name. name ≡ name_by (piece_text design.now) (piece_at (Some flat.now) net piece)) }
 {
-    let mut text = Vec::from_slice(alloc, b"UNREACHABLE ")?;
-    text.extend_from_slice(net_name(design, net))?;
-    text.extend_from_slice(b" ")?;
-    push_found(&mut text, design, piece_at(flat, net, piece))?;
-    text.extend_from_slice(b"\n")?;
-    Ok(text)
+    let mut name = Vec::new(alloc);
+    push_found(&mut name, design, piece_at(flat, net, piece))?;
+    Ok(Items::from_vec(name))
 }
 
 /// Adds the words that name the piece, if there is one.

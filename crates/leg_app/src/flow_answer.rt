@@ -5,25 +5,28 @@ ghost use Rattle.leg_block.specs.Records.{DesignContents};
 ghost use Rattle.leg_legal.specs.Moves.{AreMoves};
 ghost use Rattle.leg_input.specs.declared.command.Command.TheVariants.{Flow};
 ghost use Rattle.leg_app.specs.Legalised.{Legalises};
+ghost use Rattle.leg_app.specs.Reason.{Explains, Holds};
 ghost use Rattle.leg_app.specs.Steps.Making.{IsMaking};
 
 use crate::answer::Answer;
-use crate::legalise_answer::not_legalised_text;
+use crate::legalise_answer::not_legalised;
 use crate::legalise_lines::legalised_text;
-use crate::route_answer::not_routed_text;
+use crate::route_answer::not_routed;
 use crate::status::Status;
 use leg_block::Design;
 use leg_block::laws::design_is_sound;
 use leg_legal::{Moves, legalise};
+use leg_reason::Stage;
 use leg_route::route;
 use std::alloc::{AllocError, Allocator};
 
 /// What is answered where this design is to be legalised, and what comes of it is to be routed.
-pub(crate) fn flow_answer<A: Allocator + Copy>(
+pub(crate) fn flow_answer<'e, A: Allocator + Copy>(
     alloc: A,
     design: Design<'_, A>,
-) -> Result<Answer<A>, AllocError>
-    ensures { IfOk result (λ answer. IsMaking Flow design.entry answer.status answer.text.items) }
+) -> Result<Answer<'e, A>, AllocError>
+    ensures is { IfOk result (λ answer. IsMaking Flow design.entry answer.status answer.text.items) }
+    ensures explains { IfOk result (λ answer. Explains (Holds Flow design.entry) answer.status answer.reason answer.text.items) }
 {
     let library = design.library();
     match legalise(alloc, library, design) {
@@ -31,25 +34,21 @@ pub(crate) fn flow_answer<A: Allocator + Copy>(
             design_is_sound(&legalised);
             routing_answer(alloc, legalised, &moves)
         }
-        Err((kept, fault)) => {
-            let text = not_legalised_text(alloc, &kept, &fault)?;
-            Ok(Answer {
-                status: Status::Unsolved,
-                text,
-            })
-        }
+        Err((kept, fault)) => not_legalised(alloc, &kept, &fault),
     }
 }
 
 /// What is answered where a design was legalised, so that its components made these moves, and is to be routed.
-fn routing_answer<A: Allocator + Copy>(
+fn routing_answer<'e, A: Allocator + Copy>(
     alloc: A,
     legalised: Design<'_, A>,
     moves: &Moves<A>,
-) -> Result<Answer<A>, AllocError>
-    ensures { IfOk result (λ answer. (design : DesignContents) → Legalises design legalised.entry →
+) -> Result<Answer<'e, A>, AllocError>
+    ensures is { IfOk result (λ answer. (design : DesignContents) → Legalises design legalised.entry →
         AreMoves design legalised.entry moves.now.per_component moves.now.total moves.now.greatest →
         IsMaking Flow design answer.status answer.text.items) }
+    ensures explains { IfOk result (λ answer. (design : DesignContents) → Legalises design legalised.entry →
+        Explains (Holds Flow design) answer.status answer.reason answer.text.items) }
 {
     let library = legalised.library();
     match route(alloc, library, legalised) {
@@ -59,14 +58,9 @@ fn routing_answer<A: Allocator + Copy>(
             Ok(Answer {
                 status: Status::Success,
                 text,
+                reason: None,
             })
         }
-        Err((kept, fault)) => {
-            let text = not_routed_text(alloc, &kept, &fault)?;
-            Ok(Answer {
-                status: Status::Unsolved,
-                text,
-            })
-        }
+        Err((kept, fault)) => not_routed(alloc, Stage::Legalised, &kept, &fault),
     }
 }

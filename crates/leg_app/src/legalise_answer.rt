@@ -1,25 +1,32 @@
 //! What `legalise` answers.
 
-ghost use Rattle.std.specs.Prelude.{IfOk};
+ghost use Rattle.std.specs.Prelude.{◌≡◌, IfOk};
+ghost use Rattle.leg_block.specs.Records.{DesignContents};
 ghost use Rattle.leg_legal.specs.Refusals.{IsRefusal};
+ghost use Rattle.leg_input.specs.declared.command.Command.{Command};
 ghost use Rattle.leg_input.specs.declared.command.Command.TheVariants.{Legalise};
+ghost use Rattle.leg_app.specs.declared.status.Status.TheVariants.{Unsolved};
+ghost use Rattle.leg_app.specs.Reason.{Explains, Holds};
 ghost use Rattle.leg_app.specs.Legalised.{TellsNotLegalised};
 ghost use Rattle.leg_app.specs.Steps.Making.{IsMaking};
 
-use crate::answer::Answer;
-use crate::legalise_lines::{component_text, fixed_illegal_text, legalised_text};
+use crate::answer::{Answer, copied, unsolved};
+use crate::legalise_lines::{component_name, fixed_illegal_text, legalised_text};
+use crate::lines::name_line;
 use crate::status::Status;
 use leg_block::Design;
 use leg_block::laws::design_is_sound;
 use leg_legal::{LegalFault, legalise};
+use leg_reason::Reason;
 use std::alloc::{AllocError, Allocator};
 
 /// What is answered where this design is to be legalised.
-pub(crate) fn legalise_answer<A: Allocator + Copy>(
+pub(crate) fn legalise_answer<'e, A: Allocator + Copy>(
     alloc: A,
     design: Design<'_, A>,
-) -> Result<Answer<A>, AllocError>
-    ensures { IfOk result (λ answer. IsMaking Legalise design.entry answer.status answer.text.items) }
+) -> Result<Answer<'e, A>, AllocError>
+    ensures is { IfOk result (λ answer. IsMaking Legalise design.entry answer.status answer.text.items) }
+    ensures explains { IfOk result (λ answer. Explains (Holds Legalise design.entry) answer.status answer.reason answer.text.items) }
 {
     let library = design.library();
     match legalise(alloc, library, design) {
@@ -29,34 +36,39 @@ pub(crate) fn legalise_answer<A: Allocator + Copy>(
             Ok(Answer {
                 status: Status::Success,
                 text,
+                reason: None,
             })
         }
-        Err((kept, fault)) => {
-            let text = not_legalised_text(alloc, &kept, &fault)?;
-            Ok(Answer {
-                status: Status::Unsolved,
-                text,
-            })
-        }
+        Err((kept, fault)) => not_legalised(alloc, &kept, &fault),
     }
 }
 
 /// Why the design is not legalised. It fails where memory was the reason.
-pub(crate) fn not_legalised_text<A: Allocator + Copy>(
+pub(crate) fn not_legalised<'e, A: Allocator + Copy>(
     alloc: A,
     design: &Design<'_, A>,
     fault: &LegalFault<A>,
-) -> Result<Vec<u8, A>, AllocError>
-    ensures { IfOk result (λ text. IsRefusal design.now fault.now → TellsNotLegalised design.now text.items) }
+) -> Result<Answer<'e, A>, AllocError>
+    ensures status { IfOk result (λ answer. answer.status ≡ Unsolved) }
+    ensures tells { IfOk result (λ answer. IsRefusal design.now fault.now → TellsNotLegalised design.now answer.text.items) }
+    ensures explains { IfOk result (λ answer. (command : Command) (before : DesignContents)
+        → Explains (Holds command before) answer.status answer.reason answer.text.items) }
 {
     match fault {
-        LegalFault::FixedIllegal(violations) => fixed_illegal_text(
-            alloc,
-            design,
-            violations.as_slice(),
-        ),
-        LegalFault::NoSite(c) => component_text(alloc, b"NOSITE ", design, *c),
-        LegalFault::NoRoom(c) => component_text(alloc, b"NOROOM ", design, *c),
+        LegalFault::FixedIllegal(violations) => {
+            let text = fixed_illegal_text(alloc, design, violations.as_slice())?;
+            Ok(unsolved(text, Reason::FixedIllegal))
+        }
+        LegalFault::NoSite(c) => {
+            let component = copied(alloc, component_name(design, *c))?;
+            let text = name_line(alloc, b"NOSITE ", component.as_slice())?;
+            Ok(unsolved(text, Reason::NoSite(component)))
+        }
+        LegalFault::NoRoom(c) => {
+            let component = copied(alloc, component_name(design, *c))?;
+            let text = name_line(alloc, b"NOROOM ", component.as_slice())?;
+            Ok(unsolved(text, Reason::NoRoom(component)))
+        }
         LegalFault::Memory => Err(AllocError),
     }
 }

@@ -1,6 +1,6 @@
 //! The lines that `legalise` prints.
 
-ghost use Rattle.std.specs.Prelude.{◌≡◌, ◌++◌, IfOk, OnOk, codes};
+ghost use Rattle.std.specs.Prelude.{◌≡◌, ◌++◌, IfOk, OnOk};
 ghost use Rattle.leg_print.specs.Names.{component_name};
 ghost use Rattle.leg_app.specs.LegaliseLines.{length_line, move_line, total_lines, legalised_text, fixed_illegal_text};
 
@@ -96,23 +96,11 @@ pub(crate) fn fixed_illegal_text<A: Allocator + Copy>(
     Ok(text)
 }
 
-/// A line of this word and the name of the component of this number.
-pub(crate) fn component_text<A: Allocator + Copy>(
-    alloc: A,
-    word: &[u8],
-    design: &Design<'_, A>,
-    number: u32,
-) -> Result<Vec<u8, A>, AllocError>
-    ensures { IfOk result (λ text. text.items ≡ word.now ++ component_name design.now number ++ codes "\n") }
-{
-    let mut text = Vec::from_slice(alloc, word)?;
-    text.extend_from_slice(component_name(design, number))?;
-    text.extend_from_slice(b"\n")?;
-    Ok(text)
-}
-
 /// The name of the component of this number; empty where there is none.
-fn component_name<'d, A: Allocator + Copy>(design: &'d Design<'_, A>, number: u32) -> &'d [u8]
+pub(crate) fn component_name<'d, A: Allocator + Copy>(
+    design: &'d Design<'_, A>,
+    number: u32,
+) -> &'d [u8]
     ensures { result.now ≡ component_name design.now number }
 {
     match design.components().get(number as usize) {

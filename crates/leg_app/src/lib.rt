@@ -20,6 +20,7 @@ mod text_fault;
 mod texts;
 
 // What a tool needs to read a block and to print what is not legal about it.
+pub use answer::{Answer, answer_to};
 pub use check::{Checked, check_design, check_texts};
 pub use end::Halt;
 pub use leg_block::{Design, Fault};
@@ -31,7 +32,11 @@ pub use leg_input::{Asked, Command, InputFault, Line, asked_by, line_of, read_al
 pub use leg_lex::ReadFault;
 pub use leg_lib::read_lefs;
 pub use leg_print::print_faults;
+pub use leg_reason::{Reason, Stage};
 pub use limits::{FILE_LIMIT, STREAM_LIMIT};
-pub use run_command::{RunFault, run, run_help, run_out, run_stream, run_with_progress};
+pub use run_command::{
+    Ended, RunFault, run, run_explained, run_help, run_out, run_stream, run_stream_explained,
+    run_with_progress,
+};
 pub use status::Status;
 pub use text_fault::TextFault;

@@ -1,6 +1,6 @@
 //! The lines that commands print.
 
-ghost use Rattle.std.specs.Prelude.{◌≡◌, ◌++◌, IfOk, OnOk, option_map, decimal};
+ghost use Rattle.std.specs.Prelude.{◌≡◌, ◌++◌, IfOk, OnOk, option_map, codes, decimal};
 ghost use Rattle.std.specs.Fmt.{signed_decimal};
 ghost use Rattle.leg_app.specs.Lines.{kind_name, listing_text, refused_text, scale_kind_name, scale_text, wirelength_text};
 
@@ -69,6 +69,20 @@ pub(crate) fn scale_text<A: Allocator + Copy>(
     text.extend_from_slice(fault.name.bytes())?;
     text.extend_from_slice(b" ")?;
     text.extend_from_slice(scale_kind_name(fault.kind))?;
+    text.extend_from_slice(b"\n")?;
+    Ok(text)
+}
+
+/// A line of a word and a name.
+pub(crate) fn name_line<A: Allocator + Copy>(
+    alloc: A,
+    word: &[u8],
+    name: &[u8],
+) -> Result<Vec<u8, A>, AllocError>
+    ensures { IfOk result (λ text. text.items ≡ word.now ++ name.now ++ codes "\n") }
+{
+    let mut text = Vec::from_slice(alloc, word)?;
+    text.extend_from_slice(name)?;
     text.extend_from_slice(b"\n")?;
     Ok(text)
 }

@@ -1,26 +1,42 @@
 //! What `route` answers.
 
-ghost use Rattle.std.specs.Prelude.{IfOk};
+ghost use Rattle.std.specs.Prelude.{◌≡◌, ◌≤◌, length, IfOk};
+ghost use Rattle.leg_block.specs.declared.limits.TheConstants.{PART_LIMIT};
+ghost use Rattle.leg_block.specs.Records.{DesignContents};
+ghost use Rattle.leg_flat.specs.Metal.{metal_of};
+ghost use Rattle.leg_grid.specs.declared.limits.TheConstants.{GRID_LIMIT};
+ghost use Rattle.leg_grid.specs.GridSize.{IsGridTooLarge};
+ghost use Rattle.leg_print.specs.Names.{net_name};
 ghost use Rattle.leg_route.specs.Refusal.{IsRefusal};
+ghost use Rattle.leg_input.specs.declared.command.Command.{Command};
 ghost use Rattle.leg_input.specs.declared.command.Command.TheVariants.{Route};
+ghost use Rattle.leg_app.specs.declared.status.Status.TheVariants.{Unsolved};
+ghost use Rattle.leg_app.specs.Reason.{Explains, Holds, IsCutOff, IsRoutedBy, stage_of, grid_limit};
 ghost use Rattle.leg_app.specs.Routed.{TellsNotRouted};
 ghost use Rattle.leg_app.specs.Steps.Making.{IsMaking};
 
-use crate::answer::Answer;
-use crate::route_lines::{not_clean_text, unroutable_text};
+use crate::answer::{Answer, copied, unsolved};
+use crate::finish_lines::piece_name;
+use crate::lines::name_line;
+use crate::route_lines::{flat_again, net_name, not_clean_text};
 use crate::status::Status;
 use leg_block::Design;
 use leg_block::laws::design_is_sound;
+use leg_cells::Items;
+use leg_finish::first_unreachable_piece;
+use leg_grid::GRID_LIMIT;
 use leg_print::print_def;
+use leg_reason::{Reason, Stage};
 use leg_route::{RouteFault, route};
 use std::alloc::{AllocError, Allocator};
 
 /// What is answered where this design is to be routed.
-pub(crate) fn route_answer<A: Allocator + Copy>(
+pub(crate) fn route_answer<'e, A: Allocator + Copy>(
     alloc: A,
     design: Design<'_, A>,
-) -> Result<Answer<A>, AllocError>
-    ensures { IfOk result (λ answer. IsMaking Route design.entry answer.status answer.text.items) }
+) -> Result<Answer<'e, A>, AllocError>
+    ensures is { IfOk result (λ answer. IsMaking Route design.entry answer.status answer.text.items) }
+    ensures explains { IfOk result (λ answer. Explains (Holds Route design.entry) answer.status answer.reason answer.text.items) }
 {
     let library = design.library();
     match route(alloc, library, design) {
@@ -30,32 +46,63 @@ pub(crate) fn route_answer<A: Allocator + Copy>(
             Ok(Answer {
                 status: Status::Success,
                 text,
+                reason: None,
             })
         }
-        Err((kept, fault)) => {
-            let text = not_routed_text(alloc, &kept, &fault)?;
-            Ok(Answer {
-                status: Status::Unsolved,
-                text,
-            })
-        }
+        Err((kept, fault)) => not_routed(alloc, Stage::Given, &kept, &fault),
     }
 }
 
-/// Why the design is not routed. It fails where memory was the reason.
-pub(crate) fn not_routed_text<A: Allocator + Copy>(
+/// Why the design, which is the one of this stage, is not routed. It fails where memory was the reason.
+pub(crate) fn not_routed<'e, A: Allocator + Copy>(
     alloc: A,
+    stage: Stage,
     design: &Design<'_, A>,
     fault: &RouteFault<A>,
-) -> Result<Vec<u8, A>, AllocError>
+) -> Result<Answer<'e, A>, AllocError>
     requires { IsRefusal design.now fault.now }
-    ensures { IfOk result (λ text. TellsNotRouted design.now text.items) }
+    ensures status { IfOk result (λ answer. answer.status ≡ Unsolved) }
+    ensures tells { IfOk result (λ answer. TellsNotRouted design.now answer.text.items) }
+    ensures explains { IfOk result (λ answer. (command : Command) (before : DesignContents)
+        → stage ≡ stage_of command → GRID_LIMIT ≡ grid_limit command → IsRoutedBy command before design.now
+        → Explains (Holds command before) answer.status answer.reason answer.text.items) }
 {
     match fault {
-        RouteFault::NotClean(violations) => not_clean_text(alloc, design, violations.as_slice()),
-        RouteFault::GridTooLarge => Vec::from_slice(alloc, b"GRIDTOOLARGE\n"),
-        RouteFault::Unroutable(net) => unroutable_text(alloc, design, *net),
-        RouteFault::TooMany => Vec::from_slice(alloc, b"TOOMANY\n"),
+        RouteFault::NotClean(violations) => {
+            let text = not_clean_text(alloc, design, violations.as_slice())?;
+            Ok(unsolved(text, Reason::NotClean(stage)))
+        }
+        RouteFault::GridTooLarge => {
+            let text = Vec::from_slice(alloc, b"GRIDTOOLARGE\n")?;
+            Ok(unsolved(text, Reason::GridTooLarge(GRID_LIMIT)))
+        }
+        RouteFault::Unroutable(net) => {
+            let piece = cut_off_piece(alloc, design, *net)?;
+            let net = copied(alloc, net_name(design, *net))?;
+            let text = name_line(alloc, b"UNROUTABLE ", net.as_slice())?;
+            Ok(unsolved(text, Reason::Unroutable(net, piece)))
+        }
+        RouteFault::TooMany => {
+            let text = Vec::from_slice(alloc, b"TOOMANY\n")?;
+            Ok(unsolved(text, Reason::TooMany))
+        }
         RouteFault::Memory => Err(AllocError),
+    }
+}
+
+/// The name of the first piece of this net that cannot be reached whatever other nets do, if there is one.
+fn cut_off_piece<A: Allocator + Copy>(
+    alloc: A,
+    design: &Design<'_, A>,
+    net: u32,
+) -> Result<Option<Items<u8, A>>, AllocError>
+    requires few { length (metal_of design.now) ≤ PART_LIMIT }
+    requires fits { ¬ IsGridTooLarge design.now }
+    ensures { IfOk result (λ piece. IsCutOff design.now (net_name design.now net) piece) }
+{
+    let flat = flat_again(alloc, design)?;
+    match first_unreachable_piece(alloc, design, &flat, net)? {
+        Some(piece) => Ok(Some(piece_name(alloc, design, &flat, net, piece)?)),
+        None => Ok(None),
     }
 }

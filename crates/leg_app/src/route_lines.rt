@@ -5,7 +5,7 @@ ghost use Rattle.leg_block.specs.declared.limits.TheConstants.{PART_LIMIT};
 ghost use Rattle.leg_flat.specs.Flat.{FlatSaid, IsFlatOf};
 ghost use Rattle.leg_flat.specs.Metal.{metal_of};
 ghost use Rattle.leg_print.specs.Names.{net_name};
-ghost use Rattle.leg_app.specs.RouteLines.{not_clean_text, unroutable_text};
+ghost use Rattle.leg_app.specs.RouteLines.{not_clean_text};
 
 use crate::lines::push_number;
 use leg_block::{Design, Fault};
@@ -54,20 +54,6 @@ fn shown_text<A: Allocator + Copy>(
     let mut text = print_faults(alloc, design.library(), design, Some(flat), violations)?;
     text.extend_from_slice(b"NOTCLEAN ")?;
     push_number(&mut text, violations.len() as u64)?;
-    text.extend_from_slice(b"\n")?;
-    Ok(text)
-}
-
-/// The line of a net that no open walk leads on.
-pub(crate) fn unroutable_text<A: Allocator + Copy>(
-    alloc: A,
-    design: &Design<'_, A>,
-    net: u32,
-) -> Result<Vec<u8, A>, AllocError>
-    ensures { IfOk result (λ text. text.items ≡ unroutable_text design.now net) }
-{
-    let mut text = Vec::from_slice(alloc, b"UNROUTABLE ")?;
-    text.extend_from_slice(net_name(design, net))?;
     text.extend_from_slice(b"\n")?;
     Ok(text)
 }

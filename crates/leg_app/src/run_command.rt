@@ -5,11 +5,13 @@ ghost use Rattle.std.specs.Io.KnownBytes.{Appends};
 ghost use Rattle.leg_app.specs.declared.status.Status.TheVariants.{Success, Memory};
 ghost use Rattle.leg_app.specs.Answer.{IsAnswer, IsStreamAnswer, TakesAnswer, TakesFront, TakesPart};
 ghost use Rattle.leg_app.specs.Lines.{memory_text};
+ghost use Rattle.leg_app.specs.Reason.{IsExplained, IsStreamExplained};
 
 use crate::answer::answer_to;
 use crate::status::Status;
 use leg_finish::Progress;
 use leg_input::{Command, split_stream};
+use leg_reason::Reason;
 use std::alloc::Allocator;
 use std::io::Write;
 use thiserror::Error;
@@ -57,12 +59,49 @@ pub fn run_with_progress<W: Write, A: Allocator + Copy, P: Progress>(
     ensures cut { OnErr result (TakesPart (IsAnswer command (map (λ t. t.now) lefs.now) def.now)
         (W.contents out.old) (W.contents out.new)) }
 {
+    let ended = run_explained(alloc, command, lefs, def, out, progress)?;
+    Ok(ended.status)
+}
+
+/// How a run ended.
+#[derive(Drop)]
+pub struct Ended<'a, A: Allocator> {
+    /// Its status.
+    pub status: Status,
+    /// Why no design, list or length is written, if so.
+    pub reason: Option<Reason<'a, A>>,
+}
+
+/// Writes what `run` writes, and returns with the status the reason where no design, list or length is written. The progress is told of
+/// each round of `finish`, before anything is written.
+pub fn run_explained<'a, W: Write, A: Allocator + Copy, P: Progress>(
+    alloc: A,
+    command: Command,
+    lefs: &[&'a [u8]],
+    def: &[u8],
+    out: &mut W,
+    progress: &mut P,
+) -> Result<Ended<'a, A>, RunFault>
+    ensures whole { IfOk result (λ ended. TakesAnswer (IsExplained command (map (λ t. t.now) lefs.now) def.now ended.reason) ended.status
+        (W.contents out.old) (W.contents out.new)) }
+    ensures cut { OnErr result (TakesPart (IsAnswer command (map (λ t. t.now) lefs.now) def.now)
+        (W.contents out.old) (W.contents out.new)) }
+{
     match answer_to(alloc, command, lefs, def, progress) {
         Ok(answer) => {
             write_text(out, &answer.text)?;
-            Ok(answer.status)
+            Ok(Ended {
+                status: answer.status,
+                reason: answer.reason,
+            })
         }
-        Err(_) => run_out(out),
+        Err(_) => {
+            let status = run_out(out)?;
+            Ok(Ended {
+                status,
+                reason: None,
+            })
+        }
     }
 }
 
@@ -76,11 +115,28 @@ pub fn run_stream<W: Write, A: Allocator + Copy>(
     ensures whole { IfOk result (λ status. TakesAnswer (IsStreamAnswer stream.now) status (W.contents out.old) (W.contents out.new)) }
     ensures cut { OnErr result (TakesPart (IsStreamAnswer stream.now) (W.contents out.old) (W.contents out.new)) }
 {
+    let ended = run_stream_explained(alloc, stream, out)?;
+    Ok(ended.status)
+}
+
+/// Writes what `run_stream` writes, and returns with the status the reason where no list is written.
+pub fn run_stream_explained<'a, W: Write, A: Allocator + Copy>(
+    alloc: A,
+    stream: &'a [u8],
+    out: &mut W,
+) -> Result<Ended<'a, A>, RunFault>
+    ensures whole { IfOk result (λ ended. TakesAnswer (IsStreamExplained stream.now ended.reason) ended.status
+        (W.contents out.old) (W.contents out.new)) }
+    ensures cut { OnErr result (TakesPart (IsStreamAnswer stream.now) (W.contents out.old) (W.contents out.new)) }
+{
     let Some((lef, def)) = split_stream(stream) else {
         write_text(out, NO_LIBRARY)?;
-        return Ok(Status::Refused);
+        return Ok(Ended {
+            status: Status::Refused,
+            reason: Some(Reason::NoLibrary),
+        });
     };
-    run(alloc, Command::Check, &[lef], def, out)
+    run_explained(alloc, Command::Check, &[lef], def, out, &mut ())
 }
 
 /// Writes that memory ran out, where it did so before a run could begin.

@@ -14,8 +14,8 @@ use std::alloc::AllocError;
 pub enum TextFault<'a> {
     /// A text isn't read. The DEF is numbered after the LEFs.
     Read(ReadFault),
-    /// A length of the library can't be given in the DEF's units.
-    Scale(ScaleFault<'a>),
+    /// A length of the library can't be given in the DEF's units, of which so many are a micron.
+    Scale(ScaleFault<'a>, u32),
     /// The design has more shapes than a flat may have.
     TooMany,
     /// An allocation failed.
@@ -29,7 +29,7 @@ impl TextFault<'_> {
     {
         match self {
             TextFault::Read(fault) => fault.kind == FaultKind::Memory,
-            TextFault::Scale(fault) => fault.kind == ScaleKind::Memory,
+            TextFault::Scale(fault, _) => fault.kind == ScaleKind::Memory,
             TextFault::TooMany => false,
             TextFault::Memory => true,
         }
@@ -41,14 +41,6 @@ impl From<ReadFault> for TextFault<'_> {
 
     fn from(fault: ReadFault) -> Self {
         TextFault::Read(fault)
-    }
-}
-
-impl<'a> From<ScaleFault<'a>> for TextFault<'a> {
-    ghost from_gives = { λ fault e. e ≡ faults.Scale fault };
-
-    fn from(fault: ScaleFault<'a>) -> Self {
-        TextFault::Scale(fault)
     }
 }
 

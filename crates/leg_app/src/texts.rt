@@ -4,7 +4,7 @@ ghost use Rattle.std.specs.Prelude.{◌≡◌, map, IfOk, IfErr};
 ghost use Rattle.leg_cells.specs.Records.{Contents};
 ghost use Rattle.leg_app.specs.Say.{SayLibraryFor};
 ghost use Rattle.leg_app.specs.Steps.SaidLibrary.{SayNoLibrary};
-ghost use Rattle.leg_app.specs.Refusal.{Refuses};
+ghost use Rattle.leg_app.specs.Refusal.{Refuses, HasUnitsOf};
 
 use crate::text_fault::TextFault;
 use leg_cells::Library;
@@ -15,7 +15,8 @@ use std::alloc::Allocator;
 
 /// The fault of a DEF, as the text that comes after this many LEFs.
 pub(crate) fn behind_lefs(lefs: usize, fault: ReadFault) -> ReadFault
-    ensures { result.kind ≡ fault.kind }
+    ensures kind { result.kind ≡ fault.kind }
+    ensures need { result.need ≡ fault.need }
 {
     ReadFault {
         file: file_number(lefs),
@@ -35,6 +36,7 @@ pub(crate) fn library_for<'a, 'd, A: Allocator + Copy>(
         → SayLibraryFor (map (λ t. t.now) lefs.now) def.now said → said ≡ both.0) }
     ensures text { IfOk result (λ both. both.1 ≡ def.now) }
     ensures none { IfErr result (λ fault. Refuses (SayNoLibrary (map (λ t. t.now) lefs.now) def.now) ⊥ fault) }
+    ensures units { IfErr result (λ fault. HasUnitsOf def.now fault) }
 {
     let raw = read_lefs(alloc, lefs)?;
     let text = match DefText::new(alloc, def) {
@@ -45,6 +47,8 @@ pub(crate) fn library_for<'a, 'd, A: Allocator + Copy>(
         Ok(n) => n,
         Err(fault) => return Err(TextFault::Read(behind_lefs(lefs.len(), fault))),
     };
-    let library = raw.at(alloc, n)?;
-    Ok((library, text))
+    match raw.at(alloc, n) {
+        Ok(library) => Ok((library, text)),
+        Err(fault) => Err(TextFault::Scale(fault, n)),
+    }
 }

@@ -6,10 +6,10 @@ ghost use Rattle.leg_app.specs.declared.end.Halt.TheVariants.{Usage};
 ghost use Rattle.leg_app.specs.End.{halt_code};
 ghost use Rattle.leg_call.specs.Call.{command_of, Answers};
 
-mod message;
+mod explained;
 
+pub use explained::lefdef_run_explained;
 use leg_lent::Memory;
-pub use message::lefdef_message;
 
 /// `leg_call::call`, for C.
 #[unsafe(no_mangle)]

@@ -1,1 +1,2 @@
 mod OutOfMemory
+mod Said

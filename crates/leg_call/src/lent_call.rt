@@ -10,8 +10,8 @@ use crate::number::command_of;
 use leg_app::{Halt, RunFault, Status, run};
 use leg_lent::{LentHeap, Memory};
 
-// What is answered where memory ran out.
-const NO_MEMORY: &[u8] = b"MEMORY\n";
+/// What is answered where memory ran out.
+pub(crate) const NO_MEMORY: &[u8] = b"MEMORY\n";
 
 /// Answers the command of this number to the texts of the LEFs, in order, and of the DEF. All memory is taken from `memory`,
 /// which is used up. Puts as much of the answer as fits into `out`, from its first byte on, leaves the bytes of `out` beyond the
@@ -42,14 +42,22 @@ pub fn call(
     }
 }
 
-// Gives the caller an answer, and returns its exit status.
-fn give(status: Status, text: &[u8], out: &mut [u8], count: &mut usize) -> u32
+/// Gives the caller an answer, and returns its exit status.
+pub(crate) fn give(status: Status, text: &[u8], out: &mut [u8], count: &mut usize) -> u32
     ensures status { result ≡ exit_code status }
+    ensures count { count.new ≡ length text.now }
+    ensures front { out.new ≡ overlay text.now out.old }
+{
+    give_text(text, out, count);
+    u32::from(status.code())
+}
+
+/// Gives the caller a text.
+pub(crate) fn give_text(text: &[u8], out: &mut [u8], count: &mut usize)
     ensures count { count.new ≡ length text.now }
     ensures front { out.new ≡ overlay text.now out.old }
 {
     let fits = text.len().min(out.len());
     out[..fits].copy_from_slice(&text[..fits]);
     *count = text.len();
-    u32::from(status.code())
 }

@@ -6,9 +6,8 @@ use Rattle.std.proofs.lemmas.List.{get_or_default}
 use Rattle.leg_block.specs.Records.{DesignContents}
 use Rattle.leg_flat.specs.Flat.{FlatSaid}
 use Rattle.leg_finish.specs.declared.groups.OpenNet.{OpenNet}
-use Rattle.leg_finish.specs.Reach.{IsUnreachable, ComesBefore, IsFirstUnreachable, AreReachable}
+use Rattle.leg_finish.specs.Reach.{IsUnreachable, IsFirstOfNet, ComesBefore, IsFirstUnreachable, AreReachable}
 use Rattle.leg_finish.specs.Steps.OpenNets.{AreOpenNets}
-use Rattle.leg_finish.specs.Steps.Reached.{IsFirstOfNet}
 
 -- each piece of the net can be reached
 abbrev pub IsReached : {A : Type 0} → DesignContents → FlatSaid → OpenNet A → Type 0

@@ -1,6 +1,6 @@
 -- Pieces of a net that cannot be reached, whatever other nets do (lefdef's own rules). A node meets a piece if its point is one of a
 -- rectangle of the piece on the node's layer.
-use Rattle.std.specs.Prelude.{◌≡◌, ◌<◌, ℕ, ◌⊎◌}
+use Rattle.std.specs.Prelude.{◌≡◌, ◌<◌, ℕ, ◌⊎◌, Option, None, Some}
 use Rattle.leg_block.specs.Records.{DesignContents}
 use Rattle.leg_flat.specs.Flat.{FlatSaid}
 use Rattle.leg_walk.specs.Walk.{NoWalk}
@@ -27,6 +27,16 @@ pub record IsUnreachable (design : DesignContents) (flat : FlatSaid) (net piece 
   pub is_open : IsOpenNet design flat net
   pub there : piece < piece_count flat net
   pub none : NoWalk (IsOpenNode design flat net) (IsOpenStep design flat net) (MeetsJoinedTo flat net piece) (MeetsOthers flat net piece)
+
+-- it is the first piece of the net that cannot be reached
+pub record IsFirstOfNet (design : DesignContents) (flat : FlatSaid) (net piece : ℕ) : Type 0 where
+  pub unreachable : IsUnreachable design flat net piece
+  pub first : (k : ℕ) → k < piece → ¬ IsUnreachable design flat net k
+
+-- the first piece of the net that cannot be reached, or none where each can
+abbrev pub IsFirstOfNetIfAny : DesignContents → FlatSaid → ℕ → Option ℕ → Type 0
+IsFirstOfNetIfAny design flat net None = (k : ℕ) → ¬ IsUnreachable design flat net k
+IsFirstOfNetIfAny design flat net (Some piece) = IsFirstOfNet design flat net piece
 
 -- the one piece comes before the other: its net does, or it does among the pieces of the same net
 abbrev pub ComesBefore : ℕ → ℕ → ℕ → ℕ → Type 0

@@ -5,9 +5,9 @@ ghost use Rattle.leg_walk.specs.Marks.{AreUnseen};
 ghost use Rattle.leg_grid.specs.Grid.{slot_total};
 ghost use Rattle.leg_grid.specs.Bound.{AreBoxed};
 ghost use Rattle.leg_grid.specs.Told.{TellsSlots};
-ghost use Rattle.leg_finish.specs.Reach.{IsUnreachable};
+ghost use Rattle.leg_finish.specs.Reach.{IsUnreachable, IsFirstOfNetIfAny};
 ghost use Rattle.leg_finish.specs.Steps.OpenNets.{IsOpenWith, AreOpenNets};
-ghost use Rattle.leg_finish.specs.Steps.Reached.{HasNoWay, IsFirstOfNetIfAny, IsFirstUnreachableIfAny};
+ghost use Rattle.leg_finish.specs.Steps.Reached.{HasNoWay, IsFirstUnreachableIfAny};
 
 use crate::group_slots::group_slots;
 use crate::groups::OpenNet;
@@ -157,4 +157,23 @@ pub(crate) fn first_unreachable<A: Allocator + Copy>(
         }
     }
     Ok(None)
+}
+
+/// The same of one net that is open.
+pub(crate) fn unreachable_piece_of<A: Allocator + Copy>(
+    alloc: A,
+    grid: &Grid<'_, '_, A>,
+    design: &Design<'_, A>,
+    flat: &Flat<A>,
+    net: &OpenNet<A>,
+) -> Result<Option<u32>, AllocError>
+    requires of_design { grid.now.design ≡ design.now }
+    requires is_open { IsOpenWith design.now flat.now net.now }
+    ensures { IfOk result (λ found. IsFirstOfNetIfAny design.now flat.now net.now.net found) }
+{
+    let slots = slots_beside(alloc, grid, design, flat.shapes())?;
+    let mut marks = unseen_marks(alloc, grid.size() as usize)?;
+    let mut touched = Vec::new(alloc);
+    let found = unreachable_piece(alloc, grid, flat, &slots, net, &mut marks, &mut touched)?;
+    Ok(found)
 }

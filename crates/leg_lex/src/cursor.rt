@@ -19,12 +19,13 @@ use std::marker::Model;
 /// words.
 #[derive(Drop)]
 pub struct Cursor<'t, 'a> {
-    text: &'a [u8],
-    rest: &'t [WordPlace],
-    // For faults: the text's number, the word before, and the mark that ends these words, if a mark does.
-    file: u32,
-    before: WordPlace,
-    closed_at: Option<WordPlace>,
+    pub(crate) text: &'a [u8],
+    pub(crate) rest: &'t [WordPlace],
+    // For faults: the text's number, whether a mark ends these words, and where it is, or else where the text's last word is, if the
+    // text has words.
+    pub(crate) file: u32,
+    pub(crate) is_closed: bool,
+    pub(crate) last: Option<&'t WordPlace>,
 }
 
 impl<'t, 'a> Model for Cursor<'t, 'a> {
@@ -43,16 +44,13 @@ impl<'t, 'a> Cursor<'t, 'a> {
     pub fn new<A: Allocator>(file: u32, words: &'t Words<'a, A>) -> Cursor<'t, 'a>
         ensures { result ≡ texts words.now }
     {
+        let places = words.places.as_slice();
         Cursor {
             text: words.text,
-            rest: words.places.as_slice(),
+            rest: places,
             file,
-            before: WordPlace {
-                start: 0,
-                end: 0,
-                line: 1,
-            },
-            closed_at: None,
+            is_closed: false,
+            last: places.last(),
         }
     }
 
@@ -64,76 +62,8 @@ impl<'t, 'a> Cursor<'t, 'a> {
             text: self.text,
             rest: self.rest,
             file: self.file,
-            before: self.before,
-            closed_at: self.closed_at,
-        }
-    }
-
-    /// A fault at the next word; where no word is left, at the mark that ends the words, or else at the
-    /// last word.
-    pub fn fault(&self, kind: FaultKind) -> ReadFault
-        ensures { result.kind ≡ kind }
-    {
-        self.need(kind, Need::OfKind)
-    }
-
-    /// The same, where this is needed.
-    pub fn need(&self, kind: FaultKind, need: Need) -> ReadFault
-        ensures { result.kind ≡ kind }
-    {
-        let word = match self.rest {
-            [next, ..] => *next,
-            [] => self.last(),
-        };
-        self.fault_at(&word, kind, need)
-    }
-
-    /// The same fault of one of these words; where the name of an entry `- NAME` is that of an entry before, with the line of the first
-    /// one.
-    pub fn with_first_entry(&self, fault: ReadFault) -> ReadFault
-        ensures { result.kind ≡ fault.kind }
-    {
-        let Need::New(kind) = fault.need else {
-            return fault;
-        };
-        match first_entry(self.text, self.rest, &fault) {
-            Some(line) => fault.needs(Need::NewSince(kind, line)),
-            None => fault,
-        }
-    }
-
-    // A fault at this word.
-    fn fault_at(&self, word: &WordPlace, kind: FaultKind, need: Need) -> ReadFault
-        ensures { result.kind ≡ kind }
-    {
-        ReadFault {
-            file: self.file,
-            line: word.line,
-            start: word.start,
-            end: word.end,
-            kind,
-            need,
-        }
-    }
-
-    // The fault of words that end too early. Where a mark ends them, it is in the place of what is needed.
-    fn cut_short(&self, in_place: FaultKind, need: Need) -> ReadFault
-        requires { in_place ≢ FaultKind.Memory }
-        ensures { result.kind ≢ FaultKind.Memory }
-    {
-        let kind = match self.closed_at {
-            Some(_) => in_place,
-            None => FaultKind::UnexpectedEnd,
-        };
-        self.fault_at(&self.last(), kind, need)
-    }
-
-    // The mark that ends the words; without one, the last word.
-    fn last(&self) -> WordPlace {
-        match (self.closed_at, self.rest) {
-            (Some(mark), _) => mark,
-            (None, [.., last]) => *last,
-            (None, []) => self.before,
+            is_closed: self.is_closed,
+            last: self.last,
         }
     }
 
@@ -216,8 +146,7 @@ impl<'t, 'a> Cursor<'t, 'a> {
     pub(crate) fn skip(&mut self)
         ensures { self.new ≡ drop 1 self.old }
     {
-        if let [next, rest @ ..] = self.rest {
-            self.before = *next;
+        if let [_, rest @ ..] = self.rest {
             self.rest = rest;
         }
     }
@@ -383,15 +312,13 @@ impl<'t, 'a> Cursor<'t, 'a> {
     {
         let words = self.rest;
         let end = place_of_mark(mark, self.text, words)?;
-        let last = &words[end];
         let front = Cursor {
             text: self.text,
             rest: &words[..end],
             file: self.file,
-            before: self.before,
-            closed_at: Some(*last),
+            is_closed: true,
+            last: Some(&words[end]),
         };
-        self.before = *last;
         self.rest = &words[end + 1..];
         Some(front)
     }
@@ -409,36 +336,6 @@ impl<'t, 'a> Cursor<'t, 'a> {
             statements.push(self.statement()?)?;
         }
         Ok(statements)
-    }
-}
-
-// The line of the first entry whose name is the word at fault, of the words at these places of the text, if it is another one.
-fn first_entry(text: &[u8], words: &[WordPlace], fault: &ReadFault) -> Option<u32> {
-    let name = text.get(fault.start as usize..fault.end as usize)?;
-    let at = words
-        .windows(2)
-        .position(|two| begins_entry(text, two, name))?;
-    let entry = words.get(at)?;
-    if entry.start < fault.start {
-        Some(entry.line)
-    } else {
-        None
-    }
-}
-
-// Whether an entry of this name begins with the words at these places of the text.
-fn begins_entry(text: &[u8], words: &[WordPlace], name: &[u8]) -> bool {
-    match words {
-        [dash, named] => is_there(text, dash, b"-") && is_there(text, named, name),
-        _ => false,
-    }
-}
-
-// Whether the word at this place of the text is this one.
-fn is_there(text: &[u8], place: &WordPlace, word: &[u8]) -> bool {
-    match text.get(place.start as usize..place.end as usize) {
-        Some(bytes) => bytes == word,
-        None => false,
     }
 }
 

@@ -3,6 +3,7 @@
 
 mod block;
 mod cursor;
+mod cursor_fault;
 mod fault;
 pub mod laws;
 mod length;
@@ -21,6 +22,7 @@ mod words_of_file;
 
 pub use block::{clauses, only, the};
 pub use cursor::Cursor;
+pub use cursor_fault::FaultPlace;
 pub use fault::{LexFault, NumFault};
 pub use length::Micron;
 pub use limits::{MILLIONTHS_LIMIT, NUMBER_LIMIT, TEXT_LIMIT, UNITS_LIMIT};

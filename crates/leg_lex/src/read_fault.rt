@@ -1,6 +1,6 @@
 //! Why a LEF or DEF text is refused.
 
-ghost use Rattle.std.specs.Prelude.{◌≡◌, ◌≢◌, ◌↔◌};
+ghost use Rattle.std.specs.Prelude.{◌≡◌, ◌≢◌, ◌↔◌, take};
 ghost use Rattle.leg_lex.specs.declared.read_fault.FaultKind.TheVariants.{Memory};
 ghost use Rattle.leg_lex.specs.Keyword.{keyword_text};
 
@@ -107,23 +107,28 @@ const KEPT: usize = 16;
 #[derive(Clone, Copy, PartialEq, Eq, Debug)]
 pub struct Keyword {
     bytes: [u8; KEPT],
-    len: usize,
+    len: u8,
 }
 
 impl Keyword {
     /// The keyword of these bytes.
-    pub fn new(keyword: &[u8]) -> Keyword {
+    pub fn new(keyword: &[u8]) -> Keyword
+        ensures { keyword_text result ≡ take 16 keyword.now }
+    {
         let len = keyword.len().min(KEPT);
         let mut bytes = [0; KEPT];
         bytes[..len].copy_from_slice(&keyword[..len]);
-        Keyword { bytes, len }
+        Keyword {
+            bytes,
+            len: len as u8,
+        }
     }
 
     /// Its bytes.
     pub fn bytes(&self) -> &[u8]
         ensures { result.now ≡ keyword_text self.now }
     {
-        &self.bytes[..self.len.min(KEPT)]
+        &self.bytes[..(self.len as usize).min(KEPT)]
     }
 }
 

@@ -1,5 +1,5 @@
 -- A fold over the front of a list.
-use Rattle.std.proofs.Common.{◌≡◌, ℕ, zero, suc, ◌+◌, List, [], ◌∷◌, take, Some, slice_get, ap, ◌∙◌}
+use Rattle.std.proofs.Common.{◌≡◌, ℕ, zero, suc, ◌+◌, List, [], ◌∷◌, take, Some, slice_get, ap}
 use Rattle.std.specs.List.{fold}
 use Rattle.std.proofs.Math.Numerals.{unary_clauses}
 use Rattle.std.proofs.lemmas.Option.{same_Some, none-some}

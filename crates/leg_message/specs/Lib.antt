@@ -4,6 +4,5 @@ pub mod TextLine
 pub mod Note
 pub mod Texts
 pub mod Length
-pub mod Cause
 pub mod Message
 pub mod Steps

@@ -1,14 +1,16 @@
 -- Messages on standard error.
-use Rattle.std.specs.Prelude.{◌≡◌, ℕ, ◌+◌, List, [], ◌∷◌, ◌++◌, ◌⊎◌, nat_lt, ◌||◌, if◌then◌else◌, length, map, Option, None, MatchBool, codes, decimal}
-use Rattle.std.specs.Str.{bytes_eq}
+use Rattle.std.specs.Prelude.{◌≡◌, ℕ, ◌+◌, List, [], ◌∷◌, ◌++◌, ◌⊎◌, nat_lt, if◌then◌else◌, length, map, Contains, Option, None, codes, decimal}
+use Rattle.leg_lex.specs.Word.{Word}
+use Rattle.leg_lex.specs.Tokens.{AreTokens}
 use Rattle.leg_lex.specs.declared.limits.TheConstants.{TEXT_LIMIT}
 use Rattle.leg_lex.specs.declared.read_fault.ReadFault.{ReadFault}
-use Rattle.leg_lex.specs.declared.read_fault.FaultKind.{FaultKind}
 use Rattle.leg_cells.specs.declared.scale_fault.ScaleKind.{ScaleKind}
+use Rattle.leg_cells.specs.declared.scale_fault.ScaleFault.{ScaleFault}
+use Rattle.leg_reason.specs.declared.reason.Reason.{Reason}
+use Rattle.leg_reason.specs.declared.reason.Reason.TheVariants.{Read, NoLibrary, Scale}
 use Rattle.leg_input.specs.Stream.{HasEndLibrary, IsSplit}
 use Rattle.leg_message.specs.declared.note.Note.{Note}
 use Rattle.leg_message.specs.Advice.{advice_of}
-use Rattle.leg_message.specs.Cause.{DenoteDesign}
 use Rattle.leg_message.specs.Length.{HasFault}
 use Rattle.leg_message.specs.Note.{note_line, hides_line}
 use Rattle.leg_message.specs.Sentence.{before_of, after_of, need_text, advice_on, scale_sentence_of}
@@ -37,21 +39,25 @@ abbrev pub fault_place : TextsSaid → ℕ → ReadFault → List ℕ
 fault_place texts number fault = place_of_word texts number fault (word_of (text_of texts number) fault)
 
 -- why a text is refused: it is too long, or by its fault
-abbrev pub reason_of : TextsSaid → List ℕ → ReadFault → List ℕ
-reason_of texts text fault =
+abbrev pub reason_of : TextsSaid → List ℕ → ReadFault → Option (List ℕ) → List ℕ
+reason_of texts text fault master =
     if nat_lt TEXT_LIMIT (length text) then codes "the text is longer than 268,435,456 bytes"
     else before_of fault.kind (word_of text fault) ++ shown_word (word_of text fault) ++ after_of fault.kind
-    ++ need_text texts fault.need (word_of text fault) ++ advice_on fault.kind (word_of text fault)
+    ++ need_text texts fault.need master (word_of text fault) ++ advice_on fault.kind (word_of text fault)
 
 -- the line at fault, and below it a mark under the word
 abbrev pub marked_line : List ℕ → ReadFault → List ℕ
 marked_line text fault = shown_line (line_of fault.line text) ++ mark_line (column_of fault.start text) (length (word_of text fault))
 
--- the message on a fault of the text of this number: where and why, the line with the word, and a note
-abbrev pub fault_message : TextsSaid → ℕ → ReadFault → Option Note → List ℕ
-fault_message texts number fault note =
-    fault_place texts number fault ++ reason_of texts (text_of texts number) fault ++ codes "\n"
-    ++ (if hides_line note then [] else marked_line (text_of texts number) fault) ++ note_line note
+-- the message on a fault, which may need a pin of this macro: where and why, the line with the word, and a note
+abbrev pub fault_message : TextsSaid → ReadFault → Option (List ℕ) → Option Note → List ℕ
+fault_message texts fault master note =
+    fault_place texts fault.file fault ++ reason_of texts (text_of texts fault.file) fault master ++ codes "\n"
+    ++ (if hides_line note then [] else marked_line (text_of texts fault.file) fault) ++ note_line note
+
+-- standard input in which no LEF ends
+abbrev pub no_library_reason : List ℕ
+no_library_reason = codes "no END LIBRARY, with which the LEF ends: the DEF comes after it"
 
 -- the message on a line of the text of this number: where and why, the line, and a note
 abbrev pub line_message : TextsSaid → ℕ → ℕ → List ℕ → Option Note → List ℕ
@@ -73,71 +79,44 @@ length_message texts number line form name length reason =
 abbrev pub name_message : List ℕ → List ℕ → List ℕ
 name_message name reason = codes "layer, site, macro or via " ++ map shown_byte name ++ codes ": a length of it" ++ reason
 
--- what is advised, where it is anything
-abbrev pub advice_text : List ℕ → List ℕ → List ℕ
-advice_text path [] = []
-advice_text path (b ∷ bytes) = path ++ codes ": " ++ (b ∷ bytes) ++ codes "\n"
+-- the message of what to do about a reason, where the DEF has this path
+abbrev pub advice_message : {A : Type 0} → TextsSaid → Reason A → List ℕ
+advice_message texts reason = path_of texts (length texts.lefs) ++ codes ": " ++ advice_of reason ++ codes "\n"
 
-abbrev pub advice_message : TextsSaid → List ℕ → List ℕ
-advice_message texts word = advice_text (path_of texts (length texts.lefs)) (advice_of word)
-
--- a fault of a text is shown: its line, its word and what is needed there
-pub record ShowsLine (texts : TextsSaid) (message : List ℕ) : Type 0 where
-  pub number : ℕ
-  pub fault : ReadFault
-  pub note : Option Note
-  pub is : message ≡ fault_message texts number fault note
-
--- a length of a LEF is shown, which has the fault that is named
-pub record ShowsLength (texts : TextsSaid) (message : List ℕ) : Type 0 where
+-- a length of a LEF is shown, which has the fault at these units: it is a word of the LEF, in the line that is shown
+pub record ShowsLength (texts : TextsSaid) (fault : ScaleFault) (units : ℕ) (message : List ℕ) : Type 0 where
   pub number : ℕ
   pub line : ℕ
   pub form : List ℕ
-  pub name : List ℕ
   pub written : List ℕ
-  pub kind : ScaleKind
-  pub units : ℕ
-  pub fault : HasFault kind units written
-  pub is : message ≡ length_message texts number line form name written (scale_reason kind units)
+  pub words : List Word
+  pub are : AreTokens (text_of texts number) words
+  pub there : Contains words (record { text = written; line = line })
+  pub has : HasFault fault.kind units written
+  pub is : message ≡ length_message texts number line form fault.name written (scale_reason fault.kind units)
 
--- what has such a length is named
-pub record ShowsName (message : List ℕ) : Type 0 where
-  pub name : List ℕ
-  pub kind : ScaleKind
-  pub units : ℕ
-  pub is : message ≡ name_message name (scale_reason kind units)
+-- a length is shown, or what has it is named
+abbrev pub IsScaleMessage : TextsSaid → ScaleFault → ℕ → List ℕ → Type 0
+IsScaleMessage texts fault units message =
+    ShowsLength texts fault units message ⊎ (message ≡ name_message fault.name (scale_reason fault.kind units))
 
--- nothing, where the texts denote a design and so are not refused
-pub record ShowsNothing (texts : TextsSaid) (message : List ℕ) : Type 0 where
-  pub said : DenoteDesign texts.lefs texts.def
-  pub is : message ≡ []
-
--- the message on texts that are refused
-abbrev pub IsRefusal : TextsSaid → List ℕ → Type 0
-IsRefusal texts message = ShowsNothing texts message ⊎ (ShowsLine texts message ⊎ (ShowsLength texts message ⊎ ShowsName message))
-
--- The message on a run whose last line begins with this word.
-abbrev pub IsMessage : TextsSaid → List ℕ → List ℕ → Type 0
-IsMessage texts word message =
-    MatchBool (bytes_eq word (codes "REFUSED") || bytes_eq word (codes "SCALE")) (IsRefusal texts message) (message ≡ advice_message texts word)
+-- The message on a run that stopped for this reason.
+abbrev pub IsMessage : {A : Type 0} → TextsSaid → Reason A → List ℕ → Type 0
+IsMessage texts (Read fault master) message = (note : Option Note) × (message ≡ fault_message texts fault master note)
+IsMessage texts NoLibrary message = (note : Option Note) × (message ≡ line_message texts 0 1 no_library_reason note)
+IsMessage texts (Scale fault units) message = IsScaleMessage texts fault units message
+IsMessage texts reason message = message ≡ advice_message texts reason
 
 -- the texts of standard input
 abbrev pub stream_texts : List ℕ → List ℕ → TextsSaid
 stream_texts lef def = record { names = None; lefs = lef ∷ []; def = def }
 
--- the message on standard input that is cut into a LEF and a DEF
-pub record IsOfParts (stream word message : List ℕ) : Type 0 where
-  pub lef : List ℕ
-  pub def : List ℕ
-  pub split : IsSplit stream lef def
-  pub is : IsMessage (stream_texts lef def) word message
+-- The texts of standard input: its LEF and its DEF, or all of it as the LEF where no LEF ends in it.
+abbrev pub AreStreamTexts : List ℕ → TextsSaid → Type 0
+AreStreamTexts stream texts =
+    ((lef : List ℕ) × (def : List ℕ) × IsSplit stream lef def × (texts ≡ stream_texts lef def))
+    ⊎ ((¬ HasEndLibrary stream) × (texts ≡ stream_texts stream []))
 
--- the message on standard input in which no LEF ends, and so all of it is taken as the LEF
-pub record IsOfNoLibrary (stream word message : List ℕ) : Type 0 where
-  pub none : ¬ HasEndLibrary stream
-  pub note : Option Note
-  pub is : message ≡ (if bytes_eq word (codes "REFUSED")
-      then line_message (stream_texts stream []) 0 1 (codes "no END LIBRARY, with which the LEF ends: the DEF comes after it") note else [])
-
-abbrev pub IsStreamMessage : List ℕ → List ℕ → List ℕ → Type 0
-IsStreamMessage stream word message = IsOfParts stream word message ⊎ IsOfNoLibrary stream word message
+-- The message on a run over standard input.
+abbrev pub IsStreamMessage : {A : Type 0} → List ℕ → Reason A → List ℕ → Type 0
+IsStreamMessage stream reason message = (texts : TextsSaid) × AreStreamTexts stream texts × IsMessage texts reason message

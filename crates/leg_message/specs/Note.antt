@@ -1,7 +1,7 @@
 -- Notes on refused texts that seem to be no LEF or DEF, or the other one of the two.
 use Rattle.std.specs.Prelude.{ℕ, Bool, true, false, List, [], Option, None, Some, codes}
 use Rattle.leg_message.specs.declared.note.Note.{Note}
-use Rattle.leg_message.specs.declared.note.Note.TheVariants.{Empty, Gzip, Utf8Mark, Utf16Mark, Elf, Binary, LefForDef, DefForLef, NoUnits, LastWord, EmptyLef}
+use Rattle.leg_message.specs.declared.note.Note.TheVariants.{Empty, Gzip, Utf8Mark, Utf16Mark, Elf, Binary, LefForDef, DefForLef, NoUnits, LastWord, EmptyLef, TooLong}
 
 -- the line of a note
 abbrev pub note_line : Option Note → List ℕ
@@ -17,8 +17,9 @@ note_line (Some DefForLef) = codes "note: this looks like a DEF, and a LEF is ex
 note_line (Some NoUnits) = codes "note: a DEF needs UNITS DISTANCE MICRONS n ; and this one has no UNITS\n"
 note_line (Some LastWord) = codes "note: the text ends with this word: has it been cut?\n"
 note_line (Some EmptyLef) = codes "note: a LEF that is given is empty, or has only white space\n"
+note_line (Some TooLong) = []
 
--- whether no line is shown: of a file that is no text, or of an empty one
+-- whether no line is shown: of a file that is no text, of an empty one, or of one that is too long
 abbrev pub hides_line : Option Note → Bool
 hides_line None = false
 hides_line (Some Empty) = true
@@ -32,3 +33,4 @@ hides_line (Some DefForLef) = false
 hides_line (Some NoUnits) = false
 hides_line (Some LastWord) = false
 hides_line (Some EmptyLef) = false
+hides_line (Some TooLong) = true

@@ -1,5 +1,5 @@
 -- What is wrong with a text, in words.
-use Rattle.std.specs.Prelude.{ℕ, List, [], ◌∷◌, ◌++◌, ◌||◌, ◌==◌, if◌then◌else◌, codes, decimal}
+use Rattle.std.specs.Prelude.{ℕ, List, [], ◌∷◌, ◌++◌, ◌||◌, ◌==◌, if◌then◌else◌, Option, None, Some, map, codes, decimal}
 use Rattle.std.specs.List.{list_any}
 use Rattle.std.specs.Fmt.{signed_decimal}
 use Rattle.leg_lex.specs.declared.read_fault.FaultKind.{FaultKind}
@@ -14,6 +14,7 @@ use Rattle.leg_lex.specs.Keyword.{keyword_text}
 use Rattle.leg_lex.specs.Words.{is_keyword}
 use Rattle.leg_cells.specs.declared.scale_fault.ScaleKind.{ScaleKind}
 use Rattle.leg_cells.specs.declared.scale_fault.ScaleKind.TheVariants as scale
+use Rattle.leg_message.specs.TextLine.{shown_byte}
 use Rattle.leg_message.specs.Texts.{TextsSaid, path_of}
 
 -- where a text ends that has this last word, or none
@@ -126,7 +127,7 @@ first_text needs.Orient = codes ": N, S, W, E, FN, FS, FW or FE is needed"
 first_text needs.RoutingLayer = codes ": a layer of TYPE ROUTING is needed"
 first_text needs.SameUnits = codes ": the UNITS before have another number"
 first_text (needs.Known kind) = name_text kind
-first_text (needs.KnownPin number) = codes "a pin of the macro of this component: check its spelling, in which capitals count"
+first_text (needs.KnownPin number) = codes "a pin of "
 first_text (needs.New kind) = name_text kind
 first_text (needs.NewSince kind line) = name_text kind
 first_text (needs.NewSinceText kind file line) = name_text kind
@@ -142,41 +143,46 @@ first_text needs.NoMask = codes ": a rectangle without MASK is needed"
 first_text needs.PlainSite = codes ": a SITE without a pattern behind its name is needed"
 first_text needs.PlainDie = codes ": two corners are needed, or four points that go round a rectangle"
 
--- then what differs from text to text: a keyword, a mark, a number, or where a name is defined
-abbrev pub middle_text : TextsSaid → Need → List ℕ
-middle_text texts needs.OfKind = []
-middle_text texts (needs.Keyword keyword) = keyword_text keyword
-middle_text texts (needs.Mark mark) = mark ∷ []
-middle_text texts needs.AnyWord = []
-middle_text texts needs.Name = []
-middle_text texts needs.Word = []
-middle_text texts needs.FormName = []
-middle_text texts needs.Whole = []
-middle_text texts needs.Length = []
-middle_text texts needs.Nothing = []
-middle_text texts needs.Form = []
-middle_text texts (needs.Statement keyword) = keyword_text keyword
-middle_text texts needs.NoSecond = []
-middle_text texts needs.Direction = []
-middle_text texts needs.Orient = []
-middle_text texts needs.RoutingLayer = []
-middle_text texts needs.SameUnits = []
-middle_text texts (needs.Known kind) = []
-middle_text texts (needs.KnownPin number) = []
-middle_text texts (needs.New kind) = []
-middle_text texts (needs.NewSince kind line) = codes ", which line " ++ decimal line ++ codes " defines"
-middle_text texts (needs.NewSinceText kind file line) = codes ", which " ++ path_of texts file ++ codes ":" ++ decimal line ++ codes " defines"
-middle_text texts (needs.AtLeast least) = decimal least
-middle_text texts needs.AboveZero = []
-middle_text texts needs.Units = []
-middle_text texts needs.EndInRange = []
-middle_text texts (needs.Fewer entry) = []
-middle_text texts needs.OneLine = []
-middle_text texts (needs.SiteStep width) = signed_decimal width
-middle_text texts needs.RowOrient = []
-middle_text texts needs.NoMask = []
-middle_text texts needs.PlainSite = []
-middle_text texts needs.PlainDie = []
+-- the macro of which a pin is needed
+abbrev pub master_text : Option (List ℕ) → List ℕ
+master_text None = codes "the macro of this component"
+master_text (Some name) = codes "macro " ++ map shown_byte name
+
+-- then what differs from text to text: a keyword, a mark, a number, where a name is defined, or a macro
+abbrev pub middle_text : TextsSaid → Need → Option (List ℕ) → List ℕ
+middle_text texts needs.OfKind master = []
+middle_text texts (needs.Keyword keyword) master = keyword_text keyword
+middle_text texts (needs.Mark mark) master = mark ∷ []
+middle_text texts needs.AnyWord master = []
+middle_text texts needs.Name master = []
+middle_text texts needs.Word master = []
+middle_text texts needs.FormName master = []
+middle_text texts needs.Whole master = []
+middle_text texts needs.Length master = []
+middle_text texts needs.Nothing master = []
+middle_text texts needs.Form master = []
+middle_text texts (needs.Statement keyword) master = keyword_text keyword
+middle_text texts needs.NoSecond master = []
+middle_text texts needs.Direction master = []
+middle_text texts needs.Orient master = []
+middle_text texts needs.RoutingLayer master = []
+middle_text texts needs.SameUnits master = []
+middle_text texts (needs.Known kind) master = []
+middle_text texts (needs.KnownPin number) master = master_text master
+middle_text texts (needs.New kind) master = []
+middle_text texts (needs.NewSince kind line) master = codes ", which line " ++ decimal line ++ codes " defines"
+middle_text texts (needs.NewSinceText kind file line) master = codes ", which " ++ path_of texts file ++ codes ":" ++ decimal line ++ codes " defines"
+middle_text texts (needs.AtLeast least) master = decimal least
+middle_text texts needs.AboveZero master = []
+middle_text texts needs.Units master = []
+middle_text texts needs.EndInRange master = []
+middle_text texts (needs.Fewer entry) master = []
+middle_text texts needs.OneLine master = []
+middle_text texts (needs.SiteStep width) master = signed_decimal width
+middle_text texts needs.RowOrient master = []
+middle_text texts needs.NoMask master = []
+middle_text texts needs.PlainSite master = []
+middle_text texts needs.PlainDie master = []
 
 -- and what is said last, in the place of this word
 abbrev pub last_text : Need → List ℕ → List ℕ
@@ -198,7 +204,7 @@ last_text needs.Orient word = []
 last_text needs.RoutingLayer word = []
 last_text needs.SameUnits word = []
 last_text (needs.Known kind) word = known_text kind
-last_text (needs.KnownPin number) word = []
+last_text (needs.KnownPin number) word = codes ": check its spelling, in which capitals count"
 last_text (needs.New kind) word = rename_text kind
 last_text (needs.NewSince kind line) word = rename_text kind
 last_text (needs.NewSinceText kind file line) word = rename_text kind
@@ -215,8 +221,8 @@ last_text needs.PlainSite word = []
 last_text needs.PlainDie word = []
 
 -- what is needed in the place of this word
-abbrev pub need_text : TextsSaid → Need → List ℕ → List ℕ
-need_text texts need word = first_text need ++ middle_text texts need ++ last_text need word
+abbrev pub need_text : TextsSaid → Need → Option (List ℕ) → List ℕ → List ℕ
+need_text texts need master word = first_text need ++ middle_text texts need master ++ last_text need word
 
 -- what to do about a form that is not supported, by its word
 abbrev pub form_text : List ℕ → List ℕ

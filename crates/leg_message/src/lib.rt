@@ -1,10 +1,9 @@
 //! Messages on standard error: where a text is refused and why, and what to do where a command stops without a design.
 //!
-//! They are made after a run has answered, from its texts and from the first word of its last line.
+//! They are made of the texts of a run and of the reason for which it stopped.
 #![tactic(auto)]
 
 mod advice;
-mod cause;
 mod limits;
 mod note;
 mod noting_writer;
@@ -18,4 +17,4 @@ mod texts;
 
 pub use noting_writer::NotingWriter;
 pub use run_message::{message, stream_message};
-pub use texts::Texts;
+pub use texts::{Paths, Texts};

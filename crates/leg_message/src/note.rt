@@ -40,6 +40,8 @@ pub(crate) enum Note {
     LastWord,
     /// A text that names what is not known, after a LEF that has nothing but white space.
     EmptyLef,
+    /// A text that is too long.
+    TooLong,
 }
 
 /// The line of a note, after the message on the fault.
@@ -64,23 +66,24 @@ pub(crate) fn note_line(note: Option<Note>) -> &'static [u8]
             b"note: a DEF needs UNITS DISTANCE MICRONS n ; and this one has no UNITS\n",
         Some(Note::LastWord) => b"note: the text ends with this word: has it been cut?\n",
         Some(Note::EmptyLef) => b"note: a LEF that is given is empty, or has only white space\n",
+        Some(Note::TooLong) => b"",
     }
 }
 
-/// Whether no line is shown: of a file that is no text, or of an empty one.
+/// Whether no line is shown: of a file that is no text, of an empty one, or of one that is too long.
 pub(crate) fn hides_line(note: Option<Note>) -> bool
     ensures { result ≡ hides_line note }
 {
     matches!(
         note,
-        Some(Note::Empty | Note::Gzip | Note::Utf16Mark | Note::Elf | Note::Binary)
+        Some(Note::Empty | Note::Gzip | Note::Utf16Mark | Note::Elf | Note::Binary | Note::TooLong)
     )
 }
 
-/// What a refused text seems to be, which has to be a LEF or else a DEF; none where it may be that, and of a text that is too long.
+/// What a refused text seems to be, which has to be a LEF or else a DEF; none where it may be that.
 pub(crate) fn note_of(text: &[u8], is_lef: bool, kind: FaultKind) -> Option<Note> {
     if text.len() as u64 > TEXT_LIMIT {
-        return None;
+        return Some(Note::TooLong);
     }
     let Some(start) = text.iter().position(|byte| !is_white(*byte)) else {
         return Some(Note::Empty);

@@ -1,116 +1,101 @@
 //! The message on a run that has refused its texts, or has no design.
 
-ghost use Rattle.std.specs.Prelude.{◌≡◌, [], Option, codes, IfOk};
+ghost use Rattle.std.specs.Prelude.{◌≡◌, Option, IfOk};
 ghost use Rattle.leg_message.specs.declared.note.Note.{Note};
-ghost use Rattle.leg_message.specs.Message.{advice_message, line_message, stream_texts, IsMessage, IsRefusal, IsStreamMessage};
+ghost use Rattle.leg_message.specs.Message.{advice_message, line_message, no_library_reason, stream_texts, IsMessage, IsStreamMessage};
 
-use crate::advice::advice_of;
-use crate::cause::{Cause, cause_of};
+use crate::advice::push_advice;
 use crate::note::note_of;
 use crate::refused::{line_message, refused_message};
 use crate::scaling::scale_message;
 use crate::texts::Texts;
-use leg_cells::ScaleKind;
 use leg_input::split_stream;
 use leg_lex::FaultKind;
+use leg_reason::Reason;
 use std::alloc::{AllocError, Allocator};
 
-/// The message on a run over these texts whose last line begins with this word; empty where nothing is to be said.
+/// The message on a run over these texts that stopped for this reason.
 ///
-/// A run that has refused its texts has them read again here, to find why. An error where memory runs out, but while a length
-/// that has a fault is looked for: what has it is then named without its line.
+/// A text that isn't read is shown at its fault. A length of a LEF that isn't one in the DEF's units is looked for in the words of its
+/// form: where none is found, and where memory runs out as they are gone through, what has it is named without its line.
 pub fn message<A: Allocator + Copy, B: Allocator>(
     alloc: A,
-    texts: &Texts<'_, B>,
-    word: &[u8],
+    texts: &Texts<'_>,
+    reason: &Reason<'_, B>,
 ) -> Result<Vec<u8, A>, AllocError>
-    ensures { IfOk result (λ m. IsMessage texts.now word.now m.items) }
+    ensures { IfOk result (λ m. IsMessage texts.now reason.now m.items) }
 {
-    if word == b"REFUSED".as_slice() || word == b"SCALE".as_slice() {
-        refusal_message(alloc, texts)
-    } else {
-        advice_message(alloc, texts, word)
-    }
-}
-
-/// The message on texts that are refused; empty where they are not.
-fn refusal_message<A: Allocator + Copy, B: Allocator>(
-    alloc: A,
-    texts: &Texts<'_, B>,
-) -> Result<Vec<u8, A>, AllocError>
-    ensures { IfOk result (λ m. IsRefusal texts.now m.items) }
-{
-    match cause_of(alloc, texts.lefs, texts.def) {
-        Cause::Read(_, fault) if fault.kind == FaultKind::Memory => Err(AllocError),
-        Cause::Read(number, fault) => refused_message(alloc, texts, number, &fault),
-        Cause::Scale(fault, _) if fault.kind == ScaleKind::Memory => Err(AllocError),
-        Cause::Scale(fault, units) => scale_message(alloc, texts, &fault, units),
-        Cause::Nothing => Ok(Vec::new(alloc)),
-    }
-}
-
-/// What to do where a run has no design; empty where nothing is advised.
-fn advice_message<A: Allocator + Copy, B: Allocator>(
-    alloc: A,
-    texts: &Texts<'_, B>,
-    word: &[u8],
-) -> Result<Vec<u8, A>, AllocError>
-    ensures { IfOk result (λ m. m.items ≡ advice_message texts.now word.now) }
-{
-    let mut message = Vec::new(alloc);
-    let advice = advice_of(word);
-    if !advice.is_empty() {
-        message.extend_from_slice(texts.path(texts.def_number()))?;
-        message.extend_from_slice(b": ")?;
-        message.extend_from_slice(advice)?;
-        message.extend_from_slice(b"\n")?;
-    }
-    Ok(message)
-}
-
-/// The message on a run over standard input whose last line begins with this word; empty where nothing is to be said. Where
-/// memory runs out it is as `message`.
-pub fn stream_message<A: Allocator + Copy>(
-    alloc: A,
-    stream: &[u8],
-    word: &[u8],
-) -> Result<Vec<u8, A>, AllocError>
-    ensures { IfOk result (λ m. IsStreamMessage stream.now word.now m.items) }
-{
-    if let Some((lef, def)) = split_stream(stream) {
-        let texts: Texts<'_, A> = Texts {
-            line: None,
-            lefs: &[lef],
-            def,
-        };
-        message(alloc, &texts, word)
-    } else if word == b"REFUSED".as_slice() {
-        no_library_message(alloc, stream)
-    } else {
-        Ok(Vec::new(alloc))
+    match reason {
+        Reason::Read(fault, master) => refused_message(alloc, texts, fault, master),
+        Reason::NoLibrary => no_library_message(alloc, texts),
+        Reason::Scale(fault, units) => scale_message(alloc, texts, fault, *units),
+        Reason::TooMany => advice_message(alloc, texts, reason),
+        Reason::FixedIllegal => advice_message(alloc, texts, reason),
+        Reason::NoSite(_) => advice_message(alloc, texts, reason),
+        Reason::NoRoom(_) => advice_message(alloc, texts, reason),
+        Reason::NotClean(_) => advice_message(alloc, texts, reason),
+        Reason::GridTooLarge(_) => advice_message(alloc, texts, reason),
+        Reason::Unroutable(_, _) => advice_message(alloc, texts, reason),
+        Reason::Unreachable(_, _) => advice_message(alloc, texts, reason),
+        Reason::Unfinished => advice_message(alloc, texts, reason),
     }
 }
 
 /// The message on standard input in which no LEF ends, so that all of it is taken as the LEF.
 fn no_library_message<A: Allocator + Copy>(
     alloc: A,
-    stream: &[u8],
+    texts: &Texts<'_>,
 ) -> Result<Vec<u8, A>, AllocError>
-    ensures { IfOk result (λ m. (note : Option Note) × (m.items ≡ line_message (stream_texts stream.now []) 0 1
-        (codes "no END LIBRARY, with which the LEF ends: the DEF comes after it") note)) }
+    ensures { IfOk result (λ m. (note : Option Note) × (m.items ≡ line_message texts.now 0 1 no_library_reason note)) }
 {
-    let texts: Texts<'_, A> = Texts {
-        line: None,
-        lefs: &[stream],
-        def: b"",
-    };
     let reason = b"no END LIBRARY, with which the LEF ends: the DEF comes after it";
-    line_message(
-        alloc,
-        &texts,
-        0,
-        1,
-        reason,
-        note_of(stream, true, FaultKind::UnexpectedEnd),
-    )
+    let note = note_of(texts.text(0), true, FaultKind::UnexpectedEnd);
+    line_message(alloc, texts, 0, 1, reason, note)
+}
+
+/// What to do where a run has no design.
+fn advice_message<A: Allocator + Copy, B: Allocator>(
+    alloc: A,
+    texts: &Texts<'_>,
+    reason: &Reason<'_, B>,
+) -> Result<Vec<u8, A>, AllocError>
+    ensures { IfOk result (λ m. m.items ≡ advice_message texts.now reason.now) }
+{
+    let mut message = Vec::new(alloc);
+    message.extend_from_slice(texts.path(texts.def_number()))?;
+    message.extend_from_slice(b": ")?;
+    push_advice(&mut message, reason)?;
+    message.extend_from_slice(b"\n")?;
+    Ok(message)
+}
+
+/// The message on a run over standard input that stopped for this reason.
+pub fn stream_message<A: Allocator + Copy, B: Allocator>(
+    alloc: A,
+    stream: &[u8],
+    reason: &Reason<'_, B>,
+) -> Result<Vec<u8, A>, AllocError>
+    ensures { IfOk result (λ m. IsStreamMessage stream.now reason.now m.items) }
+{
+    match split_stream(stream) {
+        Some((lef, def)) => parts_message(alloc, lef, def, reason),
+        None => parts_message(alloc, stream, b"", reason),
+    }
+}
+
+/// The message on standard input of this LEF and this DEF.
+fn parts_message<A: Allocator + Copy, B: Allocator>(
+    alloc: A,
+    lef: &[u8],
+    def: &[u8],
+    reason: &Reason<'_, B>,
+) -> Result<Vec<u8, A>, AllocError>
+    ensures { IfOk result (λ m. IsMessage (stream_texts lef.now def.now) reason.now m.items) }
+{
+    let texts = Texts {
+        paths: None,
+        lefs: &[lef],
+        def,
+    };
+    message(alloc, &texts, reason)
 }

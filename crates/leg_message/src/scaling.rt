@@ -1,9 +1,10 @@
 //! The message on a length of a LEF that isn't one in the DEF's units.
 
-ghost use Rattle.std.specs.Prelude.{◌≡◌, ◌≤◌, ◌++◌, IsTrue, IfSome, IfOk, OnOk};
-ghost use Rattle.leg_lex.specs.declared.limits.TheConstants.{UNITS_LIMIT};
+ghost use Rattle.std.specs.Prelude.{◌≡◌, ◌++◌, List, Contains, IsTrue, IfSome, IfOk, OnOk};
+ghost use Rattle.leg_lex.specs.Word.{Word};
+ghost use Rattle.leg_lex.specs.Tokens.{AreTokens};
 ghost use Rattle.leg_message.specs.Length.{HasFault};
-ghost use Rattle.leg_message.specs.Message.{length_message, name_message, scale_reason, IsRefusal};
+ghost use Rattle.leg_message.specs.Message.{length_message, name_message, scale_reason, IsScaleMessage};
 
 use crate::parts::{push_number, push_parts};
 use crate::refused::push_place;
@@ -11,7 +12,7 @@ use crate::sentence::scale_sentence_of;
 use crate::text_line::{line_of, push_shown, push_shown_bytes};
 use crate::texts::Texts;
 use leg_cells::{ScaleFault, ScaleKind};
-use leg_lex::{NumFault, Token, is_keyword, micron, tokens};
+use leg_lex::{NumFault, Token, UNITS_LIMIT, is_keyword, micron, tokens};
 use std::alloc::{AllocError, Allocator};
 
 /// A length as a LEF writes it.
@@ -27,15 +28,13 @@ struct Written<'a> {
 
 /// The message on a length that isn't one in the DEF's units, of which so many are a micron: the first such length of a
 /// form of that name, with its line; the name alone where none is found.
-pub(crate) fn scale_message<A: Allocator + Copy, B: Allocator>(
+pub(crate) fn scale_message<A: Allocator + Copy>(
     alloc: A,
-    texts: &Texts<'_, B>,
+    texts: &Texts<'_>,
     fault: &ScaleFault<'_>,
     units: u32,
 ) -> Result<Vec<u8, A>, AllocError>
-    requires above { 1 ≤ units }
-    requires within { units ≤ UNITS_LIMIT }
-    ensures { IfOk result (λ m. IsRefusal texts.now m.items) }
+    ensures { IfOk result (λ m. IsScaleMessage texts.now fault.now units m.items) }
 {
     for number in 0..texts.def_number() {
         if let Some(written) = written_in(alloc, texts.text(number), fault, units) {
@@ -61,9 +60,9 @@ fn name_message<A: Allocator + Copy>(
 }
 
 /// The message on this length of the LEF of this number.
-fn written_message<A: Allocator + Copy, B: Allocator>(
+fn written_message<A: Allocator + Copy>(
     alloc: A,
-    texts: &Texts<'_, B>,
+    texts: &Texts<'_>,
     number: usize,
     fault: &ScaleFault<'_>,
     units: u32,
@@ -104,14 +103,25 @@ fn written_in<'a, A: Allocator + Copy>(
     fault: &ScaleFault<'_>,
     units: u32,
 ) -> Option<Written<'a>>
-    requires above { 1 ≤ units }
-    requires within { units ≤ UNITS_LIMIT }
-    ensures { IfSome result (λ written. HasFault fault.now.kind units written.length.now) }
+    ensures has { IfSome result (λ written. HasFault fault.now.kind units written.length.now) }
+    ensures there { IfSome result (λ written. (words : List Word) × AreTokens lef.now words
+        × Contains words (record { text = written.length.now; line = written.line })) }
 {
-    let words = tokens(alloc, lef).ok()?;
+    let Ok(words) = tokens(alloc, lef) else {
+        return None;
+    };
+    written_among(&words, fault, units)
+}
+
+/// The same among the words of a LEF.
+fn written_among<'a>(words: &[Token<'a>], fault: &ScaleFault<'_>, units: u32) -> Option<Written<'a>>
+    ensures has { IfSome result (λ written. HasFault fault.now.kind units written.length.now) }
+    ensures there { IfSome result (λ written. Contains words.now (record { text = written.length.now; line = written.line })) }
+{
     let name = fault.name.bytes();
     let start = words.windows(3).position(|three| begins_form(three, name))?;
-    let (form, rest) = words[start..].split_first()?;
+    let form = words.get(start)?;
+    let rest = &words[start..];
     let end = rest
         .windows(2)
         .position(|two| ends_form(two, name))
@@ -151,9 +161,8 @@ fn ends_form(words: &[Token<'_>], name: &[u8]) -> bool {
 
 /// The first length of this fault among the words of a form, in a statement whose lengths are converted.
 fn length_in<'t, 'a>(words: &'t [Token<'a>], kind: ScaleKind, units: u32) -> Option<&'t Token<'a>>
-    requires above { 1 ≤ units }
-    requires within { units ≤ UNITS_LIMIT }
-    ensures { IfSome result (λ word. HasFault kind units word.now.text) }
+    ensures has { IfSome result (λ word. HasFault kind units word.now.text) }
+    ensures there { IfSome result (λ word. Contains words.now word.now) }
 {
     let mut is_converted = false;
     for word in words {
@@ -177,12 +186,13 @@ fn begins_lengths(word: &[u8], kind: ScaleKind) -> bool {
                 || is_keyword(b"SPACINGTABLE", word))
 }
 
-/// Whether the word is a length that has this fault at this many units a micron.
+/// Whether the word is a length that has this fault at this many units a micron, which a DEF may have.
 fn has_fault(word: &[u8], kind: ScaleKind, units: u32) -> bool
-    requires above { 1 ≤ units }
-    requires within { units ≤ UNITS_LIMIT }
     ensures { IsTrue result → HasFault kind units word.now }
 {
+    if units == 0 || units > UNITS_LIMIT {
+        return false;
+    }
     let Ok(length) = micron(word) else {
         return false;
     };

@@ -3,11 +3,12 @@
 ghost use Rattle.std.specs.Prelude.{◌≡◌, ◌==◌, ◌++◌, codes, decimal, OnOk};
 ghost use Rattle.leg_message.specs.Texts.{path_of};
 ghost use Rattle.std.specs.List.{list_any};
-ghost use Rattle.leg_message.specs.Sentence.{end_text, before_of, after_of, point_text, name_text, known_text, most_text, rename_text, first_text, middle_text, last_text, need_text, form_text, advice_on, scale_sentence_of};
+ghost use Rattle.leg_message.specs.Sentence.{end_text, before_of, after_of, point_text, name_text, known_text, most_text, rename_text, first_text, master_text, middle_text, last_text, need_text, form_text, advice_on, scale_sentence_of};
 
 use crate::parts::{push_number, push_parts, push_signed};
+use crate::text_line::push_shown_bytes;
 use crate::texts::Texts;
-use leg_cells::ScaleKind;
+use leg_cells::{Items, ScaleKind};
 use leg_lex::{Entry, FaultKind, NameKind, Need, is_keyword};
 use std::alloc::{AllocError, Allocator};
 
@@ -185,8 +186,7 @@ fn first_text(need: Need) -> &'static [u8]
         Need::RoutingLayer => b": a layer of TYPE ROUTING is needed",
         Need::SameUnits => b": the UNITS before have another number",
         Need::Known(kind) => name_text(kind),
-        Need::KnownPin(_) =>
-            b"a pin of the macro of this component: check its spelling, in which capitals count",
+        Need::KnownPin(_) => b"a pin of ",
         Need::New(kind) => name_text(kind),
         Need::NewSince(kind, _) => name_text(kind),
         Need::NewSinceText(kind, _, _) => name_text(kind),
@@ -227,7 +227,7 @@ fn last_text(need: Need, word: &[u8]) -> &'static [u8]
         Need::RoutingLayer => b"",
         Need::SameUnits => b"",
         Need::Known(kind) => known_text(kind),
-        Need::KnownPin(_) => b"",
+        Need::KnownPin(_) => b": check its spelling, in which capitals count",
         Need::New(kind) => rename_text(kind),
         Need::NewSince(kind, _) => rename_text(kind),
         Need::NewSinceText(kind, _, _) => rename_text(kind),
@@ -255,9 +255,9 @@ fn push_line<A: Allocator>(message: &mut Vec<u8, A>, line: u32) -> Result<(), Al
 }
 
 /// Adds the same, in this line of the text of this number.
-fn push_text_line<A: Allocator, B: Allocator>(
+fn push_text_line<A: Allocator>(
     message: &mut Vec<u8, A>,
-    texts: &Texts<'_, B>,
+    texts: &Texts<'_>,
     file: u32,
     line: u32,
 ) -> Result<(), AllocError>
@@ -270,13 +270,30 @@ fn push_text_line<A: Allocator, B: Allocator>(
     message.extend_from_slice(b" defines")
 }
 
-/// Adds what differs from text to text in what is needed: a keyword, a mark, a number, or where a name is defined.
+/// Adds the macro of which a pin is needed.
+fn push_master<A: Allocator, B: Allocator>(
+    message: &mut Vec<u8, A>,
+    master: &Option<Items<u8, B>>,
+) -> Result<(), AllocError>
+    ensures { OnOk result (message.new.items ≡ message.old.items ++ master_text master.now) }
+{
+    match master {
+        Some(name) => {
+            message.extend_from_slice(b"macro ")?;
+            push_shown_bytes(message, name.as_slice())
+        }
+        None => message.extend_from_slice(b"the macro of this component"),
+    }
+}
+
+/// Adds what differs from text to text in what is needed: a keyword, a mark, a number, where a name is defined, or a macro.
 fn push_middle<A: Allocator, B: Allocator>(
     message: &mut Vec<u8, A>,
-    texts: &Texts<'_, B>,
+    texts: &Texts<'_>,
     need: Need,
+    master: &Option<Items<u8, B>>,
 ) -> Result<(), AllocError>
-    ensures { OnOk result (message.new.items ≡ message.old.items ++ middle_text texts.now need) }
+    ensures { OnOk result (message.new.items ≡ message.old.items ++ middle_text texts.now need master.now) }
 {
     match need {
         Need::OfKind => Ok(()),
@@ -297,7 +314,7 @@ fn push_middle<A: Allocator, B: Allocator>(
         Need::RoutingLayer => Ok(()),
         Need::SameUnits => Ok(()),
         Need::Known(_) => Ok(()),
-        Need::KnownPin(_) => Ok(()),
+        Need::KnownPin(_) => push_master(message, master),
         Need::New(_) => Ok(()),
         Need::NewSince(_, line) => push_line(message, line),
         Need::NewSinceText(_, file, line) => push_text_line(message, texts, file, line),
@@ -315,17 +332,18 @@ fn push_middle<A: Allocator, B: Allocator>(
     }
 }
 
-/// Adds what is needed in the place of this word, which is at fault.
+/// Adds what is needed in the place of this word, which is at fault; it may be a pin of this macro.
 pub(crate) fn push_need<A: Allocator, B: Allocator>(
     message: &mut Vec<u8, A>,
-    texts: &Texts<'_, B>,
+    texts: &Texts<'_>,
     need: Need,
+    master: &Option<Items<u8, B>>,
     word: &[u8],
 ) -> Result<(), AllocError>
-    ensures { OnOk result (message.new.items ≡ message.old.items ++ need_text texts.now need word.now) }
+    ensures { OnOk result (message.new.items ≡ message.old.items ++ need_text texts.now need master.now word.now) }
 {
     message.extend_from_slice(first_text(need))?;
-    push_middle(message, texts, need)?;
+    push_middle(message, texts, need, master)?;
     message.extend_from_slice(last_text(need, word))
 }
 

@@ -3,35 +3,42 @@
 ghost use Rattle.std.specs.Prelude.{◌≡◌, length};
 ghost use Rattle.leg_message.specs.Texts.{path_of, text_of, part_of};
 
-use leg_input::Line;
-use std::alloc::Allocator;
 use std::marker::Model;
 
-/// The texts of a run, and the words that name their files.
+/// The names of files, as they were given.
 #[derive(Drop)]
-pub struct Texts<'a, A: Allocator> {
-    /// The words of the command line; none where the texts are those of standard input.
-    pub line: Option<&'a Line<'a, A>>,
+pub struct Paths<'a> {
+    /// Those of the LEFs, in order.
+    pub lefs: &'a [&'a [u8]],
+    /// That of the DEF.
+    pub def: &'a [u8],
+}
+
+/// The texts of a run, and the names of their files.
+#[derive(Drop)]
+pub struct Texts<'a> {
+    /// The names; none where the texts are those of standard input.
+    pub paths: Option<Paths<'a>>,
     /// The texts of the LEFs, in order.
     pub lefs: &'a [&'a [u8]],
     /// The text of the DEF.
     pub def: &'a [u8],
 }
 
-impl<'a, A: Allocator> Model for Texts<'a, A> {
-    ghost use Rattle.std.specs.Prelude.{map, option_map, string_bytes};
+impl<'a> Model for Texts<'a> {
+    ghost use Rattle.std.specs.Prelude.{map, option_map};
     ghost use Rattle.leg_message.specs.Texts.{TextsSaid};
 
     ghost Value = { TextsSaid };
 
     ghost view = { λ t. record {
-      names = option_map (λ line. record { lefs = map string_bytes line.now.lefs.now; def = line.now.def.now }) t.line;
+      names = option_map (λ paths. record { lefs = map (λ l. l.now) paths.lefs.now; def = paths.def.now }) t.paths;
       lefs = map (λ l. l.now) t.lefs.now;
       def = t.def.now;
     } };
 }
 
-impl<'a, A: Allocator> Texts<'a, A> {
+impl<'a> Texts<'a> {
     /// The number of the DEF: LEFs count from 0, and it is next.
     pub(crate) fn def_number(&self) -> usize
         ensures { result ≡ length self.now.lefs }
@@ -53,12 +60,12 @@ impl<'a, A: Allocator> Texts<'a, A> {
     pub(crate) fn path(&self, number: usize) -> &'a [u8]
         ensures { result.now ≡ path_of self.now number }
     {
-        let Some(line) = self.line else {
+        let Some(paths) = &self.paths else {
             return b"-";
         };
-        match line.lefs.get(number) {
-            Some(path) => path.as_bytes(),
-            None => line.def.as_bytes(),
+        match paths.lefs.get(number) {
+            Some(path) => path,
+            None => paths.def,
         }
     }
 
@@ -66,7 +73,7 @@ impl<'a, A: Allocator> Texts<'a, A> {
     pub(crate) fn part(&self, number: usize) -> &'static [u8]
         ensures { result.now ≡ part_of self.now number }
     {
-        if self.line.is_some() {
+        if self.paths.is_some() {
             b""
         } else if number < self.lefs.len() {
             b"in the LEF: "

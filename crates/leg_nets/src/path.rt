@@ -12,7 +12,7 @@ use crate::coordinate::{Coordinate, coordinate_or};
 use leg_block::Wire;
 use leg_cells::{Library, Shape};
 use leg_geom::{Point, Rect};
-use leg_lex::{Cursor, FaultKind, NameKind, Need, ReadFault};
+use leg_lex::{FaultKind, FaultPlace, NameKind, Need, ReadFault};
 use leg_section::Known;
 use leg_section::layers::{is_routing, width_of_layer};
 use std::alloc::Allocator;
@@ -34,14 +34,14 @@ pub(crate) enum Item {
     AtRect(Rect),
 }
 
-/// An item and the words from its first one on, which give its place in faults. Contracts see it as the item.
+/// An item and where it begins, for faults. Contracts see it as the item.
 #[derive(Drop)]
-pub(crate) struct ItemAt<'t, 'a> {
+pub(crate) struct ItemAt<'t> {
     item: Item,
-    words: Cursor<'t, 'a>,
+    place: FaultPlace<'t>,
 }
 
-impl<'t, 'a> Model for ItemAt<'t, 'a> {
+impl<'t> Model for ItemAt<'t> {
     ghost use Rattle.leg_nets.specs.declared.path.Item.{Item};
 
     ghost Value = { Item };
@@ -49,12 +49,12 @@ impl<'t, 'a> Model for ItemAt<'t, 'a> {
     ghost view = { λ i. i.item };
 }
 
-impl<'t, 'a> ItemAt<'t, 'a> {
-    /// The item that begins with the first of these words.
-    pub(crate) fn new(item: Item, words: Cursor<'t, 'a>) -> ItemAt<'t, 'a>
+impl<'t> ItemAt<'t> {
+    /// The item that begins at this place.
+    pub(crate) fn new(item: Item, place: FaultPlace<'t>) -> ItemAt<'t>
         ensures { result ≡ item }
     {
-        ItemAt { item, words }
+        ItemAt { item, place }
     }
 
     /// The item.
@@ -65,8 +65,8 @@ impl<'t, 'a> ItemAt<'t, 'a> {
     }
 
     /// Where it is.
-    fn place(&self) -> &Cursor<'t, 'a> {
-        &self.words
+    fn place(&self) -> FaultPlace<'t> {
+        self.place
     }
 }
 
@@ -99,7 +99,7 @@ fn last_given(before: Option<i64>, given: Option<i64>) -> Option<i64>
 
 /// The extension that is given last before the path leaves the point.
 #[tactic(auto, using(crate::proofs::Paths::extension_ends, crate::proofs::Paths::extension_leaves, crate::proofs::Paths::extension_stays, crate::proofs::Paths::extension_at_via, crate::proofs::Paths::extension_at_rect))]
-fn extension_at(at: Point, given: Option<i64>, items: &[ItemAt<'_, '_>]) -> Option<i64>
+fn extension_at(at: Point, given: Option<i64>, items: &[ItemAt<'_>]) -> Option<i64>
     ensures { result ≡ extension_at at given items.now }
 {
     let mut extension = given;
@@ -125,7 +125,7 @@ fn segment_width<A: Allocator + Copy>(
     library: &Library<'_, A>,
     written: Option<i64>,
     layer: usize,
-    place: &Cursor<'_, '_>,
+    place: FaultPlace<'_>,
 ) -> Result<i64, ReadFault>
     ensures { Means (λ width. width) result (segment_width library.now written layer) }
 {
@@ -194,7 +194,7 @@ fn across<A: Allocator + Copy>(
     known: &Known<'_, '_, A>,
     number: usize,
     layer: usize,
-    place: &Cursor<'_, '_>,
+    place: FaultPlace<'_>,
 ) -> Result<usize, ReadFault>
     ensures { Means (λ other. other) result (across known.now number layer) }
 {
@@ -241,7 +241,7 @@ impl<A: Allocator + Copy> Walk<A> {
         written: Option<i64>,
         to: Point,
         extension: Option<i64>,
-        place: &Cursor<'_, '_>,
+        place: FaultPlace<'_>,
     ) -> Result<Wire, ReadFault>
         ensures { Means (λ w. w) result (segment_to library.now written self.now.layer self.now.at self.now.extension to extension) }
     {
@@ -268,7 +268,7 @@ impl<A: Allocator + Copy> Walk<A> {
         written: Option<i64>,
         to: Point,
         extension: Option<i64>,
-        place: &Cursor<'_, '_>,
+        place: FaultPlace<'_>,
     ) -> Result<(), ReadFault>
         ensures { Means (λ _. self.new) result (walked_to known.now written to extension self.old) }
     {
@@ -285,8 +285,8 @@ impl<A: Allocator + Copy> Walk<A> {
         &mut self,
         known: &Known<'_, '_, A>,
         written: Option<i64>,
-        item: &ItemAt<'_, '_>,
-        later: &[ItemAt<'_, '_>],
+        item: &ItemAt<'_>,
+        later: &[ItemAt<'_>],
     ) -> Result<(), ReadFault>
         ensures { Means (λ _. self.new) result (walked_past known.now written item.now later.now self.old) }
     {
@@ -327,7 +327,7 @@ impl<A: Allocator + Copy> Walk<A> {
         &mut self,
         known: &Known<'_, '_, A>,
         written: Option<i64>,
-        items: &[ItemAt<'_, '_>],
+        items: &[ItemAt<'_>],
     ) -> Result<(), ReadFault>
         ensures { Means (λ _. self.new.wires) result (wires_with known.now written self.old items.now) }
     {
@@ -347,7 +347,7 @@ pub(crate) fn path_wires<A: Allocator + Copy>(
     layer: usize,
     first: Point,
     given: Option<i64>,
-    items: &[ItemAt<'_, '_>],
+    items: &[ItemAt<'_>],
 ) -> Result<Vec<Wire, A>, ReadFault>
     ensures { Means (λ v. v.items) result (path_wires known.now written layer first given items.now) }
 {

@@ -182,17 +182,17 @@ fn item<A: Allocator + Copy>(
 
 /// One more item.
 #[tactic(auto, unfolding(crate::specs::PathItem::one_item))]
-fn one_item<'t, 'a, A: Allocator + Copy>(
+fn one_item<'t, A: Allocator + Copy>(
     known: &Known<'_, '_, A>,
     special: bool,
-    items: &mut Vec<ItemAt<'t, 'a>, A>,
-    words: &mut Cursor<'t, 'a>,
+    items: &mut Vec<ItemAt<'t>, A>,
+    words: &mut Cursor<'t, '_>,
 ) -> Result<(), ReadFault>
     ensures { Reads (λ _. items.new.items) result words.new (one_item known.now special items.old.items words.old) }
 {
-    let first = words.again();
+    let place = words.place();
     let item = item(known, special, words)?;
-    items.push(ItemAt::new(item, first))?;
+    items.push(ItemAt::new(item, place))?;
     Ok(())
 }
 
@@ -206,11 +206,11 @@ fn is_at_path_end(words: &Cursor<'_, '_>) -> bool
 
 /// Adds the items of a path. Where one isn't read, those before it stay.
 #[tactic(auto, using(leg_lex::proofs::Until::ends, leg_lex::proofs::Until::goes_on, leg_lex::proofs::Until::fails, crate::proofs::PathItems::one_item_shortens, crate::proofs::PathItems::one_item_shorter))]
-pub(crate) fn add_items<'t, 'a, A: Allocator + Copy>(
+pub(crate) fn add_items<'t, A: Allocator + Copy>(
     known: &Known<'_, '_, A>,
     special: bool,
-    items: &mut Vec<ItemAt<'t, 'a>, A>,
-    words: &mut Cursor<'t, 'a>,
+    items: &mut Vec<ItemAt<'t>, A>,
+    words: &mut Cursor<'t, '_>,
 ) -> Result<(), ReadFault>
     ensures { Reads (λ _. items.new.items) result words.new (until at_path_end (one_item known.now special) items.old.items words.old) }
 {

@@ -1,27 +1,17 @@
 -- What is found of pieces that cannot be reached, and what a search from one group of pieces to another answers.
-use Rattle.std.specs.Prelude.{◌<◌, ℕ, List, Option, None, Some}
+use Rattle.std.specs.Prelude.{ℕ, List, Option, None, Some}
 use Rattle.leg_block.specs.Records.{DesignContents}
 use Rattle.leg_flat.specs.Flat.{FlatSaid}
 use Rattle.leg_walk.specs.Walk.{NoWalk}
 use Rattle.leg_grid.specs.Grid.{GridSaid}
 use Rattle.leg_grid.specs.Numbered.{IsNodeAmong}
 use Rattle.leg_grid.specs.OpenMetal.{IsOpenNode, IsOpenStep}
-use Rattle.leg_finish.specs.Reach.{IsUnreachable, IsFirstUnreachable, AreReachable}
+use Rattle.leg_finish.specs.Reach.{IsFirstUnreachable, AreReachable}
 
 -- no open walk of the net leads from a node in these slots to a node in those
 abbrev pub HasNoWay : GridSaid → FlatSaid → ℕ → List ℕ → List ℕ → Type 0
 HasNoWay grid flat net starts ends =
     NoWalk (IsOpenNode grid.design flat net) (IsOpenStep grid.design flat net) (IsNodeAmong grid starts) (IsNodeAmong grid ends)
-
--- it is the first piece of the net that cannot be reached
-pub record IsFirstOfNet (design : DesignContents) (flat : FlatSaid) (net piece : ℕ) : Type 0 where
-  pub unreachable : IsUnreachable design flat net piece
-  pub first : (k : ℕ) → k < piece → ¬ IsUnreachable design flat net k
-
--- the first piece of the net that cannot be reached, or none where each can
-abbrev pub IsFirstOfNetIfAny : DesignContents → FlatSaid → ℕ → Option ℕ → Type 0
-IsFirstOfNetIfAny design flat net None = (k : ℕ) → ¬ IsUnreachable design flat net k
-IsFirstOfNetIfAny design flat net (Some piece) = IsFirstOfNet design flat net piece
 
 -- the first piece of all nets that cannot be reached, by the numbers of its net and of itself, or none where each can
 abbrev pub IsFirstUnreachableIfAny : DesignContents → FlatSaid → Option (ℕ × ℕ) → Type 0

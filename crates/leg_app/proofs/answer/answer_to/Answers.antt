@@ -1,4 +1,7 @@
-use Rattle.leg_app.proofs.AnswerLemmas.{ok_weaker, refuses_weaker}
+use Rattle.std.proofs.Common.{map}
+use Rattle.leg_app.specs.Say.{SayNothing}
+use Rattle.leg_app.specs.Steps.SaidLibrary.{SayNoLibrary}
+use Rattle.leg_app.proofs.AnswerLemmas.{ok_weaker, refuses_weaker, master_of_none}
 use Rattle.leg_app.proofs.Sayings.{nothing_under}
 use Rattle.leg_app.proofs.answer.answer_to.Goals as goal
 
@@ -9,4 +12,10 @@ returns-in-Ok g c =
 
 pub returns-in-Err : goal.returns-in-Err
 returns-in-Err g c =
-    ok_weaker _ _ c.refusal.result (λ answer all. all _ _ (refuses_weaker _ (nothing_under _ _) (λ none. absurd none) c.in-Err.ensures.none)) c.refusal.ensures
+    let lefs = map (λ t. t.now) c.args.lefs.now in
+    let def = c.args.def.now in
+    let fault = c.in-Err.fault in
+    let none = c.in-Err.ensures.none in
+    ok_weaker _ _ c.refusal.result
+    (λ answer all. all lefs def (refuses_weaker {nothing = SayNoLibrary lefs def} {other = SayNothing lefs def} {much = ⊥} {more = ⊥} fault (nothing_under lefs def) (λ much. much) none) c.in-Err.ensures.units (master_of_none lefs def fault none))
+    c.refusal.ensures

@@ -6,12 +6,16 @@ pub returns : goal.returns
 returns g c lefs def say =
     let length = c.hpwl-length.result in
     let fits : SFits w64 length = search rules in
-    inr (inl (record {
-      measures = refl;
-      library = c.args.design.now.library;
-      design = c.args.design.now;
-      length = length;
-      say = say;
-      measured = c.hpwl-length.ensures.is;
-      is = rw (to_z-of_z w64 length fits) at c.in_ok-text.ensures;
-    }))
+    record {
+      answer =
+          inr (inl (record {
+            measures = refl;
+            library = c.args.design.now.library;
+            design = c.args.design.now;
+            length = length;
+            say = say;
+            measured = c.hpwl-length.ensures.is;
+            is = rw (to_z-of_z w64 length fits) at c.in_ok-text.ensures;
+          }));
+      explains = tt;
+    }

@@ -17,4 +17,4 @@ returns-in-Ok-clause-refused g c =
     c.violations_of.ensures.refused
 
 pub returns-in-Err-clause-refused : goal.returns-in-Err-clause-refused
-returns-in-Err-clause-refused g c = λ lefs just not_memory. no_design lefs c.args.def c.args.library.now just (c.in-Err.ensures.none (λ is. not_memory (c.behind_lefs.ensures ∙ is)))
+returns-in-Err-clause-refused g c = λ lefs just not_memory. no_design lefs c.args.def c.args.library.now just (c.in-Err.ensures.none (λ is. not_memory (c.behind_lefs.ensures.kind ∙ is)))

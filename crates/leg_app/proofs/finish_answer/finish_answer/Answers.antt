@@ -1,7 +1,8 @@
+use Rattle.leg_app.proofs.AnswerLemmas.{ok_weaker, ok_both}
 use Rattle.leg_app.proofs.finish_answer.finish_answer.Goals as goal
 
-pub returns-in_ok-text-in-Ok : goal.returns-in_ok-text-in-Ok
-returns-in_ok-text-in-Ok g c = record {
+pub returns-in_ok-text-in-Ok-clause-is : goal.returns-in_ok-text-in-Ok-clause-is
+returns-in_ok-text-in-Ok-clause-is g c = record {
   finished = c.in-Ok.finished;
   finishes = record {
     fits = c.in-Ok.ensures.fits;
@@ -17,5 +18,10 @@ returns-in_ok-text-in-Ok g c = record {
   is = c.in_ok-text-in-Ok.ensures;
 }
 
-pub not_finished_text-requires : goal.not_finished_text-requires
-not_finished_text-requires g c = rw c.in-Err.ensures.unchanged c.in-Err.ensures.refused
+pub not_finished-requires : goal.not_finished-requires
+not_finished-requires g c = rw c.in-Err.ensures.unchanged c.in-Err.ensures.refused
+
+pub returns-in-Err-clause-is : goal.returns-in-Err-clause-is
+returns-in-Err-clause-is g c =
+    let tells = rw c.in-Err.ensures.unchanged at c.not_finished.ensures.tells in
+    ok_weaker _ _ c.not_finished.result (λ answer both. rw both.0 (both.1)) (ok_both _ _ c.not_finished.result c.not_finished.ensures.status tells)

@@ -1,10 +1,10 @@
 use Rattle.leg_app.specs.Legalised.{Legalises}
 use Rattle.leg_app.specs.Flow.TellsFlowStopped.{not_legalised}
-use Rattle.leg_app.proofs.AnswerLemmas.{ok_weaker}
+use Rattle.leg_app.proofs.AnswerLemmas.{ok_weaker, ok_both}
 use Rattle.leg_app.proofs.flow_answer.flow_answer.Goals as goal
 
-pub returns-in-Ok : goal.returns-in-Ok
-returns-in-Ok g c =
+pub returns-in-Ok-clause-is : goal.returns-in-Ok-clause-is
+returns-in-Ok-clause-is g c =
     let legalises : Legalises c.args.design c.in-Ok.legalised = record {
       legal = c.in-Ok.ensures.legal;
       same = c.in-Ok.ensures.same;
@@ -12,9 +12,22 @@ returns-in-Ok g c =
       proper = c.design_is_sound.ensures.proper;
       sound = c.design_is_sound.ensures.library;
     } in
-    ok_weaker _ _ c.routing_answer.result (λ answer made. made c.args.design legalises c.in-Ok.ensures.moves) c.routing_answer.ensures
+    ok_weaker _ _ c.routing_answer.result (λ answer made. made c.args.design legalises c.in-Ok.ensures.moves) c.routing_answer.ensures.is
 
-pub returns-in_ok-text-in-Err : goal.returns-in_ok-text-in-Err
-returns-in_ok-text-in-Err g c =
-    let told = rw c.in-Err.ensures.unchanged at c.in_ok-text-in-Err.ensures in
-    not_legalised (told c.in-Err.ensures.refused)
+pub returns-in-Ok-clause-explains : goal.returns-in-Ok-clause-explains
+returns-in-Ok-clause-explains g c =
+    let legalises : Legalises c.args.design c.in-Ok.legalised = record {
+      legal = c.in-Ok.ensures.legal;
+      same = c.in-Ok.ensures.same;
+      run = c.in-Ok.ensures.run;
+      proper = c.design_is_sound.ensures.proper;
+      sound = c.design_is_sound.ensures.library;
+    } in
+    ok_weaker _ _ c.routing_answer.result (λ answer told. told c.args.design legalises) c.routing_answer.ensures.explains
+
+pub returns-in-Err-clause-is : goal.returns-in-Err-clause-is
+returns-in-Err-clause-is g c =
+    let tells = rw c.in-Err.ensures.unchanged at c.not_legalised.ensures.tells in
+    ok_weaker _ _ c.not_legalised.result
+    (λ answer both. rw both.0 (not_legalised (both.1 c.in-Err.ensures.refused)))
+    (ok_both _ _ c.not_legalised.result c.not_legalised.ensures.status tells)

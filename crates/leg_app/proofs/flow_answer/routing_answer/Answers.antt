@@ -1,8 +1,11 @@
+use Rattle.std.proofs.Common.{refl}
+use Rattle.leg_input.specs.declared.command.Command.TheVariants.{Flow}
 use Rattle.leg_app.specs.Flow.TellsFlowStopped.{not_routed}
+use Rattle.leg_app.proofs.AnswerLemmas.{ok_weaker, ok_both}
 use Rattle.leg_app.proofs.flow_answer.routing_answer.Goals as goal
 
-pub returns-in_ok-text-in-Ok : goal.returns-in_ok-text-in-Ok
-returns-in_ok-text-in-Ok g c design legalises moves = record {
+pub returns-in_ok-text-in-Ok-clause-is : goal.returns-in_ok-text-in-Ok-clause-is
+returns-in_ok-text-in-Ok-clause-is g c design legalises moves = record {
   legalised = c.args.legalised;
   legalises = legalises;
   routed = c.in-Ok.routed;
@@ -21,9 +24,17 @@ returns-in_ok-text-in-Ok g c design legalises moves = record {
   is = c.in_ok-text-in-Ok.ensures;
 }
 
-pub returns-in_ok-text-in-Err : goal.returns-in_ok-text-in-Err
-returns-in_ok-text-in-Err g c design legalises moves =
-    not_routed legalises (rw c.in-Err.ensures.unchanged at c.in_ok-text-in-Err.ensures)
+pub not_routed-requires : goal.not_routed-requires
+not_routed-requires g c = rw c.in-Err.ensures.unchanged c.in-Err.ensures.refused
 
-pub not_routed_text-requires : goal.not_routed_text-requires
-not_routed_text-requires g c = rw c.in-Err.ensures.unchanged c.in-Err.ensures.refused
+pub returns-in-Err-clause-is : goal.returns-in-Err-clause-is
+returns-in-Err-clause-is g c =
+    let tells = rw c.in-Err.ensures.unchanged at c.not_routed.ensures.tells in
+    ok_weaker _ _ c.not_routed.result
+    (λ answer both design legalises moves. rw both.0 (not_routed legalises both.1))
+    (ok_both _ _ c.not_routed.result c.not_routed.ensures.status tells)
+
+pub returns-in-Err-clause-explains : goal.returns-in-Err-clause-explains
+returns-in-Err-clause-explains g c =
+    let explains = rw c.in-Err.ensures.unchanged at c.not_routed.ensures.explains in
+    ok_weaker _ _ c.not_routed.result (λ answer told design legalises. told Flow design refl refl legalises) explains

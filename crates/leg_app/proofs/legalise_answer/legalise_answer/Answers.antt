@@ -1,7 +1,8 @@
+use Rattle.leg_app.proofs.AnswerLemmas.{ok_weaker, ok_both}
 use Rattle.leg_app.proofs.legalise_answer.legalise_answer.Goals as goal
 
-pub returns-in_ok-text-in-Ok : goal.returns-in_ok-text-in-Ok
-returns-in_ok-text-in-Ok g c = record {
+pub returns-in_ok-text-in-Ok-clause-is : goal.returns-in_ok-text-in-Ok-clause-is
+returns-in_ok-text-in-Ok-clause-is g c = record {
   legalised = c.in-Ok.legalised;
   legalises = record {
     legal = c.in-Ok.ensures.legal;
@@ -16,3 +17,8 @@ returns-in_ok-text-in-Ok g c = record {
   moves = c.in-Ok.ensures.moves;
   is = c.in_ok-text-in-Ok.ensures;
 }
+
+pub returns-in-Err-clause-is : goal.returns-in-Err-clause-is
+returns-in-Err-clause-is g c =
+    let tells = rw c.in-Err.ensures.unchanged at c.not_legalised.ensures.tells in
+    ok_weaker _ _ c.not_legalised.result (λ answer both. rw both.0 (both.1 c.in-Err.ensures.refused)) (ok_both _ _ c.not_legalised.result c.not_legalised.ensures.status tells)

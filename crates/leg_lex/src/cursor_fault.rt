@@ -1,0 +1,137 @@
+//! Faults at the words that are left to read.
+
+ghost use Rattle.std.specs.Prelude.{◌≡◌, ◌≢◌};
+
+use crate::cursor::Cursor;
+use crate::read_fault::{FaultKind, Need, ReadFault};
+use crate::word_place::WordPlace;
+
+/// A place in a text, at which a fault may be: a word of it, if it has words.
+#[derive(Clone, Copy)]
+pub struct FaultPlace<'t> {
+    file: u32,
+    word: Option<&'t WordPlace>,
+}
+
+impl<'t> FaultPlace<'t> {
+    /// A fault there.
+    pub fn fault(&self, kind: FaultKind) -> ReadFault
+        ensures { result.kind ≡ kind }
+    {
+        self.need(kind, Need::OfKind)
+    }
+
+    /// The same, where this is needed.
+    pub fn need(&self, kind: FaultKind, need: Need) -> ReadFault
+        ensures { result.kind ≡ kind }
+    {
+        let place = match self.word {
+            Some(word) => *word,
+            None => NO_WORD,
+        };
+        ReadFault {
+            file: self.file,
+            line: place.line,
+            start: place.start,
+            end: place.end,
+            kind,
+            need,
+        }
+    }
+}
+
+// The place in a text that has no word.
+const NO_WORD: WordPlace = WordPlace {
+    start: 0,
+    end: 0,
+    line: 1,
+};
+
+impl<'t, 'a> Cursor<'t, 'a> {
+    /// Where the next word is; where no word is left, where the mark that ends the words is, or else the text's last word.
+    pub fn place(&self) -> FaultPlace<'t> {
+        let word = match self.rest {
+            [next, ..] => Some(next),
+            [] => self.last,
+        };
+        FaultPlace {
+            file: self.file,
+            word,
+        }
+    }
+
+    /// A fault at this place.
+    pub fn fault(&self, kind: FaultKind) -> ReadFault
+        ensures { result.kind ≡ kind }
+    {
+        self.place().fault(kind)
+    }
+
+    /// The same, where this is needed.
+    pub fn need(&self, kind: FaultKind, need: Need) -> ReadFault
+        ensures { result.kind ≡ kind }
+    {
+        self.place().need(kind, need)
+    }
+
+    /// The same fault of one of these words; where the name of an entry `- NAME` is that of an entry before, with the line of the first
+    /// one.
+    pub fn with_first_entry(&self, fault: ReadFault) -> ReadFault
+        ensures { result.kind ≡ fault.kind }
+    {
+        let Need::New(kind) = fault.need else {
+            return fault;
+        };
+        match first_entry(self.text, self.rest, &fault) {
+            Some(line) => fault.needs(Need::NewSince(kind, line)),
+            None => fault,
+        }
+    }
+
+    // The fault of words that end too early. Where a mark ends them, it is in the place of what is needed.
+    pub(crate) fn cut_short(&self, in_place: FaultKind, need: Need) -> ReadFault
+        requires { in_place ≢ FaultKind.Memory }
+        ensures { result.kind ≢ FaultKind.Memory }
+    {
+        let kind = if self.is_closed {
+            in_place
+        } else {
+            FaultKind::UnexpectedEnd
+        };
+        let end = FaultPlace {
+            file: self.file,
+            word: self.last,
+        };
+        end.need(kind, need)
+    }
+}
+
+// The line of the first entry whose name is the word at fault, of the words at these places of the text, if it is another one.
+fn first_entry(text: &[u8], words: &[WordPlace], fault: &ReadFault) -> Option<u32> {
+    let name = text.get(fault.start as usize..fault.end as usize)?;
+    let at = words
+        .windows(2)
+        .position(|two| begins_entry(text, two, name))?;
+    let entry = words.get(at)?;
+    if entry.start < fault.start {
+        Some(entry.line)
+    } else {
+        None
+    }
+}
+
+// Whether an entry of this name begins with the words at these places of the text.
+fn begins_entry(text: &[u8], words: &[WordPlace], name: &[u8]) -> bool {
+    match words {
+        [dash, named] => is_there(text, dash, b"-") && is_there(text, named, name),
+        _ => false,
+    }
+}
+
+// Whether the word at this place of the text is this one.
+fn is_there(text: &[u8], place: &WordPlace, word: &[u8]) -> bool {
+    match text.get(place.start as usize..place.end as usize) {
+        Some(bytes) => bytes == word,
+        None => false,
+    }
+}
