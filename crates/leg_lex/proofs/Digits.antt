@@ -36,28 +36,38 @@ is_digit_value : (c : ℕ) → is_ascii_digit c ≡ true → (48 ≤ c) × (digi
 is_digit_value c is = grind (arith, nat_tests)
 
 -- what the digits say when one of them has gone by, in arithmetic that stays at the limit
-step : (limit n c : ℕ) (digits : List ℕ) → all_ascii_digits (c ∷ digits) ≡ true
+step : (limit n c : ℕ) (digits : List ℕ) → is_ascii_digit c ≡ true
     → min (digits_value_after 10 (min (min (n * 10) limit + (c - 48)) limit) digits) limit
     ≡ min (digits_value_after 10 n (c ∷ digits)) limit
 step limit n c digits are =
-    let is = is_digit_value c (front_true _ _ are) in
+    let is = is_digit_value c are in
     let e : min (min (n * 10) limit + (c - 48)) limit ≡ min (n * 10 + digit_value c) limit = rw is.1 (omega arith) in
     ap (λ k. min (digits_value_after 10 k digits) limit) e ∙ number_after-capped limit (n * 10 + digit_value c) digits
 
--- the digits after the next one are digits
-pub digits_go_on : (digits : List ℕ) (i : ℕ) → all_ascii_digits (drop i digits) ≡ true → i < length digits → all_ascii_digits (drop (i + 1) digits) ≡ true
-digits_go_on digits i are in_range = rest_true _ _ (rw (drop_more digits i 0 in_range) at are)
+-- behind a digit are digits if there were digits from it on
+pub digits_go_on : (digits : List ℕ) (i : ℕ) → is_ascii_digit (get_or digits i 0) ≡ true → i < length digits
+    → all_ascii_digits (drop (i + 1) digits) ≡ all_ascii_digits (drop i digits)
+digits_go_on digits i is in_range = rw (drop_more digits i 0 in_range, is) refl
+
+-- no digits begin with another byte
+pub digits_stop : (digits : List ℕ) (i : ℕ) → is_ascii_digit (get_or digits i 0) ≡ false → i < length digits
+    → all_ascii_digits (drop i digits) ≡ false
+digits_stop digits i is in_range = rw (drop_more digits i 0 in_range, is) refl
+
+-- where nothing is left, digits are left
+pub digits_end : (digits : List ℕ) (i : ℕ) → length digits ≤ i → all_ascii_digits (drop i digits) ≡ true
+digits_end digits i past = rw (drop_all i digits past) refl
 
 -- one more digit, in arithmetic that stays at the limit
 pub number_goes_on : (limit n m : ℕ) (digits : List ℕ) (i : ℕ) → m ≡ min (min (n * 10) limit + (get_or digits i 0 - 48)) limit
-    → all_ascii_digits (drop i digits) ≡ true → i < length digits
+    → is_ascii_digit (get_or digits i 0) ≡ true → i < length digits
     → min (digits_value_after 10 m (drop (i + 1) digits)) limit ≡ min (digits_value_after 10 n (drop i digits)) limit
-number_goes_on limit n m digits i is are in_range =
+number_goes_on limit n m digits i is digit in_range =
     let e = drop_more digits i 0 in_range in
-    rw (is, e) (step limit n (get_or digits i 0) (drop (i + 1) digits) (rw e at are))
+    rw (is, e) (step limit n (get_or digits i 0) (drop (i + 1) digits) digit)
 
 -- no more digits
 pub number_ends : (n : ℕ) (digits : List ℕ) (i : ℕ) → length digits ≤ i → digits_value_after 10 n (drop i digits) ≡ n
 number_ends n digits i past = rw (drop_all i digits past)
 
-pub ruleset digits = (digits_go_on, number_goes_on, number_ends)
+pub ruleset digits = (digits_go_on, digits_stop, digits_end, number_goes_on, number_ends)

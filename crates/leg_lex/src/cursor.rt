@@ -121,24 +121,14 @@ impl<'t, 'a> Cursor<'t, 'a> {
         }
     }
 
-    // The next word, where this is needed; the cursor stays before it.
-    fn next(&self, need: Need) -> Result<&'a [u8], ReadFault>
-        ensures means { Means (λ word. (word.now, drop 1 self.now)) result (next_at self.now) }
-        ensures no_memory { IfErr result (λ fault. fault.kind ≢ FaultKind.Memory) }
-    {
-        self.next_or(FaultKind::Unexpected, need)
-    }
-
-    // The same, where a mark in place of the word is such a fault.
+    // The next word, if there is one; the cursor stays before it.
     #[tactic(auto, unfolding(crate::specs::Words::next_at))]
-    fn next_or(&self, in_place: FaultKind, need: Need) -> Result<&'a [u8], ReadFault>
-        requires { in_place ≢ FaultKind.Memory }
-        ensures means { Means (λ word. (word.now, drop 1 self.now)) result (next_at self.now) }
-        ensures no_memory { IfErr result (λ fault. fault.kind ≢ FaultKind.Memory) }
+    fn next(&self) -> Option<&'a [u8]>
+        ensures { MatchOption result (next_at self.now ≡ None) (λ word. next_at self.now ≡ Some (word.now, drop 1 self.now)) }
     {
         match self.rest {
-            [next, ..] => Ok(bytes_at(self.text, next)),
-            [] => Err(self.cut_short(in_place, need)),
+            [next, ..] => Some(bytes_at(self.text, next)),
+            [] => None,
         }
     }
 
@@ -156,7 +146,9 @@ impl<'t, 'a> Cursor<'t, 'a> {
         ensures reads { Reads (λ word. word.now) result self.new (next_at self.old) }
         ensures no_memory { IfErr result (λ fault. fault.kind ≢ FaultKind.Memory) }
     {
-        let word = self.next(Need::AnyWord)?;
+        let Some(word) = self.next() else {
+            return Err(self.cut_short(FaultKind::Unexpected, Need::AnyWord));
+        };
         self.skip();
         Ok(word)
     }
@@ -167,9 +159,9 @@ impl<'t, 'a> Cursor<'t, 'a> {
         ensures reads { Reads (λ x. x) result self.new (keyword_at keyword.now self.old) }
         ensures no_memory { IfErr result (λ fault. fault.kind ≢ FaultKind.Memory) }
     {
-        let word = match self.next(Need::OfKind) {
-            Ok(word) => word,
-            Err(fault) => return Err(fault.needs(Need::Keyword(Keyword::new(keyword)))),
+        let Some(word) = self.next() else {
+            let need = Need::Keyword(Keyword::new(keyword));
+            return Err(self.cut_short(FaultKind::Unexpected, need));
         };
         if !word::is_keyword(keyword, word) {
             let need = Need::Keyword(Keyword::new(keyword));
@@ -185,7 +177,9 @@ impl<'t, 'a> Cursor<'t, 'a> {
         ensures reads { Reads (λ x. x) result self.new (mark_at mark self.old) }
         ensures no_memory { IfErr result (λ fault. fault.kind ≢ FaultKind.Memory) }
     {
-        let word = self.next(Need::Mark(mark))?;
+        let Some(word) = self.next() else {
+            return Err(self.cut_short(FaultKind::Unexpected, Need::Mark(mark)));
+        };
         if word != [mark].as_slice() {
             return Err(self.need(FaultKind::Unexpected, Need::Mark(mark)));
         }
@@ -199,7 +193,9 @@ impl<'t, 'a> Cursor<'t, 'a> {
         ensures reads { Reads (λ name. name.now) result self.new (name_at self.old) }
         ensures no_memory { IfErr result (λ fault. fault.kind ≢ FaultKind.Memory) }
     {
-        let word = self.next(Need::Name)?;
+        let Some(word) = self.next() else {
+            return Err(self.cut_short(FaultKind::Unexpected, Need::Name));
+        };
         if !word::is_name(word) {
             return Err(self.need(FaultKind::Unexpected, Need::Name));
         }
@@ -213,7 +209,9 @@ impl<'t, 'a> Cursor<'t, 'a> {
         ensures reads { Reads (λ word. word.now) result self.new (word_at self.old) }
         ensures no_memory { IfErr result (λ fault. fault.kind ≢ FaultKind.Memory) }
     {
-        let word = self.next(Need::Word)?;
+        let Some(word) = self.next() else {
+            return Err(self.cut_short(FaultKind::Unexpected, Need::Word));
+        };
         if !word::is_word(word) {
             return Err(self.need(FaultKind::Unexpected, Need::Word));
         }
@@ -227,7 +225,9 @@ impl<'t, 'a> Cursor<'t, 'a> {
         ensures reads { Reads (λ z. z) result self.new (whole_at self.old) }
         ensures no_memory { IfErr result (λ fault. fault.kind ≢ FaultKind.Memory) }
     {
-        let word = self.next_or(FaultKind::BadNumber, Need::Whole)?;
+        let Some(word) = self.next() else {
+            return Err(self.cut_short(FaultKind::BadNumber, Need::Whole));
+        };
         match number::whole(word) {
             Ok(whole) => {
                 self.skip();
@@ -243,7 +243,9 @@ impl<'t, 'a> Cursor<'t, 'a> {
         ensures reads { Reads (λ m. m) result self.new (length_at self.old) }
         ensures no_memory { IfErr result (λ fault. fault.kind ≢ FaultKind.Memory) }
     {
-        let word = self.next_or(FaultKind::BadNumber, Need::Length)?;
+        let Some(word) = self.next() else {
+            return Err(self.cut_short(FaultKind::BadNumber, Need::Length));
+        };
         match number::micron(word) {
             Ok(micron) => {
                 self.skip();
@@ -270,7 +272,9 @@ impl<'t, 'a> Cursor<'t, 'a> {
         ensures no_memory { IfErr result (λ fault. fault.kind ≢ FaultKind.Memory) }
     {
         self.keyword(b"END")?;
-        let word = self.next(Need::FormName)?;
+        let Some(word) = self.next() else {
+            return Err(self.cut_short(FaultKind::Unexpected, Need::FormName));
+        };
         if word != name || !word::is_name(word) {
             return Err(self.need(FaultKind::Unexpected, Need::FormName));
         }

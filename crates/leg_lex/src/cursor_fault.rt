@@ -68,6 +68,8 @@ impl<'t, 'a> Cursor<'t, 'a> {
     }
 
     /// The same, where this is needed.
+    #[cold]
+    #[inline(never)]
     pub fn need(&self, kind: FaultKind, need: Need) -> ReadFault
         ensures { result.kind ≡ kind }
     {
@@ -89,6 +91,8 @@ impl<'t, 'a> Cursor<'t, 'a> {
     }
 
     // The fault of words that end too early. Where a mark ends them, it is in the place of what is needed.
+    #[cold]
+    #[inline(never)]
     pub(crate) fn cut_short(&self, in_place: FaultKind, need: Need) -> ReadFault
         requires { in_place ≢ FaultKind.Memory }
         ensures { result.kind ≢ FaultKind.Memory }

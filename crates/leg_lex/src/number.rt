@@ -1,6 +1,6 @@
 //! What a word denotes as a number: a whole number, or a length. Nothing is rounded.
 
-ghost use Rattle.std.specs.Prelude.{◌≡◌, ◌==◌, ◌-◌, ◌<◌, ◌^◌, min, IsTrue};
+ghost use Rattle.std.specs.Prelude.{◌≡◌, true, false, MatchOption, ◌==◌, ◌-◌, ◌<◌, ◌^◌, min, IsTrue};
 ghost use Rattle.std.specs.List.{before_first, after_first, list_all};
 ghost use Rattle.std.specs.Str.{all_ascii_digits};
 ghost use Rattle.std.specs.Str.Parse.{digits_value_after};
@@ -21,10 +21,13 @@ pub fn whole(word: &[u8]) -> Result<i64, NumFault>
     ensures { result ≡ whole_of word.now }
 {
     let (negative, digits) = split_sign(word);
-    if digits.is_empty() || !are_digits(digits) {
+    if digits.is_empty() {
         return Err(NumFault::BadNumber);
     }
-    within(NUMBER_LIMIT, negative, followed_by(0, digits))
+    match followed_by(0, digits) {
+        Some(magnitude) => within(NUMBER_LIMIT, negative, magnitude),
+        None => Err(NumFault::BadNumber),
+    }
 }
 
 /// The length that a word denotes, in microns: an optional sign, digits, an optional point and digits, of
@@ -87,9 +90,9 @@ fn millionths_of(microns: &[u8], decimals: &[u8]) -> u64
 {
     let kept = decimals.len().min(MILLIONTHS_DECIMALS);
     let zeros = b"000000".as_slice();
-    let microns = followed_by(0, microns);
-    let millionths = followed_by(microns, &decimals[..kept]);
-    followed_by(millionths, &zeros[kept..])
+    let microns = followed_by(0, microns).unwrap();
+    let millionths = followed_by(microns, &decimals[..kept]).unwrap();
+    followed_by(millionths, &zeros[kept..]).unwrap()
 }
 
 fn are_digits(bytes: &[u8]) -> bool
@@ -104,18 +107,21 @@ fn are_zeros(bytes: &[u8]) -> bool
     bytes.iter().all(|byte| *byte == b'0')
 }
 
-/// What is written as `number` and then the digits, `u64::MAX` where it is more.
+/// What is written as `number` and then the digits, `u64::MAX` where it is more, or `None` where another byte is among them.
 #[tactic(auto, using(crate::proofs::Digits::digits))]
-fn followed_by(mut number: u64, digits: &[u8]) -> u64
-    requires { IsTrue (all_ascii_digits digits.now) }
-    ensures { result ≡ min (digits_value_after 10 number digits.now) (2 ^ 64 - 1) }
+fn followed_by(mut number: u64, digits: &[u8]) -> Option<u64>
+    ensures { MatchOption result (all_ascii_digits digits.now ≡ false)
+        (λ value. (all_ascii_digits digits.now ≡ true) × (value ≡ min (digits_value_after 10 number digits.now) (2 ^ 64 - 1))) }
 {
     for digit in digits {
+        if !digit.is_ascii_digit() {
+            return None;
+        }
         number = number
             .saturating_mul(10)
             .saturating_add(u64::from(*digit - b'0'));
     }
-    number
+    Some(number)
 }
 
 /// The number with this sign and this magnitude, where that is at most `limit`.
