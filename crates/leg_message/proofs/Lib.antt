@@ -1,2 +1,3 @@
 -- Folds over the front of a list.
 mod Columns
+mod Forms

@@ -4,5 +4,6 @@ pub mod TextLine
 pub mod Note
 pub mod Texts
 pub mod Length
+pub mod Form
 pub mod Message
 pub mod Steps

@@ -1,5 +1,5 @@
 -- Messages on standard error.
-use Rattle.std.specs.Prelude.{◌≡◌, ℕ, ◌+◌, List, [], ◌∷◌, ◌++◌, ◌⊎◌, nat_lt, if◌then◌else◌, length, map, Contains, Option, None, codes, decimal}
+use Rattle.std.specs.Prelude.{◌≡◌, ℕ, ◌+◌, List, [], ◌∷◌, ◌++◌, ◌⊎◌, nat_lt, if◌then◌else◌, length, map, Option, None, codes, decimal}
 use Rattle.leg_lex.specs.Word.{Word}
 use Rattle.leg_lex.specs.Tokens.{AreTokens}
 use Rattle.leg_lex.specs.declared.limits.TheConstants.{TEXT_LIMIT}
@@ -11,6 +11,7 @@ use Rattle.leg_reason.specs.declared.reason.Reason.TheVariants.{Read, NoLibrary,
 use Rattle.leg_input.specs.Stream.{HasEndLibrary, IsSplit}
 use Rattle.leg_message.specs.declared.note.Note.{Note}
 use Rattle.leg_message.specs.Advice.{advice_of}
+use Rattle.leg_message.specs.Form.{IsInForm}
 use Rattle.leg_message.specs.Length.{HasFault}
 use Rattle.leg_message.specs.Note.{note_line, hides_line}
 use Rattle.leg_message.specs.Sentence.{before_of, after_of, need_text, advice_on, scale_sentence_of}
@@ -83,7 +84,8 @@ name_message name reason = codes "layer, site, macro or via " ++ map shown_byte 
 abbrev pub advice_message : {A : Type 0} → TextsSaid → Reason A → List ℕ
 advice_message texts reason = path_of texts (length texts.lefs) ++ codes ": " ++ advice_of reason ++ codes "\n"
 
--- a length of a LEF is shown, which has the fault at these units: it is a word of the LEF, in the line that is shown
+-- a length of a LEF is shown, which has the fault at these units: it is a word of the first form of its name in the LEF, in the line
+-- that is shown
 pub record ShowsLength (texts : TextsSaid) (fault : ScaleFault) (units : ℕ) (message : List ℕ) : Type 0 where
   pub number : ℕ
   pub line : ℕ
@@ -91,7 +93,7 @@ pub record ShowsLength (texts : TextsSaid) (fault : ScaleFault) (units : ℕ) (m
   pub written : List ℕ
   pub words : List Word
   pub are : AreTokens (text_of texts number) words
-  pub there : Contains words (record { text = written; line = line })
+  pub there : IsInForm fault.name words form written line
   pub has : HasFault fault.kind units written
   pub is : message ≡ length_message texts number line form fault.name written (scale_reason fault.kind units)
 

@@ -3,6 +3,7 @@
 ghost use Rattle.std.specs.Prelude.{◌≡◌, ◌++◌, List, Contains, IsTrue, IfSome, IfOk, OnOk};
 ghost use Rattle.leg_lex.specs.Word.{Word};
 ghost use Rattle.leg_lex.specs.Tokens.{AreTokens};
+ghost use Rattle.leg_message.specs.Form.{begins_form, ends_form, from_form, is_form, up_to_end, IsInForm};
 ghost use Rattle.leg_message.specs.Length.{HasFault};
 ghost use Rattle.leg_message.specs.Message.{length_message, name_message, scale_reason, IsScaleMessage};
 
@@ -104,8 +105,7 @@ fn written_in<'a, A: Allocator + Copy>(
     units: u32,
 ) -> Option<Written<'a>>
     ensures has { IfSome result (λ written. HasFault fault.now.kind units written.length.now) }
-    ensures there { IfSome result (λ written. (words : List Word) × AreTokens lef.now words
-        × Contains words (record { text = written.length.now; line = written.line })) }
+    ensures there { IfSome result (λ written. (words : List Word) × AreTokens lef.now words × IsInForm fault.now.name words written.form.now written.length.now written.line) }
 {
     let Ok(words) = tokens(alloc, lef) else {
         return None;
@@ -116,17 +116,14 @@ fn written_in<'a, A: Allocator + Copy>(
 /// The same among the words of a LEF.
 fn written_among<'a>(words: &[Token<'a>], fault: &ScaleFault<'_>, units: u32) -> Option<Written<'a>>
     ensures has { IfSome result (λ written. HasFault fault.now.kind units written.length.now) }
-    ensures there { IfSome result (λ written. Contains words.now (record { text = written.length.now; line = written.line })) }
+    ensures there { IfSome result (λ written. IsInForm fault.now.name words.now written.form.now written.length.now written.line) }
 {
     let name = fault.name.bytes();
-    let start = words.windows(3).position(|three| begins_form(three, name))?;
-    let form = words.get(start)?;
-    let rest = &words[start..];
-    let end = rest
-        .windows(2)
-        .position(|two| ends_form(two, name))
-        .unwrap_or(rest.len());
-    let length = length_in(&rest[..end], fault.kind, units)?;
+    let rest = from_form(words, name);
+    let [form, ..] = rest else {
+        return None;
+    };
+    let length = length_in(up_to_end(rest, name), fault.kind, units)?;
     Some(Written {
         line: length.line,
         form: form.text,
@@ -134,17 +131,48 @@ fn written_among<'a>(words: &[Token<'a>], fault: &ScaleFault<'_>, units: u32) ->
     })
 }
 
+/// The words from the first form of this name on.
+#[tactic(auto, using(crate::proofs::Forms::from_here, crate::proofs::Forms::from_later, crate::proofs::Forms::from_nowhere))]
+fn from_form<'t, 'a>(words: &'t [Token<'a>], name: &[u8]) -> &'t [Token<'a>]
+    ensures { result.now ≡ from_form name.now words.now }
+{
+    for start in 0..words.len() {
+        if begins_form(&words[start..], name) {
+            return &words[start..];
+        }
+    }
+    &[]
+}
+
+/// The words before the end of a form of this name.
+#[tactic(auto, using(crate::proofs::Forms::end_here, crate::proofs::Forms::end_later, crate::proofs::Forms::end_nowhere))]
+fn up_to_end<'t, 'a>(words: &'t [Token<'a>], name: &[u8]) -> &'t [Token<'a>]
+    ensures { result.now ≡ up_to_end name.now words.now }
+{
+    for end in 0..words.len() {
+        if ends_form(&words[end..], name) {
+            return &words[..end];
+        }
+    }
+    words
+}
+
 /// Whether a form of this name begins with these words. Where a `;` comes after the name, a form is meant that was before.
-fn begins_form(words: &[Token<'_>], name: &[u8]) -> bool {
+fn begins_form(words: &[Token<'_>], name: &[u8]) -> bool
+    ensures { result ≡ begins_form name.now words.now }
+{
     match words {
-        [form, named, next] => named.text == name
+        [form, named, next, ..] => named.text == name
             && next.text != b";".as_slice()
             && is_form(form.text),
         _ => false,
     }
 }
 
-fn is_form(word: &[u8]) -> bool {
+/// Whether a form that has a name begins with this word.
+fn is_form(word: &[u8]) -> bool
+    ensures { result ≡ is_form word.now }
+{
     is_keyword(b"LAYER", word)
         || is_keyword(b"SITE", word)
         || is_keyword(b"MACRO", word)
@@ -152,9 +180,11 @@ fn is_form(word: &[u8]) -> bool {
 }
 
 /// Whether these words end a form of this name.
-fn ends_form(words: &[Token<'_>], name: &[u8]) -> bool {
+fn ends_form(words: &[Token<'_>], name: &[u8]) -> bool
+    ensures { result ≡ ends_form name.now words.now }
+{
     match words {
-        [end, named] => named.text == name && is_keyword(b"END", end.text),
+        [end, named, ..] => named.text == name && is_keyword(b"END", end.text),
         _ => false,
     }
 }
