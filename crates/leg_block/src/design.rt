@@ -1,13 +1,14 @@
 //! A design.
 
 ghost use Rattle.std.specs.Prelude.{◌≡◌, ◌↔◌, IsTrue, map, option_map};
-ghost use Rattle.leg_block.specs.Records.{blockage_said};
+ghost use Rattle.leg_lex.specs.NameLookup.{place_of};
+ghost use Rattle.leg_block.specs.Records.{blockage_said, net_names};
 ghost use Rattle.leg_block.specs.WellFormed.{IsWellFormed};
 
 use crate::records::{Blockage, Component, Net, Pin, Row, Track};
 use leg_cells::{Library, Via};
 use leg_geom::Rect;
-use leg_lex::Name;
+use leg_lex::{Name, Names};
 use std::alloc::Allocator;
 use std::marker::Model;
 
@@ -44,26 +45,33 @@ impl<'a, A: Allocator + Copy> Model for DesignFields<'a, A> {
 #[derive(Drop)]
 pub struct Design<'a, A: Allocator + Copy> {
     pub(crate) fields: DesignFields<'a, A>,
+    // The names of the entries of SPECIALNETS, with an index.
+    special_names: Names<'a, A>,
 }
 
 impl<'a, A: Allocator + Copy> Model for Design<'a, A> {
-    ghost use Rattle.leg_block.specs.Records.{DesignContents};
+    ghost use Rattle.std.specs.Prelude.{◌≡◌};
+    ghost use Rattle.leg_block.specs.Records.{DesignContents, net_names};
     ghost use Rattle.leg_block.specs.WellFormed.{IsWellFormed};
 
     ghost Value = { DesignContents };
 
     ghost view = { λ d. d.fields };
 
-    ghost invariant = { λ d. IsWellFormed d.fields };
+    ghost invariant = { λ d. IsWellFormed d.fields × (d.special_names ≡ net_names d.fields.special) };
 }
 
 impl<'a, A: Allocator + Copy> Design<'a, A> {
-    /// The design of these fields, which are well-formed under their library.
-    pub fn new(fields: DesignFields<'a, A>) -> Design<'a, A>
-        requires { IsWellFormed fields }
+    /// The design of these fields, which are well-formed under their library, and whose entries of `SPECIALNETS` have these names.
+    pub fn new(fields: DesignFields<'a, A>, special_names: Names<'a, A>) -> Design<'a, A>
+        requires well_formed { IsWellFormed fields }
+        requires named { special_names ≡ net_names fields.special }
         ensures { result ≡ fields.entry }
     {
-        Design { fields }
+        Design {
+            fields,
+            special_names,
+        }
     }
 
     /// The library that the design was read with.
@@ -171,5 +179,12 @@ impl<'a, A: Allocator + Copy> Design<'a, A> {
         ensures proper { IsWellFormed self.now }
     {
         self.fields.special.as_slice()
+    }
+
+    /// The number of the entry of `SPECIALNETS` of this name, from 0, if there is one.
+    pub fn special_named(&self, name: &[u8]) -> Option<usize>
+        ensures { result ≡ place_of name.now (net_names self.now.special) }
+    {
+        self.special_names.place_of(name)
     }
 }

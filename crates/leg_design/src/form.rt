@@ -1,9 +1,10 @@
 //! The forms of a DEF text (LEF/DEF 5.8, "DEF Syntax").
 
-ghost use Rattle.std.specs.Prelude.{codes};
+ghost use Rattle.std.specs.Prelude.{◌≡◌, IfOk, codes};
 ghost use Rattle.leg_lex.specs.Words.{Reads, Means};
 ghost use Rattle.leg_lex.specs.Until.{until};
 ghost use Rattle.leg_lex.specs.Statements.{at_end};
+ghost use Rattle.leg_block.specs.Records.{net_names};
 ghost use Rattle.leg_design.specs.Parts.{no_parts};
 ghost use Rattle.leg_design.specs.Form.{header_form, def_form_at, design_in};
 
@@ -11,7 +12,7 @@ use crate::parts::Parts;
 use crate::skipped::past_form;
 use leg_block::{Design, DesignFields};
 use leg_cells::Library;
-use leg_lex::{Cursor, ReadFault};
+use leg_lex::{Cursor, Names, ReadFault};
 use std::alloc::Allocator;
 
 /// A form that comes before the sections.
@@ -84,14 +85,15 @@ fn forms<'a, A: Allocator + Copy>(
     Ok(parts)
 }
 
-/// The fields of the design that the words of a DEF denote under a library.
+/// The fields of the design that the words of a DEF denote under a library, and the names of its entries of `SPECIALNETS`.
 #[tactic(auto, unfolding(crate::specs::Form::design_in))]
 fn design_fields<'a, A: Allocator + Copy>(
     alloc: A,
     library: &'a Library<'a, A>,
     words: &mut Cursor<'_, 'a>,
-) -> Result<DesignFields<'a, A>, ReadFault>
-    ensures { Means (λ d. d) result (design_in library.now words.old) }
+) -> Result<(DesignFields<'a, A>, Names<'a, A>), ReadFault>
+    ensures design { Means (λ d. d.0) result (design_in library.now words.old) }
+    ensures names { IfOk result (λ d. d.1 ≡ net_names d.0.special) }
 {
     let parts = forms(alloc, library, words)?;
     let end = words.again();
@@ -108,6 +110,6 @@ pub(crate) fn design_words<'a, A: Allocator + Copy>(
 ) -> Result<Design<'a, A>, ReadFault>
     ensures { Means (λ d. d) result (design_in library.now words.old) }
 {
-    let fields = design_fields(alloc, library, words)?;
-    Ok(Design::new(fields))
+    let (fields, special_names) = design_fields(alloc, library, words)?;
+    Ok(Design::new(fields, special_names))
 }

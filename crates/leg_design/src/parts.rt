@@ -1,10 +1,10 @@
 //! What the forms of a DEF gave so far (LEF/DEF 5.8, "DEF Syntax").
 
-ghost use Rattle.std.specs.Prelude.{◌≡◌, ◌≤◌, ◌+◌, nat_lt, ◌&&◌, true, OnOk};
+ghost use Rattle.std.specs.Prelude.{◌≡◌, ◌≤◌, ◌+◌, nat_lt, ◌&&◌, true, IfOk, OnOk};
 ghost use Rattle.leg_lex.specs.Words.{Reads, Means};
 ghost use Rattle.leg_block.specs.declared.limits.TheConstants.{PART_LIMIT};
 ghost use Rattle.leg_section.specs.Guard.{unless};
-ghost use Rattle.leg_block.specs.Records.{terminal_count};
+ghost use Rattle.leg_block.specs.Records.{net_names, terminal_count};
 ghost use Rattle.leg_design.specs.Parts.{no_parts, divider_form, bus_form, name_form, units_form, die_form, row_form, track_form};
 ghost use Rattle.leg_design.specs.Form.{with_all_nets, design_of};
 
@@ -17,7 +17,7 @@ use leg_floorplan::die::die;
 use leg_floorplan::row::row;
 use leg_floorplan::track::track;
 use leg_geom::Rect;
-use leg_lex::{Cursor, Entry, FaultKind, Keyword, Name, NamedList, Need, ReadFault};
+use leg_lex::{Cursor, Entry, FaultKind, Keyword, Name, NamedList, Names, Need, ReadFault};
 use leg_nets::{NetTable, add_lone_pins};
 use std::alloc::{AllocError, Allocator};
 use std::marker::Model;
@@ -251,13 +251,15 @@ impl<'a, A: Allocator + Copy> Parts<'a, A> {
         Ok(())
     }
 
-    /// The fields of the design, where `DESIGN` and `DIEAREA` have appeared.
-    fn fields(self) -> DesignFields<'a, A>
+    /// The fields of the design, where `DESIGN` and `DIEAREA` have appeared, and the names of its entries of `SPECIALNETS`.
+    fn fields(self) -> (DesignFields<'a, A>, Names<'a, A>)
         requires name { self.has.name ≡ true }
         requires die { self.has.die ≡ true }
-        ensures { result ≡ self.entry.design }
+        ensures fields { result.0 ≡ self.entry.design }
+        ensures names { result.1 ≡ net_names self.entry.design.special }
     {
-        DesignFields {
+        let (special, special_names) = self.special.into_parts();
+        let fields = DesignFields {
             library: self.library,
             name: self.name.unwrap(),
             divider: self.divider,
@@ -270,13 +272,19 @@ impl<'a, A: Allocator + Copy> Parts<'a, A> {
             pins: self.pins.into_vec(),
             blockages: self.blockages,
             nets: self.nets.into_vec(),
-            special: self.special.into_vec(),
-        }
+            special,
+        };
+        (fields, special_names)
     }
 
-    /// The fields of the design, where `DESIGN`, `UNITS` and `DIEAREA` have appeared. Faults are reported at `end`.
-    pub(crate) fn design(self, end: &Cursor<'_, 'a>) -> Result<DesignFields<'a, A>, ReadFault>
-        ensures { Means (λ d. d) result (design_of self.entry) }
+    /// The fields of the design, where `DESIGN`, `UNITS` and `DIEAREA` have appeared, and the names of its entries of
+    /// `SPECIALNETS`. Faults are reported at `end`.
+    pub(crate) fn design(
+        self,
+        end: &Cursor<'_, 'a>,
+    ) -> Result<(DesignFields<'a, A>, Names<'a, A>), ReadFault>
+        ensures design { Means (λ d. d.0) result (design_of self.entry) }
+        ensures names { IfOk result (λ d. d.1 ≡ net_names d.0.special) }
     {
         let mut parts = self;
         parts.complete(end)?;

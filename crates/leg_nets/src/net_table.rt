@@ -123,6 +123,14 @@ impl<'a, A: Allocator + Copy> NetTable<'a, A> {
         Ok(())
     }
 
+    /// The entries, and their names.
+    pub fn into_parts(self) -> (Vec<Net<'a, A>, A>, Names<'a, A>)
+        ensures entries { result.0.items ≡ self.entry }
+        ensures names { result.1 ≡ net_names self.entry }
+    {
+        (self.items, self.names)
+    }
+
     /// The entries alone.
     pub fn into_vec(self) -> Vec<Net<'a, A>, A>
         ensures { result.items ≡ self.entry }

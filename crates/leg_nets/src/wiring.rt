@@ -6,7 +6,7 @@ ghost use Rattle.leg_lex.specs.Until.{until};
 ghost use Rattle.leg_nets.specs.Wiring.{routing_at, past_taper, written_width_at, at_no_shape, past_shape, written_at, path_at, at_no_new, new_path, paths_at, is_wiring, wiring_start, wiring_at};
 ghost use Rattle.leg_block.specs.Wires.{is_even};
 
-use crate::path::{half, path_wires};
+use crate::path::{ItemAt, half, path_wires};
 use crate::path_item::{add_items, count, first_point};
 use leg_block::Wire;
 use leg_cells::Library;
@@ -113,22 +113,24 @@ fn written(special: bool, words: &mut Cursor<'_, '_>) -> Result<Option<i64>, Rea
     Ok(None)
 }
 
-/// The wires of a path, from its layer to its last item. Of two faults the first one is reported.
+/// The wires of a path, from its layer to its last item. Of two faults the first one is reported. The path's items are left in
+/// `items`, whose room serves one path after the other.
 #[tactic(auto, unfolding(crate::specs::Wiring::path_at))]
-fn path<A: Allocator + Copy>(
+fn path<'t, A: Allocator + Copy>(
     alloc: A,
     known: &Known<'_, '_, A>,
     special: bool,
-    words: &mut Cursor<'_, '_>,
+    items: &mut Vec<ItemAt<'t>, A>,
+    words: &mut Cursor<'t, '_>,
 ) -> Result<Vec<Wire, A>, ReadFault>
     ensures { Reads (λ v. v.items) result words.new (path_at known.now special words.old) }
 {
     let layer = routing(known.library, words)?;
     let written = written(special, words)?;
     let (first, given) = first_point(words)?;
-    let mut items = Vec::new(alloc);
-    let read = add_items(known, special, &mut items, words);
-    let wires = path_wires(alloc, known, written, layer, first, given, &items);
+    items.clear();
+    let read = add_items(known, special, items, words);
+    let wires = path_wires(alloc, known, written, layer, first, given, items);
     match (read, wires) {
         (Ok(()), wires) => wires,
         (Err(fault), Err(earlier)) if fault.kind != FaultKind::Memory => Err(earlier),
@@ -138,34 +140,36 @@ fn path<A: Allocator + Copy>(
 
 /// `NEW` and the wires of one more path.
 #[tactic(auto, unfolding(crate::specs::Wiring::new_path))]
-fn new_path<A: Allocator + Copy>(
+fn new_path<'t, A: Allocator + Copy>(
     alloc: A,
     known: &Known<'_, '_, A>,
     special: bool,
     wires: &mut Vec<Wire, A>,
-    words: &mut Cursor<'_, '_>,
+    items: &mut Vec<ItemAt<'t>, A>,
+    words: &mut Cursor<'t, '_>,
 ) -> Result<(), ReadFault>
     ensures { Reads (λ _. wires.new.items) result words.new (new_path known.now special wires.old.items words.old) }
 {
     words.keyword(b"NEW")?;
-    let path = path(alloc, known, special, words)?;
+    let path = path(alloc, known, special, items, words)?;
     wires.extend_from_slice(&path)?;
     Ok(())
 }
 
 /// The wires of every path that `NEW` joins to the ones before.
 #[tactic(auto, using(leg_lex::proofs::Until::ends, leg_lex::proofs::Until::goes_on, leg_lex::proofs::Until::fails, crate::proofs::Wirings::new_path_shortens, crate::proofs::Wirings::new_path_shorter))]
-fn new_paths<A: Allocator + Copy>(
+fn new_paths<'t, A: Allocator + Copy>(
     alloc: A,
     known: &Known<'_, '_, A>,
     special: bool,
     wires: &mut Vec<Wire, A>,
-    words: &mut Cursor<'_, '_>,
+    items: &mut Vec<ItemAt<'t>, A>,
+    words: &mut Cursor<'t, '_>,
 ) -> Result<(), ReadFault>
     ensures { Reads (λ _. wires.new.items) result words.new (until at_no_new (new_path known.now special) wires.old.items words.old) }
 {
     'paths: while words.is_at(b"NEW") {
-        new_path(alloc, known, special, wires, words)?;
+        new_path(alloc, known, special, wires, items, words)?;
     }
     Ok(())
 }
@@ -180,8 +184,9 @@ fn paths<A: Allocator + Copy>(
 ) -> Result<Vec<Wire, A>, ReadFault>
     ensures { Reads (λ v. v.items) result words.new (paths_at known.now special words.old) }
 {
-    let mut wires = path(alloc, known, special, words)?;
-    new_paths(alloc, known, special, &mut wires, words)?;
+    let mut items = Vec::new(alloc);
+    let mut wires = path(alloc, known, special, &mut items, words)?;
+    new_paths(alloc, known, special, &mut wires, &mut items, words)?;
     Ok(wires)
 }
 

@@ -22,8 +22,7 @@ use std::alloc::Allocator;
 /// The half-perimeter wirelength of a design, in database units: over the nets of `NETS`, half of the way round the least
 /// box that holds the centres of their terminals.
 ///
-/// The design was read with this library. Takes no memory. The terminals of each entry are gone through once; for each net
-/// the entries of `SPECIALNETS`, of which designs have few, are searched for one of its name.
+/// The design was read with this library. Takes no memory. The terminals of each entry are gone through once.
 pub fn hpwl<A: Allocator + Copy>(library: &Library<'_, A>, design: &Design<'_, A>) -> i64
     requires { library.now ≡ design.now.library }
     ensures is { IsWirelength design.now result }
@@ -51,18 +50,20 @@ fn net_length<A: Allocator + Copy>(design: &Design<'_, A>, net: &Net<'_, A>) -> 
 }
 
 /// The terminals of the entry of `SPECIALNETS` of this name.
+#[tactic(auto, using(crate::proofs::SpecialNamed::terminals_found, crate::proofs::SpecialNamed::nothing_there, crate::proofs::SpecialNamed::nothing_named))]
 fn special_terminals<'d, A: Allocator + Copy>(
     design: &'d Design<'_, A>,
     name: &[u8],
 ) -> &'d [Terminal]
     ensures { result.now ≡ entry_terminals (special_named design.now name.now) }
 {
-    for net in design.special() {
-        if name == net.name.bytes() {
-            return net.terminals.as_slice();
-        }
+    let Some(number) = design.special_named(name) else {
+        return &[];
+    };
+    match design.special().get(number) {
+        Some(net) => net.terminals.as_slice(),
+        None => &[],
     }
-    &[]
 }
 
 /// The least box that holds the centres of these terminals, where one of them has shapes.

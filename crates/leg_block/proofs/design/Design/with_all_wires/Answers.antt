@@ -3,7 +3,7 @@ use Rattle.std.proofs.Common.{◌≡◌, ◌+◌, ◌≤◌, ◌∙◌, All, len
 use Rattle.std.proofs.lemmas.List.{take_at}
 use Rattle.std.proofs.lemmas.List.Elements.{All-map}
 use Rattle.leg_block.specs.declared.limits.TheConstants.{PART_LIMIT}
-use Rattle.leg_block.specs.Records.{DesignContents, wire_count}
+use Rattle.leg_block.specs.Records.{DesignContents, net_names, wire_count}
 use Rattle.leg_block.specs.WellFormed.{IsWellFormed}
 use Rattle.leg_block.specs.MoreWires.{with_more_wires}
 use Rattle.leg_block.specs.WellFormedNets.{IsWire}
@@ -23,7 +23,8 @@ invariant_of-self g c =
     let value = c.as_mut_slice.ensures.value in
     let are : new ≡ with_more_wires old lists = rw value at c.in-Ok.ensures.appended in
     let long : length new ≡ c.self-inside.inside.0.0.nets.len = ap length are ∙ each_with_length _ old lists ∙ sym (ap length value) ∙ c.as_mut_slice.ensures.len in
-    rw (take_at new (drop (length new) old) c.self-inside.inside.0.0.nets.len long, are) (all_stay_well_formed _ lists (record { spelled = All-map (All (IsWire c.self-inside.inside.0.0.library.now c.self-inside.inside.0.0.vias.items false)) (λ w. w.items) c.args.lists.items spelled; few = few }) (subst IsWellFormed (sym inside) c.self.invariant))
+    let names = ap (λ d. d.special_names) c.self-inside.view_is ∙ c.self.invariant.1 ∙ ap (λ d. net_names d.fields.special) (sym c.self-inside.view_is) in
+    (rw (take_at new (drop (length new) old) c.self-inside.inside.0.0.nets.len long, are) (all_stay_well_formed _ lists (record { spelled = All-map (All (IsWire c.self-inside.inside.0.0.library.now c.self-inside.inside.0.0.vias.items false)) (λ w. w.items) c.args.lists.items spelled; few = few }) (subst IsWellFormed (sym inside) c.self.invariant.0)), names)
 
 pub invariant_of-self-in-Err : goal.invariant_of-self-in-Err
 invariant_of-self-in-Err g c =
@@ -33,4 +34,5 @@ invariant_of-self-in-Err g c =
     let unchanged = c.in-Err.ensures.unchanged in
     let are : new ≡ old = unchanged ∙ c.as_mut_slice.ensures.value in
     let long : length new ≡ c.self-inside.inside.0.0.nets.len = ap length unchanged ∙ c.as_mut_slice.ensures.len in
-    rw (take_at new (drop (length new) old) c.self-inside.inside.0.0.nets.len long, are) (subst IsWellFormed (sym inside) c.self.invariant)
+    let names = ap (λ d. d.special_names) c.self-inside.view_is ∙ c.self.invariant.1 ∙ ap (λ d. net_names d.fields.special) (sym c.self-inside.view_is) in
+    (rw (take_at new (drop (length new) old) c.self-inside.inside.0.0.nets.len long, are) (subst IsWellFormed (sym inside) c.self.invariant.0), names)

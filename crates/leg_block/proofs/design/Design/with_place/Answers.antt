@@ -1,7 +1,7 @@
 use Rattle.std.proofs.Common.{◌≡◌, ◌<◌, length, get_or, ap, sym, subst, ◌∙◌}
 use Rattle.std.proofs.lemmas.Option.{get_or_from_slice_get}
 use Rattle.leg_block.specs.declared.records.Component.{Component}
-use Rattle.leg_block.specs.Records.{DesignContents}
+use Rattle.leg_block.specs.Records.{DesignContents, net_names}
 use Rattle.leg_block.specs.WellFormed.{IsWellFormed}
 use Rattle.leg_block.proofs.Moved.{design_moved}
 use Rattle.leg_block.proofs.MovedNets.{stays_well_formed}
@@ -11,8 +11,11 @@ pub invariant_of-self : goal.invariant_of-self
 invariant_of-self g c =
     let back = ap (λ d. d.fields) c.self-inside.view_is in
     let within = subst (λ (d : DesignContents). c.args.component < length d.components) (sym (back ∙ c.self.view_is)) c.requires.in_range in
-    stays_well_formed _ c.args.component c.index_mut-chosen.result.now c.args.place (record { within = within; is = c.index_mut-chosen.ensures.value }) c.requires.within
-    (subst IsWellFormed (sym back) c.self.invariant)
+    let names = ap (λ d. d.special_names) c.self-inside.view_is ∙ c.self.invariant.1 ∙ ap (λ d. net_names d.fields.special) (sym c.self-inside.view_is) in (
+      stays_well_formed _ c.args.component c.index_mut-chosen.result.now c.args.place (record { within = within; is = c.index_mut-chosen.ensures.value }) c.requires.within
+          (subst IsWellFormed (sym back) c.self.invariant.0),
+      names,
+    )
 
 pub returns : goal.returns
 returns g c = λ before is.

@@ -1,6 +1,9 @@
-use Rattle.std.proofs.Common.{◌≡◌, ◌+◌, ◌<◌, ◌≤◌, All, length, get_or, false, sym, ap, subst, ◌∙◌}
+use Rattle.std.proofs.Common.{◌≡◌, ℕ, ◌+◌, ◌<◌, ◌≤◌, List, ◌++◌, All, length, get_or, set, false, sym, ap, subst, ◌∙◌}
+use Rattle.std.proofs.lemmas.List.{set-get_or}
+use Rattle.std.proofs.lemmas.Option.{get_or_from_slice_get}
+use Rattle.leg_block.specs.declared.records.Wire.{Wire}
 use Rattle.leg_block.specs.declared.limits.TheConstants.{PART_LIMIT}
-use Rattle.leg_block.specs.Records.{DesignContents, NetSaid, wire_count}
+use Rattle.leg_block.specs.Records.{DesignContents, NetSaid, net_names, wire_count}
 use Rattle.leg_block.specs.WellFormed.{IsWellFormed}
 use Rattle.leg_block.specs.WellFormedNets.{IsWire}
 use Rattle.leg_block.proofs.Wired.{stays_well_formed}
@@ -14,4 +17,28 @@ invariant_of-self g c =
     let spelled = subst (λ (d : DesignContents). All (IsWire d.library d.vias false) c.args.wires.items) back c.requires.spelled in
     let few = subst (λ (d : DesignContents). wire_count d.nets + wire_count d.special + length c.args.wires.items ≤ PART_LIMIT) back c.requires.few in
     let is = subst (λ (n : NetSaid). n ≡ get_or c.self-inside.inside.0.0.nets.items c.args.net n) (sym c.entry.view_is) c.index_mut-entry.ensures.value in
-    rw c.in-Ok.ensures.appended (stays_well_formed _ c.args.net _ c.args.wires.items (record { at = record { within = within; is = is }; spelled = spelled; few = few }) (subst IsWellFormed (sym inside) c.self.invariant))
+    let names = ap (λ d. d.special_names) c.self-inside.view_is ∙ c.self.invariant.1 ∙ ap (λ d. net_names d.fields.special) (sym c.self-inside.view_is) in
+    (rw c.in-Ok.ensures.appended (stays_well_formed _ c.args.net _ c.args.wires.items (record { at = record { within = within; is = is }; spelled = spelled; few = few }) (subst IsWellFormed (sym inside) c.self.invariant.0)), names)
+
+pub invariant_of-self-in-Err : goal.invariant_of-self-in-Err
+invariant_of-self-in-Err g c =
+    let inside = ap (λ d. d.fields) c.self-inside.view_is in
+    let names = ap (λ d. d.special_names) c.self-inside.view_is ∙ c.self.invariant.1 ∙ ap (λ d. net_names d.fields.special) (sym c.self-inside.view_is) in
+    let nets = c.self-inside.inside.0.0.nets.items in
+    let entry : NetSaid = record { name = c.entry.inside.name; usage = c.entry.inside.usage; terminals = c.entry.inside.terminals; wires = c.entry.inside.wires } in
+    let is : entry ≡ get_or nets c.args.net entry = subst (λ (n : NetSaid). n ≡ get_or nets c.args.net n) (sym c.entry.view_is) c.index_mut-entry.ensures.value in
+    let same : set nets c.args.net entry ≡ nets = ap (set nets c.args.net) is ∙ set-get_or nets c.args.net entry in
+    (rw (c.in-Err.ensures.unchanged, same) (subst IsWellFormed (sym inside) c.self.invariant.0), names)
+
+abbrev wired : DesignContents → ℕ → List Wire → NetSaid → DesignContents
+wired design n wires net = record design { nets = set design.nets n (record net { wires = net.wires ++ wires }) }
+
+pub returns-in-Ok-clause-added : goal.returns-in-Ok-clause-added
+returns-in-Ok-clause-added g c = λ before is.
+    let back = ap (λ d. d.fields) c.self-inside.view_is ∙ c.self.view_is in
+    let entry : NetSaid = record { name = c.entry.inside.name; usage = c.entry.inside.usage; terminals = c.entry.inside.terminals; wires = c.entry.inside.wires } in
+    let there = c.index_mut-entry.ensures.value ∙ ap (λ (d : DesignContents). get_or d.nets c.args.net c.index_mut-entry.result.now) back
+    ∙ get_or_from_slice_get c.args.self.nets c.args.net before c.index_mut-entry.result.now is in
+    rw c.in-Ok.ensures.appended (
+    ap (λ (d : DesignContents). wired d c.args.net c.args.wires.items entry) back
+    ∙ ap (wired c.args.self c.args.net c.args.wires.items) (c.entry.view_is ∙ there))
