@@ -1,10 +1,10 @@
 -- Good vias: the three layers that the shapes join are the lowest, the highest and another.
-use Rattle.std.proofs.Common.{◌≡◌, ◌≢◌, ℕ, ◌+◌, ◌-◌, ◌<◌, ◌≤◌, min, max, ◌⊎◌, ◌↔◌, inl, inr, ⊎_elim, pos, ℤ, ◌<ℤ◌, int_lt, nat_lt, Bool, true, false, not, ◌&&◌, ◌||◌, ◌==◌, IsTrue, List, length, take, drop, get_or, Option, Some, None, slice_get, refl, sym, subst, ◌∙◌, arith, length-take, length-drop}
+use Rattle.std.proofs.Common.{◌≡◌, ◌≢◌, ℕ, ◌+◌, ◌-◌, ◌<◌, ◌≤◌, min, max, ◌⊎◌, ◌↔◌, inl, inr, ⊎_elim, pos, ℤ, ◌<ℤ◌, int_lt, nat_lt, Bool, true, false, not, ◌&&◌, ◌||◌, ◌==◌, IsTrue, List, [], ◌∷◌, map, length, take, drop, get_or, Option, Some, None, slice_get, refl, sym, subst, ◌∙◌, arith, length-take, length-drop}
 use Rattle.std.specs.Bool.{Decides}
 use Rattle.std.specs.List.{All, Any, list_any, list_all, slice_range}
 use Rattle.std.proofs.lemmas.Bool.{cases_lt, false_from_ne_true, true≢false, not_from_false, not-true}
 use Rattle.std.proofs.lemmas.Bool.Decides.{Decides-and, Decides-or, Decides-eqb, Decides-ltb, Decides-by_and}
-use Rattle.std.proofs.lemmas.List.{take_all, get_or-take, get_or-drop, get_or_default}
+use Rattle.std.proofs.lemmas.List.{take-map, drop-map, take_all, get_or-take, get_or-drop, get_or_default}
 use Rattle.std.proofs.lemmas.List.Elements.{All-nil, All-more}
 use Rattle.std.proofs.lemmas.List.Folds.{Any-from_list_any, list_any-from_Any, list_any_none, list_any_at}
 use Rattle.std.proofs.lemmas.Option.{slice_get-get_or, slice_get_within, get_or_from_slice_get}
@@ -316,3 +316,13 @@ third_there shapes i low high x less is not_low not_high = record {
 pub good_vias_join : (layers : List LayerUse) (shapes : List ViaPart) → IsTrue (join_layers layers shapes) ↔ ((low : ℕ) × (cut : ℕ) × (high : ℕ) × Joins layers shapes low cut high)
 good_vias_join layers shapes =
     (three layers shapes, λ found. joined_by layers shapes found.0 found.1 found.2 found.3.low_used found.3.cut_used found.3.high_used (joins_is layers shapes found.0 found.1 found.2 found.3))
+
+-- whether one of some layers has wires, asked of the layers themselves
+list_any-map : {X : Type 0} (use_of : X → LayerUse) (layers : List X) → list_any has_wires (map use_of layers) ≡ list_any (λ layer. has_wires (use_of layer)) layers
+list_any-map use_of [] = refl
+list_any-map use_of (layer ∷ layers) = rw (list_any-map use_of layers) refl
+
+pub any_in_range : {X : Type 0} (use_of : X → LayerUse) (layers : List X) (a b : ℕ)
+    → list_any (λ layer. has_wires (use_of layer)) (slice_range layers a b) ≡ list_any has_wires (slice_range (map use_of layers) a b)
+any_in_range use_of layers a b =
+    sym (rw (drop-map use_of a layers, take-map use_of (b - a) (drop a layers)) (list_any-map use_of (slice_range layers a b)))

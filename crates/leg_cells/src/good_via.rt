@@ -2,9 +2,9 @@
 
 ghost use Rattle.std.specs.Prelude.{◌≡◌, IfOk};
 ghost use Rattle.leg_cells.specs.Joins.{join_layers};
-ghost use Rattle.leg_cells.specs.GoodVia.{raw_use, use_of, raw_uses, uses_of, holds_origin, raw_parts, parts_of, is_good_via};
+ghost use Rattle.leg_cells.specs.GoodVia.{raw_use, use_of, raw_uses, holds_origin, raw_parts, parts_of, is_good_via};
 
-use crate::joins::{LayerUse, ViaPart, is_wiring_word, joins_layers};
+use crate::joins::{LayerUse, ViaLayer, ViaPart, is_wiring_word, joins_layers};
 use crate::library::Library;
 use crate::measure::RawRect;
 use crate::raw::{RawKind, RawLayer, RawShape};
@@ -52,27 +52,20 @@ fn holds_origin(rect: &Rect) -> bool
     rect.x1() < 0 && 0 < rect.x2() && rect.y1() < 0 && 0 < rect.y2()
 }
 
-/// What vias find on the layers.
-fn raw_uses<A: Allocator + Copy>(
-    alloc: A,
-    layers: &[RawLayer<'_>],
-) -> Result<Vec<LayerUse, A>, AllocError>
-    ensures { IfOk result (λ uses. uses.items ≡ raw_uses layers.now) }
-{
-    layers
-        .iter()
-        .map(|layer| raw_use(layer.kind))
-        .collect(alloc)
+impl ViaLayer for RawLayer<'_> {
+    ghost use_of = { λ layer. raw_use layer.kind };
+
+    fn layer_use(&self) -> LayerUse {
+        raw_use(self.kind)
+    }
 }
 
-/// What vias find on the layers.
-fn uses_of<A: Allocator + Copy>(
-    alloc: A,
-    layers: &[Layer<'_>],
-) -> Result<Vec<LayerUse, A>, AllocError>
-    ensures { IfOk result (λ uses. uses.items ≡ uses_of layers.now) }
-{
-    layers.iter().map(|layer| use_of(layer.kind)).collect(alloc)
+impl ViaLayer for Layer<'_> {
+    ghost use_of = { λ layer. use_of layer.kind };
+
+    fn layer_use(&self) -> LayerUse {
+        use_of(self.kind)
+    }
 }
 
 /// What the shapes are to a via.
@@ -110,9 +103,8 @@ impl<'a, A: Allocator + Copy> RawLibrary<'a, A> {
     pub fn shapes_join(&self, alloc: A, shapes: &[RawShape]) -> Result<bool, AllocError>
         ensures { IfOk result (λ joined. joined ≡ join_layers (raw_uses self.now.layers) (raw_parts shapes.now)) }
     {
-        let layers = raw_uses(alloc, self.layers())?;
         let parts = raw_parts(alloc, shapes)?;
-        Ok(joins_layers(&layers, &parts))
+        Ok(joins_layers(self.layers(), &parts))
     }
 }
 
@@ -126,8 +118,7 @@ impl<'a, A: Allocator + Copy> Library<'a, A> {
         if is_wiring_word(name) {
             return Ok(false);
         }
-        let layers = uses_of(alloc, self.layers())?;
         let parts = parts_of(alloc, shapes)?;
-        Ok(joins_layers(&layers, &parts))
+        Ok(joins_layers(self.layers(), &parts))
     }
 }

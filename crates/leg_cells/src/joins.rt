@@ -1,9 +1,9 @@
 //! Good vias, which join two routing layers (lefdef's own rule).
 
-ghost use Rattle.std.specs.Prelude.{◌≡◌, [], MatchOption};
-ghost use Rattle.std.specs.List.{list_any, list_all};
+ghost use Rattle.std.specs.Prelude.{◌≡◌, ◌+◌, ◌<◌, [], length, map, MatchOption};
+ghost use Rattle.std.specs.List.{list_any, list_all, slice_range};
 ghost use Rattle.leg_lex.specs.Words.{is_keyword};
-ghost use Rattle.leg_cells.specs.Joins.{is_wiring_word, has_wires, is_routing, is_cut, is_part, join, join_layers};
+ghost use Rattle.leg_cells.specs.Joins.{is_wiring_word, has_wires, has_cuts, is_routing, is_cut, is_part, join, join_layers};
 ghost use Rattle.leg_cells.specs.Steps.ShapeLayers.{AreOuter, IsThird, OnTwo};
 
 /// What a layer is to vias.
@@ -15,6 +15,33 @@ pub enum LayerUse {
     Cuts,
     /// Anything else.
     Neither,
+}
+
+impl LayerUse {
+    /// Whether wires run there.
+    fn has_wires(self) -> bool
+        ensures { result ≡ has_wires self }
+    {
+        matches!(self, LayerUse::Wires)
+    }
+
+    /// Whether cuts are there.
+    fn has_cuts(self) -> bool
+        ensures { result ≡ has_cuts self }
+    {
+        matches!(self, LayerUse::Cuts)
+    }
+}
+
+/// A layer of a library.
+pub(crate) trait ViaLayer {
+    ghost use Rattle.leg_cells.specs.declared.joins.LayerUse.{LayerUse};
+
+    ghost use_of: { Self → LayerUse };
+
+    /// What vias find on it.
+    fn layer_use(&self) -> LayerUse
+        ensures { result ≡ use_of self.now };
 }
 
 /// What a rectangle is to a via: the number of its layer, and whether the point 0 0 lies inside it, and not on its
@@ -62,24 +89,40 @@ pub fn is_wiring_word(name: &[u8]) -> bool
 }
 
 /// Whether the layer of this number is a routing layer.
-fn is_routing(layers: &[LayerUse], number: usize) -> bool
-    ensures { result ≡ is_routing layers.now number }
+fn is_routing<L: ViaLayer>(layers: &[L], number: usize) -> bool
+    ensures { result ≡ is_routing (map L.use_of layers.now) number }
 {
-    matches!(layers.get(number), Some(LayerUse::Wires))
+    match layers.get(number) {
+        Some(layer) => layer.layer_use().has_wires(),
+        None => false,
+    }
 }
 
 /// Whether the layer of this number is a cut layer.
-fn is_cut(layers: &[LayerUse], number: usize) -> bool
-    ensures { result ≡ is_cut layers.now number }
+fn is_cut<L: ViaLayer>(layers: &[L], number: usize) -> bool
+    ensures { result ≡ is_cut (map L.use_of layers.now) number }
 {
-    matches!(layers.get(number), Some(LayerUse::Cuts))
+    match layers.get(number) {
+        Some(layer) => layer.layer_use().has_cuts(),
+        None => false,
+    }
 }
 
 /// Whether one of the layers is a routing layer.
-fn any_routing(layers: &[LayerUse]) -> bool
-    ensures { result ≡ list_any has_wires layers.now }
+fn any_routing<L: ViaLayer>(layers: &[L]) -> bool
+    ensures { result ≡ list_any (λ layer. has_wires (L.use_of layer)) layers.now }
 {
-    layers.iter().any(|layer| matches!(*layer, LayerUse::Wires))
+    layers.iter().any(|layer| layer.layer_use().has_wires())
+}
+
+/// Whether one of the layers between the two is a routing layer.
+#[tactic(auto, using(crate::proofs::Joined::any_in_range))]
+fn any_routing_between<L: ViaLayer>(layers: &[L], low: usize, high: usize) -> bool
+    requires above { low < high }
+    requires within { high < length layers.now }
+    ensures { result ≡ list_any has_wires (slice_range (map L.use_of layers.now) (low + 1) high) }
+{
+    any_routing(&layers[low + 1..high])
 }
 
 /// Whether a part is a cut, or a piece of one of the two routing layers that holds the point 0 0.
@@ -97,15 +140,15 @@ fn all_parts(low: usize, cut: usize, high: usize, parts: &[ViaPart]) -> bool
 }
 
 /// Whether the parts join the routing layers `low` and `high` by cuts on the layer `cut`.
-fn join(layers: &[LayerUse], low: usize, cut: usize, high: usize, parts: &[ViaPart]) -> bool
-    ensures { result ≡ join layers.now low cut high parts.now }
+fn join<L: ViaLayer>(layers: &[L], low: usize, cut: usize, high: usize, parts: &[ViaPart]) -> bool
+    ensures { result ≡ join (map L.use_of layers.now) low cut high parts.now }
 {
     is_routing(layers, low)
         && is_cut(layers, cut)
         && is_routing(layers, high)
         && low < cut
         && cut < high
-        && !any_routing(&layers[low + 1..high])
+        && !any_routing_between(layers, low, high)
         && all_parts(low, cut, high, parts)
 }
 
@@ -137,10 +180,11 @@ fn third_layer(low: usize, high: usize, parts: &[ViaPart]) -> Option<usize>
     None
 }
 
-/// Whether the parts lie on three layers that a via joins: two routing layers and a cut layer between them.
+/// Whether the parts lie on three layers that a via joins: two routing layers and a cut layer between them. Of the layers it
+/// asks only these and those between them.
 #[tactic(auto, using(crate::proofs::Joined::tested_once))]
-pub(crate) fn joins_layers(layers: &[LayerUse], parts: &[ViaPart]) -> bool
-    ensures { result ≡ join_layers layers.now parts.now }
+pub(crate) fn joins_layers<L: ViaLayer>(layers: &[L], parts: &[ViaPart]) -> bool
+    ensures { result ≡ join_layers (map L.use_of layers.now) parts.now }
 {
     let Some((low, high)) = outer_layers(parts) else {
         return false;

@@ -1,6 +1,10 @@
 -- Shorts, and shapes too near
 mod ToldPairs
 mod AllTold
+-- Kinds of metal
+mod AlikeMetal
+mod KindPairs
+mod PairsInOrder
 -- Disjoint sets
 mod SetRoots
 mod WayUp
@@ -18,4 +22,6 @@ mod PiecesTouch
 mod JoinedLaws
 mod Touches
 mod SetsTaken
+mod SomeJoined
+mod StandIns
 mod OpenPieces

@@ -52,7 +52,7 @@ module _ (shapes : List PieceShape) where
     pub high : LiesAmong shapes pieces.high pieces.layer (spot_of point)
 
   -- pieces touch one another
-  TouchAmong-back : (a b : ℕ) → TouchAmong shapes a b → TouchAmong shapes b a
+  pub TouchAmong-back : (a b : ℕ) → TouchAmong shapes a b → TouchAmong shapes b a
   TouchAmong-back a b h = record {
     others = λ same. h.others (sym same);
     layer = h.layer;

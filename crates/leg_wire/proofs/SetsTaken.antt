@@ -1,20 +1,17 @@
 -- What a sink of pairs is after it took them all.
-use Rattle.std.proofs.Common.{◌≡◌, ℕ, ◌<◌, ℤ, List, [], ◌∷◌, ◌++◌, length, get_or, None, Contains, refl, sym, ◌∙◌}
+use Rattle.std.proofs.Common.{◌≡◌, ℕ, ◌<◌, ℤ, List, [], ◌∷◌, ◌++◌, length, get_or, None, Contains, refl, sym, ◌∙◌, arith}
 use Rattle.std.specs.List.{range_with_len}
 use Rattle.std.proofs.lemmas.List.Elements.{All-contains, Contains-append_left, Contains-push}
 use Rattle.std.proofs.lemmas.Option.{same_Some, slice_get_read}
 use Rattle.leg_sweep.specs.Pairs.{IsPair, TakesAll, TookPairs}
 use Rattle.leg_sweep.specs.Pairs.TakesAll.{none, more}
-use Rattle.leg_flat.specs.Flat.{FlatSaid}
 use Rattle.leg_wire.specs.declared.corner.Beside.{Beside}
 use Rattle.leg_wire.specs.declared.piece_shape.PieceShape.{PieceShape}
-use Rattle.leg_wire.specs.Touch.{piece_count}
 use Rattle.leg_wire.specs.Steps.MeetingRule.{DoMeet}
-use Rattle.leg_wire.specs.Steps.PieceMetal.{ArePieceShapes}
 use Rattle.leg_wire.specs.Steps.SharedPoints.{first_seen}
-use Rattle.leg_wire.specs.Steps.JoinSteps.{JoinState, IsJoinStep, TakesPair, AreJoinedSets}
-use Rattle.leg_wire.proofs.PiecesTouch.{AreSoFar, so_far_more}
-use Rattle.leg_wire.proofs.Touches.{so_far_none, sets_of_net}
+use Rattle.leg_wire.specs.Steps.JoinSteps.{JoinState, IsJoinStep, TakesPair, AreSetsOf}
+use Rattle.leg_wire.proofs.PiecesTouch.{AreSoFar, so_far_more, joined_together}
+use Rattle.leg_wire.proofs.Touches.{so_far_none}
 
 -- a pair of rectangles was taken, with what it made of the sets
 pub take_step : (shapes : List PieceShape) (sets sets_after : List ℕ) (seen seen_after : List (Beside × (ℤ × ℤ))) (pair : ℕ × ℕ) (a b : PieceShape)
@@ -57,19 +54,21 @@ module _ (shapes : List PieceShape) (count : ℕ) where
 -- of the pieces that are joined.
 pub sets_taken : {Sink : Type 0} (Takes : Sink → ℕ × ℕ → Sink → Type 0) (state : Sink → JoinState)
     → ((between after : Sink) (p : ℕ × ℕ) → Takes between p after → TakesPair (state between) p (state after))
-    → (flat : FlatSaid) (net : ℕ) (shapes : List PieceShape) → ArePieceShapes flat net shapes
-    → (before after : Sink) → (state before).shapes ≡ shapes → (state before).sets ≡ range_with_len 0 (piece_count flat net)
+    → (shapes : List PieceShape) (count : ℕ) (before after : Sink) → (state before).shapes ≡ shapes → (state before).sets ≡ range_with_len 0 count
     → ((pieces : Beside) → first_seen (state before).seen pieces ≡ None)
-    → {tests : ℕ} → TookPairs Takes DoMeet shapes tests before after → AreJoinedSets flat net (state after).sets
-sets_taken Takes state says flat net shapes are before after same_shapes alone unseen took =
-    let count = piece_count flat net in
+    → {tests : ℕ} → TookPairs Takes DoMeet shapes tests before after → AreSetsOf shapes count (state after).sets
+sets_taken Takes state says shapes count before after same_shapes alone unseen took =
     let begun : IsUnderway shapes count [] (state before) = record {
       same_shapes = same_shapes;
       so_far = λ meet. rw alone (so_far_none shapes count (state before).seen unseen);
     } in
-    let done : IsUnderway shapes count took.found (state after) =
+    let underway : IsUnderway shapes count took.found (state after) =
     takes_along Takes before (λ found sink. IsUnderway shapes count found (state sink)) begun
     (λ found p between later so_far takes. underway_more shapes count found p (state between) (state later) so_far (says between later p takes))
     took.found after took.taken in
-    sets_of_net flat net shapes are took.found took.are (state after).sets (state after).seen
-    (done.so_far (λ p has. All-contains (IsPair DoMeet shapes) took.found p took.are.each has))
+    let done : AreSoFar shapes count took.found (state after).sets (state after).seen =
+    underway.so_far (λ p has. All-contains (IsPair DoMeet shapes) took.found p took.are.each has) in
+    record {
+      some = record { size = done.size; joined = done.joined };
+      all = λ a b a_in joined. joined_together shapes count took.found took.are (state after).sets (state after).seen done a b (omega (arith, done.size, a_in)) joined;
+    }

@@ -1,11 +1,10 @@
 -- Which pieces touch and which are joined, by the metal of a net's pieces.
-use Rattle.std.proofs.Common.{◌≡◌, ◌≢◌, ℕ, ◌+◌, ◌<◌, ◌^◌, ℤ, Bool, List, [], All, Option, None, Some, option_map, length, get_or, slice_get, inl, inr, refl, sym, ◌∙◌, arith}
+use Rattle.std.proofs.Common.{◌≡◌, ◌≢◌, ℕ, ◌+◌, ◌<◌, ◌^◌, ℤ, Bool, true, IsTrue, List, [], All, Option, None, Some, option_map, length, get_or, slice_get, inl, inr, refl, sym, ◌∙◌, arith}
 use Rattle.std.specs.List.{range_with_len}
 use Rattle.std.proofs.lemmas.Bool.{cases_eq}
 use Rattle.std.proofs.lemmas.List.Elements.{All-contains}
 use Rattle.std.proofs.lemmas.List.FromFn.{length-range_with_len, get_or-range_with_len}
-use Rattle.std.proofs.lemmas.Option.{same_Some, none-some, slice_get_within, get_or_from_slice_get}
-use Rattle.leg_sweep.specs.Pairs.{HasPairs}
+use Rattle.std.proofs.lemmas.Option.{same_Some, none-some, slice_get_within, slice_get-get_or, get_or_from_slice_get}
 use Rattle.leg_sweep.proofs.Lists.{All-from_contains, Contains-nil}
 use Rattle.leg_geom.specs.Plane.{Spot}
 use Rattle.leg_flat.specs.declared.piece.Piece.{Piece}
@@ -13,14 +12,14 @@ use Rattle.leg_flat.specs.declared.shape.Shape.{Shape}
 use Rattle.leg_flat.specs.Flat.{FlatSaid}
 use Rattle.leg_wire.specs.declared.corner.Beside.{Beside}
 use Rattle.leg_wire.specs.declared.piece_shape.PieceShape.{PieceShape}
-use Rattle.leg_wire.specs.Steps.MeetingRule.{DoMeet}
 use Rattle.leg_wire.specs.Steps.NumberSets.{AreTogether}
 use Rattle.leg_wire.specs.Steps.PieceMetal.{ArePieceShapes, LiesAmong, TouchAmong}
 use Rattle.leg_wire.specs.Steps.SharedPoints.{first_seen}
-use Rattle.leg_wire.specs.Steps.JoinSteps.{HavePlaces, AreJoinedSets}
+use Rattle.leg_wire.specs.Steps.JoinSteps.{AreSomeJoined, AreSetsOf, AreJoinedSets}
 use Rattle.leg_wire.specs.Touch.{piece_count, IsOfPiece, LiesIn, Touch, Joined, AreJoined, AreMarks, AreFirsts}
 use Rattle.leg_wire.specs.Touch.Joined.{itself, through}
-use Rattle.leg_wire.proofs.PiecesTouch.{AreSoFar, joined_together}
+use Rattle.leg_wire.proofs.PiecesTouch.{AreSoFar}
+use Rattle.leg_wire.proofs.SetsUnited.{AreTogether-back, AreTogether-onward}
 
 -- the pieces of a net that the flat tells are counted
 pub piece_count-is : (flat : FlatSaid) (n count : ℕ) → option_map length (slice_get flat.pieces n) ≡ Some count → piece_count flat n ≡ count
@@ -107,20 +106,30 @@ module _ (flat : FlatSaid) (n : ℕ) (pieces : List PieceShape) (are : ArePieceS
   joined_in a k itself = itself
   joined_in a k (through {b = b} joined touch) = through (joined_in a b joined) (touch_in b k touch)
 
-  -- each piece whose metal is there has its number among as many
-  pub places_alone : (count : ℕ) → piece_count flat n ≡ count → HavePlaces (range_with_len 0 count) pieces
-  places_alone count counted =
-      All-from_contains (λ shape. shape.piece < length (range_with_len 0 count)) pieces
-      (λ shape has. let many = length-range_with_len 0 count in omega (arith, many, counted, (are.each shape has).2.of_piece.there))
+  -- each piece whose metal is there is one of as many
+  pub places_below : (count : ℕ) → piece_count flat n ≡ count → All (λ shape. shape.piece < count) pieces
+  places_below count counted =
+      All-from_contains (λ shape. shape.piece < count) pieces (λ shape has. omega (arith, counted, (are.each shape has).2.of_piece.there))
 
-  -- all meetings were taken
-  pub sets_of_net : (meetings : List (ℕ × ℕ)) → HasPairs DoMeet pieces meetings → (sets : List ℕ) (seen : List (Beside × (ℤ × ℤ)))
-      → AreSoFar pieces (piece_count flat n) meetings sets seen → AreJoinedSets flat n sets
-  sets_of_net meetings has sets seen done = record {
-    count = done.size;
+  -- the sets by the metal are those of the pieces that are joined
+  pub sets_of_net : (sets : List ℕ) → AreSetsOf pieces (piece_count flat n) sets → AreJoinedSets flat n sets
+  sets_of_net sets are_sets = record {
+    count = are_sets.some.size;
+    each = λ a b a_in. (λ together. joined_in a b (are_sets.some.joined a b together), λ joined. are_sets.all a b a_in (joined_among a b joined));
+  }
+
+  -- what is joined to a piece is one
+  joined_within : (a b : ℕ) → a < piece_count flat n → AreJoined flat n a b → b < piece_count flat n
+  joined_within a b a_in itself = a_in
+  joined_within a b a_in (through joined touch) = touch.p_in_b.of_piece.there
+
+  -- where all pieces are together, what is together needs only to be joined
+  pub sets_of_one : (sets : List ℕ) → AreSomeJoined pieces (piece_count flat n) sets → ((k : ℕ) → k < piece_count flat n → AreTogether sets 0 k) → AreJoinedSets flat n sets
+  sets_of_one sets some one = record {
+    count = some.size;
     each = λ a b a_in. (
-      λ together. joined_in a b (done.joined a b together),
-      λ joined. joined_together pieces (piece_count flat n) meetings has sets seen done a b (omega (arith, done.size, a_in)) (joined_among a b joined),
+      λ together. joined_in a b (some.joined a b together),
+      λ joined. AreTogether-onward sets a 0 b (AreTogether-back sets 0 a (one a a_in)) (one b (joined_within a b a_in joined)),
     );
   }
 
@@ -172,3 +181,10 @@ firsts_of_joined flat net sets firsts joined done = record {
         least = λ j j_in joins. is.least j (omega (arith, j_in, joined.count)) ((joined.each k j k_in).1 joins);
       };
 }
+
+-- where all marks of what is together with the first piece are set, all pieces are
+pub all_marked : (sets : List ℕ) (count : ℕ) (marks : List Bool) → length sets ≡ count → AreMarks (AreTogether sets 0) (length sets) marks → All (λ mark. IsTrue mark) marks
+    → (k : ℕ) → k < count → AreTogether sets 0 k
+all_marked sets count marks many done set k k_in =
+    let within : k < length marks = omega (arith, done.count, many, k_in) in
+    (done.each k (get_or marks k true) (slice_get-get_or marks k true within)).0 (set k true within)

@@ -5,6 +5,7 @@ pub mod MeetingRule
 pub mod PieceMetal
 pub mod AddedFaults
 pub mod PairViolations
+pub mod Kinds
 pub mod SharedPoints
 pub mod NumberSets
 pub mod JoinSteps

@@ -10,10 +10,12 @@
 
 mod access;
 mod clean_metal;
+mod close_pairs;
 mod comparable;
 mod corner;
 mod join;
 mod joining;
+mod kinds;
 pub mod laws;
 mod meeting;
 mod net_shapes;
@@ -22,6 +24,7 @@ mod pair_kind;
 mod piece_shape;
 mod sets;
 mod spacing;
+mod stand_ins;
 mod too_close;
 
 pub use access::{Access, access_beside};

@@ -65,7 +65,7 @@ fn net_below(owner: Owner, nets: u32) -> Option<u32>
 }
 
 /// Empty lists, `count` of them.
-fn empty_lists<A: Allocator + Copy>(
+pub(crate) fn empty_lists<A: Allocator + Copy>(
     alloc: A,
     count: u32,
 ) -> Result<Vec<Items<u32, A>, A>, AllocError>
@@ -79,7 +79,7 @@ fn empty_lists<A: Allocator + Copy>(
 }
 
 /// Adds a number to the list in this place.
-fn add_number<A: Allocator + Copy>(
+pub(crate) fn add_number<A: Allocator + Copy>(
     lists: &mut [Items<u32, A>],
     place: u32,
     number: u32,

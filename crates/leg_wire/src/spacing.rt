@@ -7,12 +7,12 @@ ghost use Rattle.leg_wire.specs.Spacing.{Holds};
 ghost use Rattle.leg_wire.specs.Steps.PairViolations.{IsToldAs};
 ghost use Rattle.leg_wire.specs.Steps.AddedFaults.{AreAdded};
 
+use crate::close_pairs::close_pairs;
 use crate::pair_kind::PairKind;
 use crate::too_close::TooClose;
 use leg_block::Fault;
 use leg_cells::Library;
 use leg_flat::{Flat, Shape};
-use leg_sweep::pairs_in_bands;
 use std::alloc::{AllocError, Allocator};
 
 /// The pairs of comparable shapes that share a point, and those that share none and lie nearer than their layer's spacing:
@@ -29,7 +29,7 @@ pub fn spacing_faults<A: Allocator + Copy>(
 {
     let shapes = flat.shapes();
     let mut rule = TooClose::new(library.layers());
-    let close = pairs_in_bands(alloc, shapes, &mut rule)?;
+    let close = close_pairs(alloc, shapes, &mut rule)?;
     let mut found = Vec::new(alloc);
     push_pairs(PairKind::Short, shapes, &close, &mut found)?;
     push_pairs(PairKind::TooNear, shapes, &close, &mut found)?;

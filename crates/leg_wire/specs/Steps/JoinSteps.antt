@@ -1,10 +1,11 @@
 -- What a search for metal that meets has found: the sets of a net's pieces, and the single points that were seen.
-use Rattle.std.specs.Prelude.{◌≡◌, ◌↔◌, ◌<◌, ℕ, ℤ, Bool, true, false, List, All, length, Some, slice_get}
+use Rattle.std.specs.Prelude.{◌≡◌, ◌≢◌, ◌↔◌, ◌<◌, ◌≤◌, ℕ, ℤ, Bool, true, false, List, All, Contains, length, get_or, Some, slice_get}
 use Rattle.leg_geom.specs.Plane.{SharePoint, ShareTwoPoints}
 use Rattle.leg_flat.specs.Flat.{FlatSaid}
 use Rattle.leg_wire.specs.declared.corner.Beside.{Beside}
 use Rattle.leg_wire.specs.declared.piece_shape.PieceShape.{PieceShape}
-use Rattle.leg_wire.specs.Touch.{piece_count, AreJoined}
+use Rattle.leg_wire.specs.Touch.{piece_count, Joined, AreJoined}
+use Rattle.leg_wire.specs.Steps.PieceMetal.{TouchAmong}
 use Rattle.leg_wire.specs.Steps.NumberSets.{AreTogether, AreUnited}
 use Rattle.leg_wire.specs.Steps.SharedPoints.{IsSeen}
 
@@ -26,6 +27,11 @@ pub data IsJoinStep (a b : PieceShape) (sets sets_after : List ℕ) (seen seen_a
   are_united : TellsTouch a b seen seen_after true → AreUnited a.piece b.piece sets sets_after → IsJoinStep a b sets sets_after seen seen_after
   stay_apart : TellsTouch a b seen seen_after false → sets_after ≡ sets → IsJoinStep a b sets sets_after seen seen_after
 
+-- the pieces of two rectangles that share two points are made one set, or the sets stay
+pub data IsTouchStep (a b : PieceShape) (sets sets_after : List ℕ) : Type 0 where
+  stay : sets_after ≡ sets → (a.layer ≡ b.layer → ShareTwoPoints a.rect b.rect → a.piece ≡ b.piece) → IsTouchStep a b sets sets_after
+  touch : a.layer ≡ b.layer → a.piece ≢ b.piece → ShareTwoPoints a.rect b.rect → AreUnited a.piece b.piece sets sets_after → IsTouchStep a b sets sets_after
+
 -- the metal that is searched, the sets of its pieces, and the points seen
 pub record JoinState : Type 0 where
   pub shapes : List PieceShape
@@ -38,7 +44,39 @@ pub record TakesPair (before : JoinState) (pair : ℕ × ℕ) (after : JoinState
   pub step : (a b : PieceShape) → slice_get before.shapes pair.0 ≡ Some a → slice_get before.shapes pair.1 ≡ Some b
       → IsJoinStep a b before.sets after.sets before.seen after.seen
 
+-- sets of this many pieces: those that are together are joined by this metal
+pub record AreSomeJoined (metal : List PieceShape) (count : ℕ) (sets : List ℕ) : Type 0 where
+  pub size : length sets ≡ count
+  pub joined : (a b : ℕ) → AreTogether sets a b → Joined (TouchAmong metal) a b
+
+-- and those that are joined are together
+pub record AreSetsOf (metal : List PieceShape) (count : ℕ) (sets : List ℕ) : Type 0 where
+  pub some : AreSomeJoined metal count sets
+  pub all : (a b : ℕ) → a < count → Joined (TouchAmong metal) a b → AreTogether sets a b
+
 -- the sets of a net's pieces: together are those that are joined
 pub record AreJoinedSets (flat : FlatSaid) (net : ℕ) (sets : List ℕ) : Type 0 where
   pub count : length sets ≡ piece_count flat net
   pub each : (a b : ℕ) → a < piece_count flat net → AreTogether sets a b ↔ AreJoined flat net a b
+
+-- what was together still is
+abbrev pub AreKept : List ℕ → List ℕ → Type 0
+AreKept before after = (a b : ℕ) → AreTogether before a b → AreTogether after a b
+
+-- Each of the first shapes is together with that which stands for its kind, where these share two points of one layer.
+abbrev pub AreTogetherAlike : List PieceShape → List PieceShape → List ℕ → ℕ → List ℕ → Type 0
+AreTogetherAlike metal kinds numbers end sets =
+    (k : ℕ) (one kind : PieceShape) → k < end → slice_get metal k ≡ Some one → slice_get kinds (get_or numbers k 0) ≡ Some kind
+    → one.layer ≡ kind.layer → ShareTwoPoints one.rect kind.rect → AreTogether sets one.piece kind.piece
+
+-- A piece that doesn't stay has only metal for which the metal of one other piece stands.
+abbrev pub AreStaying : List PieceShape → List PieceShape → List ℕ → List ℕ → ℕ → List Bool → Type 0
+AreStaying metal kinds numbers stand_ins end staying =
+    (k : ℕ) (one kind : PieceShape) → k < end → slice_get metal k ≡ Some one → slice_get kinds (get_or numbers k 0) ≡ Some kind
+    → get_or staying one.piece true ≡ false → (kind.piece ≡ get_or stand_ins one.piece 0) × ShareTwoPoints one.rect kind.rect
+
+-- more metal, of the pieces that stay
+pub record IsStayingMetal (metal : List PieceShape) (staying : List Bool) (end : ℕ) (more : List PieceShape) : Type 0 where
+  pub few : length more ≤ end
+  pub among : All (Contains metal) more
+  pub all : (k : ℕ) (one : PieceShape) → k < end → slice_get metal k ≡ Some one → get_or staying one.piece true ≡ true → Contains more one

@@ -9,19 +9,19 @@ use Rattle.leg_wire.proofs.AllTold.{first_within, second_within, listing_told}
 use Rattle.leg_wire.proofs.spacing.spacing_faults.Goals as goal
 
 pub push_pairs-requires-clause-increasing : goal.push_pairs-requires-clause-increasing
-push_pairs-requires-clause-increasing g c = rw c.deref.ensures.value c.in_ok-close.ensures.pairs.increasing
+push_pairs-requires-clause-increasing g c = rw c.deref.ensures.value c.in_ok-close.ensures.increasing
 
 pub push_pairs-requires-clause-first : goal.push_pairs-requires-clause-first
-push_pairs-requires-clause-first g c = rw c.deref.ensures.value (first_within _ _ _ c.in_ok-close.ensures.pairs)
+push_pairs-requires-clause-first g c = rw c.deref.ensures.value (first_within _ _ _ c.in_ok-close.ensures)
 
 pub push_pairs-requires-clause-second : goal.push_pairs-requires-clause-second
-push_pairs-requires-clause-second g c = rw c.deref.ensures.value (second_within _ _ _ c.in_ok-close.ensures.pairs)
+push_pairs-requires-clause-second g c = rw c.deref.ensures.value (second_within _ _ _ c.in_ok-close.ensures)
 
 pub push_pairs-requires-2-clause-first : goal.push_pairs-requires-2-clause-first
-push_pairs-requires-2-clause-first g c = rw c.deref-2.ensures.value (first_within _ _ _ c.in_ok-close.ensures.pairs)
+push_pairs-requires-2-clause-first g c = rw c.deref-2.ensures.value (first_within _ _ _ c.in_ok-close.ensures)
 
 pub push_pairs-requires-2-clause-second : goal.push_pairs-requires-2-clause-second
-push_pairs-requires-2-clause-second g c = rw c.deref-2.ensures.value (second_within _ _ _ c.in_ok-close.ensures.pairs)
+push_pairs-requires-2-clause-second g c = rw c.deref-2.ensures.value (second_within _ _ _ c.in_ok-close.ensures)
 
 pub returns : goal.returns
 returns g c =
@@ -30,7 +30,7 @@ returns g c =
     let reach = c.new-rule.result.reach in
     let close = c.in_ok-close.close.items in
     let within : All (λ layer. unsigned_abs layer.spacing ≤ reach) library.layers = rw (← c.layers.ensures.is) c.new-rule.ensures.reach in
-    let are : ArePairs (AreClose library.layers reach) flat.shapes close = rw (c.new-rule.ensures.layers, c.layers.ensures.is, c.shapes-shapes.ensures.is) at c.in_ok-close.ensures.pairs in
+    let are : ArePairs (AreClose library.layers reach) flat.shapes close = rw (c.new-rule.ensures.layers, c.layers.ensures.is, c.shapes-shapes.ensures.is) at c.in_ok-close.ensures in
     let s = c.in_ok-push_pairs.ensures in
     let n = c.in_ok-push_pairs-2.ensures in
     let shorts : IsListOf (IsTold Short DoShare flat.shapes close) s.more = rw (c.deref.ensures.value, c.shapes-shapes.ensures.is) at s.list in
