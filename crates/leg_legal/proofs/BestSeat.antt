@@ -25,7 +25,7 @@ use Rattle.leg_sites.specs.declared.candidate.Candidate.{Candidate}
 use Rattle.leg_sites.specs.declared.candidate.Wanted.{Wanted}
 use Rattle.leg_sites.specs.Stretches.{IsFreeSite, AreFreeSites}
 use Rattle.leg_sites.specs.Known.{IsClear, IsKnown}
-use Rattle.leg_sites.specs.FreeRows.{RowLists, AreKnown}
+use Rattle.leg_sites.specs.FreeRows.{RowLists, AreKnown, IsOfItsSite}
 use Rattle.leg_sites.specs.BestPosition.{IsTurned, AreReady, IsCandidate, IsNoWorse}
 use Rattle.leg_sites.proofs.MacroBoxes.{fitting_upright}
 use Rattle.leg_sites.proofs.MacroPlaces.{free_just_where_macro_clear}
@@ -113,6 +113,12 @@ module _ (design : DesignContents) (c : ℕ) (m : IsMovable design c) (suited : 
         orient = refl;
         y_symmetric = refl;
       })
+
+-- sites are as wide as the component that asks takes them to be
+pub of_its_site : (design : DesignContents) (c : ℕ) (wanted : Wanted) → IsWantedOf design c wanted → IsOfItsSite design wanted
+of_its_site design c wanted asks site there =
+    let one : site ≡ asks.site = same_Some site asks.site (sym there ∙ asks.is_site) in
+    ap (λ (s : Site). s.size.width) one ∙ sym asks.site_width
 
 -- a component that asks, at the lists that boxes have left
 module _ (design : DesignContents) (proper : IsWellFormed design) (c : ℕ) (wanted : Wanted) (asks : IsWantedOf design c wanted)

@@ -11,6 +11,7 @@ mod TheRun
 mod TurnsSorted
 -- Causes of refusal
 mod StayingFaults
+mod SiteMarks
 mod Misfits
 -- Places that are taken
 mod PlacedAll

@@ -1,19 +1,18 @@
 -- Whether a macro can stand on some row, and which movable component is the first that can't.
-use Rattle.std.proofs.Common.{◌≡◌, ◌↔◌, ℕ, ◌+◌, ◌*◌, ◌/◌, ◌%◌, ◌<◌, ◌≤◌, pos, ◌*ℤ◌, Bool, true, false, not, eqb, IsTrue, Some, None, slice_get, length, List, get_or, unsigned_abs, refl, sym, ap, ◌∙◌, inl, inr, arith}
+use Rattle.std.proofs.Common.{◌≡◌, ◌↔◌, ℕ, ◌+◌, ◌*◌, ◌/◌, ◌%◌, ◌<◌, ◌≤◌, pos, ◌*ℤ◌, Bool, true, false, not, eqb, IsTrue, Some, None, slice_get, length, unsigned_abs, refl, sym, ◌∙◌, inl, inr, arith}
 use Rattle.std.proofs.Math.IntN.{pos-*ℤ-pos}
 use Rattle.std.proofs.Math.Nat.{mul-mod_left, mod-eq-sub-div-mul, div-mul-le_self}
 use Rattle.std.proofs.lemmas.Bool.{false≢true, cases_lt, eqb-true, eq-eqb}
 use Rattle.std.proofs.lemmas.Int.{ints}
-use Rattle.std.proofs.lemmas.Option.{same_Some, none-some, slice_get_within, slice_get_read}
+use Rattle.std.proofs.lemmas.Option.{same_Some, none-some, slice_get_within}
 use Rattle.leg_cells.specs.Records.{MasterSaid}
 use Rattle.leg_cells.specs.declared.records.Site.{Site}
 use Rattle.leg_cells.specs.Measure.{Lengths, HasArea}
 use Rattle.leg_block.specs.Records.{DesignContents}
-use Rattle.leg_block.specs.declared.records.Row.{Row}
 use Rattle.leg_block.specs.declared.records.Component.{Component}
 use Rattle.leg_block.specs.Movable.{IsMovable}
 use Rattle.leg_legal.specs.Refusals.{FitsSites, HasRowFor, IsUnsuited, IsLeastUnsuited, AreSuited}
-use Rattle.leg_legal.specs.Steps.HasRow.{HasRow}
+use Rattle.leg_legal.specs.Steps.SiteMarks.{HasRow}
 
 -- a width is a number of sites just where nothing is left over
 module _ (site size : Lengths) (area : HasArea site) (has_area : HasArea size) where
@@ -43,34 +42,6 @@ module _ (site size : Lengths) (area : HasArea site) (has_area : HasArea size) w
     λ t. fits_from_rest high (sym is ∙ eqb-true rest 0 t),
     λ fits. eq-eqb rest 0 (is ∙ rest_from_fits fits),
   )
-
--- none of the rows below end has the site of this number
-abbrev pub NoneOfSite : List Row → ℕ → ℕ → Type 0
-NoneOfSite rows number end = (k : ℕ) (row : Row) → k < end → slice_get rows k ≡ Some row → row.site ≡ number → ⊥
-
-module _ (rows : List Row) (number : ℕ) where
-  pub none_of_site_more : (i : ℕ) (row : Row) → i < length rows → row ≡ get_or rows i row → (row.site ≡ number → ⊥) → NoneOfSite rows number i → NoneOfSite rows number (i + 1)
-  none_of_site_more i row within is differs none k other below there same =
-      elim (cases_lt k i) [
-        | inl earlier ↦ none k other earlier there same
-        | inr late ↦
-            let here : k ≡ i = omega arith in
-            let at : slice_get rows i ≡ Some row = slice_get_read rows (length rows) i row refl within is in
-            let one : other ≡ row = same_Some other row (sym there ∙ ap (slice_get rows) here ∙ at) in
-            differs (rw one at same)
-      ]
-
-  pub none_of_site : (b : Bool) → b ≡ false → NoneOfSite rows number (length rows) → IsTrue b ↔ HasRow rows number
-  none_of_site b is none = (
-    λ t. absurd (false≢true (sym is ∙ t)),
-    λ h.
-        let c = h.has in
-        let at : slice_get rows c.0 ≡ Some h.row = slice_get_read rows (length rows) c.0 h.row refl c.1 (sym c.2) in
-        absurd (none c.0 h.row c.1 at h.same),
-  )
-
-  pub found_of_site : (i : ℕ) (row : Row) → i < length rows → row ≡ get_or rows i row → row.site ≡ number → HasRow rows number
-  found_of_site i row within is same = record { row = row; has = (i, within, sym is); same = same }
 
 -- a macro can stand on some row, by its site
 module _ (design : DesignContents) (size : Lengths) (number : ℕ) where

@@ -95,7 +95,8 @@ fn places_of<A: Allocator + Copy>(
     if !staying.as_slice().is_empty() {
         return Err(LegalFault::FixedIllegal(Items::from_vec(staying)));
     }
-    match least_unsuited(design) {
+    let unsuited = least_unsuited(alloc, design)?;
+    match unsuited {
         Some(c) => Err(LegalFault::NoSite(c)),
         None => take_all(alloc, design),
     }

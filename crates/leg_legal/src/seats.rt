@@ -15,7 +15,7 @@ use crate::turns::start_of;
 use leg_block::{Design, Row};
 use leg_cells::{Extent, Master};
 use leg_geom::{Orient, Place, Point};
-use leg_sites::{Candidate, FreeRows, Wanted, best_position, fits};
+use leg_sites::{Candidate, FreeRows, Wanted, fits};
 use std::alloc::Allocator;
 
 /// The orientation that a component has, if it is placed.
@@ -115,11 +115,9 @@ pub(crate) fn best_place<A: Allocator + Copy>(
     ensures best { (c : ℕ) (boxes : List Sides) → IsWantedOf design.now c wanted.now → AreKnown design.now boxes free.now → IsBestPlace design.now boxes c result }
     ensures position { IfSome result (λ place. IsPosition place.at) }
 {
-    match best_position(design.rows(), free.order(), free.lists(), wanted) {
-        Some(found) => {
-            let row = &design.rows()[found.row];
-            Some(place_in(row, wanted, &found))
-        }
+    let rows = design.rows();
+    match free.best_position(design, wanted) {
+        Some(found) => Some(place_in(&rows[found.row], wanted, &found)),
         None => None,
     }
 }

@@ -15,25 +15,28 @@ use Rattle.std.proofs.lemmas.Option.{same_Some, slice_get_within}
 use Rattle.leg_block.specs.declared.records.Row.{Row}
 use Rattle.leg_sites.specs.declared.row_keys.RowKey.{RowKey}
 use Rattle.leg_sites.specs.RowOrder.{IsKeyOf, IsBefore, IsRowOrder}
-use Rattle.leg_sites.specs.Steps.RowKeys.{AreKeysBelow}
+use Rattle.leg_sites.specs.Steps.RowKeys.{key_of, AreKeysBelow}
 
 abbrev pub key_cmp : RowKey → RowKey → Ordering
-key_cmp a b = ordering_then (int_cmp a.y b.y) (nat_cmp a.row b.row)
+key_cmp a b = ordering_then (nat_cmp a.site b.site) (ordering_then (int_cmp a.y b.y) (ordering_then (int_cmp a.x b.x) (nat_cmp a.row b.row)))
 
 key_cmp_total : IsTotalOrder key_cmp
 key_cmp_total =
-    then_total (on_total (λ (k : RowKey). k.y) int_cmp_total) (on_total (λ (k : RowKey). k.row) nat_cmp_total)
+    then_total (on_total (λ (k : RowKey). k.site) nat_cmp_total)
+    (then_total (on_total (λ (k : RowKey). k.y) int_cmp_total) (then_total (on_total (λ (k : RowKey). k.x) int_cmp_total) (on_total (λ (k : RowKey). k.row) nat_cmp_total)))
 
 -- keys of rows of different numbers that are not in falling order are in rising order
 before_from_test : (a b : RowKey) → is_lt (key_cmp b a) ≡ false → (a.row ≡ b.row → ⊥) → IsBefore a b
 before_from_test a b not_above differ = grind (arith, ints, nat_tests)
 
 -- a key and the same number of a row make one key
-same_key : (rows : List Row) (key : RowKey) (row : Row) → IsKeyOf rows key → slice_get rows key.row ≡ Some row → key ≡ record { y = row.at.y; row = key.row }
+same_key : (rows : List Row) (key : RowKey) (row : Row) → IsKeyOf rows key → slice_get rows key.row ≡ Some row → key ≡ key_of row key.row
 same_key rows key row is there =
     let one : is.row ≡ row = same_Some is.row row (sym is.there ∙ there) in
+    let site : key.site ≡ row.site = is.site ∙ ap (λ (r : Row). r.site) one in
     let bottom : key.y ≡ row.at.y = is.bottom ∙ ap (λ (r : Row). r.at.y) one in
-    λ i. record { y = bottom i; row = key.row }
+    let left : key.x ≡ row.at.x = is.left ∙ ap (λ (r : Row). r.at.x) one in
+    λ i. record { site = site i; y = bottom i; x = left i; row = key.row }
 
 pub keys_none : (rows : List Row) → AreKeysBelow rows 0 []
 keys_none rows = record {
@@ -44,14 +47,14 @@ keys_none rows = record {
 }
 
 -- the key of one more row
-pub keys_more : (rows : List Row) (keys : List RowKey) (i : ℕ) (row : Row) → slice_get rows i ≡ Some row → AreKeysBelow rows i keys → AreKeysBelow rows (i + 1) (keys ++ record { y = row.at.y; row = i } ∷ [])
+pub keys_more : (rows : List Row) (keys : List RowKey) (i : ℕ) (row : Row) → slice_get rows i ≡ Some row → AreKeysBelow rows i keys → AreKeysBelow rows (i + 1) (keys ++ key_of row i ∷ [])
 keys_more rows keys i row at done =
-    let key : RowKey = record { y = row.at.y; row = i } in
+    let key : RowKey = key_of row i in
     record {
-      each = All-push (IsKeyOf rows) keys key done.each (record { row = row; there = at; bottom = refl });
+      each = All-push (IsKeyOf rows) keys key done.each (record { row = row; there = at; site = refl; bottom = refl; left = refl });
       below = All-push (λ k. k.row < i + 1) keys key (λ k d within. let below : (get_or keys k d).row < i = done.below k d within in omega arith) (omega arith);
       all = λ number other below there. elim (cases_lt number i) [
-        | inl earlier ↦ Contains-append_left keys (key ∷ []) (record { y = other.at.y; row = number }) (done.all number other earlier there)
+        | inl earlier ↦ Contains-append_left keys (key ∷ []) (key_of other number) (done.all number other earlier there)
         | inr late ↦
             let here : number ≡ i = omega arith in
             let same : other ≡ row = same_Some other row (sym there ∙ ap (slice_get rows) here ∙ at) in
@@ -78,7 +81,7 @@ order_from_sort rows keys sorted are moved up =
         λ has. All-contains (IsKeyOf rows) sorted key (All-permutation (IsKeyOf rows) keys sorted moved are.each) has,
         λ is.
             let found = are.all key.row is.row (slice_get_within rows key.row is.row is.there) is.there in
-            let moved_found = Contains-permutation keys sorted (record { y = is.row.at.y; row = key.row }) moved found in
+            let moved_found = Contains-permutation keys sorted (key_of is.row key.row) moved found in
             rw (same_key rows key is.row is is.there) moved_found,
       );
     }

@@ -12,7 +12,11 @@ mod ListSplit
 mod TakenSites
 -- Rows
 mod KeysSorted
-mod RowsAround
+mod ListPlaces
+mod Parts
+mod RowBounds
+mod RowTree
+mod BestBeneath
 mod RowCandidates
 -- Sites by their edges
 mod SiteEdges

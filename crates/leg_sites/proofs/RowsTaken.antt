@@ -1,46 +1,28 @@
 -- Lists of free sites, one for each row, once a rectangle is taken from those that it may meet.
-use Rattle.std.proofs.Common.{◌≡◌, ◌≢◌, ◌↔◌, ◌⊎◌, ℕ, ◌+◌, ◌-◌, ◌<◌, ◌≤◌, ℤ, pos, ◌≤ℤ◌, ◌<ℤ◌, ◌-ℤ◌, List, [], ◌∷◌, ◌++◌, Some, Result, Ok, Err, OnOk, All, Contains, slice_get, length, get_or, set, take, drop, refl, sym, ap, ◌∙◌, inl, inr, arith, length-set, get_or-set_other, get_or-take, get_or-drop, length-drop}
-use Rattle.std.proofs.lemmas.Bool.{cases_lt, cases_eq}
-use Rattle.std.proofs.lemmas.Int.{ints}
-use Rattle.std.proofs.lemmas.Grind.{get_or-set_at}
-use Rattle.std.proofs.lemmas.List.{length-take-le}
-use Rattle.std.proofs.lemmas.Option.{same_Some, slice_get-get_or, slice_get_within, get_or_from_slice_get, slice_get_read}
-use Rattle.std.proofs.lemmas.List.Elements.{All-take, All-drop, Contains-append_left, Contains-append_right, Contains-append_cases}
+use Rattle.std.proofs.Common.{◌≡◌, ◌↔◌, ◌⊎◌, ℕ, ◌+◌, ◌*◌, ◌<◌, ◌≤◌, pos, List, [], ◌∷◌, ◌++◌, Some, Result, Ok, Err, OnOk, Contains, slice_get, length, get_or, set, refl, sym, ap, ◌∙◌, inl, inr, arith, length-set}
+use Rattle.std.proofs.lemmas.Bool.{cases_eq}
+use Rattle.std.proofs.lemmas.Option.{same_Some, slice_get-get_or, slice_get_within, get_or_from_slice_get}
+use Rattle.std.proofs.lemmas.List.Elements.{Contains-append_left, Contains-append_right, Contains-append_cases}
 use Rattle.leg_geom.specs.Plane.{Sides, ShareSquare}
-use Rattle.leg_cells.specs.Measure.{Lengths}
 use Rattle.leg_cells.specs.declared.records.Site.{Site}
 use Rattle.leg_block.specs.declared.records.Row.{Row}
 use Rattle.leg_block.specs.Records.{DesignContents}
 use Rattle.leg_place.specs.Sites.{site_box}
 use Rattle.leg_sites.specs.declared.stretch.Stretch.{Stretch}
+use Rattle.leg_sites.specs.declared.bounds.Bounds.{Bounds}
 use Rattle.leg_sites.specs.declared.row_keys.RowKey.{RowKey}
-use Rattle.leg_sites.specs.Stretches.{IsFreeSite, IsWithout}
+use Rattle.leg_sites.specs.Stretches.{IsFreeSite}
 use Rattle.leg_sites.specs.RowSites.{AreSitesMet}
 use Rattle.leg_sites.specs.RowOrder.{IsKeyOf, IsRowOrder}
 use Rattle.leg_sites.specs.Known.{IsClear}
-use Rattle.leg_sites.specs.FreeRows.{RowLists, IsRowAt, AreRowsOf, AreKnown}
-use Rattle.leg_sites.specs.Steps.RowsSeen.{IsSplitAt}
-use Rattle.leg_sites.specs.Steps.FreeRows.{LosesMet, IsTakenAt, AreTakenUpTo, AreTaken, AreNear}
+use Rattle.leg_sites.specs.FreeRows.{RowLists, IsRowAt, AreAllInDie, DoFit, AreRowsOf, AreKnown}
+use Rattle.leg_sites.specs.Steps.Parts.{LosesSites}
+use Rattle.leg_sites.specs.Steps.Bounds.{DoCover, IsBeside}
+use Rattle.leg_sites.specs.Steps.FreeRows.{LosesMet, IsTakenAt, AreTakenBeneath, AreTaken}
 use Rattle.leg_sites.proofs.KnownSites.{outside, beside}
-use Rattle.leg_sites.proofs.MetSites.{unmet_along_y}
-
-module _ {X : Type 0} where
-  pub slice_get-set_same : (xs : List X) (i j : ℕ) (y b : X) → j ≡ i → slice_get (set xs i y) j ≡ Some b → b ≡ y
-  slice_get-set_same xs i j y b same at =
-      let all : length (set xs i y) ≡ length xs = length-set xs i y in
-      let below : j < length (set xs i y) = slice_get_within (set xs i y) j b at in
-      let within : i < length xs = omega (arith, below, all, same) in
-      sym (get_or_from_slice_get (set xs i y) j b b at) ∙ get_or-set_at xs i j y b same within
-
-  pub slice_get-set_other : (xs : List X) (i j : ℕ) (y b : X) → j ≢ i → slice_get (set xs i y) j ≡ Some b → slice_get xs j ≡ Some b
-  slice_get-set_other xs i j y b differ at =
-      let all : length (set xs i y) ≡ length xs = length-set xs i y in
-      let below : j < length (set xs i y) = slice_get_within (set xs i y) j b at in
-      let within : j < length xs = omega (arith, below, all) in
-      slice_get-get_or xs j b within ∙ ap Some (sym (get_or-set_other xs i j y b differ) ∙ get_or_from_slice_get (set xs i y) j b b at)
-
-  pub of_all : (P : X → Type 0) (xs : List X) (i : ℕ) (x : X) → All P xs → slice_get xs i ≡ Some x → P x
-  of_all P xs i x each at = let is : get_or xs i x ≡ x = get_or_from_slice_get xs i x x at in rw is at (each i x (slice_get_within xs i x at))
+use Rattle.leg_sites.proofs.ListPlaces.{slice_get-set_same, slice_get-set_other}
+use Rattle.leg_sites.proofs.RowBounds.{bound_fewer, bound_more, unmet_beside}
+use Rattle.leg_sites.proofs.RowTree.{leaf_beneath_first, leaf_alone, beneath_either, nodes_set, nodes_weaker, fits_joined}
 
 -- a number has one row, and that one site
 pub same_row : (design : DesignContents) (number : ℕ) (row other : Row) (site its : Site) → IsRowAt design number row site → IsRowAt design number other its → (other ≡ row) × (its ≡ site)
@@ -50,12 +32,12 @@ same_row design number row other site its at there =
 
 module _ (design : DesignContents) (rect : Sides) (number : ℕ) where
   module _ (row : Row) (site : Site) (at : IsRowAt design number row site) where
-    pub loses_from_take : (old new : List Stretch) (sites : Stretch) → AreSitesMet row site.size rect sites → IsWithout old sites.from sites.end new → LosesMet design rect number old new
+    pub loses_from_take : (old new : List Stretch) (sites : Stretch) → AreSitesMet row site.size rect sites → LosesSites old sites.from sites.end new → LosesMet design rect number old new
     loses_from_take old new sites met without other its there k =
         let same = same_row design number row other site its at there in
         rw (same.0, same.1) (
-          λ free. let both = (without.sites k).0 free in (both.0, λ shared. outside sites k both.1 ((met k).1 shared)),
-          λ both. (without.sites k).1 (both.0, beside sites k (λ among. both.1 ((met k).0 among))),
+          λ free. let both = (without k).0 free in (both.0, λ shared. outside sites k both.1 ((met k).1 shared)),
+          λ both. (without k).1 (both.0, beside sites k (λ among. both.1 ((met k).0 among))),
         )
 
     pub loses_unmet : (list : List Stretch) → ((k : ℕ) → ¬ ShareSquare rect (site_box row site.size k)) → (k : ℕ) → IsFreeSite list k ↔ (IsFreeSite list k × ¬ ShareSquare rect (site_box row site.size k))
@@ -70,122 +52,156 @@ module _ (design : DesignContents) (rect : Sides) (number : ℕ) where
     λ both. (then row site there k).1 ((first row site there k).1 both, both.1),
   )
 
-module _ (design : DesignContents) (rect : Sides) (keys : List RowKey) (old : List (List Stretch)) where
-  module _ (i : ℕ) (key : RowKey) (lists : List (List Stretch)) (list taken : List Stretch) (there : slice_get keys i ≡ Some key) (known : slice_get lists key.row ≡ Some list) (loses : LosesMet design rect key.row list taken) (so_far : AreTakenUpTo design rect keys i old lists) where
-    here : (number : ℕ) (a b : List Stretch) → number ≡ key.row → slice_get old number ≡ Some a → slice_get (set lists key.row taken) number ≡ Some b → LosesMet design rect number a b
-    here number a b same at now =
-        let is : b ≡ taken = slice_get-set_same lists key.row number taken b same now in
-        let was : slice_get old key.row ≡ Some a = rw same at at in
-        rw (same, is) (elim (so_far.each key.row a list was known) [
-          | inl before ↦ loses_twice design rect key.row a list taken before loses
-          | inr kept ↦ rw kept at loses
-        ])
+-- what is taken from one list
+pub taken_at : {T E : Type 0} (r : Result T E) (design : DesignContents) (rect : Sides) (number : ℕ) (row : Row) (site : Site) (lists : List (List Stretch)) (list rest : List Stretch) (sites : Stretch) → IsRowAt design number row site → slice_get lists number ≡ Some list → AreSitesMet row site.size rect sites → OnOk r (LosesSites list sites.from sites.end rest) → OnOk r (IsTakenAt design rect number lists (set lists number rest))
+taken_at (Ok x) design rect number row site lists list rest sites at there met without =
+    record { list = list; there = there; rest = rest; loses = loses_from_take design rect number row site at list rest sites met without; set = refl }
+taken_at (Err e) design rect number row site lists list rest sites at there met without = tt
 
-    pub one_more_taken : AreTakenUpTo design rect keys (i + 1) old (set lists key.row taken)
-    one_more_taken = record {
-      count = length-set lists key.row taken ∙ so_far.count;
-      each = λ number a b at now. elim (cases_eq number key.row) [
-        | inl same ↦ inl (here number a b same at now)
-        | inr differ ↦ so_far.each number a b at (slice_get-set_other lists key.row number taken b differ now)
-      ];
-      these = λ j other a b upto at_j at now. elim (cases_eq other.row key.row) [
-        | inl same ↦ here other.row a b same at now
-        | inr differ ↦
-            elim (cases_lt j i) [
-              | inl below ↦ so_far.these j other a b below at_j at (slice_get-set_other lists key.row other.row taken b differ now)
-              | inr late ↦
-                  let last : j ≡ i = omega (arith, upto, late) in
-                  let one : other ≡ key = same_Some other key (sym at_j ∙ ap (slice_get keys) last ∙ there) in
-                  absurd (differ (ap (λ (k : RowKey). k.row) one))
-            ]
-      ];
+-- more sites are bounded by what covers the bounds of fewer
+pub row_covered : (design : DesignContents) (lists : List (List Stretch)) (outer inner : Bounds) (number : ℕ) → DoCover outer inner → DoFit design lists inner number → DoFit design lists outer number
+row_covered design lists outer inner number cover fits list there row site at =
+    bound_more number row site.size outer inner list cover (fits list there row site at)
+
+module _ (design : DesignContents) (rect : Sides) where
+  -- what is left of a list lies among what there was, where the row of this number has a site
+  fewer_left : (number : ℕ) (row : Row) (site : Site) (a b : List Stretch) → IsRowAt design number row site → LosesMet design rect number a b ⊎ (b ≡ a) → (k : ℕ) → IsFreeSite b k → IsFreeSite a k
+  fewer_left number row site a b at (inl loses) k free = ((loses row site at k).0 free).0
+  fewer_left number row site a b at (inr same) k free = rw same at free
+
+  module _ (old new : List (List Stretch)) (count : length new ≡ length old)
+      (each : (number : ℕ) (a b : List Stretch) → slice_get old number ≡ Some a → slice_get new number ≡ Some b → LosesMet design rect number a b ⊎ (b ≡ a)) where
+    before : (number : ℕ) (list : List Stretch) → slice_get new number ≡ Some list → slice_get old number ≡ Some (get_or old number list)
+    before number list at = slice_get-get_or old number list (let within = slice_get_within new number list at in omega (arith, within, count))
+
+    pub inside_still : AreAllInDie design old → AreAllInDie design new
+    inside_still inside number list at row site is k free =
+        let was = before number list at in
+        inside number (get_or old number list) was row site is k (fewer_left number row site (get_or old number list) list is (each number (get_or old number list) list was at) k free)
+
+    pub fit_still : (bounds : Bounds) (number : ℕ) → DoFit design old bounds number → DoFit design new bounds number
+    fit_still bounds number fits list at row site is =
+        let was = before number list at in
+        bound_fewer number row site.size bounds (get_or old number list) list
+        (fewer_left number row site (get_or old number list) list is (each number (get_or old number list) list was at))
+        (fits (get_or old number list) was row site is)
+
+  module _ (order : List RowKey) where
+    -- a rectangle beside all that lies beneath a node meets none of it
+    pub taken_beside : (lists : List (List Stretch)) (nodes : List Bounds) (node : ℕ) (bounds : Bounds) → 1 ≤ node → AreRowsOf design (record { lists = lists; order = order; nodes = nodes }) → slice_get nodes node ≡ Some bounds → IsBeside bounds rect → AreTakenBeneath design rect order node lists lists
+    taken_beside lists nodes node bounds some rows there beside = record {
+      count = refl;
+      each = λ number a b at now. inr (same_Some b a (sym now ∙ at));
+      these = λ key a b leaf at now row site is k.
+          let one : b ≡ a = same_Some b a (sym now ∙ at) in
+          let bound = rows.nodes.fit node bounds key some there leaf a at row site is in
+          rw one (λ free. (free, unmet_beside key.row row site.size bounds rect k beside (bound.sites k free)), λ both. both.0);
     }
 
-  -- one more row has lost them
-  pub one_more_at : (i : ℕ) (key : RowKey) (row : Row) (site : Site) (lists new : List (List Stretch)) → slice_get keys i ≡ Some key → IsRowAt design key.row row site → IsTakenAt row site.size rect key.row lists new → AreTakenUpTo design rect keys i old lists → AreTakenUpTo design rect keys (i + 1) old new
-  one_more_at i key row site lists new there at took so_far =
-      let loses = loses_from_take design rect key.row row site at took.list took.rest took.sites took.met took.without in
-      rw took.set (one_more_taken i key lists took.list took.rest there took.there loses so_far)
+    module _ (number : ℕ) (old new : List (List Stretch)) (took : IsTakenAt design rect number old new) where
+      taken_there : (other : ℕ) (a b : List Stretch) → slice_get old other ≡ Some a → slice_get new other ≡ Some b → (other ≡ number → LosesMet design rect other a b) × (LosesMet design rect other a b ⊎ (b ≡ a))
+      taken_there other a b at now_at =
+          let now : slice_get (set old number took.rest) other ≡ Some b = rw took.set at now_at in
+          elim (cases_eq other number) [
+            | inl same ↦
+                let is : b ≡ took.rest = slice_get-set_same old number other took.rest b same now in
+                let was : a ≡ took.list = same_Some a took.list (sym at ∙ ap (slice_get old) same ∙ took.there) in
+                let loses : LosesMet design rect other a b = rw (same, is, was) took.loses in
+                (λ here. loses, inl loses)
+            | inr differ ↦ (λ here. absurd (differ here), inr (same_Some b a (sym (slice_get-set_other old number other took.rest b differ now) ∙ at)))
+          ]
 
--- what is taken from one list
-pub taken_at : {T E : Type 0} (row : Row) (size : Lengths) (rect : Sides) (number : ℕ) (lists : List (List Stretch)) (list rest : List Stretch) (sites : Stretch) (r : Result T E) → slice_get lists number ≡ Some list → AreSitesMet row size rect sites → OnOk r (IsWithout list sites.from sites.end rest) → OnOk r (IsTakenAt row size rect number lists (set lists number rest))
-taken_at row size rect number lists list rest sites (Ok x) there met without =
-    record { sites = sites; met = met; list = list; there = there; rest = rest; without = without; set = refl }
-taken_at row size rect number lists list rest sites (Err e) there met without = tt
+      pub taken_count : length new ≡ length old
+      taken_count = ap length took.set ∙ length-set old number took.rest
 
--- the keys between two places are keys of rows
-pub keys_between : (rows : List Row) (order : List RowKey) (first many : ℕ) → IsRowOrder rows order → All (IsKeyOf rows) (take many (drop first order))
-keys_between rows order first many is =
-    let all : All (IsKeyOf rows) order = λ i d below. let key = get_or order i d in (is.keys key).0 (i, below, get_or_from_slice_get order i key key (slice_get-get_or order i d below)) in
-    All-take (IsKeyOf rows) many (drop first order) (All-drop (IsKeyOf rows) first order all)
+      pub taken_each : (other : ℕ) (a b : List Stretch) → slice_get old other ≡ Some a → slice_get new other ≡ Some b → LosesMet design rect other a b ⊎ (b ≡ a)
+      taken_each other a b at now = (taken_there other a b at now).1
 
--- the key at a place between two others is one of those between them
-key_between : (order : List RowKey) (first end place : ℕ) (key : RowKey) → end ≤ length order → first ≤ place → place < end → slice_get order place ≡ Some key → slice_get (take (end - first) (drop first order)) (place - first) ≡ Some key
-key_between order first end place key within from below at =
-    let rest : length (drop first order) ≡ length order - first = length-drop first order in
-    let all : length (take (end - first) (drop first order)) ≡ end - first = length-take-le (end - first) (drop first order) (omega (arith, rest, within)) in
-    let early : place - first < end - first = omega (arith, from, below) in
-    let there : first + (place - first) ≡ place = omega (arith, from) in
-    let read : get_or order place key ≡ key = get_or_from_slice_get order place key key at in
-    let is : get_or (take (end - first) (drop first order)) (place - first) key ≡ key =
-    get_or-take (end - first) (drop first order) (place - first) key early ∙ get_or-drop first order (place - first) key ∙ ap (λ (n : ℕ). get_or order n key) there ∙ read in
-    slice_get_read (take (end - first) (drop first order)) _ (place - first) key refl (omega (arith, all, early)) (sym is)
+      -- at a leaf
+      pub taken_at_leaf : (node place : ℕ) (key : RowKey) → length order ≤ node → node ≡ length order + place → slice_get order place ≡ Some key → key.row ≡ number → AreTakenBeneath design rect order node old new
+      taken_at_leaf node place key from is there same = record {
+        count = taken_count;
+        each = taken_each;
+        these = λ other a b leaf at now.
+            let alone = leaf_alone order node other leaf from in
+            let here : leaf.place ≡ place = omega (arith, alone, is) in
+            let one : other ≡ key = same_Some other key (sym leaf.there ∙ ap (slice_get order) here ∙ there) in
+            (taken_there other.row a b at now).0 (ap (λ (k : RowKey). k.row) one ∙ same);
+      }
 
-abbrev pub nowhere : RowKey
-nowhere = record { y = pos 0; row = 0 }
+      -- the node of the leaf is made anew
+      pub rows_at_leaf : (nodes : List Bounds) (node place : ℕ) (key : RowKey) (bounds : Bounds) → length order ≤ node → node ≡ length order + place → slice_get order place ≡ Some key → key.row ≡ number → DoFit design new bounds number → AreRowsOf design (record { lists = old; order = order; nodes = nodes }) → AreRowsOf design (record { lists = new; order = order; nodes = set nodes node bounds })
+      rows_at_leaf nodes node place key bounds from is there same fits rows = record {
+        lists = taken_count ∙ rows.lists;
+        inside = inside_still old new taken_count taken_each rows.inside;
+        order = rows.order;
+        nodes = nodes_set order (DoFit design new) nodes node bounds
+            (λ other leaf list at.
+            let alone = leaf_alone order node other leaf from in
+            let here : leaf.place ≡ place = omega (arith, alone, is) in
+            let one : other ≡ key = same_Some other key (sym leaf.there ∙ ap (slice_get order) here ∙ there) in
+            let row : other.row ≡ number = ap (λ (k : RowKey). k.row) one ∙ same in
+            rw row (fits list (rw row at at)))
+            (nodes_weaker order (DoFit design old) (DoFit design new) nodes (fit_still old new taken_count taken_each) rows.nodes);
+      }
 
--- no row ends above the rectangle's bottom whose place in the order is below the first one
-pub near_from_splits : (rect : Sides) (tallest : ℤ) (order : List RowKey) (first end : ℕ) → IsSplitAt order (rect.y1 -ℤ tallest) first first → IsSplitAt order rect.y2 end end → pos 0 ≤ℤ tallest → rect.y1 <ℤ rect.y2 → AreNear rect tallest order first end
-near_from_splits rect tallest order first end low high least proper = record {
-  in_order = elim (cases_lt end first) [
-    | inl before ↦
-        let all = low.within in
-        let key : RowKey = get_or order end nowhere in
-        let at : slice_get order end ≡ Some key = slice_get-get_or order end nowhere (omega (arith, before, all)) in
-        let below = low.lower end key before at in
-        let above = high.upper end key (omega arith) at in
-        absurd (omega (arith, ints, below, above, least, proper))
-    | inr after ↦ after
-  ];
-  within = high.within;
-  below = λ k key early at. let below = low.lower k key early at in omega (arith, ints, below);
-  above = λ k key late at. high.upper k key late at;
-}
+      pub inside_taken : AreAllInDie design old → AreAllInDie design new
+      inside_taken inside = inside_still old new taken_count taken_each inside
 
-module _ (design : DesignContents) (rect : Sides) (free : RowLists) (rows : AreRowsOf design free) where
-  -- a row is one of those near the rectangle, or meets it nowhere
-  unmet_beside : (number : ℕ) (row : Row) (site : Site) (first end place : ℕ) (key : RowKey) → AreNear rect free.tallest free.order first end → IsRowAt design number row site → key.y ≡ row.at.y → slice_get free.order place ≡ Some key → (place < first) ⊎ (end ≤ place) → (k : ℕ) → ¬ ShareSquare rect (site_box row site.size k)
-  unmet_beside number row site first end place key near there level at beside =
-      let tall = rows.tallest.each number row site there in
-      unmet_along_y row site.size rect (elim beside [
-        | inl before ↦ let below = near.below place key before at in inl (omega (arith, ints, below, tall, level))
-        | inr behind ↦ let above = near.above place key behind at in inr (omega (arith, ints, above, level))
-      ])
+    -- beneath both nodes below one
+    pub taken_both : (node : ℕ) (old mid new : List (List Stretch)) → node < length order → AreTakenBeneath design rect order (2 * node) old mid → AreTakenBeneath design rect order (2 * node + 1) mid new → AreTakenBeneath design rect order node old new
+    taken_both node old mid new before first then = record {
+      count = then.count ∙ first.count;
+      each = λ number a b at now. let m = between number b now in both number a m b (first.each number a m at (in_mid number b now)) (then.each number m b (in_mid number b now) now);
+      these = λ key a b leaf at now.
+          let m = between key.row b now in
+          let at_mid = in_mid key.row b now in
+          elim (beneath_either order node key before leaf) [
+            | inl left ↦ one_then key.row a m b (first.these key a m left at at_mid) (then.each key.row m b at_mid now)
+            | inr right ↦ then_one key.row a m b (first.each key.row a m at at_mid) (then.these key m b right at_mid now)
+          ];
+    } where
+      between : (number : ℕ) (b : List Stretch) → slice_get new number ≡ Some b → List Stretch
+      between number b now = get_or mid number b
 
-  pub all_taken : (first end : ℕ) (new : List (List Stretch)) → AreNear rect free.tallest free.order first end → AreTakenUpTo design rect (take (end - first) (drop first free.order)) (length (take (end - first) (drop first free.order))) free.lists new → AreTaken design rect free.lists new
-  all_taken first end new near taken = record {
-    count = taken.count;
-    each = λ number a b before now row site there.
-        let key : RowKey = record { y = row.at.y; row = number } in
-        let found = (rows.order.keys key).1 (record { row = row; there = there.there; bottom = refl }) in
-        let place : ℕ = found.0 in
-        let at : slice_get free.order place ≡ Some key = slice_get-get_or free.order place key found.1 ∙ ap Some found.2 in
-        let unmet = λ (beside : (place < first) ⊎ (end ≤ place)). unmet_beside number row site first end place key near there refl at beside in
-        let kept = λ (beside : (place < first) ⊎ (end ≤ place)). elim (taken.each number a b before now) as (λ v. (k : ℕ) → IsFreeSite b k ↔ (IsFreeSite a k × ¬ ShareSquare rect (site_box row site.size k))) [
-          | inl loses ↦ loses row site there
-          | inr same ↦ rw same (loses_unmet design rect number row site there a (unmet beside))
-        ] in
-        elim (cases_lt place first) [
-          | inl before_first ↦ kept (inl before_first)
-          | inr from ↦
-              elim (cases_lt place end) [
-                | inr behind ↦ kept (inr behind)
-                | inl below ↦
-                    let early = key_between free.order first end place key near.within from below at in
-                    taken.these (place - first) key a b (slice_get_within (take (end - first) (drop first free.order)) (place - first) key early) early before now row site there
-              ]
-        ];
-  }
+      in_mid : (number : ℕ) (b : List Stretch) (now : slice_get new number ≡ Some b) → slice_get mid number ≡ Some (between number b now)
+      in_mid number b now = slice_get-get_or mid number b (let within = slice_get_within new number b now in omega (arith, within, then.count))
+
+      one_then : (number : ℕ) (a m b : List Stretch) → LosesMet design rect number a m → LosesMet design rect number m b ⊎ (b ≡ m) → LosesMet design rect number a b
+      one_then number a m b loses (inl more) = loses_twice design rect number a m b loses more
+      one_then number a m b loses (inr same) = rw same loses
+
+      then_one : (number : ℕ) (a m b : List Stretch) → LosesMet design rect number a m ⊎ (m ≡ a) → LosesMet design rect number m b → LosesMet design rect number a b
+      then_one number a m b (inl loses) more = loses_twice design rect number a m b loses more
+      then_one number a m b (inr same) more = rw same at more
+
+      both : (number : ℕ) (a m b : List Stretch) → LosesMet design rect number a m ⊎ (m ≡ a) → LosesMet design rect number m b ⊎ (b ≡ m) → LosesMet design rect number a b ⊎ (b ≡ a)
+      both number a m b (inl loses) more = inl (one_then number a m b loses more)
+      both number a m b (inr same) (inl more) = inl (rw same at more)
+      both number a m b (inr same) (inr kept) = inr (kept ∙ same)
+
+    -- a node is joined anew of the two below it
+    pub rows_joined : (lists : List (List Stretch)) (nodes : List Bounds) (node : ℕ) (outer left right : Bounds) → 1 ≤ node → node < length order → slice_get nodes (2 * node) ≡ Some left → slice_get nodes (2 * node + 1) ≡ Some right → DoCover outer left → DoCover outer right → AreRowsOf design (record { lists = lists; order = order; nodes = nodes }) → AreRowsOf design (record { lists = lists; order = order; nodes = set nodes node outer })
+    rows_joined lists nodes node outer left right some below at_left at_right over_left over_right rows = record {
+      lists = rows.lists;
+      inside = rows.inside;
+      order = rows.order;
+      nodes = nodes_set order (DoFit design lists) nodes node outer
+          (fits_joined order (DoFit design lists) (row_covered design lists) nodes node outer left right rows.nodes some below at_left at_right over_left over_right)
+          rows.nodes;
+    }
+
+    -- beneath the first node lie all rows
+    pub all_taken : (old new : List (List Stretch)) → IsRowOrder design.rows order → AreTakenBeneath design rect order 1 old new → AreTaken design rect old new
+    all_taken old new is_order taken = record {
+      count = taken.count;
+      each = λ number a b at now row site is.
+          let key : RowKey = record { site = row.site; y = row.at.y; x = row.at.x; row = number } in
+          let found = (is_order.keys key).1 (record { row = row; there = is.there; site = refl; bottom = refl; left = refl }) in
+          let place : ℕ = found.0 in
+          let there : slice_get order place ≡ Some key = slice_get-get_or order place key found.1 ∙ ap Some found.2 in
+          taken.these key a b (leaf_beneath_first order place key there) at now row site is;
+    }
 
 only_box : (rect other : Sides) → Contains (rect ∷ []) other → other ≡ rect
 only_box rect other (place, below, is) =
@@ -230,11 +246,30 @@ module _ (design : DesignContents) (rect : Sides) (boxes : List Sides) (old new 
         );
   }
 
+abbrev pub nowhere : RowKey
+nowhere = record { site = 0; y = pos 0; x = pos 0; row = 0 }
+
+-- the key at a place of the order, of a row that there is
+pub key_within : (rows : List Row) (order : List RowKey) (place : ℕ) → IsRowOrder rows order → place < length order → (get_or order place nowhere).row < length rows
+key_within rows order place is below =
+    let key : RowKey = get_or order place nowhere in
+    let of : IsKeyOf rows key = (is.keys key).0 (place, below, get_or_from_slice_get order place key key (slice_get-get_or order place nowhere below)) in
+    slice_get_within rows key.row of.row of.there
+
 -- A box is taken from the lists that a struct has, which stands for these rows.
-pub box_taken : {T E : Type 0} (r : Result T E) (design : DesignContents) (rect : Sides) (old free : RowLists) (new : List (List Stretch)) (first end : ℕ) → free ≡ old → AreRowsOf design old → AreNear rect free.tallest free.order first end → OnOk r (AreTakenUpTo design rect (take (end - first) (drop first free.order)) (length (take (end - first) (drop first free.order))) free.lists new) → OnOk r ((boxes : List Sides) → AreKnown design boxes old → AreKnown design (boxes ++ rect ∷ []) (record { lists = new; order = free.order; tallest = free.tallest }))
-box_taken (Ok x) design rect old free new first end same rows near up = λ boxes known.
-    let own : AreRowsOf design free = rw same rows in
+pub box_taken : {T E : Type 0} (r : Result T E) (design : DesignContents) (rect : Sides) (old free new : RowLists) → free ≡ old → OnOk r (AreRowsOf design new) → OnOk r (AreTakenBeneath design rect new.order 1 free.lists new.lists) → OnOk r ((boxes : List Sides) → AreKnown design boxes old → AreKnown design (boxes ++ rect ∷ []) new)
+box_taken (Ok x) design rect old free new same now taken = λ boxes known.
     let knew : AreKnown design boxes free = rw same known in
-    let taken = all_taken design rect free own first end new near up in
-    known_once_taken design rect boxes free (record { lists = new; order = free.order; tallest = free.tallest }) knew taken (record { lists = taken.count ∙ own.lists; order = own.order; tallest = own.tallest })
-box_taken (Err e) design rect old free new first end same rows near up = tt
+    known_once_taken design rect boxes free new knew (all_taken design rect new.order free.lists new.lists now.order taken) now
+box_taken (Err e) design rect old free new same now taken = tt
+
+-- where there are no rows, nothing is taken
+pub box_of_none : (design : DesignContents) (rect : Sides) (free : RowLists) → length free.order ≡ 0 → (boxes : List Sides) → AreKnown design boxes free → AreKnown design (boxes ++ rect ∷ []) free
+box_of_none design rect free none boxes known =
+    known_once_taken design rect boxes free free known (record {
+      count = refl;
+      each = λ number a b at now row site is.
+          let key : RowKey = record { site = row.site; y = row.at.y; x = row.at.x; row = number } in
+          let found = (known.rows.order.keys key).1 (record { row = row; there = is.there; site = refl; bottom = refl; left = refl }) in
+          absurd (omega (arith, found.1, none));
+    }) known.rows

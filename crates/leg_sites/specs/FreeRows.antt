@@ -1,37 +1,60 @@
 -- The free sites of all rows of a design, once some boxes are in the way (lefdef's own rule).
-use Rattle.std.specs.Prelude.{◌≡◌, ℕ, ℤ, pos, ◌≤ℤ◌, List, length, Some, slice_get, Contains}
-use Rattle.leg_lex.specs.Number.{IsNumber}
+use Rattle.std.specs.Prelude.{◌≡◌, ℕ, List, length, Some, slice_get, Contains}
 use Rattle.leg_geom.specs.Plane.{Sides}
 use Rattle.leg_cells.specs.declared.records.Site.{Site}
 use Rattle.leg_block.specs.declared.records.Row.{Row}
 use Rattle.leg_block.specs.Records.{DesignContents}
+use Rattle.leg_place.specs.Sites.{site_box}
 use Rattle.leg_sites.specs.declared.stretch.Stretch.{Stretch}
+use Rattle.leg_sites.specs.declared.bounds.Bounds.{Bounds}
 use Rattle.leg_sites.specs.declared.row_keys.RowKey.{RowKey}
+use Rattle.leg_sites.specs.declared.candidate.Wanted.{Wanted}
+use Rattle.leg_sites.specs.Stretches.{IsFreeSite}
 use Rattle.leg_sites.specs.RowOrder.{IsRowOrder}
+use Rattle.leg_sites.specs.RowSites.{HasAllSquares}
+use Rattle.leg_sites.specs.SiteBounds.{DoBound}
 use Rattle.leg_sites.specs.Known.{IsKnown}
+use Rattle.leg_sites.specs.RowTree.{AreNodes}
 
--- a list of free stretches for each row, the keys of the rows, and a height
+-- a list of free stretches for each row, the keys of the rows, and the nodes of a tree over them
 pub record RowLists : Type 0 where
   pub lists : List (List Stretch)
   pub order : List RowKey
-  pub tallest : ℤ
+  pub nodes : List Bounds
 
 -- the row of this number, and its site
 pub record IsRowAt (design : DesignContents) (number : ℕ) (row : Row) (site : Site) : Type 0 where
   pub there : slice_get design.rows number ≡ Some row
   pub sited : slice_get design.library.sites row.site ≡ Some site
 
--- no site of a row is higher than this, which may be more than the height of the tallest one
-pub record IsAtLeastEachSite (design : DesignContents) (height : ℤ) : Type 0 where
-  pub positive : pos 0 ≤ℤ height
-  pub number : IsNumber height
-  pub each : (number : ℕ) (row : Row) (site : Site) → IsRowAt design number row site → site.size.height ≤ℤ height
+-- each free site of the row of this number lies in the die
+abbrev pub AreInDie : DesignContents → ℕ → List Stretch → Type 0
+AreInDie design number list =
+    (row : Row) (site : Site) → IsRowAt design number row site → (k : ℕ) → IsFreeSite list k → HasAllSquares design.die (site_box row site.size k)
 
--- there is one list for each row of the design, the keys are those of its rows in order, and no site is taller
+-- that holds of all rows
+abbrev pub AreAllInDie : DesignContents → List (List Stretch) → Type 0
+AreAllInDie design lists = (number : ℕ) (list : List Stretch) → slice_get lists number ≡ Some list → AreInDie design number list
+
+-- the numbers bound the free sites of the row of this number
+abbrev pub DoBoundRow : DesignContents → Bounds → ℕ → List Stretch → Type 0
+DoBoundRow design bounds number list = (row : Row) (site : Site) → IsRowAt design number row site → DoBound bounds number row site.size list
+
+-- that holds of the list at this number
+abbrev pub DoFit : DesignContents → List (List Stretch) → Bounds → ℕ → Type 0
+DoFit design lists bounds number = (list : List Stretch) → slice_get lists number ≡ Some list → DoBoundRow design bounds number list
+
+-- There is one list for each row of the design, of sites in the die, and the keys are those of its rows in order. Each
+-- node of the tree bounds the rows beneath it.
 pub record AreRowsOf (design : DesignContents) (free : RowLists) : Type 0 where
   pub lists : length free.lists ≡ length design.rows
+  pub inside : AreAllInDie design free.lists
   pub order : IsRowOrder design.rows free.order
-  pub tallest : IsAtLeastEachSite design free.tallest
+  pub nodes : AreNodes free.order (DoFit design free.lists) free.nodes
+
+-- the component takes sites to be as wide as those of its site are
+abbrev pub IsOfItsSite : DesignContents → Wanted → Type 0
+IsOfItsSite design wanted = (site : Site) → slice_get design.library.sites wanted.site ≡ Some site → site.size.width ≡ wanted.site_width
 
 -- each row's list has exactly its sites that are clear of the boxes
 pub record AreKnown (design : DesignContents) (boxes : List Sides) (free : RowLists) : Type 0 where

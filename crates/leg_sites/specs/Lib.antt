@@ -3,5 +3,7 @@ pub mod RowOrder
 pub mod BestPosition
 pub mod RowSites
 pub mod Known
+pub mod SiteBounds
+pub mod RowTree
 pub mod FreeRows
 pub mod Steps

@@ -5,3 +5,6 @@ pub mod RowKeys
 pub mod RowsSeen
 pub mod SiteEdges
 pub mod FreeRows
+pub mod Bounds
+pub mod RowTree
+pub mod Parts

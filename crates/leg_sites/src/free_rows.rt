@@ -2,24 +2,29 @@
 
 ghost use Rattle.std.specs.Prelude.{◌≡◌, List, [], ◌∷◌, ◌++◌, IfOk, OnOk};
 ghost use Rattle.leg_geom.specs.Plane.{Sides};
-ghost use Rattle.leg_sites.specs.FreeRows.{AreRowsOf, AreKnown};
+ghost use Rattle.leg_sites.specs.BestPosition.{AreReady, IsCandidate, IsBestOf};
+ghost use Rattle.leg_sites.specs.FreeRows.{AreRowsOf, AreKnown, IsOfItsSite};
 
-use crate::free_sites::FreeSites;
+use crate::bounds::Bounds;
+use crate::candidate::{Candidate, Wanted};
 use crate::row_keys::{RowKey, row_order};
-use crate::rows_inside::{rows_inside, tallest_site};
-use crate::rows_taken::{near, take_from_rows};
+use crate::row_parts::RowParts;
+use crate::row_search::best_beneath;
+use crate::row_tree::nodes_of;
+use crate::rows_inside::rows_inside;
+use crate::rows_taken::take_beneath;
 use leg_block::Design;
 use leg_geom::Rect;
 use std::alloc::{AllocError, Allocator};
 use std::marker::Model;
 
-/// The free sites of each row of a design. Contracts see them as their lists, with the keys of the rows in order and a
-/// height that no site of a row is above.
+/// The free sites of each row of a design. Contracts see them as their lists, with the keys of the rows in order and the
+/// nodes of a tree over these, each of which bounds the free sites of the rows beneath it.
 #[derive(Drop)]
 pub struct FreeRows<A: Allocator> {
-    lists: Vec<FreeSites<A>, A>,
+    lists: Vec<RowParts<A>, A>,
     order: Vec<RowKey, A>,
-    tallest: i64,
+    nodes: Vec<Bounds, A>,
 }
 
 impl<A: Allocator> Model for FreeRows<A> {
@@ -27,7 +32,7 @@ impl<A: Allocator> Model for FreeRows<A> {
 
     ghost Value = { RowLists };
 
-    ghost view = { λ f. record { lists = f.lists.items; order = f.order.items; tallest = f.tallest } };
+    ghost view = { λ f. record { lists = f.lists.items; order = f.order.items; nodes = f.nodes.items } };
 }
 
 impl<A: Allocator + Copy> FreeRows<A> {
@@ -37,26 +42,28 @@ impl<A: Allocator + Copy> FreeRows<A> {
     {
         let lists = rows_inside(alloc, design)?;
         let order = row_order(alloc, design.rows())?;
-        let tallest = tallest_site(design);
+        let nodes = nodes_of(alloc, design, order.as_slice(), lists.as_slice())?;
         Ok(FreeRows {
             lists,
             order,
-            tallest,
+            nodes,
         })
     }
 
-    /// The free sites of each row, in file order.
-    pub fn lists(&self) -> &[FreeSites<A>]
-        ensures { result.now ≡ self.now.lists }
+    /// The best free position of a component: the nearest one to its start, of those as near one where it isn't turned,
+    /// of those one in the row of the lowest number, and there the leftmost. None where no position is free.
+    pub fn best_position(&self, design: &Design<'_, A>, wanted: &Wanted) -> Option<Candidate>
+        requires rows { AreRowsOf design.now self.now }
+        requires ready { AreReady design.now.rows self.now.lists wanted.now }
+        requires sized { IsOfItsSite design.now wanted.now }
+        ensures { IsBestOf (IsCandidate design.now.rows self.now.lists wanted.now) result }
     {
-        self.lists.as_slice()
-    }
-
-    /// The keys of the rows, as `row_order` gives them.
-    pub fn order(&self) -> &[RowKey]
-        ensures { result.now ≡ self.now.order }
-    {
-        self.order.as_slice()
+        let order = self.order.as_slice();
+        if order.is_empty() {
+            return None;
+        }
+        let nodes = self.nodes.as_slice();
+        best_beneath(design, self.lists.as_slice(), order, nodes, wanted, 1, None)
     }
 
     /// Takes the sites that share a unit square with the rectangle away from those of each row. It fails only when out of
@@ -66,7 +73,16 @@ impl<A: Allocator + Copy> FreeRows<A> {
         ensures { OnOk result ((boxes : List Sides) → AreKnown design.now boxes self.old → AreKnown design.now (boxes ++ rect.now ∷ []) self.new) }
     {
         let order = self.order.as_slice();
-        let (first, end) = near(order, self.tallest, rect);
-        take_from_rows(self.lists.as_mut_slice(), &order[first..end], design, rect)
+        if order.is_empty() {
+            return Ok(());
+        }
+        take_beneath(
+            self.lists.as_mut_slice(),
+            self.nodes.as_mut_slice(),
+            order,
+            design,
+            rect,
+            1,
+        )
     }
 }

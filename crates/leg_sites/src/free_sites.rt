@@ -1,8 +1,10 @@
 //! The free sites of one row.
 
-ghost use Rattle.std.specs.Prelude.{◌≡◌, IfOk, OnOk, OnErr};
+ghost use Rattle.std.specs.Prelude.{◌≡◌, ◌++◌, IsTrue, IfOk, OnOk, OnErr};
 ghost use Rattle.leg_sites.specs.Stretches.{AreStretches, AreSitesBetween, IsWithout};
+ghost use Rattle.leg_sites.specs.Steps.Parts.{AreNoMoreThan, LosesSites, HasSpan};
 
+use crate::ends::Ends;
 use crate::stretch::Stretch;
 use crate::take_sites::take_sites;
 use std::alloc::{AllocError, Allocator};
@@ -12,18 +14,20 @@ use std::marker::Model;
 #[derive(Drop)]
 pub struct FreeSites<A: Allocator> {
     stretches: Vec<Stretch, A>,
+    /// No more sites than these are free side by side.
+    longest: u64,
 }
 
 impl<A: Allocator> Model for FreeSites<A> {
     ghost use Rattle.std.specs.Prelude.{List};
     ghost use Rattle.leg_sites.specs.declared.stretch.Stretch.{Stretch};
-    ghost use Rattle.leg_sites.specs.Stretches.{AreStretches};
+    ghost use Rattle.leg_sites.specs.Steps.Parts.{AreMeasured};
 
     ghost Value = { List Stretch };
 
     ghost view = { λ f. f.stretches.items };
 
-    ghost invariant = { λ f. AreStretches f.stretches.items };
+    ghost invariant = { λ f. AreMeasured f.longest f.stretches.items };
 }
 
 impl<A: Allocator> FreeSites<A> {
@@ -36,7 +40,10 @@ impl<A: Allocator> FreeSites<A> {
         if from < end {
             stretches.push(Stretch { from, end })?;
         }
-        Ok(FreeSites { stretches })
+        Ok(FreeSites {
+            stretches,
+            longest: end.saturating_sub(from),
+        })
     }
 
     /// The stretches of free sites, from left to right, with a site that isn't free between any two.
@@ -53,6 +60,71 @@ impl<A: Allocator> FreeSites<A> {
         ensures ok { OnOk result (IsWithout self.old from end self.new) }
         ensures err { OnErr result (self.new ≡ self.old) }
     {
-        take_sites(&mut self.stretches, from, end)
+        take_sites(&mut self.stretches, from, end)?;
+        self.longest = longest_of(self.stretches.as_slice());
+        Ok(())
     }
+
+    /// How many sites are free side by side at most.
+    pub(crate) fn longest(&self) -> u64
+        ensures { AreNoMoreThan result self.now }
+    {
+        self.longest
+    }
+
+    /// Whether all free sites lie before the one of the first number, or none before the one of the second.
+    pub(crate) fn are_beside(&self, from: u64, end: u64) -> bool
+        ensures { IsTrue result → LosesSites self.now from end self.now }
+    {
+        let free = self.stretches.as_slice();
+        if free.is_empty() {
+            return true;
+        }
+        if end <= free[0].from {
+            return true;
+        }
+        free[free.len() - 1].end <= from
+    }
+
+    /// The first and the last free site, and how many are free side by side at most, if any is free.
+    pub(crate) fn ends(&self) -> Option<Ends>
+        ensures { HasSpan self.now result }
+    {
+        let free = self.stretches.as_slice();
+        if free.is_empty() {
+            return None;
+        }
+        Some(Ends {
+            from: free[0].from,
+            end: free[free.len() - 1].end,
+            longest: self.longest,
+        })
+    }
+}
+
+impl<A: Allocator + Copy> FreeSites<A> {
+    /// The last quarter of the stretches, which are no longer among these.
+    pub(crate) fn cut(&mut self) -> Result<FreeSites<A>, AllocError>
+        ensures ok { IfOk result (λ rest. self.new ++ rest ≡ self.old) }
+        ensures apart { AreStretches self.old }
+        ensures err { OnErr result (self.new ≡ self.old) }
+    {
+        let stretches = self.stretches.split_off(self.stretches.len() / 4 * 3)?;
+        Ok(FreeSites {
+            stretches,
+            longest: self.longest,
+        })
+    }
+}
+
+/// A number of sites that no stretch has more of.
+fn longest_of(stretches: &[Stretch]) -> u64
+    requires { AreStretches stretches.now }
+    ensures { AreNoMoreThan result stretches.now }
+{
+    let mut longest = 0;
+    for stretch in stretches {
+        longest = stretch.end.saturating_sub(stretch.from).max(longest);
+    }
+    longest
 }

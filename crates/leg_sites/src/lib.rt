@@ -1,17 +1,21 @@
 //! The free sites of rows, and the best free position of a component.
 //!
 //! `FreeSites` keeps the free sites of one row, from which `take` takes those of a component away, and `FreeRows` those
-//! of all rows of a design. `best_position` finds the free position that is nearest to a component's start, over the rows
-//! in the order of `row_order`.
+//! of all rows of a design. Its `best_position` finds the free position that is nearest to a component's start.
 #![tactic(auto)]
 
+mod bounds;
 mod candidate;
+mod ends;
 mod free_rows;
 mod free_sites;
 mod nearest;
+mod reach;
 mod row_keys;
+mod row_parts;
 mod row_search;
 mod row_sites;
+mod row_tree;
 mod rows_inside;
 mod rows_taken;
 mod site_edges;
@@ -22,6 +26,5 @@ pub use candidate::{Candidate, Wanted, fits};
 pub use free_rows::FreeRows;
 pub use free_sites::FreeSites;
 pub use row_keys::{RowKey, row_order};
-pub use row_search::best_position;
 pub use row_sites::{sites_inside, sites_met};
 pub use stretch::Stretch;

@@ -4,9 +4,12 @@ ghost use Rattle.std.specs.Prelude.{◌≡◌, ℕ, ◌+◌, ◌*◌, ◌<◌, �
 ghost use Rattle.leg_geom.specs.declared.limits.TheConstants.{COORDINATE_LIMIT};
 ghost use Rattle.leg_geom.specs.Plane.{IsCoordinate};
 ghost use Rattle.leg_sites.specs.Stretches.{AreFreeSites, AreStretches};
+ghost use Rattle.leg_sites.specs.Steps.Parts.{all_of, AreInRow};
 ghost use Rattle.leg_sites.specs.Steps.Nearest.{IsPitch, BeginWithin, FitsFrom, FitsUpTo, IsFirst, IsLast, IsValley, IsNearest, site_x, x_away};
 
+use crate::free_sites::FreeSites;
 use crate::stretch::Stretch;
+use std::alloc::Allocator;
 
 /// Where the sites of a row begin along x, and where a component starts.
 #[derive(Clone, Copy)]
@@ -20,16 +23,16 @@ pub(crate) struct Pitch {
 }
 
 /// The first of this many consecutive free sites that is nearest to the start, the lower of two that are as near.
-pub(crate) fn nearest(free: &[Stretch], many: u64, pitch: &Pitch) -> Option<u64>
-    requires stretches { AreStretches free.now }
+pub(crate) fn nearest<A: Allocator>(parts: &[FreeSites<A>], many: u64, pitch: &Pitch) -> Option<u64>
+    requires in_row { AreInRow parts.now }
     requires some { 1 ≤ many }
     requires pitch { IsPitch pitch.now }
-    requires within { BeginWithin pitch.now free.now }
-    ensures { IsNearest (x_away pitch.now) (AreFreeSites free.now many) result }
+    requires within { BeginWithin pitch.now (all_of parts.now) }
+    ensures { IsNearest (x_away pitch.now) (AreFreeSites (all_of parts.now) many) result }
 {
     let middle = lowest(pitch);
-    let left = last_upto(free, many, middle);
-    let right = first_from(free, many, middle);
+    let left = last_in_parts(parts, many, middle);
+    let right = first_in_parts(parts, many, middle);
     let Some(left) = left else {
         return right;
     };
@@ -100,6 +103,58 @@ fn last_upto(free: &[Stretch], many: u64, most: u64) -> Option<u64>
         let stretch = free[i];
         if stretch.end.saturating_sub(stretch.from) >= many {
             return Some(most.min(stretch.end - many));
+        }
+    }
+    None
+}
+
+/// The same, of the sites of a part: the first of this many, the least that isn't below this one.
+fn first_in_part<A: Allocator>(part: &FreeSites<A>, many: u64, least: u64) -> Option<u64>
+    requires { 1 ≤ many }
+    ensures { IsFirst (FitsFrom part.now many least) result }
+{
+    if part.longest() < many {
+        return None;
+    }
+    first_from(part.stretches(), many, least)
+}
+
+/// The first of this many, the greatest that isn't above this one.
+fn last_in_part<A: Allocator>(part: &FreeSites<A>, many: u64, most: u64) -> Option<u64>
+    requires { 1 ≤ many }
+    ensures { IsLast (FitsUpTo part.now many most) result }
+{
+    if part.longest() < many {
+        return None;
+    }
+    last_upto(part.stretches(), many, most)
+}
+
+/// The same, of the sites of all parts.
+fn first_in_parts<A: Allocator>(parts: &[FreeSites<A>], many: u64, least: u64) -> Option<u64>
+    requires in_row { AreInRow parts.now }
+    requires some { 1 ≤ many }
+    ensures { IsFirst (FitsFrom (all_of parts.now) many least) result }
+{
+    for i in 0..parts.len() {
+        match first_in_part(&parts[i], many, least) {
+            Some(first) => return Some(first),
+            None => {}
+        }
+    }
+    None
+}
+
+/// The same, of the sites of all parts.
+fn last_in_parts<A: Allocator>(parts: &[FreeSites<A>], many: u64, most: u64) -> Option<u64>
+    requires in_row { AreInRow parts.now }
+    requires some { 1 ≤ many }
+    ensures { IsLast (FitsUpTo (all_of parts.now) many most) result }
+{
+    for i in (0..parts.len()).rev() {
+        match last_in_part(&parts[i], many, most) {
+            Some(first) => return Some(first),
+            None => {}
         }
     }
     None

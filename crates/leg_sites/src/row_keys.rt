@@ -1,4 +1,4 @@
-//! The rows from the lowest one up.
+//! The rows by their sites, and those of one site from the lowest one up.
 
 ghost use Rattle.std.specs.Prelude.{◌≡◌, length, IfOk};
 ghost use Rattle.leg_sites.specs.RowOrder.{IsRowOrder};
@@ -7,11 +7,16 @@ ghost use Rattle.leg_sites.specs.Steps.RowKeys.{AreKeysBelow};
 use leg_block::Row;
 use std::alloc::{AllocError, Allocator};
 
-/// What rows are ordered by: the lower one first, and of two at one height the one of the lower number.
+/// What rows are ordered by: first by the number of their site, then the lower one first, of those at one height the one
+/// that begins further to the left, and of two that begin at one point the one of the lower number.
 #[derive(Clone, Copy, PartialEq, Eq, PartialOrd, Ord, Debug)]
 pub struct RowKey {
+    /// The site that the row is of, by number.
+    pub site: usize,
     /// The y of the row's lower left corner.
     pub y: i64,
+    /// The x of that corner.
+    pub x: i64,
     /// The number of the row.
     pub row: usize,
 }
@@ -32,7 +37,9 @@ fn row_keys<A: Allocator>(alloc: A, rows: &[Row<'_>]) -> Result<Vec<RowKey, A>, 
     let mut keys = Vec::with_capacity(alloc, rows.len())?;
     for (i, row) in rows.iter().enumerate() {
         keys.push(RowKey {
+            site: row.site,
             y: row.at.y(),
+            x: row.at.x(),
             row: i,
         })?;
     }

@@ -1,101 +1,56 @@
 //! The best free position of a component.
 
-ghost use Rattle.std.specs.Prelude.{◌≡◌, ◌↔◌, ◌*◌, ◌<◌, ◌≤◌, length, AllPairs, IsTrue};
+ghost use Rattle.std.specs.Prelude.{◌≡◌, ◌*◌, ◌<◌, ◌≤◌, length};
 ghost use Rattle.leg_geom.specs.Gap.{apart};
 ghost use Rattle.leg_geom.specs.declared.limits.TheConstants.{COORDINATE_LIMIT};
 ghost use Rattle.leg_geom.specs.Plane.{IsCoordinate};
-ghost use Rattle.leg_sites.specs.RowOrder.{IsBefore, IsRowOrder};
-ghost use Rattle.leg_sites.specs.BestPosition.{AreReady, IsCandidate, IsBestOf};
-ghost use Rattle.leg_sites.specs.Steps.RowsSeen.{IsSplitAt, IsNext, IsNearerThan, IsCandidateOf};
+ghost use Rattle.leg_sites.specs.BestPosition.{AreReady, IsBestOf};
+ghost use Rattle.leg_sites.specs.FreeRows.{AreRowsOf, IsOfItsSite};
+ghost use Rattle.leg_sites.specs.Steps.RowsSeen.{IsCandidateOf, IsBestOrBeneath};
 
+use crate::bounds::Bounds;
 use crate::candidate::{Candidate, Wanted, better, is_turned};
-use crate::free_sites::FreeSites;
 use crate::nearest::{Pitch, nearest, x_away};
+use crate::reach::{are_no_better, nearer_first};
 use crate::row_keys::RowKey;
-use leg_block::Row;
+use crate::row_parts::RowParts;
+use leg_block::{Design, Row};
 use std::alloc::Allocator;
 
-/// The best free position of a component: the nearest one to its start, of those as near one where it isn't turned, of
-/// those one in the row of the lowest number, and there the leftmost. None where no position is free.
-///
-/// `order` is that of the rows, as `row_order` gives it, and `free` has the free sites of each row.
-pub fn best_position<A: Allocator>(
-    rows: &[Row<'_>],
+/// The better of a position and of the best free one in the rows whose leaves lie beneath a node of the tree, or at it.
+pub(crate) fn best_beneath<A: Allocator + Copy>(
+    design: &Design<'_, A>,
+    free: &[RowParts<A>],
     order: &[RowKey],
-    free: &[FreeSites<A>],
+    nodes: &[Bounds],
     wanted: &Wanted,
+    node: usize,
+    best: Option<Candidate>,
 ) -> Option<Candidate>
-    requires order { IsRowOrder rows.now order.now }
-    requires ready { AreReady rows.now free.now wanted.now }
-    ensures { IsBestOf (IsCandidate rows.now free.now wanted.now) result }
+    requires rows { AreRowsOf design.now (record { lists = free.now; order = order.now; nodes = nodes.now }) }
+    requires ready { AreReady design.now.rows free.now wanted.now }
+    requires sized { IsOfItsSite design.now wanted.now }
+    requires first { 1 ≤ node }
+    requires there { node < length nodes.now }
+    ensures { IsBestOf (IsBestOrBeneath design.now.rows order.now free.now wanted.now node best) result }
 {
-    let mut low = first_at(order, wanted);
-    let mut high = low;
-    let mut best = None;
-    while let Some(next) = next_row(order, low, high, wanted) {
-        if is_nearer_than(&best, &order[next], wanted) {
-            return best;
-        }
-        let found = best_of_row(rows, free, wanted, order[next].row);
-        best = better(best, found);
-        if next < low {
-            low = next;
-        } else {
-            high = next + 1;
-        }
+    let rows = design.rows();
+    if are_no_better(&nodes[node], wanted, &best) {
+        return best;
     }
-    best
-}
-
-/// The place in the order of the first row that isn't below the start.
-fn first_at(order: &[RowKey], wanted: &Wanted) -> usize
-    requires { AllPairs IsBefore order.now }
-    ensures { IsSplitAt order.now wanted.now.start.y result result }
-{
-    let y = wanted.start.y();
-    order.partition_point(|key| key.y < y)
-}
-
-/// The place of the row that is nearest along y of those below `low` and from `high` on.
-fn next_row(order: &[RowKey], low: usize, high: usize, wanted: &Wanted) -> Option<usize>
-    requires rising { AllPairs IsBefore order.now }
-    requires split { IsSplitAt order.now wanted.now.start.y low high }
-    ensures { IsNext order.now wanted.now.start.y low high result }
-{
-    if low == 0 {
-        return if high < order.len() { Some(high) } else { None };
+    if node >= order.len() {
+        let found = best_of_row(rows, free, wanted, order[node - order.len()].row);
+        return better(best, found);
     }
-    if high == order.len() {
-        return Some(low - 1);
-    }
-    if key_away(&order[high], wanted) < key_away(&order[low - 1], wanted) {
-        Some(high)
-    } else {
-        Some(low - 1)
-    }
-}
-
-/// How far along y a row is from the start.
-fn key_away(key: &RowKey, wanted: &Wanted) -> u64
-    ensures { result ≡ apart key.now.y wanted.now.start.y }
-{
-    key.y.abs_diff(wanted.start.y())
-}
-
-/// Whether there is a best position, and it is nearer than any of the row can be.
-fn is_nearer_than(best: &Option<Candidate>, key: &RowKey, wanted: &Wanted) -> bool
-    ensures { IsTrue result ↔ IsNearerThan best.now (apart key.now.y wanted.now.start.y) }
-{
-    match best {
-        Some(best) => best.distance < key_away(key, wanted),
-        None => false,
-    }
+    let (near, far) = nearer_first(nodes, node, &wanted.start);
+    let best = best_beneath(design, free, order, nodes, wanted, near, best);
+    best_beneath(design, free, order, nodes, wanted, far, best)
 }
 
 /// The best free position in the row of this number.
-fn best_of_row<A: Allocator>(
+fn best_of_row<A: Allocator + Copy>(
     rows: &[Row<'_>],
-    free: &[FreeSites<A>],
+    free: &[RowParts<A>],
     wanted: &Wanted,
     number: usize,
 ) -> Option<Candidate>
@@ -108,7 +63,7 @@ fn best_of_row<A: Allocator>(
         return None;
     }
     let pitch = pitch_of(row, wanted);
-    let first = nearest(free[number].stretches(), wanted.many, &pitch)?;
+    let first = nearest(free[number].parts(), wanted.many, &pitch)?;
     Some(Candidate {
         distance: x_away(&pitch, first) + y_away(row, wanted),
         turned: is_turned(row.orient, wanted),

@@ -1,69 +1,74 @@
 //! How the sites that a rectangle meets are taken from rows.
 
-ghost use Rattle.std.specs.Prelude.{◌≡◌, pos, ◌≤ℤ◌, ◌<◌, length, All, AllPairs, OnOk};
-ghost use Rattle.leg_lex.specs.Number.{IsNumber};
-ghost use Rattle.leg_sites.specs.RowOrder.{IsBefore, IsKeyOf};
-ghost use Rattle.leg_sites.specs.Steps.RowsSeen.{IsSplitAt};
-ghost use Rattle.leg_sites.specs.Steps.FreeRows.{AreNear, AreTakenUpTo, IsTakenAt};
+ghost use Rattle.std.specs.Prelude.{◌≡◌, ◌≤◌, ◌<◌, length, IsTrue, OnOk};
+ghost use Rattle.leg_sites.specs.FreeRows.{AreRowsOf};
+ghost use Rattle.leg_sites.specs.Steps.Bounds.{IsBeside};
+ghost use Rattle.leg_sites.specs.Steps.FreeRows.{AreTakenBeneath, IsTakenAt};
 
-use crate::free_sites::FreeSites;
+use crate::bounds::Bounds;
 use crate::row_keys::RowKey;
+use crate::row_parts::RowParts;
 use crate::row_sites::sites_met;
+use crate::row_tree::bounds_at;
 use leg_block::{Design, Row};
 use leg_cells::Extent;
 use leg_geom::Rect;
 use std::alloc::{AllocError, Allocator};
 
-/// The places in the order between which the rows lie that the rectangle may meet, where no site is taller than this.
-pub(crate) fn near(order: &[RowKey], tallest: i64, rect: &Rect) -> (usize, usize)
-    requires rising { AllPairs IsBefore order.now }
-    requires least { pos 0 ≤ℤ tallest }
-    requires within { IsNumber tallest }
-    ensures { AreNear rect.now tallest order.now result.0 result.1 }
-{
-    let first = first_from(order, rect.y1() - tallest);
-    let end = first_from(order, rect.y2());
-    (first, end)
-}
-
-/// The place in the order of the first row that isn't below y.
-fn first_from(order: &[RowKey], y: i64) -> usize
-    requires { AllPairs IsBefore order.now }
-    ensures { IsSplitAt order.now y result result }
-{
-    order.partition_point(|key| key.y < y)
-}
-
-/// Takes the sites that share a unit square with the rectangle away from those of the rows of these keys.
-pub(crate) fn take_from_rows<A: Allocator + Copy>(
-    lists: &mut [FreeSites<A>],
-    keys: &[RowKey],
+/// Takes the sites that share a unit square with the rectangle away from those of the rows whose leaves lie beneath a node of
+/// the tree, or at it.
+pub(crate) fn take_beneath<A: Allocator + Copy>(
+    lists: &mut [RowParts<A>],
+    nodes: &mut [Bounds],
+    order: &[RowKey],
     design: &Design<'_, A>,
     rect: &Rect,
+    node: usize,
 ) -> Result<(), AllocError>
-    requires lists { length lists.old ≡ length design.now.rows }
-    requires keys { All (IsKeyOf design.now.rows) keys.now }
-    ensures { OnOk result (AreTakenUpTo design.now rect.now keys.now (length keys.now) lists.old lists.new) }
+    requires rows { AreRowsOf design.now (record { lists = lists.old; order = order.now; nodes = nodes.old }) }
+    requires first { 1 ≤ node }
+    requires there { node < length nodes.old }
+    ensures rows { OnOk result (AreRowsOf design.now (record { lists = lists.new; order = order.now; nodes = nodes.new })) }
+    ensures taken { OnOk result (AreTakenBeneath design.now rect.now order.now node lists.old lists.new) }
 {
-    for key in keys {
-        let row = &design.rows()[key.row];
-        let size = &design.library().sites()[row.site].size;
-        take_from_row(lists, key.row, row, size, rect)?;
+    if is_beside(&nodes[node], rect) {
+        return Ok(());
     }
+    if node >= order.len() {
+        let number = order[node - order.len()].row;
+        take_from_row(lists, design, rect, number)?;
+        nodes[node] = bounds_at(design, lists, number);
+        return Ok(());
+    }
+    take_beneath(lists, nodes, order, design, rect, 2 * node)?;
+    take_beneath(lists, nodes, order, design, rect, 2 * node + 1)?;
+    nodes[node] = nodes[2 * node].joined(&nodes[2 * node + 1]);
     Ok(())
 }
 
-/// Takes the sites that share a unit square with the rectangle away from those of one row, which are of this size.
-fn take_from_row<A: Allocator>(
-    lists: &mut [FreeSites<A>],
-    number: usize,
-    row: &Row<'_>,
-    size: &Extent,
-    rect: &Rect,
-) -> Result<(), AllocError>
-    requires { number < length lists.old }
-    ensures { OnOk result (IsTakenAt row.now size.now rect.now number lists.old lists.new) }
+/// Whether the rectangle lies beside all that is bounded.
+fn is_beside(bounds: &Bounds, rect: &Rect) -> bool
+    ensures { IsTrue result → IsBeside bounds.now rect.now }
 {
+    rect.y2() <= bounds.low
+        || bounds.top <= rect.y1()
+        || rect.x2() <= bounds.left
+        || bounds.right <= rect.x1()
+}
+
+/// Takes the sites that share a unit square with the rectangle away from those of one row.
+fn take_from_row<A: Allocator + Copy>(
+    lists: &mut [RowParts<A>],
+    design: &Design<'_, A>,
+    rect: &Rect,
+    number: usize,
+) -> Result<(), AllocError>
+    requires there { number < length design.now.rows }
+    requires lists { length lists.old ≡ length design.now.rows }
+    ensures { OnOk result (IsTakenAt design.now rect.now number lists.old lists.new) }
+{
+    let row = &design.rows()[number];
+    let size = &design.library().sites()[row.site].size;
     let met = sites_met(row, size, rect);
     lists[number].take(met.from, met.end)
 }

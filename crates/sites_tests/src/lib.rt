@@ -1,4 +1,4 @@
-//! The free sites of rows, their order, and the search over them: tests of `leg_sites` by values.
+//! The free sites of rows and the order of rows: tests of `leg_sites` by values.
 #![tactic(auto)]
 
 #[cfg(test)]

@@ -1,11 +1,9 @@
-//! The stretches, the keys and the best position at values.
-
-mod best;
+//! The stretches and the keys at values.
 
 use leg_block::Row;
 use leg_geom::{Orient, Point};
 use leg_lex::Name;
-use leg_sites::{FreeSites, RowKey, Stretch, row_order};
+use leg_sites::{FreeSites, Stretch, row_order};
 
 /// Sites that are taken, and what is left after it.
 #[derive(Clone, Copy)]
@@ -61,26 +59,64 @@ fn no_sites_are_free_in_a_row_without_any(rt: HostRuntime) {
     assert!(rt; free.stretches().is_empty());
 }
 
+/// A row of this site, at this point.
+#[derive(Clone, Copy)]
+struct Begun {
+    site: usize,
+    x: i64,
+    y: i64,
+}
+
 #[test]
-fn lower_rows_stand_first(rt: HostRuntime) {
-    static HEIGHTS: [i64; 4] = [2000, 0, 2000, -2000];
-    static KEYS: [RowKey; 4] = [
-        RowKey { y: -2000, row: 3 },
-        RowKey { y: 0, row: 1 },
-        RowKey { y: 2000, row: 0 },
-        RowKey { y: 2000, row: 2 },
+fn rows_of_one_site_stand_from_the_lowest_up_and_from_left_to_right(rt: HostRuntime) {
+    static ROWS: [Begun; 6] = [
+        Begun {
+            site: 1,
+            x: 0,
+            y: -4000,
+        },
+        Begun {
+            site: 0,
+            x: 0,
+            y: 2000,
+        },
+        Begun {
+            site: 0,
+            x: 600,
+            y: 0,
+        },
+        Begun {
+            site: 0,
+            x: 0,
+            y: 2000,
+        },
+        Begun {
+            site: 0,
+            x: -600,
+            y: 0,
+        },
+        Begun {
+            site: 0,
+            x: 0,
+            y: -2000,
+        },
     ];
+    static NUMBERS: [usize; 6] = [5, 4, 2, 1, 3, 0];
     let mut rows = Vec::new(rt.alloc());
-    for y in &HEIGHTS {
+    for begun in &ROWS {
         let row = Row {
             name: Name::new(b"row"),
-            site: 0,
-            at: Point::new(0, *y).expect(&rt, "too far away"),
+            site: begun.site,
+            at: Point::new(begun.x, begun.y).expect(&rt, "too far away"),
             orient: Orient::N,
             count: 4,
         };
         rows.push(row).expect(&rt, "memory");
     }
     let order = row_order(rt.alloc(), &rows).expect(&rt, "memory");
-    assert_eq!(rt; order.as_slice(), KEYS.as_slice());
+    let mut numbers = Vec::new(rt.alloc());
+    for key in order.as_slice() {
+        numbers.push(key.row).expect(&rt, "memory");
+    }
+    assert_eq!(rt; numbers.as_slice(), NUMBERS.as_slice());
 }

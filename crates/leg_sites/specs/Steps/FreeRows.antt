@@ -1,17 +1,16 @@
 -- Rows of which the lists of free sites are made, or lose the sites that a rectangle meets.
-use Rattle.std.specs.Prelude.{◌≡◌, ◌↔◌, ◌⊎◌, ℕ, ◌<◌, ◌≤◌, ℤ, ◌≤ℤ◌, ◌+ℤ◌, List, [], length, Some, slice_get, slice_set, Contains}
+use Rattle.std.specs.Prelude.{◌≡◌, ◌↔◌, ◌⊎◌, ℕ, List, [], length, Some, slice_get, slice_set, Contains}
 use Rattle.leg_geom.specs.Plane.{Sides, ShareSquare}
-use Rattle.leg_cells.specs.Measure.{Lengths}
 use Rattle.leg_cells.specs.declared.records.Site.{Site}
 use Rattle.leg_block.specs.declared.records.Row.{Row}
 use Rattle.leg_block.specs.Records.{DesignContents}
 use Rattle.leg_place.specs.Sites.{site_box}
 use Rattle.leg_sites.specs.declared.stretch.Stretch.{Stretch}
 use Rattle.leg_sites.specs.declared.row_keys.RowKey.{RowKey}
-use Rattle.leg_sites.specs.Stretches.{IsFreeSite, IsWithout}
-use Rattle.leg_sites.specs.RowSites.{AreSitesMet}
+use Rattle.leg_sites.specs.Stretches.{IsFreeSite}
 use Rattle.leg_sites.specs.Known.{IsKnown}
 use Rattle.leg_sites.specs.FreeRows.{IsRowAt}
+use Rattle.leg_sites.specs.RowTree.{IsLeafBeneath}
 
 -- as many lists as this, each of which has exactly its row's sites in the die
 pub record AreInside (design : DesignContents) (end : ℕ) (lists : List (List Stretch)) : Type 0 where
@@ -24,29 +23,21 @@ LosesMet design rect number old new =
     (row : Row) (site : Site) → IsRowAt design number row site → (k : ℕ) → IsFreeSite new k ↔ (IsFreeSite old k × ¬ ShareSquare rect (site_box row site.size k))
 
 -- the list at this number has lost the sites of its row that the rectangle meets
-pub record IsTakenAt (row : Row) (size : Lengths) (rect : Sides) (number : ℕ) (old new : List (List Stretch)) : Type 0 where
-  pub sites : Stretch
-  pub met : AreSitesMet row size rect sites
+pub record IsTakenAt (design : DesignContents) (rect : Sides) (number : ℕ) (old new : List (List Stretch)) : Type 0 where
   pub list : List Stretch
   pub there : slice_get old number ≡ Some list
   pub rest : List Stretch
-  pub without : IsWithout list sites.from sites.end rest
+  pub loses : LosesMet design rect number list rest
   pub set : new ≡ slice_set old number rest
 
--- a list has lost what the rectangle meets, or is as it was; those of the first keys have lost it
-pub record AreTakenUpTo (design : DesignContents) (rect : Sides) (keys : List RowKey) (end : ℕ) (old new : List (List Stretch)) : Type 0 where
+-- a list has lost what the rectangle meets, or is as it was; those of the rows beneath a node have lost it
+pub record AreTakenBeneath (design : DesignContents) (rect : Sides) (order : List RowKey) (node : ℕ) (old new : List (List Stretch)) : Type 0 where
   pub count : length new ≡ length old
   pub each : (number : ℕ) (a b : List Stretch) → slice_get old number ≡ Some a → slice_get new number ≡ Some b → LosesMet design rect number a b ⊎ (b ≡ a)
-  pub these : (j : ℕ) (key : RowKey) (a b : List Stretch) → j < end → slice_get keys j ≡ Some key → slice_get old key.row ≡ Some a → slice_get new key.row ≡ Some b → LosesMet design rect key.row a b
+  pub these : (key : RowKey) (a b : List Stretch) → IsLeafBeneath order node key → slice_get old key.row ≡ Some a → slice_get new key.row ≡ Some b
+      → LosesMet design rect key.row a b
 
 -- each list has lost what the rectangle meets
 pub record AreTaken (design : DesignContents) (rect : Sides) (old new : List (List Stretch)) : Type 0 where
   pub count : length new ≡ length old
   pub each : (number : ℕ) (a b : List Stretch) → slice_get old number ≡ Some a → slice_get new number ≡ Some b → LosesMet design rect number a b
-
--- the rows of the keys before the first place end below the rectangle, and those from the end on begin above it
-pub record AreNear (rect : Sides) (tallest : ℤ) (order : List RowKey) (first end : ℕ) : Type 0 where
-  pub in_order : first ≤ end
-  pub within : end ≤ length order
-  pub below : (k : ℕ) (key : RowKey) → k < first → slice_get order k ≡ Some key → (key.y +ℤ tallest) ≤ℤ rect.y1
-  pub above : (k : ℕ) (key : RowKey) → end ≤ k → slice_get order k ≡ Some key → rect.y2 ≤ℤ key.y

@@ -4,9 +4,13 @@ use Rattle.leg_block.specs.declared.records.Row.{Row}
 use Rattle.leg_sites.specs.declared.row_keys.RowKey.{RowKey}
 use Rattle.leg_sites.specs.RowOrder.{IsKeyOf}
 
+-- the key of a row of this number
+abbrev pub key_of : Row → ℕ → RowKey
+key_of row number = record { site = row.site; y = row.at.y; x = row.at.x; row = number }
+
 -- the keys of the rows whose numbers are below end, in file order
 pub record AreKeysBelow (rows : List Row) (end : ℕ) (keys : List RowKey) : Type 0 where
   pub each : All (IsKeyOf rows) keys
   pub below : All (λ key. key.row < end) keys
-  pub all : (number : ℕ) (row : Row) → number < end → slice_get rows number ≡ Some row → Contains keys (record { y = row.at.y; row = number })
+  pub all : (number : ℕ) (row : Row) → number < end → slice_get rows number ≡ Some row → Contains keys (key_of row number)
   pub rising : AllPairs (λ a b. a.row < b.row) keys

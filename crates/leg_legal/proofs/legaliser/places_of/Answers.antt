@@ -2,6 +2,7 @@
 use Rattle.std.proofs.Common.{◌≡◌, [], length, sym, ◌∙◌}
 use Rattle.std.proofs.lemmas.Bool.{eqb-true}
 use Rattle.std.proofs.lemmas.Result.{IfOk-weaker, IfErr-weaker}
+use Rattle.leg_legal.specs.Refusals.{AreSuited}
 use Rattle.leg_legal.proofs.Chosen.{none_there, staying_from_none, chosen_run, refusal_of}
 use Rattle.leg_legal.proofs.legaliser.places_of.Goals as goal
 
@@ -17,4 +18,5 @@ returns-clause-refused g c =
     let empty : length c.as_slice.result.now ≡ 0 = eqb-true (length c.as_slice.result.now) 0 (sym c.if-not-is_empty.ensures) in
     let none : c.in_ok-staying.staying.items ≡ [] = sym c.as_slice.ensures.value ∙ none_there c.as_slice.result.now empty in
     let staying = staying_from_none c.args.design.now c.in_ok-staying.staying.items c.in_ok-staying.ensures none in
-    IfErr-weaker c.take_all.result _ _ (λ fault f. refusal_of c.args.design.now fault staying c.in-None.ensures c.requires.illegal f) c.take_all.ensures.refused
+    let suited : AreSuited c.args.design.now = rw c.in-None.is at c.in_ok-unsuited.ensures in
+    IfErr-weaker c.take_all.result _ _ (λ fault f. refusal_of c.args.design.now fault staying suited c.requires.illegal f) c.take_all.ensures.refused

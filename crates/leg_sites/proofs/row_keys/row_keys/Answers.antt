@@ -10,8 +10,9 @@ loop-i-preserved g c =
     let there : slice_get c.args.rows.now c.loop-i.i ≡ Some c.index-rows-i.result =
     slice_get_read c.args.rows.now _ c.loop-i.i c.index-rows-i.result refl (omega arith) c.index-rows-i.is in
     let fits : FitsSigned w64 c.y.result = search rules in
+    let fits_x : FitsSigned w64 c.x.result = search rules in
     let grown = simp to_z-of_z at c.in_ok-push.ensures.items in
-    rw (grown, c.y.ensures.is) (keys_more c.args.rows.now c.loop-i.keys.items c.loop-i.i c.index-rows-i.result there c.loop-i.invariant)
+    rw (grown, c.y.ensures.is, c.x.ensures.is) (keys_more c.args.rows.now c.loop-i.keys.items c.loop-i.i c.index-rows-i.result there c.loop-i.invariant)
 
 pub returns : goal.returns
 returns g c =

@@ -3,7 +3,7 @@ use Rattle.std.proofs.Common.{◌≡◌, length, ◌<◌, slice_get, Some, refl,
 use Rattle.std.proofs.lemmas.Option.{slice_get_read, slice_get_within}
 use Rattle.leg_block.specs.WellFormedParts.{IsRow}
 use Rattle.leg_sites.specs.RowSites.{AreSitesInside}
-use Rattle.leg_sites.proofs.RowsTaken.{of_all}
+use Rattle.leg_sites.proofs.ListPlaces.{of_all}
 use Rattle.leg_sites.proofs.RowsInside.{known_of_none, one_more_inside}
 use Rattle.leg_sites.proofs.rows_inside.rows_inside.Goals as goal
 

@@ -1,39 +1,30 @@
--- The rows near the rectangle lose what it meets.
-use Rattle.std.proofs.Common.{◌≡◌, length, arith}
+-- The rows lose what the rectangle meets.
+use Rattle.std.proofs.Common.{◌≡◌, length, drop, sym, ap, arith}
+use Rattle.std.proofs.lemmas.Bool.{eqb-true}
 use Rattle.std.proofs.lemmas.List.{take_at}
-use Rattle.leg_sites.specs.FreeRows.{RowLists, AreRowsOf}
-use Rattle.leg_sites.proofs.MetSites.{coordinate_passed}
-use Rattle.leg_sites.proofs.RowsTaken.{keys_between, box_taken}
+use Rattle.leg_sites.specs.FreeRows.{RowLists}
+use Rattle.leg_sites.proofs.RowsTaken.{box_taken, box_of_none}
 use Rattle.leg_sites.proofs.free_rows.FreeRows.take_box.Goals as goal
 
-pub near-first-requires : goal.near-first-requires
-near-first-requires g c =
-    let free : RowLists = record { lists = c.self.inside.lists.items; order = c.self.inside.order.items; tallest = c.self.inside.tallest } in
-    let rows : AreRowsOf c.args.design.now free = rw c.self.view_is c.requires in
-    let within = rows.tallest.number in
-    let passed = coordinate_passed c.self.inside.tallest (omega (arith, within)) in
-    record {
-      rising = rw c.as_slice-order.ensures.value rows.order.rising;
-      least = rw passed rows.tallest.positive;
-      within = rw passed rows.tallest.number;
-    }
-
-pub take_from_rows-requires : goal.take_from_rows-requires
-take_from_rows-requires g c =
-    let free : RowLists = record { lists = c.self.inside.lists.items; order = c.self.inside.order.items; tallest = c.self.inside.tallest } in
-    let rows : AreRowsOf c.args.design.now free = rw c.self.view_is c.requires in
-    record {
-      lists = rw c.as_mut_slice.ensures.value rows.lists;
-      keys = rw c.as_slice-order.ensures.value (keys_between c.args.design.now.rows c.self.inside.order.items _ _ rows.order);
-    }
+pub returns-then-is_empty : goal.returns-then-is_empty
+returns-then-is_empty g c =
+    let same : c.self.inside.order.items ≡ c.args.self.now.order = ap (λ (f : RowLists). f.order) c.self.view_is in
+    let none : length c.self.inside.order.items ≡ 0 = rw c.as_slice-order.ensures.value at (eqb-true (length c.as_slice-order.result.now) 0 (sym c.if-is_empty.ensures)) in
+    box_of_none c.args.design.now c.args.rect.now c.args.self.now (rw (← same) none)
 
 pub returns : goal.returns
 returns g c =
-    let free : RowLists = record { lists = c.self.inside.lists.items; order = c.self.inside.order.items; tallest = c.self.inside.tallest } in
-    let rows : AreRowsOf c.args.design.now free = rw c.self.view_is c.requires in
-    let within = rows.tallest.number in
-    let passed = coordinate_passed c.self.inside.tallest (omega (arith, within)) in
-    let long = c.as_mut_slice.ensures.len in
-    let kept = c.take_from_rows.auto.lists in
-    let count : length c.take_from_rows.new.lists ≡ c.self.inside.lists.len = omega (arith, long, kept) in
-    rw take_at (box_taken c.take_from_rows.result c.args.design.now c.args.rect.now c.args.self.now free c.take_from_rows.new.lists c.near-first.result.0 c.near-first.result.1 c.self.view_is c.requires (rw (passed, c.as_slice-order.ensures.value) at c.near-first.ensures) (rw (c.as_slice-order.ensures.value, c.as_mut_slice.ensures.value) at c.take_from_rows.ensures))
+    let design = c.args.design.now in
+    let rect = c.args.rect.now in
+    let free : RowLists = record { lists = c.self.inside.lists.items; order = c.self.inside.order.items; nodes = c.self.inside.nodes.items } in
+    let long_lists = c.as_mut_slice.ensures.len in
+    let kept_lists = c.take_beneath.auto.lists in
+    let count_lists : length c.take_beneath.new.lists ≡ c.self.inside.lists.len = omega (arith, long_lists, kept_lists) in
+    let long_nodes = c.as_mut_slice-2.ensures.len in
+    let kept_nodes = c.take_beneath.auto.nodes in
+    let count_nodes : length c.take_beneath.new.nodes ≡ c.self.inside.nodes.len = omega (arith, long_nodes, kept_nodes) in
+    let all_lists = take_at c.take_beneath.new.lists (drop (length c.take_beneath.new.lists) c.self.inside.lists.items) c.self.inside.lists.len count_lists in
+    let all_nodes = take_at c.take_beneath.new.nodes (drop (length c.take_beneath.new.nodes) c.self.inside.nodes.items) c.self.inside.nodes.len count_nodes in
+    rw (all_lists, all_nodes) (box_taken c.take_beneath.result design rect c.args.self.now free (record { lists = c.take_beneath.new.lists; order = c.self.inside.order.items; nodes = c.take_beneath.new.nodes }) c.self.view_is
+    (rw c.as_slice-order.ensures.value at c.take_beneath.ensures.rows)
+    (rw (c.as_slice-order.ensures.value, c.as_mut_slice.ensures.value) at c.take_beneath.ensures.taken))

@@ -1,0 +1,52 @@
+-- Elements of a list by their numbers, in a list in which one is another, and in one that has grown at its end.
+use Rattle.std.proofs.Common.{◌≡◌, ◌≢◌, ◌⊎◌, ℕ, zero, suc, ◌+◌, ◌-◌, ◌<◌, List, [], ◌∷◌, ◌++◌, Some, All, slice_get, length, get_or, set, refl, sym, ap, ◌∙◌, inl, inr, arith, length-set, get_or-set_other, length-append}
+use Rattle.std.proofs.lemmas.Bool.{cases_lt}
+use Rattle.std.proofs.lemmas.Grind.{get_or-set_at}
+use Rattle.std.proofs.lemmas.List.{get_or_append_left, get_or-append_right}
+use Rattle.std.proofs.lemmas.Option.{slice_get-get_or, slice_get_within, get_or_from_slice_get}
+
+module _ {X : Type 0} where
+  pub slice_get-set_same : (xs : List X) (i j : ℕ) (y b : X) → j ≡ i → slice_get (set xs i y) j ≡ Some b → b ≡ y
+  slice_get-set_same xs i j y b same at =
+      let all : length (set xs i y) ≡ length xs = length-set xs i y in
+      let below : j < length (set xs i y) = slice_get_within (set xs i y) j b at in
+      let within : i < length xs = omega (arith, below, all, same) in
+      sym (get_or_from_slice_get (set xs i y) j b b at) ∙ get_or-set_at xs i j y b same within
+
+  pub slice_get-set_other : (xs : List X) (i j : ℕ) (y b : X) → j ≢ i → slice_get (set xs i y) j ≡ Some b → slice_get xs j ≡ Some b
+  slice_get-set_other xs i j y b differ at =
+      let all : length (set xs i y) ≡ length xs = length-set xs i y in
+      let below : j < length (set xs i y) = slice_get_within (set xs i y) j b at in
+      let within : j < length xs = omega (arith, below, all) in
+      slice_get-get_or xs j b within ∙ ap Some (sym (get_or-set_other xs i j y b differ) ∙ get_or_from_slice_get (set xs i y) j b b at)
+
+  pub of_all : (P : X → Type 0) (xs : List X) (i : ℕ) (x : X) → All P xs → slice_get xs i ≡ Some x → P x
+  of_all P xs i x each at = let is : get_or xs i x ≡ x = get_or_from_slice_get xs i x x at in rw is at (each i x (slice_get_within xs i x at))
+
+  -- every element but one stays
+  pub set_kept : (xs : List X) (i j : ℕ) (y : X) → j ≢ i → slice_get (set xs i y) j ≡ slice_get xs j
+  set_kept [] i j y apart = refl
+  set_kept (z ∷ zs) zero zero y apart = absurd (apart refl)
+  set_kept (z ∷ zs) zero (suc j) y apart = refl
+  set_kept (z ∷ zs) (suc i) zero y apart = refl
+  set_kept (z ∷ zs) (suc i) (suc j) y apart = set_kept zs i j y (λ same. apart (ap suc same))
+
+  -- the last of a longer list, or one of the others
+  pub in_longer : (xs : List X) (x : X) (i : ℕ) (y : X) → slice_get (xs ++ x ∷ []) i ≡ Some y → (slice_get xs i ≡ Some y) ⊎ ((i ≡ length xs) × (y ≡ x))
+  in_longer xs x i y at =
+      let all : length (xs ++ x ∷ []) ≡ length xs + 1 = length-append xs (x ∷ []) in
+      let within : i < length (xs ++ x ∷ []) = slice_get_within (xs ++ x ∷ []) i y at in
+      let read : get_or (xs ++ x ∷ []) i y ≡ y = get_or_from_slice_get (xs ++ x ∷ []) i y y at in
+      elim (cases_lt i (length xs)) [
+        | inl early ↦ inl (slice_get-get_or xs i y early ∙ ap Some (sym (get_or_append_left xs (x ∷ []) y i early) ∙ read))
+        | inr late ↦
+            let last : i ≡ length xs = omega (arith, all, within, late) in
+            let none : i - length xs ≡ 0 = omega (arith, last) in
+            inr (last, sym read ∙ get_or-append_right xs (x ∷ []) (length xs) i y refl late ∙ ap (λ (n : ℕ). get_or (x ∷ []) n y) none)
+      ]
+
+  -- and that one is the new one
+  pub set_there : (xs : List X) (i j : ℕ) (x y : X) → j ≡ i → slice_get xs j ≡ Some x → slice_get (set xs i y) j ≡ Some y
+  set_there xs i j x y same at =
+      let within : j < length xs = slice_get_within xs j x at in
+      slice_get-get_or (set xs i y) j y (omega (arith, within, length-set xs i y)) ∙ ap Some (get_or-set_at xs i j y y same (omega (arith, within, same)))

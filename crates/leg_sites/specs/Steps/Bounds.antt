@@ -1,0 +1,57 @@
+-- Bounds of free sites that are made, compared and joined.
+use Rattle.std.specs.Prelude.{◌≡◌, ◌⊎◌, ℕ, ◌+◌, ◌<◌, ◌≤◌, ℤ, pos, ◌+ℤ◌, ◌*ℤ◌, ◌≤ℤ◌, false, List, Option, None, Some}
+use Rattle.leg_geom.specs.Gap.{apart}
+use Rattle.leg_geom.specs.Plane.{Spot, Sides, IsCoordinate}
+use Rattle.leg_cells.specs.Measure.{Lengths}
+use Rattle.leg_block.specs.declared.records.Row.{Row}
+use Rattle.leg_sites.specs.declared.stretch.Stretch.{Stretch}
+use Rattle.leg_sites.specs.declared.bounds.Bounds.{Bounds}
+use Rattle.leg_sites.specs.declared.candidate.Wanted.{Wanted}
+use Rattle.leg_sites.specs.declared.candidate.Candidate.{Candidate}
+use Rattle.leg_sites.specs.Stretches.{IsFreeSite}
+
+-- the free sites begin and end within the limit
+pub record AreWithin (row : Row) (size : Lengths) (free : List Stretch) : Type 0 where
+  pub left : (k : ℕ) → IsFreeSite free k → IsCoordinate (row.at.x +ℤ pos k *ℤ size.width)
+  pub right : (k : ℕ) → IsFreeSite free k → IsCoordinate (row.at.x +ℤ pos (k + 1) *ℤ size.width)
+
+-- what the inner bounds bound, the outer ones do
+pub record DoCover (outer inner : Bounds) : Type 0 where
+  pub least_row : outer.least_row ≤ inner.least_row
+  pub least_site : outer.least_site ≤ inner.least_site
+  pub most_site : inner.most_site ≤ outer.most_site
+  pub low : outer.low ≤ℤ inner.low
+  pub high : inner.high ≤ℤ outer.high
+  pub top : inner.top ≤ℤ outer.top
+  pub left : outer.left ≤ℤ inner.left
+  pub right : inner.right ≤ℤ outer.right
+  pub corner : outer.corner ≤ℤ inner.corner
+  pub longest : inner.longest ≤ outer.longest
+
+-- the rectangle lies beside all that is bounded
+abbrev pub IsBeside : Bounds → Sides → Type 0
+IsBeside bounds rect = (rect.y2 ≤ℤ bounds.low) ⊎ (bounds.top ≤ℤ rect.y1) ⊎ (rect.x2 ≤ℤ bounds.left) ⊎ (bounds.right ≤ℤ rect.x1)
+
+-- no corner of a site that is bounded is nearer to the start than this
+abbrev pub IsWithinReach : Bounds → Spot → ℕ → Type 0
+IsWithinReach bounds start far =
+    (x y : ℤ) → bounds.low ≤ℤ y → y ≤ℤ bounds.high → bounds.left ≤ℤ x → x ≤ℤ bounds.right → bounds.corner ≤ℤ (x +ℤ y) → far ≤ apart x start.x + apart y start.y
+
+-- no row has as many consecutive free sites of the component's site
+abbrev pub HasNone : Bounds → Wanted → Type 0
+HasNone bounds wanted = (bounds.longest < wanted.many) ⊎ (wanted.site < bounds.least_site) ⊎ (bounds.most_site < wanted.site)
+
+-- a position is better than each that is so far away, in a row of this number or a higher one
+abbrev pub IsBetterThan : Candidate → ℕ → ℕ → Type 0
+IsBetterThan best far row = (best.distance < far) ⊎ ((best.distance ≡ far) × (best.turned ≡ false) × (best.row < row))
+
+-- that holds of the best position, if there is one, at a distance that none is nearer than
+pub record IsBetterThanAll (bounds : Bounds) (wanted : Wanted) (best : Candidate) : Type 0 where
+  pub far : ℕ
+  pub reach : IsWithinReach bounds wanted.start far
+  pub better : IsBetterThan best far bounds.least_row
+
+-- none of the positions in the rows is better than the best one so far
+abbrev pub AreNoBetter : Bounds → Wanted → Option Candidate → Type 0
+AreNoBetter bounds wanted None = HasNone bounds wanted
+AreNoBetter bounds wanted (Some best) = HasNone bounds wanted ⊎ IsBetterThanAll bounds wanted best
