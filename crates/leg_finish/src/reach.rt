@@ -14,7 +14,7 @@ use crate::groups::OpenNet;
 use leg_block::Design;
 use leg_flat::Flat;
 use leg_grid::laws::{nodes_have_numbers, searches_walk_as_nodes};
-use leg_grid::{BoxedSlots, Grid, NetGraph, SlotAccess, grid_is_sound, slots_beside};
+use leg_grid::{BoxedSlots, Grid, NetGraph, SlotAccess, grid_is_sound, hulls_of, slots_beside};
 use leg_walk::{Mark, shortest, unseen_marks};
 use leg_wire::laws::{joined_both_ways, joined_onward};
 use std::alloc::{AllocError, Allocator};
@@ -50,12 +50,16 @@ fn has_no_way<A: Allocator + Copy>(
     if ends.slots.is_empty() {
         return Ok(true);
     }
+    let start_hulls = hulls_of(alloc, &starts.boxes)?;
+    let end_hulls = hulls_of(alloc, &ends.boxes)?;
     let graph = NetGraph {
         grid,
         slots,
         net,
         starts: starts.boxes.as_slice(),
+        start_hulls: start_hulls.as_slice(),
         ends: ends.boxes.as_slice(),
+        end_hulls: end_hulls.as_slice(),
     };
     searches_walk_as_nodes();
     let walk = shortest(alloc, &graph, &starts.slots, &ends.slots, marks, touched)?;

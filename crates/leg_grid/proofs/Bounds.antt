@@ -1,18 +1,19 @@
 -- Steps come one nearer at most.
-use Rattle.std.proofs.Common.{◌≡◌, ℕ, suc, ◌+◌, ◌*◌, ◌/◌, ◌%◌, ◌<◌, ◌≤◌, inl, inr, List, [], ◌∷◌, ◌++◌, min, Contains, length, sym, ap, ◌∙◌, arith}
+use Rattle.std.proofs.Common.{◌≡◌, ℕ, ◌+◌, ◌*◌, ◌/◌, ◌%◌, ◌<◌, ◌≤◌, ◌⊎◌, inl, inr, List, [], ◌∷◌, ◌++◌, min, Contains, length, sym, ap, ◌∙◌, arith}
 use Rattle.std.proofs.Math.Nat.{mul-le-mul_left, mul-le-mul_right, min-le_left, min-le_right}
 use Rattle.std.proofs.lemmas.Nat.{div-mul-add}
-use Rattle.leg_sweep.proofs.Lists.{Contains-nil, Contains-cons_cases}
+use Rattle.leg_sweep.proofs.Lists.{Contains-nil, Contains-here, Contains-there, Contains-cons_cases}
 use Rattle.leg_walk.specs.declared.side.Side.{Side}
 use Rattle.leg_walk.specs.Side.{opposite}
 use Rattle.leg_walk.specs.declared.side.Side.TheVariants.{West, East, South, North, Below, Above}
 use Rattle.leg_grid.specs.declared.slot.Slot.{Slot}
 use Rattle.leg_grid.specs.declared.slot_box.SlotBox.{SlotBox}
-use Rattle.leg_grid.specs.Grid.{GridSaid, IsGrid, IsSlot}
+use Rattle.leg_grid.specs.Grid.{GridSaid, IsGrid, IsSlot, slot_total}
 use Rattle.leg_grid.specs.Beside.{IsSlotBeside}
 use Rattle.leg_grid.specs.Numbered.{IsBesideAt}
 use Rattle.leg_grid.specs.declared.limits.TheConstants.{GREATEST_GRID}
-use Rattle.leg_grid.specs.Bound.{gap, slot_bound, nearest, bound_at, IsBoxOf, IsInBox, IsBesideNear}
+use Rattle.leg_grid.specs.Bound.{gap, slot_bound, nearest, slot_of, bound_at, IsBoxOf, IsInBox, IsBesideNear}
+use Rattle.leg_grid.proofs.Slots.{by_division}
 use Rattle.leg_grid.proofs.StepsAt.{step_from}
 
 -- the slot of a number is told by division
@@ -136,6 +137,25 @@ pub nearest_few : (boxes : List SlotBox) (s : Slot) → nearest boxes s ≤ GREA
 nearest_few [] s = omega arith
 nearest_few (ends ∷ boxes) s = let few = nearest_few boxes s in let least = min-le_right (slot_bound ends s) (nearest boxes s) in omega (arith, few, least)
 
+least_none : (a b : ℕ) → min a b ≡ 0 → (a ≡ 0) ⊎ (b ≡ 0)
+least_none a b none = grind (arith, none)
+
+-- a slot that doesn't lie outside of a box lies in it
+pub from_none : (ends : SlotBox) (s : Slot) → slot_bound ends s ≡ 0 → IsInBox ends s
+from_none ends s none = record {
+  low_layer = omega (arith, none);
+  high_layer = omega (arith, none);
+  low_row = omega (arith, none);
+  high_row = omega (arith, none);
+  low_column = omega (arith, none);
+  high_column = omega (arith, none);
+}
+
+-- the number of a slot is that of the slot that division tells
+pub slot_there : (grid : GridSaid) (n : ℕ) → n < slot_total grid → IsSlot grid n (slot_of grid n).layer (slot_of grid n).row (slot_of grid n).column
+slot_there grid n within =
+    let parts = by_division (length grid.layers) (length grid.ys) (length grid.xs) n within in record { layer = parts.layer; row = parts.row; column = parts.column; is = parts.is }
+
 -- a slot in a box doesn't lie outside
 pub in_box : (ends : SlotBox) (s : Slot) → IsInBox ends s → slot_bound ends s ≡ 0
 in_box ends s inside =
@@ -150,6 +170,14 @@ nearest_upto [] ends s has = absurd (Contains-nil ends has)
 nearest_upto (first ∷ boxes) ends s has = elim (Contains-cons_cases first boxes ends has) [
   | inl same ↦ rw (← same) (min-le_left (slot_bound first s) (nearest boxes s))
   | inr rest ↦ let near = nearest_upto boxes ends s rest in let least = min-le_right (slot_bound first s) (nearest boxes s) in omega (arith, near, least)
+]
+
+-- where none is left to the nearest of the boxes, none is left to one of them
+pub nearest_none : (boxes : List SlotBox) (s : Slot) → nearest boxes s ≡ 0 → (ends : SlotBox) × Contains boxes ends × (slot_bound ends s ≡ 0)
+nearest_none [] s none = absurd (omega (arith, none))
+nearest_none (first ∷ boxes) s none = elim (least_none (slot_bound first s) (nearest boxes s) none) [
+  | inl here ↦ (first, Contains-here first boxes, here)
+  | inr there ↦ let rest = nearest_none boxes s there in (rest.0, Contains-there first boxes rest.0 rest.1, rest.2)
 ]
 
 -- with more boxes the nearest is no farther

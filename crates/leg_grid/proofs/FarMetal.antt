@@ -1,5 +1,5 @@
 -- Metal that lies farther from a shape than the spacing is clean beside it.
-use Rattle.std.proofs.Common.{◌≡◌, ℕ, suc, zero, ◌+◌, ◌*◌, ◌<◌, ◌≤◌, ◌⊎◌, inl, inr, ℤ, pos, ◌+ℤ◌, ◌<ℤ◌, unsigned_abs, [], ◌∷◌, Contains, get_or, Some, slice_get, sym, ap, subst, ◌∙◌, arith}
+use Rattle.std.proofs.Common.{◌≡◌, ℕ, suc, zero, ◌+◌, ◌-◌, ◌*◌, ◌<◌, ◌≤◌, ◌⊎◌, inl, inr, ℤ, pos, ◌+ℤ◌, ◌<ℤ◌, unsigned_abs, [], ◌∷◌, Contains, get_or, Some, slice_get, sym, ap, subst, ◌∙◌, arith}
 use Rattle.std.proofs.lemmas.Int.{ints}
 use Rattle.std.proofs.Math.Nat.{mul-le-mul}
 use Rattle.leg_geom.specs.Plane.{Spot, Sides, HasPoint}
@@ -9,7 +9,7 @@ use Rattle.leg_flat.specs.declared.shape.Shape.{Shape}
 use Rattle.leg_wire.specs.Access.{alone}
 use Rattle.leg_wire.specs.Clean.{net_metal, IsClean}
 use Rattle.leg_wire.specs.Spacing.{AreShort, AreTooNear}
-use Rattle.leg_wire.specs.Steps.LayerSpacing.{spacing_at}
+use Rattle.leg_grid.specs.Steps.Reaches.{clear_at}
 
 -- the numbers are farther apart than this
 abbrev pub IsBeyond : ℕ → ℤ → ℤ → Type 0
@@ -19,16 +19,16 @@ IsBeyond distance a b = ((a +ℤ pos distance) <ℤ b) ⊎ ((b +ℤ pos distance
 abbrev pub AreBeyond : ℕ → Spot → Spot → Type 0
 AreBeyond distance p q = IsBeyond distance p.x q.x ⊎ IsBeyond distance p.y q.y
 
-beyond_apart : (distance : ℕ) (a b : ℤ) → IsBeyond distance a b → distance ≤ apart a b
-beyond_apart distance a b (inl below) = omega (arith, ints)
-beyond_apart distance a b (inr above) = omega (arith, ints)
+beyond_apart : (clear distance : ℕ) → distance ≤ clear + 1 → (a b : ℤ) → IsBeyond clear a b → distance ≤ apart a b
+beyond_apart clear distance short a b (inl below) = omega (arith, ints)
+beyond_apart clear distance short a b (inr above) = omega (arith, ints)
 
 square_long : (distance a b : ℕ) → distance ≤ a → distance * distance ≤ a * a + b * b
 square_long distance a b long = let square : distance * distance ≤ a * a = mul-le-mul long long in omega (arith, square)
 
-not_near : (distance : ℕ) (p q : Spot) → AreBeyond distance p q → square_distance p q < distance * distance → ⊥
-not_near distance p q (inl x) near = let long = square_long distance (apart p.x q.x) (apart p.y q.y) (beyond_apart distance p.x q.x x) in omega (arith, long, near)
-not_near distance p q (inr y) near = let long = square_long distance (apart p.y q.y) (apart p.x q.x) (beyond_apart distance p.y q.y y) in omega (arith, long, near)
+not_near : (clear distance : ℕ) → distance ≤ clear + 1 → (p q : Spot) → AreBeyond clear p q → square_distance p q < distance * distance → ⊥
+not_near clear distance short p q (inl x) near = let long = square_long distance (apart p.x q.x) (apart p.y q.y) (beyond_apart clear distance short p.x q.x x) in omega (arith, long, near)
+not_near clear distance short p q (inr y) near = let long = square_long distance (apart p.y q.y) (apart p.x q.x) (beyond_apart clear distance short p.y q.y y) in omega (arith, long, near)
 
 not_itself : (distance : ℕ) (p : Spot) → AreBeyond distance p p → ⊥
 not_itself distance p (inl (inl x)) = omega (arith, ints, x)
@@ -44,21 +44,21 @@ the_one x y there = by there.0 there.1 there.2 where
   by (suc k) below is = absurd (omega (arith, below))
 
 module _ (library : Contents) (shape : Shape) where
-  abbrev spacing : ℕ
-  spacing = spacing_at library.layers shape.layer
+  abbrev clear : ℕ
+  clear = clear_at library.layers shape.layer
 
   abbrev IsFar : ℕ → Sides → Type 0
-  IsFar layer rect = layer ≡ shape.layer → (p q : Spot) → HasPoint rect p → HasPoint shape.rect q → AreBeyond spacing p q
+  IsFar layer rect = layer ≡ shape.layer → (p q : Spot) → HasPoint rect p → HasPoint shape.rect q → AreBeyond clear p q
 
   not_short : (net layer : ℕ) (rect : Sides) → IsFar layer rect → AreShort (net_metal net layer rect) shape → ⊥
-  not_short net layer rect far short = not_itself spacing short.shared.point (far short.comparable.layer short.shared.point short.shared.point short.shared.in_a short.shared.in_b)
+  not_short net layer rect far short = not_itself clear short.shared.point (far short.comparable.layer short.shared.point short.shared.point short.shared.in_a short.shared.in_b)
 
   not_too_near : (net layer : ℕ) (rect : Sides) → IsFar layer rect → AreTooNear library (net_metal net layer rect) shape → ⊥
   not_too_near net layer rect far too_near =
       let near = too_near.near in
       let there : slice_get library.layers shape.layer ≡ Some too_near.layer = ap (slice_get library.layers) (sym too_near.comparable.layer) ∙ too_near.there in
-      let beyond : AreBeyond (unsigned_abs too_near.layer.spacing) near.p near.q = rw there at (far too_near.comparable.layer near.p near.q near.in_a near.in_b) in
-      not_near (unsigned_abs too_near.layer.spacing) near.p near.q beyond near.near
+      let beyond : AreBeyond (unsigned_abs too_near.layer.spacing - 1) near.p near.q = rw there at (far too_near.comparable.layer near.p near.q near.in_a near.in_b) in
+      not_near (unsigned_abs too_near.layer.spacing - 1) (unsigned_abs too_near.layer.spacing) (omega arith) near.p near.q beyond near.near
 
   pub far_is_clean : (net layer : ℕ) (rect : Sides) → IsFar layer rect → IsClean library (alone shape) net layer rect
   far_is_clean net layer rect far = record {

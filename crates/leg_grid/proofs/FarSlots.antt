@@ -1,5 +1,5 @@
 -- The metal of slots, and what lies far from it.
-use Rattle.std.proofs.Common.{◌≡◌, ℕ, ◌+◌, ◌≤◌, ◌⊎◌, inl, inr, ℤ, pos, ◌+ℤ◌, ◌-ℤ◌, ◌≤ℤ◌, ◌<ℤ◌, List, ◌++◌, All, Contains, map, Option, None, Some, slice_get, refl, ap, subst, ◌∙◌, arith}
+use Rattle.std.proofs.Common.{◌≡◌, ℕ, ◌+◌, ◌≤◌, ◌⊎◌, inl, inr, ℤ, pos, ◌+ℤ◌, ◌-ℤ◌, ◌≤ℤ◌, ◌<ℤ◌, Bool, List, ◌++◌, All, Contains, map, Option, None, Some, slice_get, refl, ap, subst, ◌∙◌, arith}
 use Rattle.std.proofs.lemmas.Int.{ints}
 use Rattle.std.proofs.lemmas.List.Elements.{All-contains}
 use Rattle.leg_geom.specs.Plane.{Spot, Sides, HasPoint}
@@ -14,12 +14,11 @@ use Rattle.leg_flat.specs.Outline.{HasPointOf}
 use Rattle.leg_flat.specs.Outline.Outline.{Line, Shifted}
 use Rattle.leg_flat.specs.Metal.{OnLayer, via_outlines, wire_outlines}
 use Rattle.leg_wire.specs.Access.{alone}
-use Rattle.leg_wire.specs.Steps.LayerSpacing.{spacing_at}
 use Rattle.leg_grid.specs.Added.{half, square}
 use Rattle.leg_grid.specs.OpenMetal.{IsOpenWire}
 use Rattle.leg_grid.specs.Grid.{GridSaid}
 use Rattle.leg_grid.specs.Steps.Stretches.{IsStretch}
-use Rattle.leg_grid.specs.Steps.Reaches.{Reaches, ReachesAll, ReachesShape}
+use Rattle.leg_grid.specs.Steps.Reaches.{Reaches, ReachesAll, ReachesShape, clear_at, one_if}
 use Rattle.leg_grid.proofs.FarMetal.{IsBeyond, AreBeyond, the_one, far_is_clean}
 use Rattle.leg_grid.proofs.OpenVias.{metal_at, image_at}
 use Rattle.leg_grid.proofs.Pushed.{read_old}
@@ -105,51 +104,51 @@ module _ (design : DesignContents) (layer : ℕ) (reach : Option ℤ) where
       let P : OnLayer → Type 0 = λ m. AreAround reach at at (λ p. HasPointOf m.outline p) in
       subst P image.is (shifted_around reach at image.x.rect (All-contains (ReachesShape reach layer) said.shapes image.x all image.there on))
 
--- all values at this place and the next one lie before low, or the one at this place behind high
-abbrev pub IsPast : List ℤ → ℕ → ℤ → ℤ → Type 0
-IsPast values i low high =
-    ((m : ℕ) (z : ℤ) → m ≤ i + 1 → slice_get values m ≡ Some z → z <ℤ low) ⊎ ((z : ℤ) → slice_get values i ≡ Some z → high <ℤ z)
+-- all values at this place, and at the next one if steps lead there, lie before low, or the one at this place behind high
+abbrev pub IsPast : List ℤ → Bool → ℕ → ℤ → ℤ → Type 0
+IsPast values along i low high =
+    ((m : ℕ) (z : ℤ) → m ≤ i + one_if along → slice_get values m ≡ Some z → z <ℤ low) ⊎ ((z : ℤ) → slice_get values i ≡ Some z → high <ℤ z)
 
 -- the slot of this row and column lies beyond the reach and the spacing of the rectangle
-abbrev pub IsSlotPast : GridSaid → ℕ → ℕ → Sides → Option ℤ → ℕ → Type 0
-IsSlotPast grid j i rect None apart = Unit {0}
-IsSlotPast grid j i rect (Some reach) apart =
-    IsPast grid.xs i (rect.x1 -ℤ (reach +ℤ pos apart)) (rect.x2 +ℤ (reach +ℤ pos apart))
-    ⊎ IsPast grid.ys j (rect.y1 -ℤ (reach +ℤ pos apart)) (rect.y2 +ℤ (reach +ℤ pos apart))
+abbrev pub IsSlotPast : GridSaid → Bool → Bool → ℕ → ℕ → Sides → Option ℤ → ℕ → Type 0
+IsSlotPast grid along_x along_y j i rect None apart = Unit {0}
+IsSlotPast grid along_x along_y j i rect (Some reach) apart =
+    IsPast grid.xs along_x i (rect.x1 -ℤ (reach +ℤ pos apart)) (rect.x2 +ℤ (reach +ℤ pos apart))
+    ⊎ IsPast grid.ys along_y j (rect.y1 -ℤ (reach +ℤ pos apart)) (rect.y2 +ℤ (reach +ℤ pos apart))
 
--- this is the value at the place or at the next one
-pub record IsHere (values : List ℤ) (i : ℕ) (z : ℤ) : Type 0 where
+-- this is the value at the place, or at the next one if steps lead there
+pub record IsHere (values : List ℤ) (along : Bool) (i : ℕ) (z : ℤ) : Type 0 where
   pub m : ℕ
-  pub upto : m ≤ i + 1
+  pub upto : m ≤ i + one_if along
   pub there : slice_get values m ≡ Some z
 
 -- the points are that of the slot, and its own or the next one's along an axis
-pub record AreEnds (grid : GridSaid) (j i : ℕ) (low high : Spot) : Type 0 where
+pub record AreEnds (grid : GridSaid) (along_x along_y : Bool) (j i : ℕ) (low high : Spot) : Type 0 where
   pub x : slice_get grid.xs i ≡ Some low.x
   pub y : slice_get grid.ys j ≡ Some low.y
-  pub x_end : IsHere grid.xs i high.x
-  pub y_end : IsHere grid.ys j high.y
+  pub x_end : IsHere grid.xs along_x i high.x
+  pub y_end : IsHere grid.ys along_y j high.y
 
-past_beyond : (values : List ℤ) (i : ℕ) (z1 z2 reach : ℤ) (distance : ℕ) (low high p q : ℤ) → IsPast values i (z1 -ℤ (reach +ℤ pos distance)) (z2 +ℤ (reach +ℤ pos distance)) → slice_get values i ≡ Some low → IsHere values i high
+past_beyond : (values : List ℤ) (along : Bool) (i : ℕ) (z1 z2 reach : ℤ) (distance : ℕ) (low high p q : ℤ) → IsPast values along i (z1 -ℤ (reach +ℤ pos distance)) (z2 +ℤ (reach +ℤ pos distance)) → slice_get values i ≡ Some low → IsHere values along i high
     → (low -ℤ reach) ≤ℤ p → p ≤ℤ (high +ℤ reach) → z1 ≤ℤ q → q ≤ℤ z2 → IsBeyond distance p q
-past_beyond values i z1 z2 reach distance low high p q (inl before) there end from to above below = inl (let less = before end.m high end.upto end.there in omega (arith, ints, less, from, to, above, below))
-past_beyond values i z1 z2 reach distance low high p q (inr behind) there end from to above below = inr (let more = behind low there in omega (arith, ints, more, from, to, above, below))
+past_beyond values along i z1 z2 reach distance low high p q (inl before) there end from to above below = inl (let less = before end.m high end.upto end.there in omega (arith, ints, less, from, to, above, below))
+past_beyond values along i z1 z2 reach distance low high p q (inr behind) there end from to above below = inr (let more = behind low there in omega (arith, ints, more, from, to, above, below))
 
-module _ (grid : GridSaid) (j i : ℕ) (shape : Shape) (low high : Spot) (are_ends : AreEnds grid j i low high) where
+module _ (grid : GridSaid) (along_x along_y : Bool) (j i : ℕ) (shape : Shape) (low high : Spot) (are_ends : AreEnds grid along_x along_y j i low high) where
   abbrev distance : ℕ
-  distance = spacing_at grid.design.library.layers shape.layer
+  distance = clear_at grid.design.library.layers shape.layer
 
-  points_beyond : (reach : Option ℤ) → IsSlotPast grid j i shape.rect reach distance → (Holds : Spot → Type 0) → AreAround reach low high Holds → (p q : Spot) → Holds p → HasPoint shape.rect q → AreBeyond distance p q
+  points_beyond : (reach : Option ℤ) → IsSlotPast grid along_x along_y j i shape.rect reach distance → (Holds : Spot → Type 0) → AreAround reach low high Holds → (p q : Spot) → Holds p → HasPoint shape.rect q → AreBeyond distance p q
   points_beyond None past Holds around p q holds inside = absurd around
   points_beyond (Some reach) (inl column) Holds around p q holds inside =
       let here = around p holds in
-      inl (past_beyond grid.xs i shape.rect.x1 shape.rect.x2 reach distance low.x high.x p.x q.x column are_ends.x are_ends.x_end here.left here.right inside.left inside.right)
+      inl (past_beyond grid.xs along_x i shape.rect.x1 shape.rect.x2 reach distance low.x high.x p.x q.x column are_ends.x are_ends.x_end here.left here.right inside.left inside.right)
   points_beyond (Some reach) (inr row) Holds around p q holds inside =
       let here = around p holds in
-      inr (past_beyond grid.ys j shape.rect.y1 shape.rect.y2 reach distance low.y high.y p.y q.y row are_ends.y are_ends.y_end here.bottom here.top inside.bottom inside.top)
+      inr (past_beyond grid.ys along_y j shape.rect.y1 shape.rect.y2 reach distance low.y high.y p.y q.y row are_ends.y are_ends.y_end here.bottom here.top inside.bottom inside.top)
 
   -- a wire whose metal lies around a slot's points is open where the shape lies far from there
-  pub far_wire : (reach : Option ℤ) → IsSlotPast grid j i shape.rect reach distance → (wire : Wire) → IsWireAround grid.design shape.layer reach low high wire → (net : ℕ) → IsOpenWire grid.design (alone shape) net wire
+  pub far_wire : (reach : Option ℤ) → IsSlotPast grid along_x along_y j i shape.rect reach distance → (wire : Wire) → IsWireAround grid.design shape.layer reach low high wire → (net : ℕ) → IsOpenWire grid.design (alone shape) net wire
   far_wire reach past wire around net metal rect there points =
       far_is_clean grid.design.library shape net metal.layer rect
       (λ same p q in_p in_q. points_beyond reach past (λ p. HasPointOf metal.outline p) (around metal there same) p q ((points p).0 in_p) in_q)

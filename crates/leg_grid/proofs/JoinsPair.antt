@@ -24,7 +24,7 @@ not_both layers k routes cuts = by (slice_get layers k) routes cuts where
   by (Some Neither) routes cuts = true≢false (sym routes)
 
 -- shapes as parts of a via
-abbrev part_of : Shape → ViaPart
+abbrev pub part_of : Shape → ViaPart
 part_of shape = record { layer = shape.layer; holds_origin = holds_origin shape.rect }
 
 pub used_by_shapes : (shapes : List Shape) (n : ℕ) → Any (λ shape. shape.layer ≡ n) shapes ↔ IsUsed (parts_of shapes) n

@@ -27,6 +27,7 @@ pub mod OpenSteps
 pub mod StepsAlong
 pub mod StepsUp
 pub mod Bounds
+pub mod HullBoxes
 pub mod Due
 pub mod GridWires
 pub mod WalkWires
@@ -47,3 +48,6 @@ pub mod BareSlots
 pub mod TurnedSteps
 pub mod AdmittedSteps
 pub mod OneAdded
+pub mod Settled
+pub mod NearLayers
+pub mod Dropped

@@ -1,94 +1,162 @@
--- Where a layer has a track.
-use Rattle.std.proofs.Common.{◌≡◌, ℕ, ◌+◌, ◌*◌, ◌/◌, ◌%◌, ◌<◌, ◌↔◌, inl, inr, ℤ, pos, ◌-ℤ◌, ◌*ℤ◌, unsigned_abs, Bool, true, List, [], ◌∷◌, ◌++◌, Contains, Some, slice_get, length, take, get_or, length-append, refl, sym, ap, ◌∙◌, arith}
+-- Marks of values, set one after another.
+use Rattle.std.proofs.Common.{◌≡◌, ℕ, ◌+◌, ◌<◌, ◌≤◌, ◌⊎◌, inl, inr, ℤ, ◌<ℤ◌, unsigned_abs, Bool, true, false, true≢false, List, [], ◌∷◌, ◌++◌, AllPairs, Contains, Some, slice_get, slice_set, length, length-set, take, get_or, replicate, refl, sym, ◌∙◌, arith}
 use Rattle.std.proofs.lemmas.Int.{ints}
-use Rattle.std.proofs.lemmas.List.{take_more}
-use Rattle.std.proofs.lemmas.List.Elements.{Contains-push_cases}
-use Rattle.std.proofs.Math.Nat.{mul-mod_left}
+use Rattle.std.proofs.lemmas.Bool.{cases_eq}
+use Rattle.std.proofs.lemmas.List.{take_more, length-replicate, get_or-replicate}
+use Rattle.std.proofs.lemmas.List.Elements.{Contains-append_left, Contains-push, Contains-push_cases}
+use Rattle.std.proofs.lemmas.Option.{slice_get_within, slice_get-get_or, get_or_from_slice_get}
 use Rattle.leg_block.specs.declared.records.Axis.{Axis}
 use Rattle.leg_block.specs.Records.{TrackSaid, DesignContents}
-use Rattle.leg_grid.specs.Tracks.{AreFor, IsLineOf, HasTrack}
-use Rattle.leg_grid.specs.Steps.Lines.{HasLines}
+use Rattle.leg_grid.specs.Tracks.{IsLineOf}
+use Rattle.leg_grid.specs.Places.{ArePlaces}
+use Rattle.leg_grid.specs.Steps.Lines.{HasLines, IsTrackAt, HaveMarked}
 use Rattle.leg_grid.specs.TrackMarks.{AreTrackMarks}
-use Rattle.leg_grid.proofs.Pushed.{read_pushed, read_old, read_last}
-use Rattle.std.proofs.lemmas.Nat.{div-mul-add}
+use Rattle.leg_grid.proofs.Pushed.{set_same, set_other}
+use Rattle.leg_grid.proofs.TrackLines.{IsLineBelow, line_at}
 
-module _ (number : ℕ) (axis : Axis) (z : ℤ) where
-  -- these tracks have a line at z for the layer
-  pub record IsTrackAt (track : TrackSaid) : Type 0 where
-    pub along : track.axis ≡ axis
-    pub are_for : AreFor track number
-    pub line : IsLineOf track z
+-- the mark of one value
+module _ (values : List ℤ) (value : ℤ) (first end : ℕ) (places : ArePlaces values value value first end) (marks : List Bool) where
+  one_there : (i : ℕ) → slice_get values i ≡ Some value → (first ≤ i) × (i < end)
+  one_there i there = (places.first_in i value there (omega (arith, ints)), places.end_in i value there (omega (arith, ints)))
 
-  abbrev pub NoneOf : List TrackSaid → Type 0
-  NoneOf tracks = (track : TrackSaid) → Contains tracks track → ¬ IsTrackAt track
+  pub none_marked : ¬ (first < end) → HaveMarked values (λ z. z ≡ value) marks marks
+  none_marked none = record {
+    count = refl;
+    each = λ i z there. (
+      λ set. inl set,
+      elim [ inl set ↦ set | inr is ↦ absurd (let at = one_there i (rw is at there) in let from = at.0 in let below = at.1 in omega (arith, from, below, none)) ],
+    );
+  }
 
-  pub none_of_none : NoneOf []
-  none_of_none track there is = omega (arith, there.1)
+  module _ (rising : AllPairs (λ a b. a <ℤ b) values) (some : first < end) where
+    -- the first of the places is the only one
+    at_first : (i : ℕ) → slice_get values i ≡ Some value → i ≡ first
+    at_first i there = elim (cases_eq i first) [
+      | inl same ↦ same
+      | inr other ↦ absurd (
+          let from = (one_there i there).0 in
+          let within = slice_get_within values i value there in
+          let less = rising first i value (omega (arith, from, other)) within in
+          let least = places.low_in first (get_or values first value) (slice_get-get_or values first value (omega (arith, from, within))) (omega arith) in
+          let is : get_or values i value ≡ value = get_or_from_slice_get values i value value there in
+          omega (arith, ints, less, least, is)
+          )
+    ]
 
-  pub none_of_more : (tracks : List TrackSaid) (i : ℕ) (track : TrackSaid) → i < length tracks → get_or tracks i track ≡ track → NoneOf (take i tracks) → ¬ IsTrackAt track → NoneOf (take (i + 1) tracks)
-  none_of_more tracks i track within is none other = rw longer (λ t there. elim (Contains-push_cases (take i tracks) track t there) [
-    | inl old ↦ none t old
-    | inr same ↦ rw (← same) other
-  ]) where
-    longer : take (i + 1) tracks ≡ take i tracks ++ track ∷ []
-    longer = take_more tracks i track within ∙ rw is refl
+    value_at : (z : ℤ) → slice_get values first ≡ Some z → z ≡ value
+    value_at z there =
+        let least = places.low_in first z there (omega arith) in
+        let most = places.high_in first z there some in
+        omega (arith, ints, least, most)
 
--- the number of a line, by division
-quotient : (from step count : ℕ) → 0 < step → from % step ≡ 0 → from / step * step ≡ from
-quotient from step count some whole = omega arith
+    pub one_marked : length marks ≡ length values → HaveMarked values (λ z. z ≡ value) marks (slice_set marks first true)
+    one_marked count = record {
+      count = length-set marks first true;
+      each = λ i z there. elim (cases_eq i first) [
+        | inl same ↦ (
+          λ set. inr (value_at z (rw same at there)),
+          λ either. rw same (set_same marks first true (let within = places.within in omega (arith, within, some, count))),
+        )
+        | inr other ↦ (
+          λ set. inl (sym (set_other marks first i true other) ∙ set),
+          elim [ inl set ↦ set_other marks first i true other ∙ set | inr is ↦ absurd (other (at_first i (rw is at there))) ],
+        )
+      ];
+    }
 
-pub line_by_division : (track : TrackSaid) (z : ℤ) (from step : ℕ) → 0 < step → pos step ≡ track.step → pos from ≡ z -ℤ track.start
-    → from % step ≡ 0 → from / step < unsigned_abs track.count → HasLines track → IsLineOf track z
-line_by_division track z from step some step_is from_is whole below lines = record {
-  k = from / step;
-  within = let least = lines.some in omega (arith, ints);
-  is = rw (← step_is) (let e : pos (from / step * step) ≡ pos from = ap pos (quotient from step 0 some whole) in omega (arith, ints));
-}
+-- some marks after others
+module _ (values : List ℤ) where
+  pub nothing_marked : (P : ℤ → Type 0) (marks : List Bool) → ((z : ℤ) → ¬ P z) → HaveMarked values P marks marks
+  nothing_marked P marks none = record { count = refl; each = λ i z there. (λ set. inl set, elim [ inl set ↦ set | inr is ↦ absurd (none z is) ]) }
 
-pub division_of_line : (track : TrackSaid) (z : ℤ) (from step : ℕ) → 0 < step → pos step ≡ track.step → pos from ≡ z -ℤ track.start
-    → HasLines track → (line : IsLineOf track z) → from ≡ line.k * step
-division_of_line track z from step some step_is from_is lines line =
-    let e : pos (line.k * step) ≡ pos line.k *ℤ track.step = rw (← step_is) refl in
-    let is = line.is in
-    omega (arith, ints)
-
-pub lines_are_divisions : (track : TrackSaid) (z : ℤ) (from step count : ℕ) → 0 < step → pos step ≡ track.step → pos from ≡ z -ℤ track.start
-    → count ≡ unsigned_abs track.count → HasLines track → IsLineOf track z → (from % step ≡ 0) × (from / step < count)
-lines_are_divisions track z from step count some step_is from_is count_is lines line =
-    let e = division_of_line track z from step some step_is from_is lines line in
-    let whole : from % step ≡ 0 = rw e (mul-mod_left line.k step) in
-    let is : from / step ≡ line.k = rw e (mul_div line.k step some) in
-    let least = lines.some in
-    let within = line.within in
-    (whole, omega (arith, ints)) where
-      mul_div : (k step : ℕ) → 0 < step → k * step / step ≡ k
-      mul_div k step some = let e : k * step + 0 ≡ k * step = omega arith in sym (ap (λ n. n / step) e) ∙ div-mul-add k step 0 some
-
--- marks for one value more
-pub one_mark_more : (design : DesignContents) (number : ℕ) (axis : Axis) (values : List ℤ) (i : ℕ) (z : ℤ) (marks more : List Bool) (mark : Bool) → i < length values
-    → get_or values i z ≡ z → AreTrackMarks design number axis (take i values) marks → more ≡ marks ++ mark ∷ [] → (mark ≡ true) ↔ HasTrack design number axis z
-    → AreTrackMarks design number axis (take (i + 1) values) more
-one_mark_more design number axis values i z marks more mark within is has more_is mark_is = rw (longer, more_is) (record {
-  count = omega (arith, length-append marks (mark ∷ []), length-append (take i values) (z ∷ []), has.count);
-  each = each;
-}) where
-  longer : take (i + 1) values ≡ take i values ++ z ∷ []
-  longer = take_more values i z within ∙ rw is refl
-
-  each : (j : ℕ) (w : ℤ) → slice_get (take i values ++ z ∷ []) j ≡ Some w → (slice_get (marks ++ mark ∷ []) j ≡ Some true) ↔ HasTrack design number axis w
-  each j w there = elim (read_pushed (take i values) z j w there) [
-    | inl old ↦ (
-      λ set. elim (read_pushed marks mark j true set) [
-        | inl before ↦ (has.each j w old.is).0 before.is
-        | inr last ↦ absurd (omega (arith, old.below, last.last, has.count))
+  pub marked_then : (P Q R : ℤ → Type 0) (a b c : List Bool) → ((z : ℤ) → R z → P z ⊎ Q z) → ((z : ℤ) → P z → R z) → ((z : ℤ) → Q z → R z) → HaveMarked values P a b → HaveMarked values Q b c → HaveMarked values R a c
+  marked_then P Q R a b c from left right first then = record {
+    count = then.count ∙ first.count;
+    each = λ i z there. (
+      λ set. elim ((then.each i z there).0 set) [
+        | inl before ↦ elim ((first.each i z there).0 before) [ inl old ↦ inl old | inr p ↦ inr (left z p) ]
+        | inr q ↦ inr (right z q)
       ],
-      λ track. read_old marks (mark ∷ []) j true ((has.each j w old.is).1 track),
-    )
-    | inr last ↦ (
-      λ set. elim (read_pushed marks mark j true set) [
-        | inl before ↦ absurd (omega (arith, last.last, before.below, has.count))
-        | inr here ↦ rw (← last.is) (mark_is.0 here.is)
+      elim [
+        | inl old ↦ (then.each i z there).1 (inl ((first.each i z there).1 (inl old)))
+        | inr r ↦ elim (from z r) [ inl p ↦ (then.each i z there).1 (inl ((first.each i z there).1 (inr p))) | inr q ↦ (then.each i z there).1 (inr q) ]
       ],
-      λ track. let set : mark ≡ true = mark_is.1 (rw last.is track) in rw set (read_last marks true j (omega (arith, last.last, has.count))),
-    )
-  ]
+    );
+  }
+
+  pub marked_as : (P Q : ℤ → Type 0) (a b : List Bool) → ((z : ℤ) → P z → Q z) → ((z : ℤ) → Q z → P z) → HaveMarked values P a b → HaveMarked values Q a b
+  marked_as P Q a b to from are = record {
+    count = are.count;
+    each = λ i z there. (
+      λ set. elim ((are.each i z there).0 set) [ inl old ↦ inl old | inr p ↦ inr (to z p) ],
+      elim [ inl old ↦ (are.each i z there).1 (inl old) | inr q ↦ (are.each i z there).1 (inr (from z q)) ],
+    );
+  }
+
+-- the lines of tracks
+module _ (values : List ℤ) (track : TrackSaid) (before : List Bool) where
+  pub no_line_marked : HaveMarked values (IsLineBelow track 0) before before
+  no_line_marked = nothing_marked values (IsLineBelow track 0) before (λ z line. let below = line.below in omega (arith, below))
+
+  pub one_line_marked : (k : ℕ) (mid after : List Bool) → HaveMarked values (IsLineBelow track k) before mid → HaveMarked values (λ z. z ≡ line_at track k) mid after → HaveMarked values (IsLineBelow track (k + 1)) before after
+  one_line_marked k mid after =
+      marked_then values (IsLineBelow track k) (λ z. z ≡ line_at track k) (IsLineBelow track (k + 1)) before mid after
+      (λ z line. elim (cases_eq line.j k) [
+        | inl same ↦ inr (rw same at line.is)
+        | inr other ↦ inl (record { j = line.j; below = (let below = line.below in omega (arith, below, other)); is = line.is })
+      ])
+      (λ z line. record { j = line.j; below = (let below = line.below in omega (arith, below)); is = line.is })
+      (λ z is. record { j = k; below = omega arith; is = is })
+
+  pub all_lines_marked : (k : ℕ) (after : List Bool) → HasLines track → k ≡ unsigned_abs track.count → HaveMarked values (IsLineBelow track k) before after → HaveMarked values (IsLineOf track) before after
+  all_lines_marked k after lines is =
+      marked_as values (IsLineBelow track k) (IsLineOf track) before after
+      (λ z line. record { k = line.j; within = (let below = line.below in let some = lines.some in omega (arith, ints)); is = line.is })
+      (λ z line. record { j = line.k; below = (let within = line.within in let some = lines.some in omega (arith, ints)); is = line.is })
+
+-- the tracks of a design
+module _ (values : List ℤ) (number : ℕ) (axis : Axis) where
+  -- one of these tracks lies at z
+  pub record IsTrackAmong (tracks : List TrackSaid) (z : ℤ) : Type 0 where
+    pub track : TrackSaid
+    pub given : Contains tracks track
+    pub is : IsTrackAt number axis z track
+
+  abbrev pub unset : List Bool
+  unset = replicate (length values) false
+
+  pub no_track_marked : HaveMarked values (IsTrackAmong []) unset unset
+  no_track_marked = nothing_marked values (IsTrackAmong []) unset (λ z among. omega (arith, among.given.1))
+
+  pub one_track_marked : (tracks : List TrackSaid) (i : ℕ) (track : TrackSaid) (mid after : List Bool) → i < length tracks → get_or tracks i track ≡ track
+      → HaveMarked values (IsTrackAmong (take i tracks)) unset mid → HaveMarked values (λ z. IsTrackAt number axis z track) mid after → HaveMarked values (IsTrackAmong (take (i + 1) tracks)) unset after
+  one_track_marked tracks i track mid after within is are more = rw longer (
+      marked_then values (IsTrackAmong (take i tracks)) (λ z. IsTrackAt number axis z track) (IsTrackAmong (take i tracks ++ track ∷ [])) unset mid after
+      (λ z among. elim (Contains-push_cases (take i tracks) track among.track among.given) [
+        | inl old ↦ inl (record { track = among.track; given = old; is = among.is })
+        | inr same ↦ inr (rw same among.is)
+      ])
+      (λ z among. record { track = among.track; given = Contains-append_left (take i tracks) (track ∷ []) among.track among.given; is = among.is })
+      (λ z at_z. record { track = track; given = Contains-push (take i tracks) track; is = at_z })
+      are more
+      ) where
+        longer : take (i + 1) tracks ≡ take i tracks ++ track ∷ []
+        longer = take_more tracks i track within ∙ rw is refl
+
+  never_set : (i : ℕ) → slice_get unset i ≡ Some true → ⊥
+  never_set i set =
+      let within = slice_get_within unset i true set in
+      let below : i < length values = omega (arith, within, length-replicate (length values) false) in
+      true≢false (sym (get_or_from_slice_get unset i true false set) ∙ get_or-replicate (length values) i false false below)
+
+  pub marks_are : (design : DesignContents) (marks : List Bool) → HaveMarked values (IsTrackAmong design.tracks) unset marks → AreTrackMarks design number axis values marks
+  marks_are design marks are = record {
+    count = are.count ∙ length-replicate (length values) false;
+    each = λ i z there. (
+      λ set. elim ((are.each i z there).0 set) [
+        | inl old ↦ absurd (never_set i old)
+        | inr among ↦ record { track = among.track; given = among.given; along = among.is.along; are_for = among.is.are_for; line = among.is.line }
+      ],
+      λ has. (are.each i z there).1 (inr (record { track = has.track; given = has.given; is = record { along = has.along; are_for = has.are_for; line = has.line } })),
+    );
+  }

@@ -1,5 +1,5 @@
 -- One slot is told of a shape more.
-use Rattle.std.proofs.Common.{◌≡◌, ◌≢◌, ℕ, zero, suc, ◌<◌, List, [], ◌∷◌, length, length-set, slice_set, Some, slice_get, refl, sym, subst, ◌∙◌, arith}
+use Rattle.std.proofs.Common.{◌≡◌, ℕ, ◌<◌, List, length, length-set, slice_set, Some, slice_get, sym, subst, ◌∙◌}
 use Rattle.std.proofs.lemmas.Option.{same_Some}
 use Rattle.leg_flat.specs.declared.shape.Shape.{Shape}
 use Rattle.leg_wire.specs.Access.{alone}
@@ -8,18 +8,7 @@ use Rattle.leg_grid.specs.Grid.{GridSaid, IsGrid}
 use Rattle.leg_grid.specs.Told.{TellsSlot}
 use Rattle.leg_grid.specs.Steps.SlotsTold.{IsBoth, AreTold}
 use Rattle.leg_grid.proofs.GrownSlots.{tells_grown}
-
-set_same : {X : Type 0} (xs : List X) (i : ℕ) (w : X) → i < length xs → slice_get (slice_set xs i w) i ≡ Some w
-set_same [] i w h = absurd (omega (arith, h))
-set_same (x ∷ xs) zero w h = refl
-set_same (x ∷ xs) (suc i) w h = set_same xs i w (omega (arith, h))
-
-set_other : {X : Type 0} (xs : List X) (i j : ℕ) (w : X) → j ≢ i → slice_get (slice_set xs i w) j ≡ slice_get xs j
-set_other [] i j w h = refl
-set_other (x ∷ xs) zero zero w h = absurd (h refl)
-set_other (x ∷ xs) zero (suc j) w h = refl
-set_other (x ∷ xs) (suc i) zero w h = refl
-set_other (x ∷ xs) (suc i) (suc j) w h = set_other xs i j w (λ same. h (omega (arith, same)))
+use Rattle.leg_grid.proofs.Pushed.{set_same, set_other}
 
 pub told_here : (grid : GridSaid) → IsGrid grid → (shape : Shape) (number : ℕ) (before : List SlotAccess) (old beside both : SlotAccess) → number < length before → slice_get before number ≡ Some old → TellsSlot grid (alone shape) number beside
     → IsBoth old.node beside.node both.node → IsBoth old.along beside.along both.along → IsBoth old.above beside.above both.above → AreTold grid shape (λ n. n ≡ number) before (slice_set before number both)

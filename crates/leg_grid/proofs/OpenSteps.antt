@@ -10,6 +10,7 @@ use Rattle.leg_walk.specs.declared.side.Side.{Side}
 use Rattle.leg_walk.specs.declared.side.Side.TheVariants.{West, East, South, North, Below, Above}
 use Rattle.leg_walk.specs.Walk.{IsStep}
 use Rattle.leg_grid.specs.declared.node.Node.{Node}
+use Rattle.leg_grid.specs.declared.layers.RoutingLayer.{RoutingLayer}
 use Rattle.leg_grid.specs.declared.slot.Slot.{Slot}
 use Rattle.leg_grid.specs.Tracks.{Runs}
 use Rattle.leg_grid.specs.Between.{IsVia}
@@ -123,6 +124,16 @@ via_there grid n to via s a b is_grid at_n a_is b_is over =
     let leads : IsVia grid.design.library low.number high.number above.via = is_grid.vias_are.each s.layer low high (Some above.via) a_lies.there at_high above.there in
     let same : above.via ≡ via = one_via grid.design.library a.layer b.layer above.via via (moved_via grid.design.library low.number high.number a.layer b.layer above.via a_lies.on b_is.lies.on leads) over.via_is in
     above.there ∙ ap (λ (k : ℕ). Some (Some k)) same
+
+-- a routing layer to which it goes
+pub layer_above : (grid : GridSaid) (n to via : ℕ) (s : Slot) (a b : Node) → IsGrid grid → IsSlot grid n s.layer s.row s.column → IsNumberOf grid n a → IsNumberOf grid to b → IsOver grid.design via a b
+    → (high : RoutingLayer) × (slice_get grid.layers (s.layer + 1) ≡ Some high)
+layer_above grid n to via s a b is_grid at_n a_is b_is over =
+    let t : Slot = record { layer = b_is.k; row = b_is.j; column = b_is.i } in
+    let a_lies = lies_at grid n s.layer s.row s.column a at_n a_is in
+    let both = beside_is grid Above s t a b is_grid a_lies b_is.lies over.a_is over.b_is in
+    let above : IsAboveOf grid s t = both.1 (via, over) in
+    (b_is.lies.layer, rw above.next at b_is.lies.there)
 
 -- the via of a step is one of the library
 pub record IsThere (library : Contents) (via : ℕ) : Type 0 where

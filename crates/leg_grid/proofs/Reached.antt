@@ -1,5 +1,5 @@
 -- How far the metal of slots reaches.
-use Rattle.std.proofs.Common.{◌≡◌, ℕ, zero, suc, ◌+◌, ◌-◌, ◌<◌, ◌≤◌, ◌⊎◌, inl, inr, ℤ, pos, ◌-ℤ◌, ◌≤ℤ◌, ◌<ℤ◌, List, All, get_or, Option, None, Some, slice_get, FitsSigned, w64, arith}
+use Rattle.std.proofs.Common.{◌≡◌, ℕ, zero, suc, ◌+◌, ◌-◌, ◌<◌, ◌≤◌, ◌⊎◌, inl, inr, ℤ, pos, ◌+ℤ◌, ◌-ℤ◌, ◌≤ℤ◌, ◌<ℤ◌, Bool, List, All, get_or, Option, None, Some, slice_get, FitsSigned, w64, refl, arith}
 use Rattle.std.proofs.lemmas.Int.{ints}
 use Rattle.std.specs.Int.{int_max}
 use Rattle.std.specs.Option.{unwrap_or}
@@ -7,7 +7,7 @@ use Rattle.leg_lex.specs.declared.limits.TheConstants.{NUMBER_LIMIT}
 use Rattle.leg_lex.specs.Number.{IsNumber}
 use Rattle.leg_geom.specs.Plane.{Sides, IsCoordinate}
 use Rattle.leg_cells.specs.declared.records.Shape.{Shape}
-use Rattle.leg_grid.specs.Steps.Reaches.{IsDistance, IsReach, ReachesAll, IsWider, ReachesShape}
+use Rattle.leg_grid.specs.Steps.Reaches.{one_if, IsDistance, IsFar, IsReach, ReachesAll, IsWider, ReachesShape}
 use Rattle.leg_grid.specs.Places.{ArePlaces}
 use Rattle.leg_grid.specs.Steps.SlotsTold.{ArePlacesNear}
 
@@ -22,13 +22,13 @@ pub wider_then : (a b c : Option ℤ) → IsWider a b → IsWider b c → IsWide
 wider_then a b c first then z reaches = then z (first z reaches)
 
 -- places from the last value below
-pub places_before : (values : List ℤ) (low high : ℤ) (first end near : ℕ) → ArePlaces values low high first end → (near + 1 ≤ first) ⊎ (near ≡ 0) → ArePlacesNear values low high near end
-places_before values low high first end near places early = record {
+pub places_before : (values : List ℤ) (back : Bool) (low high : ℤ) (first end near : ℕ) → ArePlaces values low high first end → (near + one_if back ≤ first) ⊎ (near ≡ 0) → ArePlacesNear values back low high near end
+places_before values back low high first end near places early = record {
   within = places.within;
   before = λ k m z below upto there. lower m z there (by k m early below upto);
   behind = λ k z from there. higher k z there from;
 } where
-  by : (k m : ℕ) → (near + 1 ≤ first) ⊎ (near ≡ 0) → k < near → m ≤ k + 1 → m < first
+  by : (k m : ℕ) → (near + one_if back ≤ first) ⊎ (near ≡ 0) → k < near → m ≤ k + one_if back → m < first
   by k m (inl some) below upto = omega (arith, some, below, upto)
   by k m (inr none) below upto = absurd (omega (arith, none, below))
 
@@ -96,3 +96,21 @@ coordinate_fits z within = omega (arith, ints)
 
 pub turned : (z : ℤ) → IsNumber z → IsNumber (pos 0 -ℤ z)
 turned z within = omega (arith, ints)
+
+-- a spacing less one
+pub less_one : (spacing : ℕ) (z : ℤ) → z ≡ pos spacing → pos 0 <ℤ z → (z -ℤ pos 1) ≡ pos (spacing - 1)
+less_one zero z is some = absurd (omega (arith, ints, is, some))
+less_one (suc n) z is some = let e : suc n - 1 ≡ n = omega arith in rw e (omega (arith, ints, is))
+
+pub none_left : (spacing : ℕ) (z : ℤ) → z ≡ pos spacing → ¬ (pos 0 <ℤ z) → pos 0 ≡ pos (spacing - 1)
+none_left zero z is none = let e : 0 - 1 ≡ 0 = omega arith in rw e refl
+none_left (suc n) z is none = absurd (none (omega (arith, ints, is)))
+
+pub far_fits : (far : ℤ) → IsFar far → FitsSigned w64 far
+far_fits far is = let least = is.least in let most = is.most in omega (arith, ints)
+
+pub low_fits : (low far : ℤ) → IsCoordinate low → IsFar far → FitsSigned w64 (low -ℤ far)
+low_fits low far within is = let least = is.least in let most = is.most in omega (arith, ints)
+
+pub high_fits : (high far : ℤ) → IsCoordinate high → IsFar far → FitsSigned w64 (high +ℤ far)
+high_fits high far within is = let least = is.least in let most = is.most in omega (arith, ints)

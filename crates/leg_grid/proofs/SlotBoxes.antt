@@ -1,5 +1,5 @@
 -- The box of the slots in a rectangle.
-use Rattle.std.proofs.Common.{◌≡◌, ℕ, ◌+◌, ◌<◌, ◌≤◌, ◌⊎◌, ◌↔◌, inl, inr, List, [], ◌∷◌, ◌++◌, All, Contains, length, sym, ◌∙◌, arith}
+use Rattle.std.proofs.Common.{◌≡◌, ℕ, ◌<◌, ◌⊎◌, inl, inr, List, [], ◌∷◌, ◌++◌, Contains, sym, subst, ◌∙◌, arith}
 use Rattle.std.proofs.lemmas.List.{append-nil}
 use Rattle.std.proofs.lemmas.Option.{slice_get_within}
 use Rattle.std.proofs.lemmas.List.Elements.{All-append, All-cons, All-nil, All-contains, Contains-append_cases, Contains-append_right}
@@ -7,14 +7,14 @@ use Rattle.leg_sweep.proofs.Lists.{All-from_contains, Contains-here}
 use Rattle.leg_geom.specs.Plane.{Sides}
 use Rattle.leg_grid.specs.declared.slot.Slot.{Slot}
 use Rattle.leg_grid.specs.declared.slot_box.SlotBox.{SlotBox}
-use Rattle.leg_grid.specs.Grid.{GridSaid, IsGrid, IsSlot, IsNumberOf}
+use Rattle.leg_grid.specs.Grid.{GridSaid, IsGrid, IsSlot, IsNumberOf, slot_total}
 use Rattle.leg_grid.specs.InRect.{LiesInRect}
 use Rattle.leg_grid.specs.Numbered.{IsOneOf}
-use Rattle.leg_grid.specs.Bound.{nearest, slot_of, bound_at, IsBoxOf, IsInBox, HasJust, AreBoxed}
+use Rattle.leg_grid.specs.Bound.{slot_bound, nearest, slot_of, bound_at, IsBoxOf, IsInBox, HasJust, AreBoxed}
 use Rattle.leg_grid.specs.Steps.Boxes.{IsBoxAt, HaveGotBox}
 use Rattle.leg_grid.specs.Places.{ArePlaces}
 use Rattle.leg_grid.specs.Steps.SlotRanges.{IsLayerAt, IsInRows, HaveGot}
-use Rattle.leg_grid.proofs.Bounds.{slot_is, in_boxes, nearest_first, none_upto}
+use Rattle.leg_grid.proofs.Bounds.{slot_is, slot_there, in_boxes, nearest_first, nearest_upto, nearest_none, from_none, none_upto}
 use Rattle.leg_grid.proofs.SlotRanges.{in_rect, from_rect}
 
 -- no box, where there are no such rows or columns
@@ -125,10 +125,43 @@ module _ (grid : GridSaid) (is_grid : IsGrid grid) (layer : ℕ) (rect : Sides) 
           let is = All-contains (IsBoxAt k (r0, r1) (c0, c1)) got.more box.0 got.each box.1 in
           in_boxes grid after box.0 n s column.is (rw got.are (Contains-append_right before got.more box.0 box.1)) (comes_in n s box.0 is column.is row)
 
+      -- and each slot that lies in one of them is among the numbers
+      only_slots : (n : ℕ) → n < slot_total grid → bound_at grid after n ≡ 0 → Contains numbers n
+      only_slots n within none =
+          let s = slot_of grid n in
+          let box = nearest_none after s none in
+          let has : Contains (before ++ got.more) box.0 = subst (λ (bs : List SlotBox). Contains bs box.0) got.are box.1 in
+          elim (Contains-append_cases before got.more box.0 has) [
+            | inl old ↦
+                let upto = nearest_upto before box.0 s old in
+                (added n).1 (inl (boxed.only n within (none_upto (nearest before s) (slot_bound box.0 s) upto box.2)))
+            | inr new ↦
+                let is = All-contains (IsBoxAt k (r0, r1) (c0, c1)) got.more box.0 got.each new in
+                (added n).1 (inr (((has_just box.0 is).each n s (slot_there grid n within)).1 (from_none box.0 s box.2)))
+          ]
+
       pub still_boxed : AreBoxed grid after numbers
       still_boxed = record {
         corners = rw got.are
             (All-append (IsBoxOf grid) before got.more boxed.corners
             (All-from_contains (IsBoxOf grid) got.more (λ ends has. (has_just ends (All-contains (IsBoxAt k (r0, r1) (c0, c1)) got.more ends got.each has)).corners)));
         inside = All-from_contains (λ n. bound_at grid after n ≡ 0) numbers (λ n has. elim ((added n).0 has) [ inl old ↦ old_slot n old | inr new ↦ new_slot n new ]);
+        only = only_slots;
       }
+
+-- where none is left to the nearest of some boxes, none is left to that of others that have them too
+none_as : (before after : List SlotBox) (s : Slot) → ((ends : SlotBox) → Contains before ends → Contains after ends) → nearest before s ≡ 0 → nearest after s ≡ 0
+none_as before after s same none =
+    let box = nearest_none before s none in
+    let upto = nearest_upto after box.0 s (same box.0 box.1) in
+    none_upto (nearest after s) (slot_bound box.0 s) upto box.2
+
+-- the boxes may stand in another order
+pub boxed_as : (grid : GridSaid) (before after : List SlotBox) (numbers : List ℕ) → ((ends : SlotBox) → Contains before ends → Contains after ends) → ((ends : SlotBox) → Contains after ends → Contains before ends)
+    → AreBoxed grid before numbers → AreBoxed grid after numbers
+boxed_as grid before after numbers to from boxed = record {
+  corners = All-from_contains (IsBoxOf grid) after (λ ends has. All-contains (IsBoxOf grid) before ends boxed.corners (from ends has));
+  inside = All-from_contains (λ n. bound_at grid after n ≡ 0) numbers (λ n has.
+      none_as before after (slot_of grid n) to (All-contains (λ n. bound_at grid before n ≡ 0) numbers n boxed.inside has));
+  only = λ n within none. boxed.only n within (none_as after before (slot_of grid n) from none);
+}

@@ -1,5 +1,5 @@
 -- Slots that are kept while a shape is added, some of them after others.
-use Rattle.std.proofs.Common.{◌≡◌, ℕ, ◌+◌, ◌*◌, ◌<◌, ◌≤◌, ◌⊎◌, inl, inr, ℤ, pos, ◌+ℤ◌, ◌-ℤ◌, List, [], ◌∷◌, ◌++◌, ◌/◌, ◌%◌, length, take, get_or, None, Some, slice_get, refl, sym, subst, ◌∙◌, arith}
+use Rattle.std.proofs.Common.{◌≡◌, ℕ, ◌+◌, ◌*◌, ◌<◌, ◌≤◌, ◌⊎◌, inl, inr, ℤ, pos, ◌+ℤ◌, ◌-ℤ◌, Bool, true, List, [], ◌∷◌, ◌++◌, ◌/◌, ◌%◌, length, take, get_or, None, Some, slice_get, refl, sym, subst, ◌∙◌, arith}
 use Rattle.std.specs.Prelude.{Option}
 use Rattle.std.proofs.lemmas.Bool.{cases_eq}
 use Rattle.std.proofs.lemmas.List.{take_more}
@@ -7,11 +7,10 @@ use Rattle.std.proofs.lemmas.Option.{same_Some, slice_get_within}
 use Rattle.leg_cells.specs.Sound.{IsSound}
 use Rattle.leg_flat.specs.declared.shape.Shape.{Shape}
 use Rattle.leg_flat.specs.Flat.{FlatSaid}
-use Rattle.leg_wire.specs.Steps.LayerSpacing.{spacing_at}
 use Rattle.leg_grid.specs.declared.slot_access.SlotAccess.{SlotAccess}
 use Rattle.leg_grid.specs.Grid.{GridSaid, IsGrid, IsSlot, slot_total}
 use Rattle.leg_grid.specs.Told.{TellsSlot, TellsSlots}
-use Rattle.leg_grid.specs.Steps.Reaches.{ReachesMetal}
+use Rattle.leg_grid.specs.Steps.Reaches.{ReachesMetal, AreNearLayers, AreAlong, clear_at}
 use Rattle.leg_grid.specs.Steps.SlotRanges.{IsAmong, IsInRow, IsInRows}
 use Rattle.leg_grid.specs.Steps.SlotsTold.{HasShape, IsTold, AreTold, ArePlacesNear, IsOnLayer}
 use Rattle.leg_grid.proofs.Slots.{one_rest, by_division}
@@ -33,12 +32,16 @@ same_slot grid n k j i l r c slot other =
     record { layer = rows.0; row = rows.1; column = lines.1 }
 
 -- no place near, and past all that are
-record IsOut (values : List ℤ) (low high : ℤ) (first end i : ℕ) : Type 0 where
-  pub past : IsPast values i low high
+record IsOut (values : List ℤ) (along : Bool) (low high : ℤ) (first end i : ℕ) : Type 0 where
+  pub past : IsPast values along i low high
   pub out : first ≤ i → i < end → ⊥
 
 order : (k n : ℕ) → (k < n) ⊎ (n ≤ k)
 order k n = grind arith
+
+-- steps lead along both axes, for all that is asked
+pub all_along : (grid : GridSaid) (k layer : ℕ) → AreAlong grid k layer true true
+all_along grid k layer = record { x = λ own there number direction. refl; y = λ own there number direction. refl }
 
 module _ (grid : GridSaid) (shape : Shape) where
   abbrev Told : (ℕ → Type 0) → List SlotAccess → List SlotAccess → Type 0
@@ -90,16 +93,16 @@ module _ (grid : GridSaid) (shape : Shape) where
         (λ n among. record { k = among.k; from = among.from; below = inside among.k among.from among.below; is = among.is })
         got
 
-  module _ (is_grid : IsGrid grid) (sound : IsSound grid.design.library) (k : ℕ) (reach : Option ℤ) (reaches : ReachesMetal grid k shape.layer reach) where
+  module _ (is_grid : IsGrid grid) (sound : IsSound grid.design.library) (k : ℕ) (reach : Option ℤ) (reaches : ReachesMetal grid k shape.layer reach) (along_x along_y : Bool) (along : AreAlong grid k shape.layer along_x along_y) where
     abbrev distance : ℕ
-    distance = spacing_at grid.design.library.layers shape.layer
+    distance = clear_at grid.design.library.layers shape.layer
 
-    far_told : (before after : List SlotAccess) (n j i : ℕ) → IsSlot grid n k j i → IsSlotPast grid j i shape.rect reach distance → slice_get after n ≡ slice_get before n → IsTold grid shape n before after
+    far_told : (before after : List SlotAccess) (n j i : ℕ) → IsSlot grid n k j i → IsSlotPast grid along_x along_y j i shape.rect reach distance → slice_get after n ≡ slice_get before n → IsTold grid shape n before after
     far_told before after n j i slot past same = record {
       told = λ flat grown old has at tells new there.
           let is : old ≡ new = same_Some old new (sym at ∙ sym same ∙ there) in
           let P : SlotAccess → Type 0 = λ s. TellsSlot grid grown n s in
-          subst P is (tells_far grid is_grid n shape flat grown has old (λ net. far_access grid is_grid sound shape n k j i slot reach reaches past flat net) tells);
+          subst P is (tells_far grid is_grid n shape flat grown has old (λ net. far_access grid is_grid sound shape n k j i slot reach reaches along_x along_y along past flat net) tells);
     }
 
     -- where no metal of the layer's slots lies on the shape's layer
@@ -111,18 +114,18 @@ module _ (grid : GridSaid) (shape : Shape) where
     }
 
     module _ (r : ℤ) (c0 c1 r0 r1 : ℕ) (is : reach ≡ Some r)
-        (columns : ArePlacesNear grid.xs (shape.rect.x1 -ℤ (r +ℤ pos distance)) (shape.rect.x2 +ℤ (r +ℤ pos distance)) c0 c1)
-        (rows : ArePlacesNear grid.ys (shape.rect.y1 -ℤ (r +ℤ pos distance)) (shape.rect.y2 +ℤ (r +ℤ pos distance)) r0 r1) where
+        (columns : ArePlacesNear grid.xs along_x (shape.rect.x1 -ℤ (r +ℤ pos distance)) (shape.rect.x2 +ℤ (r +ℤ pos distance)) c0 c1)
+        (rows : ArePlacesNear grid.ys along_y (shape.rect.y1 -ℤ (r +ℤ pos distance)) (shape.rect.y2 +ℤ (r +ℤ pos distance)) r0 r1) where
       abbrev InRows : ℕ → Type 0
       InRows = IsInRows grid k (r0, r1) (c0, c1)
 
-      past : (j i : ℕ) → IsPast grid.xs i (shape.rect.x1 -ℤ (r +ℤ pos distance)) (shape.rect.x2 +ℤ (r +ℤ pos distance)) ⊎ IsPast grid.ys j (shape.rect.y1 -ℤ (r +ℤ pos distance)) (shape.rect.y2 +ℤ (r +ℤ pos distance))
-          → IsSlotPast grid j i shape.rect reach distance
+      past : (j i : ℕ) → IsPast grid.xs along_x i (shape.rect.x1 -ℤ (r +ℤ pos distance)) (shape.rect.x2 +ℤ (r +ℤ pos distance)) ⊎ IsPast grid.ys along_y j (shape.rect.y1 -ℤ (r +ℤ pos distance)) (shape.rect.y2 +ℤ (r +ℤ pos distance))
+          → IsSlotPast grid along_x along_y j i shape.rect reach distance
       past j i far = rw is far
 
       -- a place that isn't among those near
-      placed : (values : List ℤ) (low high : ℤ) (first end i : ℕ) → ArePlacesNear values low high first end → IsOut values low high first end i ⊎ ((first ≤ i) × (i < end))
-      placed values low high first end i near = elim (order i first) [
+      placed : (values : List ℤ) (back : Bool) (low high : ℤ) (first end i : ℕ) → ArePlacesNear values back low high first end → IsOut values back low high first end i ⊎ ((first ≤ i) × (i < end))
+      placed values back low high first end i near = elim (order i first) [
         | inl before ↦ inl (record { past = inl (λ m z upto there. near.before i m z before upto there); out = λ from below. omega (arith, before, from) })
         | inr from ↦ elim (order i end) [
           | inl below ↦ inr (from, below)
@@ -134,8 +137,8 @@ module _ (grid : GridSaid) (shape : Shape) where
       in_rows n j i slot row column = record { k = j; from = row.0; below = row.1; is = record { k = i; from = column.0; below = column.1; is = slot } }
 
       -- a slot of those rows and columns, or one that is past them
-      near_or_past : (n j i : ℕ) → IsSlot grid n k j i → InRows n ⊎ ((¬ InRows n) × IsSlotPast grid j i shape.rect reach distance)
-      near_or_past n j i slot = elim (placed grid.xs (shape.rect.x1 -ℤ (r +ℤ pos distance)) (shape.rect.x2 +ℤ (r +ℤ pos distance)) c0 c1 i columns) [
+      near_or_past : (n j i : ℕ) → IsSlot grid n k j i → InRows n ⊎ ((¬ InRows n) × IsSlotPast grid along_x along_y j i shape.rect reach distance)
+      near_or_past n j i slot = elim (placed grid.xs along_x (shape.rect.x1 -ℤ (r +ℤ pos distance)) (shape.rect.x2 +ℤ (r +ℤ pos distance)) c0 c1 i columns) [
         | inl out ↦ inr (
           λ row.
               let same = same_slot grid n k row.k row.is.k k j i row.is.is slot in
@@ -145,7 +148,7 @@ module _ (grid : GridSaid) (shape : Shape) where
               out.out (omega (arith, column, from)) (omega (arith, column, below)),
           past j i (inl out.past),
         )
-        | inr column ↦ elim (placed grid.ys (shape.rect.y1 -ℤ (r +ℤ pos distance)) (shape.rect.y2 +ℤ (r +ℤ pos distance)) r0 r1 j rows) [
+        | inr column ↦ elim (placed grid.ys along_y (shape.rect.y1 -ℤ (r +ℤ pos distance)) (shape.rect.y2 +ℤ (r +ℤ pos distance)) r0 r1 j rows) [
           | inl out ↦ inr (
             λ row.
                 let same = same_slot grid n k row.k row.is.k k j i row.is.is slot in
@@ -168,7 +171,7 @@ module _ (grid : GridSaid) (shape : Shape) where
         told = λ n on. by n on (near_or_past n on.j on.i on.slot);
         others = λ n other. got.others n (λ row. other (on_layer n row));
       } where
-        by : (n : ℕ) (on : IsOnLayer grid k n) → InRows n ⊎ ((¬ InRows n) × IsSlotPast grid on.j on.i shape.rect reach distance) → IsTold grid shape n before after
+        by : (n : ℕ) (on : IsOnLayer grid k n) → InRows n ⊎ ((¬ InRows n) × IsSlotPast grid along_x along_y on.j on.i shape.rect reach distance) → IsTold grid shape n before after
         by n on (inl row) = got.told n row
         by n on (inr far) = far_told before after n on.j on.i on.slot far.1 (got.others n far.0)
 
@@ -181,25 +184,34 @@ told_at grid shape number before after count told others = record {
   others = others;
 }
 
--- in all slots
-pub all_told : (grid : GridSaid) (shape : Shape) (before after : List SlotAccess) → length before ≡ slot_total grid → AreTold grid shape (IsAmong (IsOnLayer grid) 0 (length grid.layers)) before after → (flat grown : FlatSaid) → HasShape shape flat grown
-    → TellsSlots grid flat before → TellsSlots grid grown after
-all_told grid shape before after count got flat grown has tells = record {
+-- in all slots, of layers near the shape and of others
+pub all_told : (grid : GridSaid) → IsGrid grid → IsSound grid.design.library → (shape : Shape) (first end : ℕ) → AreNearLayers grid shape.layer first end → (before after : List SlotAccess) → length before ≡ slot_total grid
+    → AreTold grid shape (IsAmong (IsOnLayer grid) first end) before after → (flat grown : FlatSaid) → HasShape shape flat grown → TellsSlots grid flat before → TellsSlots grid grown after
+all_told grid is_grid sound shape first end near before after count got flat grown has tells = record {
   count = got.count ∙ count;
   each = λ n new there.
       let within = slice_get_within after n new there in
       let below : n < slot_total grid = omega (arith, within, got.count, count) in
       let divided = by_division (length grid.layers) (length grid.ys) (length grid.xs) n below in
-      let layer = divided.layer in
       let old = some_at before n (omega (arith, below, count)) in
-      let among : IsAmong (IsOnLayer grid) 0 (length grid.layers) n = record {
-        k = n / length grid.xs / length grid.ys;
-        from = omega arith;
-        below = layer;
-        is = record { j = n / length grid.xs % length grid.ys; i = n % length grid.xs; slot = record { layer = layer; row = divided.row; column = divided.column; is = divided.is } };
-      } in
-      (got.told n among).told flat grown old.value has old.there (tells.each n old.value old.there) new there;
-}
+      let slot : IsSlot grid n (n / length grid.xs / length grid.ys) (n / length grid.xs % length grid.ys) (n % length grid.xs) =
+      record { layer = divided.layer; row = divided.row; column = divided.column; is = divided.is } in
+      (told n _ _ _ slot (placed (n / length grid.xs / length grid.ys))).told flat grown old.value has old.there (tells.each n old.value old.there) new there;
+} where
+  placed : (k : ℕ) → ((first ≤ k) × (k < end)) ⊎ ((k < first) ⊎ (end ≤ k))
+  placed k = grind arith
+
+  off : (n k j i : ℕ) → IsSlot grid n k j i → (k < first) ⊎ (end ≤ k) → ¬ IsAmong (IsOnLayer grid) first end n
+  off n k j i slot out among =
+      let same = (same_slot grid n among.k among.is.j among.is.i k j i among.is.slot slot).layer in
+      let from = among.from in
+      let below = among.below in
+      elim out [ inl early ↦ omega (arith, same, from, early) | inr late ↦ omega (arith, same, below, late) ]
+
+  told : (n k j i : ℕ) → IsSlot grid n k j i → ((first ≤ k) × (k < end)) ⊎ ((k < first) ⊎ (end ≤ k)) → IsTold grid shape n before after
+  told n k j i slot (inl (from, below)) = got.told n (record { k = k; from = from; below = below; is = record { j = j; i = i; slot = slot } })
+  told n k j i slot (inr (inl early)) = far_told grid shape is_grid sound k None (near.before k early) true true (all_along grid k shape.layer) before after n j i slot tt (got.others n (off n k j i slot (inl early)))
+  told n k j i slot (inr (inr late)) = far_told grid shape is_grid sound k None (near.behind k late) true true (all_along grid k shape.layer) before after n j i slot tt (got.others n (off n k j i slot (inr late)))
 
 -- one shape after another
 pub one_shape_more : (grid : GridSaid) (shapes : List Shape) (i : ℕ) (shape : Shape) (before after : List SlotAccess) → i < length shapes → get_or shapes i shape ≡ shape

@@ -1,9 +1,9 @@
 -- How many steps are left at least from a slot of a grid to the slots of some boxes (lefdef's own rule).
-use Rattle.std.specs.Prelude.{◌≡◌, ◌↔◌, ℕ, ◌+◌, ◌-◌, ◌/◌, ◌%◌, ◌≤◌, List, [], ◌∷◌, length, min, All}
+use Rattle.std.specs.Prelude.{◌≡◌, ◌↔◌, ℕ, ◌+◌, ◌-◌, ◌/◌, ◌%◌, ◌<◌, ◌≤◌, List, [], ◌∷◌, length, min, All, Contains}
 use Rattle.leg_grid.specs.declared.slot.Slot.{Slot}
 use Rattle.leg_grid.specs.declared.slot_box.SlotBox.{SlotBox}
 use Rattle.leg_grid.specs.declared.limits.TheConstants.{GREATEST_GRID}
-use Rattle.leg_grid.specs.Grid.{GridSaid, IsSlot}
+use Rattle.leg_grid.specs.Grid.{GridSaid, IsSlot, slot_total}
 use Rattle.leg_walk.specs.declared.side.Side.{Side}
 use Rattle.leg_walk.specs.Side.{opposite, across_twice}
 use Rattle.leg_grid.specs.Beside.{IsSlotIn}
@@ -49,10 +49,11 @@ pub record HasJust (grid : GridSaid) (P : ℕ → Type 0) (ends : SlotBox) : Typ
   pub corners : IsBoxOf grid ends
   pub each : (n : ℕ) (s : Slot) → IsSlot grid n s.layer s.row s.column → P n ↔ IsInBox ends s
 
--- the boxes are of slots of the grid, and no slot of these numbers lies outside of all of them
+-- the boxes are of slots of the grid: exactly the slots of these numbers do not lie outside of all of them
 pub record AreBoxed (grid : GridSaid) (boxes : List SlotBox) (numbers : List ℕ) : Type 0 where
   pub corners : All (IsBoxOf grid) boxes
   pub inside : All (λ n. bound_at grid boxes n ≡ 0) numbers
+  pub only : (n : ℕ) → n < slot_total grid → bound_at grid boxes n ≡ 0 → Contains numbers n
 
 -- the node of the number b lies on this side of the node of the number a, and that of a across from it; each is one nearer at
 -- most to the starts and to the ends than the other, as all such nodes are

@@ -16,6 +16,7 @@ pub mod Grid
 pub mod Beside
 pub mod Numbered
 pub mod Bound
+pub mod Hulls
 pub mod GridWalk
 pub mod InRect
 pub mod Told

@@ -4,19 +4,22 @@ ghost use Rattle.std.specs.Prelude.{◌≡◌, ◌↔◌, ◌<◌, ◌≤◌, �
 ghost use Rattle.leg_geom.specs.Plane.{IsCoordinate};
 ghost use Rattle.leg_flat.specs.Flat.{FlatSaid};
 ghost use Rattle.leg_wire.specs.Access.{Admits};
-ghost use Rattle.leg_grid.specs.Grid.{slot_total};
+ghost use Rattle.leg_grid.specs.declared.node.Node.{Node};
+ghost use Rattle.leg_grid.specs.Grid.{IsGrid, IsNumberOf, slot_total};
 ghost use Rattle.leg_grid.specs.Told.{TellsSlot, TellsSlots};
-ghost use Rattle.leg_grid.specs.Steps.Reaches.{IsDistance};
+ghost use Rattle.leg_grid.specs.Steps.Reaches.{IsFar};
 ghost use Rattle.leg_grid.specs.Steps.SlotRanges.{IsInRow, IsInRows};
-ghost use Rattle.leg_grid.specs.Steps.SlotsTold.{AreTold, ArePlacesNear, IsOnLayer};
+ghost use Rattle.leg_grid.specs.Steps.SlotsTold.{AreTold, ArePlacesNear, IsOnLayer, LiesOnIf};
 
 use crate::grid::{Grid, grid_is_sound};
+use crate::layers::RoutingLayer;
 use crate::open_step::next_along;
-use crate::reach::{reach_on, spacing_of};
+use crate::reach::{far_on, layers_near, reach_on};
 use crate::slot::Slot;
 use crate::slot_access::{SlotAccess, slot_beside};
 use crate::slots_in::places_within;
 use leg_block::Design;
+use leg_cells::Direction;
 use leg_flat::Shape;
 use leg_walk::Side;
 use leg_wire::Access;
@@ -77,8 +80,8 @@ pub fn slots_beside<A: Allocator + Copy>(
     Ok(slots)
 }
 
-/// The same where one more shape lies, after the others: the slots near it are computed anew. The grid is that of the
-/// design.
+/// The same where one more shape lies, after the others: the slots near it are computed anew, on the
+/// layers near it. The grid is that of the design.
 pub fn add_shape<A: Allocator + Copy>(
     grid: &Grid<'_, '_, A>,
     design: &Design<'_, A>,
@@ -90,9 +93,18 @@ pub fn add_shape<A: Allocator + Copy>(
     ensures count { length slots.new ≡ length slots.old }
     ensures told { (flat grown : FlatSaid) → grown.shapes ≡ flat.shapes ++ shape.now ∷ [] → TellsSlots grid.now flat slots.old → TellsSlots grid.now grown slots.new }
 {
-    for k in 0..grid.layer_count() {
+    grid_is_sound(grid);
+    let (first, end) = layers_near(grid, shape.layer);
+    for k in first..end {
         add_on_layer(grid, design, shape, k, slots);
     }
+}
+
+/// Whether the routing layer is that of this number, and its wires run in this direction.
+fn steps_along(own: RoutingLayer, layer: usize, direction: Direction) -> bool
+    ensures { IsTrue result ↔ ((own.number ≡ layer) × (own.direction ≡ direction)) }
+{
+    own.number == layer && own.direction == direction
 }
 
 /// The same on routing layer k alone.
@@ -112,10 +124,14 @@ fn add_on_layer<A: Allocator + Copy>(
     let Some(reach) = reach_on(grid, design, k, shape.layer) else {
         return;
     };
-    let apart = spacing_of(design.library().layers(), shape.layer);
-    let columns = places_near(grid.xs(), shape.rect.x1(), shape.rect.x2(), reach, apart);
-    let rows = places_near(grid.ys(), shape.rect.y1(), shape.rect.y2(), reach, apart);
-    add_in_rows(grid, design, shape, k, rows, columns, slots);
+    let own = grid.layer_at(k);
+    let along_x = steps_along(own, shape.layer, Direction::Horizontal);
+    let along_y = steps_along(own, shape.layer, Direction::Vertical);
+    let far = far_on(design.library().layers(), shape.layer, reach);
+    let columns = places_near(grid.xs(), along_x, shape.rect.x1(), shape.rect.x2(), far);
+    let rows = places_near(grid.ys(), along_y, shape.rect.y1(), shape.rect.y2(), far);
+    let on_layer = own.number == shape.layer;
+    add_in_rows(grid, design, shape, k, on_layer, rows, columns, slots);
 }
 
 /// The same in these rows and columns of a layer alone.
@@ -124,19 +140,22 @@ fn add_in_rows<A: Allocator + Copy>(
     design: &Design<'_, A>,
     shape: &Shape,
     layer: usize,
+    on_layer: bool,
     rows: (usize, usize),
     columns: (usize, usize),
     slots: &mut [SlotAccess],
 )
     requires of_design { grid.now.design ≡ design.now }
+    requires proper { IsGrid grid.now }
     requires count { length slots.old ≡ slot_total grid.now }
     requires layer { layer < length grid.now.layers }
+    requires on_layer { LiesOnIf grid.now layer shape.now.layer on_layer }
     requires rows { rows.1 ≤ length grid.now.ys }
     requires columns { columns.1 ≤ length grid.now.xs }
     ensures { AreTold grid.now shape.now (IsInRows grid.now layer rows columns) slots.old slots.new }
 {
     for row in rows.0..rows.1 {
-        add_in_row(grid, design, shape, layer, row, columns, slots);
+        add_in_row(grid, design, shape, layer, on_layer, row, columns, slots);
     }
 }
 
@@ -146,53 +165,63 @@ fn add_in_row<A: Allocator + Copy>(
     design: &Design<'_, A>,
     shape: &Shape,
     layer: usize,
+    on_layer: bool,
     row: usize,
     columns: (usize, usize),
     slots: &mut [SlotAccess],
 )
     requires of_design { grid.now.design ≡ design.now }
+    requires proper { IsGrid grid.now }
     requires count { length slots.old ≡ slot_total grid.now }
     requires layer { layer < length grid.now.layers }
+    requires on_layer { LiesOnIf grid.now layer shape.now.layer on_layer }
     requires row { row < length grid.now.ys }
     requires columns { columns.1 ≤ length grid.now.xs }
     ensures { AreTold grid.now shape.now (IsInRow grid.now layer row columns) slots.old slots.new }
 {
     for column in columns.0..columns.1 {
         let number = grid.number_at(Slot { layer, row, column });
-        add_at(grid, design, shape, number, slots);
+        add_at(grid, design, shape, number, on_layer, slots);
     }
 }
 
-/// The same in one slot alone.
+/// The same in one slot alone. Where the shape takes away nothing of what is kept, it is not computed what is open beside it.
 fn add_at<A: Allocator + Copy>(
     grid: &Grid<'_, '_, A>,
     design: &Design<'_, A>,
     shape: &Shape,
     number: u32,
+    on_layer: bool,
     slots: &mut [SlotAccess],
 )
     requires of_design { grid.now.design ≡ design.now }
+    requires proper { IsGrid grid.now }
     requires count { length slots.old ≡ slot_total grid.now }
     requires within { number < slot_total grid.now }
+    requires on_layer { (node : Node) → IsNumberOf grid.now number node → node.layer ≡ shape.now.layer → IsTrue on_layer }
     ensures { AreTold grid.now shape.now (λ n. n ≡ number) slots.old slots.new }
 {
-    grid_is_sound(grid);
-    let beside = slot_beside(grid, design, shape, number);
     let place = number as usize;
-    slots[place] = slots[place].and(beside);
+    let kept = slots[place];
+    if kept.is_settled(shape.owner, on_layer) {
+        return;
+    }
+    slots[place] = kept.and(slot_beside(grid, design, shape, number));
 }
 
-/// The places of the values near these coordinates, those of one slot before among them, whose step along its layer ends there:
-/// the first place, and the one past the last. What is near is not farther than the reach and the spacing together.
-fn places_near(values: &[i64], low: i64, high: i64, reach: i64, apart: i64) -> (usize, usize)
+/// The places of the values near these coordinates, not farther from them than this: the first place, and the one past the last. If
+/// `back` is set, the place before is among them, the step from which ends at the first one near.
+fn places_near(values: &[i64], back: bool, low: i64, high: i64, far: i64) -> (usize, usize)
     requires rising { AllPairs (λ a b. a <ℤ b) values.now }
     requires low { IsCoordinate low }
     requires high { IsCoordinate high }
-    requires reach { IsDistance reach }
-    requires apart { IsDistance apart }
-    ensures { ArePlacesNear values.now (low -ℤ (reach +ℤ apart)) (high +ℤ (reach +ℤ apart)) result.0 result.1 }
+    requires far { IsFar far }
+    ensures { ArePlacesNear values.now back (low -ℤ far) (high +ℤ far) result.0 result.1 }
 {
-    let far = reach + apart;
     let (first, end) = places_within(values, low - far, high + far);
-    (first.saturating_sub(1), end)
+    if back {
+        (first.saturating_sub(1), end)
+    } else {
+        (first, end)
+    }
 }

@@ -1,6 +1,6 @@
 //! The grid of a design.
 
-ghost use Rattle.std.specs.Prelude.{◌≡◌, ◌↔◌, ◌<◌, ◌≤◌, ◌^◌, IsTrue, Bool, List, Some, All, length, slice_get, IfOk, IfErr, OnOk};
+ghost use Rattle.std.specs.Prelude.{◌≡◌, ◌↔◌, ◌<◌, ◌≤◌, ◌<ℤ◌, ◌^◌, IsTrue, Bool, List, Some, AllPairs, length, slice_get, IfOk, IfErr, OnOk};
 ghost use Rattle.leg_lex.specs.Number.{IsNumber};
 ghost use Rattle.leg_cells.specs.declared.records.Direction.{Direction};
 ghost use Rattle.leg_cells.specs.Sound.{IsWidth, IsSound};
@@ -61,8 +61,8 @@ fn marks_of<A: Allocator + Copy>(
     xs: &[i64],
     ys: &[i64],
 ) -> Result<Vec<bool, A>, AllocError>
-    requires xs { All IsNumber xs.now }
-    requires ys { All IsNumber ys.now }
+    requires xs { AllPairs (λ a b. a <ℤ b) xs.now }
+    requires ys { AllPairs (λ a b. a <ℤ b) ys.now }
     ensures { IfOk result (λ marks. AreTrackMarks design.now layer.number (axis_of layer.direction) (values_of xs.now ys.now layer.direction) marks.items) }
 {
     match layer.direction {
@@ -80,8 +80,8 @@ fn marks_at<A: Allocator + Copy>(
     xs: &[i64],
     ys: &[i64],
 ) -> Result<Vec<bool, A>, AllocError>
-    requires xs { All IsNumber xs.now }
-    requires ys { All IsNumber ys.now }
+    requires xs { AllPairs (λ a b. a <ℤ b) xs.now }
+    requires ys { AllPairs (λ a b. a <ℤ b) ys.now }
     requires within { k < length layers.now }
     ensures { IfOk result (λ marks. (layer : RoutingLayer) → slice_get layers.now k ≡ Some layer
         → AreTrackMarks design.now layer.number (axis_of layer.direction) (values_of xs.now ys.now layer.direction) marks.items) }
@@ -98,8 +98,8 @@ fn all_track_marks<A: Allocator + Copy>(
     xs: &[i64],
     ys: &[i64],
 ) -> Result<Vec<Items<bool, A>, A>, AllocError>
-    requires xs { All IsNumber xs.now }
-    requires ys { All IsNumber ys.now }
+    requires xs { AllPairs (λ a b. a <ℤ b) xs.now }
+    requires ys { AllPairs (λ a b. a <ℤ b) ys.now }
     ensures { IfOk result (λ tracks. AreTracks design.now layers.now xs.now ys.now tracks.items) }
 {
     let mut tracks = Vec::with_capacity(alloc, layers.len())?;

@@ -63,7 +63,7 @@ pub(crate) fn count_of<A: Allocator>(track: &Track<A>) -> u64
 }
 
 /// Line k of the tracks.
-fn line<A: Allocator>(track: &Track<A>, k: u64) -> i64
+pub(crate) fn line<A: Allocator>(track: &Track<A>, k: u64) -> i64
     requires within { pos k <ℤ track.now.count }
     requires lines { HasLines track.now }
     ensures { result ≡ track.now.start +ℤ (pos k *ℤ track.now.step) }

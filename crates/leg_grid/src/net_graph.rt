@@ -5,14 +5,17 @@ ghost use Rattle.leg_grid.specs.declared.slot_access.SlotAccess.{SlotAccess};
 ghost use Rattle.leg_grid.specs.Grid.{slot_total};
 ghost use Rattle.leg_grid.specs.Bound.{IsBoxOf};
 ghost use Rattle.leg_grid.specs.Admitted.{IsAdmittedAt};
+ghost use Rattle.leg_grid.specs.Hulls.{AreHulls};
 
 use crate::grid::{Grid, grid_is_sound};
+use crate::hulls::Hull;
 use crate::slot_access::SlotAccess;
 use crate::slot_box::{SlotBox, bound};
 use leg_walk::{Graph, Side};
 use std::alloc::Allocator;
 
-/// The grid of a design as the graph of a net, whose walks start in one of some boxes and end in one of others. What is open to the
+/// The grid of a design as the graph of a net, whose walks start in one of some boxes and end in one of others, each
+/// with the hulls of their boxes. What is open to the
 /// net is what `slots` admits, which has one for each slot.
 #[derive(Drop)]
 pub struct NetGraph<'s, 'g, 'a, A: Allocator + Copy> {
@@ -20,10 +23,14 @@ pub struct NetGraph<'s, 'g, 'a, A: Allocator + Copy> {
     pub slots: &'s [SlotAccess],
     pub net: u32,
     pub starts: &'s [SlotBox],
+    pub start_hulls: &'s [Hull],
     pub ends: &'s [SlotBox],
+    pub end_hulls: &'s [Hull],
     ghost count: { length slots.now ≡ slot_total grid.now },
     ghost starts_within: { All (IsBoxOf grid.now) starts.now },
     ghost within: { All (IsBoxOf grid.now) ends.now },
+    ghost start_hulls_are: { AreHulls starts.now start_hulls.now },
+    ghost end_hulls_are: { AreHulls ends.now end_hulls.now },
 }
 
 impl<'s, 'g, 'a, A: Allocator + Copy> Graph for NetGraph<'s, 'g, 'a, A> {
@@ -63,12 +70,12 @@ impl<'s, 'g, 'a, A: Allocator + Copy> Graph for NetGraph<'s, 'g, 'a, A> {
         self.slots[node as usize].node.admits(self.net)
     }
 
-    fn bound(&self, node: u32) -> u32 {
-        bound(self.grid, self.ends, node)
+    fn bound(&self, node: u32, most: u32) -> u32 {
+        bound(self.grid, self.ends, self.end_hulls, node, most)
     }
 
-    fn back_bound(&self, node: u32) -> u32 {
-        bound(self.grid, self.starts, node)
+    fn back_bound(&self, node: u32, most: u32) -> u32 {
+        bound(self.grid, self.starts, self.start_hulls, node, most)
     }
 
     ghost one_nearer = { λ g side a b beside. beside.nearer };

@@ -1,12 +1,12 @@
 //! How far metal on a layer lies from the points of the slots that add it.
 
-ghost use Rattle.std.specs.Prelude.{◌≡◌, ◌<◌, pos, All, Some, length, slice_get};
+ghost use Rattle.std.specs.Prelude.{◌≡◌, ◌<◌, ◌+ℤ◌, pos, All, Some, length, slice_get};
 ghost use Rattle.leg_lex.specs.declared.limits.TheConstants.{NUMBER_LIMIT};
 ghost use Rattle.leg_cells.specs.Sound.{IsWidth, AreWithin, AreShapesWithin, IsSoundLayer};
 ghost use Rattle.leg_cells.specs.Records.{ViaSaid};
 ghost use Rattle.leg_wire.specs.Steps.LayerSpacing.{spacing_at};
 ghost use Rattle.leg_grid.specs.Added.{half};
-ghost use Rattle.leg_grid.specs.Steps.Reaches.{Reaches, IsDistance, IsReach, ReachesAll, IsWider, ReachesShape, ReachesMetal};
+ghost use Rattle.leg_grid.specs.Steps.Reaches.{Reaches, IsDistance, IsReach, ReachesAll, IsWider, ReachesShape, ReachesMetal, AreNearLayers, clear_at, IsFar};
 
 use crate::grid::{Grid, grid_is_sound};
 use crate::layers::RoutingLayer;
@@ -112,7 +112,7 @@ pub(crate) fn reach_on<A: Allocator + Copy>(
 }
 
 /// The spacing of the layer of this number; 0 where there is none.
-pub(crate) fn spacing_of(layers: &[Layer<'_>], layer: usize) -> i64
+fn spacing_of(layers: &[Layer<'_>], layer: usize) -> i64
     requires { All IsSoundLayer layers.now }
     ensures is { result ≡ pos (spacing_at layers.now layer) }
     ensures proper { IsDistance result }
@@ -121,4 +121,43 @@ pub(crate) fn spacing_of(layers: &[Layer<'_>], layer: usize) -> i64
         Some(layer) => layer.spacing,
         None => 0,
     }
+}
+
+/// How far apart metal on the layer of this number may lie along an axis and still be nearer than the spacing, or touch.
+fn clear_of(layers: &[Layer<'_>], layer: usize) -> i64
+    requires { All IsSoundLayer layers.now }
+    ensures is { result ≡ pos (clear_at layers.now layer) }
+    ensures proper { IsDistance result }
+{
+    let spacing = spacing_of(layers, layer);
+    if spacing > 0 { spacing - 1 } else { 0 }
+}
+
+/// How far from a point metal on the layer of this number may lie along an axis and still be too near to metal there that reaches
+/// so far from the point.
+pub(crate) fn far_on(layers: &[Layer<'_>], layer: usize, reach: i64) -> i64
+    requires layers { All IsSoundLayer layers.now }
+    requires reach { IsDistance reach }
+    ensures is { result ≡ reach +ℤ pos (clear_at layers.now layer) }
+    ensures proper { IsFar result }
+{
+    reach + clear_of(layers, layer)
+}
+
+/// The routing layers, from the first to before the end, of which nodes or steps may add metal on the layer of this number: those
+/// just below it and above it, or that layer itself and the one below.
+pub(crate) fn layers_near<A: Allocator + Copy>(
+    grid: &Grid<'_, '_, A>,
+    layer: usize,
+) -> (usize, usize)
+    ensures { AreNearLayers grid.now layer result.0 result.1 }
+{
+    let layers = grid.layers();
+    let above = layers.partition_point(|own| own.number < layer);
+    let end = if above < layers.len() {
+        above + 1
+    } else {
+        above
+    };
+    (above.saturating_sub(1), end)
 }

@@ -1,16 +1,16 @@
 //! To which nets a slot's node and the steps from it are open.
 
-ghost use Rattle.std.specs.Prelude.{◌≡◌, ◌<◌};
+ghost use Rattle.std.specs.Prelude.{◌≡◌, ◌↔◌, ◌<◌, IsTrue};
 ghost use Rattle.leg_wire.specs.Access.{alone};
 ghost use Rattle.leg_grid.specs.Grid.{slot_total};
 ghost use Rattle.leg_grid.specs.Told.{TellsSlot};
-ghost use Rattle.leg_grid.specs.Steps.SlotsTold.{IsBoth};
+ghost use Rattle.leg_grid.specs.Steps.SlotsTold.{IsBoth, IsSettled, AreSettled};
 
 use crate::grid::Grid;
 use crate::open_node::node_beside;
 use crate::open_step::{above_beside, along_beside};
 use leg_block::Design;
-use leg_flat::Shape;
+use leg_flat::{Owner, Shape};
 use leg_wire::Access;
 use std::alloc::Allocator;
 
@@ -22,7 +22,27 @@ pub struct SlotAccess {
     pub above: Access,
 }
 
+/// Whether metal of this owner takes away none of the nets that are admitted.
+fn is_settled(access: Access, owner: Owner) -> bool
+    ensures { IsTrue result ↔ IsSettled access owner }
+{
+    match access {
+        Access::Free => false,
+        Access::Only(net) => owner == Owner::Net(net),
+        Access::Blocked => true,
+    }
+}
+
 impl SlotAccess {
+    /// Whether metal of this owner takes away nothing of what is kept: of the node and the step along the layer, if it lies
+    /// on that layer, and of the step up.
+    pub(crate) fn is_settled(self, owner: Owner, on_layer: bool) -> bool
+        ensures { IsTrue result ↔ AreSettled self owner on_layer }
+    {
+        is_settled(self.above, owner)
+            && (!on_layer || (is_settled(self.node, owner) && is_settled(self.along, owner)))
+    }
+
     /// What both admit.
     pub(crate) fn and(self, other: SlotAccess) -> SlotAccess
         ensures node { IsBoth self.node other.node result.node }

@@ -1,6 +1,6 @@
 //! The slots whose points lie in a rectangle, and their box.
 
-ghost use Rattle.std.specs.Prelude.{◌↔◌, ◌⊎◌, ◌<◌, ◌≤◌, ℕ, ◌<ℤ◌, length, All, AllPairs, Contains, OnOk};
+ghost use Rattle.std.specs.Prelude.{◌↔◌, IsTrue, ◌⊎◌, ◌<◌, ◌≤◌, ℕ, ◌<ℤ◌, length, All, AllPairs, Contains, OnOk};
 ghost use Rattle.leg_grid.specs.InRect.{LiesInRect};
 ghost use Rattle.leg_grid.specs.Grid.{slot_total, IsNumberOf};
 ghost use Rattle.leg_grid.specs.Numbered.{IsOneOf};
@@ -8,7 +8,7 @@ ghost use Rattle.leg_grid.specs.declared.slot_box.SlotBox.{SlotBox};
 ghost use Rattle.leg_grid.specs.Bound.{HasJust, AreBoxed};
 ghost use Rattle.leg_grid.specs.Steps.Boxes.{HaveGotBox};
 ghost use Rattle.leg_grid.specs.Places.{ArePlaces};
-ghost use Rattle.leg_grid.specs.Steps.SlotRanges.{IsLayerIfAny, IsInRow, IsInRows, HaveGot};
+ghost use Rattle.leg_grid.specs.Steps.SlotRanges.{IsLayerIfAny, IsInRow, IsInRows, HaveGot, HaveDropped};
 
 use crate::grid::Grid;
 use crate::layers::RoutingLayer;
@@ -38,6 +38,48 @@ fn routing_layer_of(layers: &[RoutingLayer], number: usize) -> Option<usize>
         }
     }
     None
+}
+
+/// Whether the slot of this number lies in these rows and columns of a layer.
+fn lies_in<A: Allocator + Copy>(
+    grid: &Grid<'_, '_, A>,
+    layer: usize,
+    rows: (usize, usize),
+    columns: (usize, usize),
+    number: u32,
+) -> bool
+    ensures { IsTrue result → IsInRows grid.now layer rows columns number }
+{
+    if number >= grid.size() {
+        return false;
+    }
+    let slot = grid.slot(number);
+    slot.layer == layer
+        && (rows.0 <= slot.row && slot.row < rows.1)
+        && (columns.0 <= slot.column && slot.column < columns.1)
+}
+
+/// How many slots these rows and columns of a layer have.
+fn slots_of(rows: (usize, usize), columns: (usize, usize)) -> usize {
+    let height = rows.1.saturating_sub(rows.0);
+    let width = columns.1.saturating_sub(columns.0);
+    height.saturating_mul(width)
+}
+
+/// Drops those of the slots that lie in these rows and columns of a layer, where these have as many slots at least: else it would
+/// cost more than the slots that are added are worth.
+fn drop_rows<A: Allocator + Copy>(
+    grid: &Grid<'_, '_, A>,
+    layer: usize,
+    rows: (usize, usize),
+    columns: (usize, usize),
+    slots: &mut Vec<u32, A>,
+)
+    ensures { HaveDropped (IsInRows grid.now layer rows columns) slots.old.items slots.new.items }
+{
+    if slots.len() <= slots_of(rows, columns) {
+        slots.retain(|number| !lies_in(grid, layer, rows, columns, *number));
+    }
 }
 
 /// Adds the slots of these columns in a row.
@@ -75,6 +117,24 @@ fn add_rows<A: Allocator + Copy>(
     for row in rows.0..rows.1 {
         add_row(grid, layer, row, columns, slots)?;
     }
+    Ok(())
+}
+
+/// The same, and large boxes over one another don't make the list longer.
+fn add_rows_once<A: Allocator + Copy>(
+    grid: &Grid<'_, '_, A>,
+    layer: usize,
+    rows: (usize, usize),
+    columns: (usize, usize),
+    slots: &mut Vec<u32, A>,
+) -> Result<(), AllocError>
+    requires layer { layer < length grid.now.layers }
+    requires rows { rows.1 ≤ length grid.now.ys }
+    requires columns { columns.1 ≤ length grid.now.xs }
+    ensures { OnOk result (HaveGot (IsInRows grid.now layer rows columns) slots.old.items slots.new.items) }
+{
+    drop_rows(grid, layer, rows, columns, slots);
+    add_rows(grid, layer, rows, columns, slots)?;
     Ok(())
 }
 
@@ -123,6 +183,6 @@ pub fn add_slots_in<A: Allocator + Copy>(
     let columns = places_within(grid.xs(), rect.x1(), rect.x2());
     let rows = places_within(grid.ys(), rect.y1(), rect.y2());
     add_box(k, rows, columns, &mut found.boxes)?;
-    add_rows(grid, k, rows, columns, &mut found.slots)?;
+    add_rows_once(grid, k, rows, columns, &mut found.slots)?;
     Ok(())
 }

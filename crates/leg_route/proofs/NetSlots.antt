@@ -1,9 +1,9 @@
 -- The slots in the metal of a net, shape by shape.
-use Rattle.std.proofs.Common.{◌≡◌, ◌↔◌, ℕ, ◌<◌, Bool, true, false, List, [], ◌∷◌, ◌++◌, All, Contains, length, get_or, Some, slice_get, ◌⊎◌, inl, inr, refl, sym, subst, ap, ◌∙◌, true≢false}
+use Rattle.std.proofs.Common.{◌≡◌, ◌↔◌, ℕ, ◌<◌, Bool, true, false, List, [], ◌∷◌, ◌++◌, All, Contains, get_or, Some, slice_get, ◌⊎◌, inl, inr, refl, sym, subst, ap, ◌∙◌, true≢false, arith}
 use Rattle.std.proofs.lemmas.Bool.{cases_Bool}
 use Rattle.std.proofs.lemmas.List.Elements.{All-nil, Contains-append_left, Contains-push, Contains-push_cases}
 use Rattle.std.proofs.lemmas.Option.{same_Some, slice_get_within, slice_get_read, slice_get-get_or, get_or_from_slice_get}
-use Rattle.leg_sweep.proofs.Lists.{All-from_contains, Contains-nil}
+use Rattle.leg_sweep.proofs.Lists.{Contains-nil}
 use Rattle.leg_flat.specs.declared.shape.Shape.{Shape}
 use Rattle.leg_flat.specs.Flat.{FlatSaid}
 use Rattle.leg_wire.specs.NetShapes.{AreNumbersOf}
@@ -23,7 +23,7 @@ module _ (grid : GridSaid) (shapes : List Shape) (marks : List Bool) (mark : Boo
   slots_none = record {
     are = λ n. (λ has. absurd (Contains-nil n has), λ one. absurd (Contains-nil one.holds.number one.holds.listed));
     within = All-nil (λ n. n < slot_total grid);
-    boxed = record { corners = All-nil (IsBoxOf grid); inside = All-nil (λ n. bound_at grid [] n ≡ 0) };
+    boxed = record { corners = All-nil (IsBoxOf grid); inside = All-nil (λ n. bound_at grid [] n ≡ 0); only = λ n within none. absurd (omega (arith, none)) };
   }
 
   -- one shape more

@@ -75,13 +75,18 @@ impl<'g, 'a, A: Allocator + Copy> Ground<A> for GridGround<'g, 'a, A> {
 
     ghost IsReady = { λ g. AreReady g.design.now g.grid g.flat g.slots.items g.numbers.items g.marks.items g.touched.items };
 
-    fn is_open(&self, alloc: A, net: u32) -> Result<bool, AllocError> {
+    fn joined(&self, alloc: A, net: u32) -> Result<Vec<bool, A>, AllocError> {
         let numbers = self.numbers[net as usize].as_slice();
         let joined = joined_among(alloc, &self.flat, net, numbers)?;
-        Ok(joined.contains(&false))
+        Ok(joined)
     }
 
-    fn next_wires(&mut self, alloc: A, net: u32) -> Result<Option<Vec<Wire, A>>, AllocError> {
+    fn next_wires(
+        &mut self,
+        alloc: A,
+        net: u32,
+        joined: &[bool],
+    ) -> Result<Option<Vec<Wire, A>>, AllocError> {
         let wires = next_wires(
             alloc,
             &self.grid,
@@ -90,6 +95,7 @@ impl<'g, 'a, A: Allocator + Copy> Ground<A> for GridGround<'g, 'a, A> {
             &self.slots,
             net,
             self.numbers[net as usize].as_slice(),
+            joined,
             &mut self.marks,
             &mut self.touched,
         )?;

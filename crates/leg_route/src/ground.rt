@@ -1,13 +1,13 @@
 //! What the router works on.
 
-ghost use Rattle.std.specs.Prelude.{◌≡◌, ◌↔◌, ◌<◌, ◌≤◌, ◌+◌, IsTrue, false, length, IfOk, IfErr, OnOk, OnErr, option_map};
+ghost use Rattle.std.specs.Prelude.{◌≡◌, ◌<◌, ◌≤◌, ◌+◌, false, length, IfOk, IfErr, OnOk, OnErr, option_map};
 ghost use Rattle.leg_block.specs.declared.limits.TheConstants.{PART_LIMIT};
 ghost use Rattle.leg_block.specs.WellFormedNets.{IsWire};
 ghost use Rattle.leg_flat.specs.declared.fault.FlatFault.TheVariants.{TooMany};
 ghost use Rattle.leg_flat.specs.Metal.{wire_outlines};
 ghost use Rattle.leg_flat.specs.MoreWires.{HasOneMoreWire};
 ghost use Rattle.leg_flat.specs.Flat.{IsWithin};
-ghost use Rattle.leg_wire.specs.Open.{IsOpenNet};
+ghost use Rattle.leg_wire.specs.Touch.{piece_count, AreJoined, AreMarks};
 ghost use Rattle.leg_route.specs.Steps.NextWires.{IsNextAnswer};
 
 use leg_block::Wire;
@@ -26,18 +26,23 @@ pub(crate) trait Ground<A: Allocator + Copy> {
 
     ghost IsReady: { Self → Type 0 };
 
-    /// Whether a piece of the net isn't joined to its first one. It fails only when out of memory.
-    fn is_open(&self, alloc: A, net: u32) -> Result<bool, AllocError>
+    /// For each piece of the net whether it is joined to its first one. It fails only when out of memory.
+    fn joined(&self, alloc: A, net: u32) -> Result<Vec<bool, A>, AllocError>
         requires ready { IsReady self.now }
         requires in_range { net < length (design self.now).nets }
-        ensures { IfOk result (λ answer. IsTrue answer ↔ IsOpenNet (design self.now) (flat self.now) net) };
+        ensures { IfOk result (λ marks. AreMarks (AreJoined (flat self.now) net 0) (piece_count (flat self.now) net) marks.items) };
 
     /// The wires of a shortest open walk from the joined part of the net to the rest, or `None` where there is no such walk.
-    /// It fails only when out of memory.
-    fn next_wires(&mut self, alloc: A, net: u32) -> Result<Option<Vec<Wire, A>>, AllocError>
+    /// `joined` has for each piece of the net whether it is joined to its first one. It fails only when out of memory.
+    fn next_wires(
+        &mut self,
+        alloc: A,
+        net: u32,
+        joined: &[bool],
+    ) -> Result<Option<Vec<Wire, A>>, AllocError>
         requires ready { IsReady self.old }
         requires in_range { net < length (design self.old).nets }
-        requires is_open { IsOpenNet (design self.old) (flat self.old) net }
+        requires joined { AreMarks (AreJoined (flat self.old) net 0) (piece_count (flat self.old) net) joined.now }
         ensures answer { IfOk result (λ answer. IsNextAnswer (design self.old) (flat self.old) net (option_map (λ wires. wires.items) answer)) }
         ensures ready { OnOk result (IsReady self.new) }
         ensures same_design { design self.new ≡ design self.old }

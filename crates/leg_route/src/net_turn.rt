@@ -1,11 +1,13 @@
 //! The turn of a net: it gets wires until it isn't open any more.
 
-ghost use Rattle.std.specs.Prelude.{◌≡◌, ◌<◌, ◌≤◌, false, All, length, IfOk, IfErr, OnOk};
+ghost use Rattle.std.specs.Prelude.{◌≡◌, ◌<◌, ◌≤◌, ◌↔◌, ℕ, IsTrue, false, All, length, IfOk, IfErr, OnOk};
+ghost use Rattle.leg_block.specs.Records.{DesignContents};
 ghost use Rattle.leg_block.specs.WellFormedNets.{IsWire};
 ghost use Rattle.leg_flat.specs.declared.fault.FlatFault.TheVariants.{TooMany};
-ghost use Rattle.leg_flat.specs.Flat.{IsWithin};
+ghost use Rattle.leg_flat.specs.Flat.{FlatSaid, IsWithin};
 ghost use Rattle.leg_grid.specs.MoreWires.{HasMoreWires};
 ghost use Rattle.leg_wire.specs.Open.{IsOpenNet};
+ghost use Rattle.leg_wire.specs.Touch.{piece_count, AreJoined, AreMarks};
 ghost use Rattle.leg_route.specs.Steps.NetRun.{NetRun};
 ghost use Rattle.leg_route.specs.Steps.Stops.{PassesLimit, IsNetStop};
 
@@ -37,6 +39,14 @@ fn add_wires<A: Allocator + Copy, G: Ground<A>>(
     Ok(())
 }
 
+/// Whether one of the pieces of a net isn't joined to its first one: whether the net is open.
+fn is_one_apart(joined: &[bool]) -> bool
+    ensures { (design : DesignContents) (flat : FlatSaid) (net : ℕ) → net < length design.nets
+        → AreMarks (AreJoined flat net 0) (piece_count flat net) joined.now → IsTrue result ↔ IsOpenNet design flat net }
+{
+    joined.contains(&false)
+}
+
 /// Routes the net: it gets the wires of one walk after another until it isn't open. They are handed out, in their order.
 pub(crate) fn route_net<A: Allocator + Copy, G: Ground<A>>(
     alloc: A,
@@ -55,12 +65,14 @@ pub(crate) fn route_net<A: Allocator + Copy, G: Ground<A>>(
     ensures same_design { G.design ground.new ≡ G.design ground.old }
 {
     let mut wires = Vec::new(alloc);
-    while ground.is_open(alloc, net)? {
-        let Some(more) = ground.next_wires(alloc, net)? else {
+    let mut joined = ground.joined(alloc, net)?;
+    'walks: while is_one_apart(&joined) {
+        let Some(more) = ground.next_wires(alloc, net, &joined)? else {
             return Err(RouteFault::Unroutable(net));
         };
         add_wires(ground, net, &more)?;
         wires.extend_from_slice(&more)?;
+        joined = ground.joined(alloc, net)?;
     }
     Ok(wires)
 }

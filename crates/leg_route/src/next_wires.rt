@@ -4,6 +4,7 @@ ghost use Rattle.std.specs.Prelude.{◌≡◌, ◌↔◌, ◌<◌, ◌^◌, ℕ,
 ghost use Rattle.std.specs.Option.{option_map};
 ghost use Rattle.leg_walk.specs.Marks.{AreUnseen};
 ghost use Rattle.leg_wire.specs.NetShapes.{AreNumbersOf};
+ghost use Rattle.leg_wire.specs.Touch.{piece_count, AreJoined, AreMarks};
 ghost use Rattle.leg_grid.specs.Grid.{IsNumberOf, slot_total};
 ghost use Rattle.leg_grid.specs.Bound.{AreBoxed};
 ghost use Rattle.leg_grid.specs.Meets.{MeetsJoined, MeetsRest};
@@ -18,10 +19,10 @@ use leg_grid::laws::{
     nodes_have_numbers, numbers_walk_as_nodes, open_walks_are_grid_walks, searches_walk_as_numbers,
 };
 use leg_grid::{
-    BoxedSlots, Grid, NetGraph, SlotAccess, add_slots_in, grid_is_sound, nodes_of, wires_of,
+    BoxedSlots, Grid, NetGraph, SlotAccess, add_slots_in, grid_is_sound, hulls_of, nodes_of,
+    wires_of,
 };
 use leg_walk::{Mark, shortest};
-use leg_wire::joined_among;
 use std::alloc::{AllocError, Allocator};
 
 /// Whether the piece has this mark.
@@ -57,6 +58,7 @@ fn marked_slots<A: Allocator + Copy>(
             add_slots_in(grid, shape.layer, &shape.rect, &mut found)?;
         }
     }
+    found.sort_boxes();
     Ok(found)
 }
 
@@ -95,12 +97,16 @@ fn next_walk<A: Allocator + Copy>(
     if ends.slots.is_empty() {
         return Ok(None);
     }
+    let start_hulls = hulls_of(alloc, &starts.boxes)?;
+    let end_hulls = hulls_of(alloc, &ends.boxes)?;
     let graph = NetGraph {
         grid,
         slots,
         net,
         starts: starts.boxes.as_slice(),
+        start_hulls: start_hulls.as_slice(),
         ends: ends.boxes.as_slice(),
+        end_hulls: end_hulls.as_slice(),
     };
     searches_walk_as_numbers();
     let walk = shortest(alloc, &graph, &starts.slots, &ends.slots, marks, touched)?;
@@ -108,8 +114,8 @@ fn next_walk<A: Allocator + Copy>(
 }
 
 /// The wires of a shortest open walk from the joined part of the net to the rest, or `None` where there is no such walk. `slots`
-/// has for each slot of the grid what is open in the flat, and `numbers` are those of the net's shapes. `marks` has one
-/// for each slot. `touched` is room to work in. Of several such walks one is taken as `shortest` of `leg_walk` states.
+/// has for each slot of the grid what is open in the flat, `numbers` are those of the net's shapes, and
+/// `joined` has for each of its pieces whether it is joined to the first one. `marks` has one for each slot. `touched` is room to work in. Of several such walks one is taken as `shortest` of `leg_walk` states.
 ///
 /// It fails only when out of memory.
 pub(crate) fn next_wires<A: Allocator + Copy>(
@@ -120,6 +126,7 @@ pub(crate) fn next_wires<A: Allocator + Copy>(
     slots: &[SlotAccess],
     net: u32,
     numbers: &[u32],
+    joined: &[bool],
     marks: &mut [Mark],
     touched: &mut Vec<u32, A>,
 ) -> Result<Option<Vec<Wire, A>>, AllocError>
@@ -127,6 +134,7 @@ pub(crate) fn next_wires<A: Allocator + Copy>(
     requires told { TellsSlots grid.now flat.now slots.now }
     requires in_range { net < length flat.now.pieces }
     requires numbers { AreNumbersOf flat.now.shapes net numbers.now }
+    requires joined { AreMarks (AreJoined flat.now net 0) (piece_count flat.now net) joined.now }
     requires count { length marks.old ≡ slot_total grid.now }
     requires unseen { AreUnseen marks.old }
     requires untouched { touched.old.items ≡ [] }
@@ -136,9 +144,8 @@ pub(crate) fn next_wires<A: Allocator + Copy>(
     ensures untouched { touched.new.items ≡ [] }
 {
     let shapes = flat.shapes();
-    let joined = joined_among(alloc, flat, net, numbers)?;
-    let starts = marked_slots(alloc, grid, shapes, numbers, &joined, true)?;
-    let ends = marked_slots(alloc, grid, shapes, numbers, &joined, false)?;
+    let starts = marked_slots(alloc, grid, shapes, numbers, joined, true)?;
+    let ends = marked_slots(alloc, grid, shapes, numbers, joined, false)?;
     let found = next_walk(
         alloc, grid, flat, slots, net, &starts, &ends, marks, touched,
     )?;

@@ -1,5 +1,6 @@
 -- Walks by their last step, and what a dive learns from each.
-use Rattle.std.proofs.Common.{◌≡◌, ℕ, ◌+◌, ◌-◌, ◌<◌, ◌≤◌, List, [], ◌∷◌, ◌++◌, length, get_or, take, slice_set, All, Some, None, ◌⊎◌, ◌↔◌, inl, inr, refl, sym, subst, arith, length-append}
+use Rattle.std.proofs.Common.{◌≡◌, ℕ, ◌+◌, ◌-◌, ◌<◌, ◌≤◌, min, List, [], ◌∷◌, ◌++◌, length, get_or, take, slice_set, All, Some, None, ◌⊎◌, ◌↔◌, inl, inr, refl, sym, subst, arith, length-append}
+use Rattle.std.proofs.Math.Nat.{min-le_right}
 use Rattle.std.proofs.lemmas.List.Elements.{All-more}
 use Rattle.std.proofs.lemmas.Option.{same_Some, none-some}
 use Rattle.leg_walk.specs.declared.mark.Mark.{Mark}
@@ -10,7 +11,7 @@ use Rattle.leg_walk.specs.Side.{opposite}
 use Rattle.leg_walk.specs.Walk.{Walk, IsStep, IsStepTo, IsShortest}
 use Rattle.leg_walk.specs.Marks.{AreUnseen}
 use Rattle.leg_walk.specs.Walk.Walk.{here, on}
-use Rattle.leg_walk.specs.Steps.Dive.{IsFar, IsFarFrom, AreKnown, IsWalkBack}
+use Rattle.leg_walk.specs.Steps.Dive.{IsOrigin, IsFar, IsFarFrom, AreKnown, IsWalkBack}
 use Rattle.leg_walk.proofs.Marks.{unseen_no_mark, mark_cases}
 
 module _ {Node : Type 0} {Open : Node → Type 0} {Step : Node → Node → Type 0} where
@@ -95,12 +96,11 @@ back_push left from node nodes some step is_open back = record {
   short = omega (arith, back.short, length-append nodes (node ∷ []));
 }
 
-module _ {Open : ℕ → Type 0} {Step : ℕ → ℕ → Type 0} {Start : ℕ → Type 0} (bound : ℕ → ℕ) where
+module _ {Open : ℕ → Type 0} {Step : ℕ → ℕ → Type 0} {Start : ℕ → Type 0} where
   -- a node that is shut
   pub known_shut : (marks : List Mark) (to : ℕ) → to < length marks → (Open to → ⊥)
-      → AreKnown Open Step Start bound marks → AreKnown Open Step Start bound (slice_set marks to Shut)
+      → AreKnown Open Step Start marks → AreKnown Open Step Start (slice_set marks to Shut)
   known_shut marks to within closed k = record {
-    at_start = k.at_start;
     shut = λ a is. elim (mark_cases marks to Shut within a Shut is) [ inl old ↦ k.shut a old | inr new ↦ rw new.0 closed ];
     is_open = λ a steps is. elim (mark_cases marks to Shut within a (Far steps) is) [ inl old ↦ k.is_open a steps old | inr new ↦ absurd (shut_far steps new.1) ];
     far = λ a steps is. elim (mark_cases marks to Shut within a (Far steps) is) [ inl old ↦ k.far a steps old | inr new ↦ absurd (shut_far steps new.1) ];
@@ -108,9 +108,8 @@ module _ {Open : ℕ → Type 0} {Step : ℕ → ℕ → Type 0} {Start : ℕ �
 
   -- an open node, and how far it is at least
   pub known_far : (marks : List Mark) (to steps : ℕ) → to < length marks → Open to → IsFar Open Step Start steps to
-      → AreKnown Open Step Start bound marks → AreKnown Open Step Start bound (slice_set marks to (Far steps))
+      → AreKnown Open Step Start marks → AreKnown Open Step Start (slice_set marks to (Far steps))
   known_far marks to steps within is_open far k = record {
-    at_start = k.at_start;
     shut = λ a is. elim (mark_cases marks to (Far steps) within a Shut is) [ inl old ↦ k.shut a old | inr new ↦ absurd (shut_far steps (sym new.1)) ];
     is_open = λ a other is. elim (mark_cases marks to (Far steps) within a (Far other) is) [ inl old ↦ k.is_open a other old | inr new ↦ rw new.0 is_open ];
     far = λ a other is. elim (mark_cases marks to (Far steps) within a (Far other) is) [
@@ -119,9 +118,16 @@ module _ {Open : ℕ → Type 0} {Step : ℕ → ℕ → Type 0} {Start : ℕ �
     ];
   }
 
-  -- what is left at least to a node, as the bound says
-  pub far_by_bound : ((a b : ℕ) → Step a b → bound b ≤ bound a + 1) → ((a : ℕ) → Start a → bound a ≡ 0) → (node : ℕ) → IsFar Open Step Start (bound node) node
-  far_by_bound further at_start node from nodes start walk = omega (arith, back_holds bound further walk, at_start from start)
+-- what is left at least to a node, as the bound says
+pub far_by_bound : {Open : ℕ → Type 0} {Step : ℕ → ℕ → Type 0} (size : ℕ) (bound : ℕ → ℕ) → ((a b : ℕ) → Step a b → bound b ≤ bound a + 1) → (steps most node : ℕ) → steps ≡ min most (bound node)
+    → IsFar Open Step (IsOrigin size bound) steps node
+far_by_bound size bound further steps most node is from nodes start walk =
+    let upto : min most (bound node) ≤ bound node = min-le_right most (bound node) in
+    omega (arith, is, upto, back_holds bound further walk, start.1)
+
+-- what is left at least from an end is left at least from one that is as far or farther
+pub far_fewer : {Open : ℕ → Type 0} {Step : ℕ → ℕ → Type 0} {Start : ℕ → Type 0} (steps fewer node : ℕ) → fewer ≤ steps → IsFar Open Step Start steps node → IsFar Open Step Start fewer node
+far_fewer steps fewer node less far from nodes start walk = omega (arith, less, far from nodes start walk)
 
 -- the side across from that across from this one
 opposite_twice : (side : Side) → opposite (opposite side) ≡ side
@@ -145,23 +151,20 @@ module _ (IsBeside : Side → ℕ → ℕ → Type 0) (both_ways : (side : Side)
   none_beyond is last beside = none-some last ((is last).1 (turned last beside))
 
 -- A walk of no more steps than each has at least is a shortest one.
-pub shortest_from_back : {Open : ℕ → Type 0} {Step : ℕ → ℕ → Type 0} {Start Start2 End : ℕ → Type 0} (left end : ℕ) (nodes : List ℕ)
-    → ((a : ℕ) → Start a → Start2 a) → ((a : ℕ) → Start2 a → Start a) → End end → ((b : ℕ) → End b → IsFar Open Step Start left b)
-    → IsWalkBack Open Step Start left end nodes → IsShortest Open Step Start2 End nodes
-shortest_from_back left end nodes to_start from_start is_end far back = record {
+pub shortest_from_back : {Open : ℕ → Type 0} {Step : ℕ → ℕ → Type 0} {Start End : ℕ → Type 0} (left end : ℕ) (nodes : List ℕ)
+    → End end → ((b : ℕ) → End b → IsFar Open Step Start left b) → IsWalkBack Open Step Start left end nodes → IsShortest Open Step Start End nodes
+shortest_from_back left end nodes is_end far back = record {
   from = back.from;
   to = end;
-  start = to_start back.from back.start;
+  start = back.start;
   is_end = is_end;
   walk = back.walk;
-  least = λ a b others start stop walk. omega (arith, back.short, far b stop a others (from_start a start) walk);
+  least = λ a b others start stop walk. omega (arith, back.short, far b stop a others start walk);
 }
 
 -- Where all nodes are unseen, nothing is known.
-pub known_none : {Open : ℕ → Type 0} {Step : ℕ → ℕ → Type 0} {Start : ℕ → Type 0} (bound : ℕ → ℕ) (marks : List Mark)
-    → AreUnseen marks → ((a : ℕ) → Start a → bound a ≡ 0) → AreKnown Open Step Start bound marks
-known_none bound marks unseen at_start = record {
-  at_start = at_start;
+pub known_none : {Open : ℕ → Type 0} {Step : ℕ → ℕ → Type 0} {Start : ℕ → Type 0} (marks : List Mark) → AreUnseen marks → AreKnown Open Step Start marks
+known_none marks unseen = record {
   shut = λ a is. absurd (unseen_no_mark marks a Shut unseen is);
   is_open = λ a steps is. absurd (unseen_no_mark marks a (Far steps) unseen is);
   far = λ a steps is. absurd (unseen_no_mark marks a (Far steps) unseen is);

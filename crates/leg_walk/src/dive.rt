@@ -1,11 +1,10 @@
 //! A dive: a search depth first, from a node back to a start.
 
-ghost use Rattle.std.specs.Prelude.{◌≡◌, ◌≤◌, ◌<◌, ◌+◌, ◌↔◌, ℕ, IsTrue, true, false, List, length, Contains, IfOk, IfSome, IfNone};
-ghost use Rattle.std.specs.List.Sorted.{IsNonDecreasing};
+ghost use Rattle.std.specs.Prelude.{◌≡◌, ◌≤◌, ◌<◌, ◌+◌, ◌↔◌, ℕ, IsTrue, true, false, length, IfOk, IfSome, IfNone};
 ghost use Rattle.leg_walk.specs.Side.{opposite};
 ghost use Rattle.leg_walk.specs.Walk.{IsStep, IsStepTo};
 ghost use Rattle.leg_walk.specs.Steps.Marks.{IsNoted};
-ghost use Rattle.leg_walk.specs.Steps.Dive.{IsFar, IsFarFrom, AreKnown, IsWalkBack};
+ghost use Rattle.leg_walk.specs.Steps.Dive.{IsOrigin, IsFar, IsFarFrom, AreKnown, IsWalkBack};
 
 use crate::graph::Graph;
 use crate::mark::Mark;
@@ -15,14 +14,12 @@ use std::alloc::{AllocError, Allocator};
 
 /// The nodes of an open walk of at most `left` steps from a start to the open node, where there is one: the one that enters each
 /// node from the west where it can, and else from the east, the south, the north, below and above, in this order. Where there is
-/// none, or none is found before `most` nodes are noted, the node is marked with how many steps each walk to it has at least. The
-/// starts are in increasing order.
+/// none, or none is found before `most` nodes are noted, the node is marked with how many steps each walk to it has at least.
 ///
 /// It calls itself at most `left` times one within the other, so the caller keeps `left` small.
 pub(crate) fn dive<G: Graph, A: Allocator + Copy>(
     alloc: A,
     graph: &G,
-    starts: &[u32],
     node: u32,
     left: u32,
     most: usize,
@@ -32,15 +29,14 @@ pub(crate) fn dive<G: Graph, A: Allocator + Copy>(
     requires count { length marks.old ≡ G.size_of graph.now }
     requires within { node < G.size_of graph.now }
     requires is_open { G.OpenNode graph.now node }
-    requires in_order { IsNonDecreasing starts.now }
-    requires known { AreKnown (G.OpenNode graph.now) (IsStep (G.IsBeside graph.now) (G.OpenStep graph.now)) (Contains starts.now) (G.back_bound_of graph.now) marks.old }
+    requires known { AreKnown (G.OpenNode graph.now) (IsStep (G.IsBeside graph.now) (G.OpenStep graph.now)) (IsOrigin (G.size_of graph.now) (G.back_bound_of graph.now)) marks.old }
     requires noted { IsNoted marks.old touched.old.items }
     ensures found { IfOk result (λ walk. IfSome walk (λ nodes. IsWalkBack (G.OpenNode graph.now) (IsStep (G.IsBeside graph.now) (G.OpenStep graph.now))
-        (Contains starts.now) left node nodes.items)) }
-    ensures known { AreKnown (G.OpenNode graph.now) (IsStep (G.IsBeside graph.now) (G.OpenStep graph.now)) (Contains starts.now) (G.back_bound_of graph.now) marks.new }
+        (IsOrigin (G.size_of graph.now) (G.back_bound_of graph.now)) left node nodes.items)) }
+    ensures known { AreKnown (G.OpenNode graph.now) (IsStep (G.IsBeside graph.now) (G.OpenStep graph.now)) (IsOrigin (G.size_of graph.now) (G.back_bound_of graph.now)) marks.new }
     ensures noted { IsNoted marks.new touched.new.items }
 {
-    if is_start(starts, node) {
+    if is_start(graph, node) {
         return Ok(Some(Vec::from_slice(alloc, &[node])?));
     }
     let mut steps = u32::MAX;
@@ -48,25 +44,25 @@ pub(crate) fn dive<G: Graph, A: Allocator + Copy>(
         let Some(from) = enter(graph, node, side, left, most, &mut steps, marks, touched)? else {
             continue;
         };
-        let walk = dive(alloc, graph, starts, from, left - 1, most, marks, touched)?;
+        let walk = dive(alloc, graph, from, left - 1, most, marks, touched)?;
         if let Some(mut nodes) = walk {
             nodes.push(node)?;
             return Ok(Some(nodes));
         }
-        steps = steps.min(one_more(steps_left(graph, from, marks)));
+        steps = steps.min(one_more(steps_left(graph, from, u32::MAX, marks)));
     }
     touched.push(node)?;
     marks[node as usize] = Mark::Far { steps };
     Ok(None)
 }
 
-/// Whether the node is one of the starts, which are in increasing order.
-fn is_start(starts: &[u32], node: u32) -> bool
-    requires { IsNonDecreasing starts.now }
-    ensures start { result ≡ true → Contains starts.now node }
-    ensures other { result ≡ false → Contains starts.now node → ⊥ }
+/// Whether the node is a start.
+fn is_start<G: Graph>(graph: &G, node: u32) -> bool
+    requires { node < G.size_of graph.now }
+    ensures start { result ≡ true → IsOrigin (G.size_of graph.now) (G.back_bound_of graph.now) node }
+    ensures other { result ≡ false → IsOrigin (G.size_of graph.now) (G.back_bound_of graph.now) node → ⊥ }
 {
-    starts.binary_search(&node).is_ok()
+    graph.back_bound(node, 1) == 0
 }
 
 /// The open neighbour on this side, where a walk to it can have fewer than `left` steps, the step from it to the node is open and
@@ -83,23 +79,21 @@ fn enter<G: Graph, A: Allocator + Copy>(
 ) -> Result<Option<u32>, AllocError>
     requires count { length marks.old ≡ G.size_of graph.now }
     requires within { node < G.size_of graph.now }
+    requires known { AreKnown (G.OpenNode graph.now) (IsStep (G.IsBeside graph.now) (G.OpenStep graph.now)) (IsOrigin (G.size_of graph.now) (G.back_bound_of graph.now)) marks.old }
     requires noted { IsNoted marks.old touched.old.items }
     ensures fewer { steps.new ≤ steps.old }
     ensures entered { IfOk result (λ from. IfSome from (λ from. (from < G.size_of graph.now) × (0 < left)
         × IsStepTo (G.IsBeside graph.now) (G.OpenStep graph.now) (opposite side) from node)) }
     ensures only { IfOk result (λ from. IfSome from (λ from. (last : ℕ) → G.IsBeside graph.now (opposite side) last node → last ≡ from)) }
-    ensures is_open { (starts : List ℕ) → AreKnown (G.OpenNode graph.now) (IsStep (G.IsBeside graph.now) (G.OpenStep graph.now)) (Contains starts) (G.back_bound_of graph.now) marks.old
-        → IfOk result (λ from. IfSome from (G.OpenNode graph.now)) }
-    ensures past { (starts : List ℕ) → AreKnown (G.OpenNode graph.now) (IsStep (G.IsBeside graph.now) (G.OpenStep graph.now)) (Contains starts) (G.back_bound_of graph.now) marks.old
-        → IfOk result (λ from. IfNone from (IsFarFrom (G.IsBeside graph.now) (G.OpenStep graph.now) (G.OpenNode graph.now) (Contains starts) steps.new node side)) }
-    ensures known { (starts : List ℕ) → AreKnown (G.OpenNode graph.now) (IsStep (G.IsBeside graph.now) (G.OpenStep graph.now)) (Contains starts) (G.back_bound_of graph.now) marks.old
-        → AreKnown (G.OpenNode graph.now) (IsStep (G.IsBeside graph.now) (G.OpenStep graph.now)) (Contains starts) (G.back_bound_of graph.now) marks.new }
+    ensures is_open { IfOk result (λ from. IfSome from (G.OpenNode graph.now)) }
+    ensures past { IfOk result (λ from. IfNone from (IsFarFrom (G.IsBeside graph.now) (G.OpenStep graph.now) (G.OpenNode graph.now) (IsOrigin (G.size_of graph.now) (G.back_bound_of graph.now)) steps.new node side)) }
+    ensures known { AreKnown (G.OpenNode graph.now) (IsStep (G.IsBeside graph.now) (G.OpenStep graph.now)) (IsOrigin (G.size_of graph.now) (G.back_bound_of graph.now)) marks.new }
     ensures noted { IsNoted marks.new touched.new.items }
 {
     let Some(from) = graph.beside(node, side) else {
         return Ok(None);
     };
-    let least = steps_left(graph, from, marks);
+    let least = steps_left(graph, from, one_more(left), marks);
     if least >= left || touched.len() >= most {
         *steps = (*steps).min(one_more(least));
         return Ok(None);
@@ -107,47 +101,49 @@ fn enter<G: Graph, A: Allocator + Copy>(
     if !graph.is_open_step(from, opposite(side)) {
         return Ok(None);
     }
-    if !is_open(graph, from, marks, touched)? {
+    if !is_open(graph, from, least, marks, touched)? {
         return Ok(None);
     }
     Ok(Some(from))
 }
 
 /// One more, or the greatest number where there is no more.
-fn one_more(steps: u32) -> u32
+pub(crate) fn one_more(steps: u32) -> u32
     ensures { result ≤ steps + 1 }
 {
     steps.saturating_add(1)
 }
 
-/// How many steps a walk from a start to the node has at least, as far as is known.
-pub(crate) fn steps_left<G: Graph>(graph: &G, node: u32, marks: &[Mark]) -> u32
+/// How many steps a walk from a start to the node has at least, as far as is known; where nothing is noted of the node and those
+/// are more than `most`, as many as that.
+pub(crate) fn steps_left<G: Graph>(graph: &G, node: u32, most: u32, marks: &[Mark]) -> u32
     requires count { length marks.now ≡ G.size_of graph.now }
     requires within { node < G.size_of graph.now }
-    ensures { (starts : List ℕ) → AreKnown (G.OpenNode graph.now) (IsStep (G.IsBeside graph.now) (G.OpenStep graph.now)) (Contains starts) (G.back_bound_of graph.now) marks.now
-        → IsFar (G.OpenNode graph.now) (IsStep (G.IsBeside graph.now) (G.OpenStep graph.now)) (Contains starts) result node }
+    requires known { AreKnown (G.OpenNode graph.now) (IsStep (G.IsBeside graph.now) (G.OpenStep graph.now)) (IsOrigin (G.size_of graph.now) (G.back_bound_of graph.now)) marks.now }
+    ensures { IsFar (G.OpenNode graph.now) (IsStep (G.IsBeside graph.now) (G.OpenStep graph.now)) (IsOrigin (G.size_of graph.now) (G.back_bound_of graph.now)) result node }
 {
     match marks[node as usize] {
         Mark::Far { steps } => steps,
         Mark::Shut => u32::MAX,
-        Mark::Unseen | Mark::Reached { .. } => graph.back_bound(node),
+        Mark::Unseen | Mark::Reached { .. } => graph.back_bound(node, most),
     }
 }
 
-/// Whether the node is open. What is known is not asked, and what is asked is noted.
+/// Whether the node is open, to which a walk has at least this many steps. What is known is not asked, and what is asked is noted.
 pub(crate) fn is_open<G: Graph, A: Allocator + Copy>(
     graph: &G,
     node: u32,
+    steps: u32,
     marks: &mut [Mark],
     touched: &mut Vec<u32, A>,
 ) -> Result<bool, AllocError>
     requires count { length marks.old ≡ G.size_of graph.now }
     requires within { node < G.size_of graph.now }
+    requires known { AreKnown (G.OpenNode graph.now) (IsStep (G.IsBeside graph.now) (G.OpenStep graph.now)) (IsOrigin (G.size_of graph.now) (G.back_bound_of graph.now)) marks.old }
+    requires far { IsFar (G.OpenNode graph.now) (IsStep (G.IsBeside graph.now) (G.OpenStep graph.now)) (IsOrigin (G.size_of graph.now) (G.back_bound_of graph.now)) steps node }
     requires noted { IsNoted marks.old touched.old.items }
-    ensures is { (starts : List ℕ) → AreKnown (G.OpenNode graph.now) (IsStep (G.IsBeside graph.now) (G.OpenStep graph.now)) (Contains starts) (G.back_bound_of graph.now) marks.old
-        → IfOk result (λ is_open. IsTrue is_open ↔ G.OpenNode graph.now node) }
-    ensures known { (starts : List ℕ) → AreKnown (G.OpenNode graph.now) (IsStep (G.IsBeside graph.now) (G.OpenStep graph.now)) (Contains starts) (G.back_bound_of graph.now) marks.old
-        → AreKnown (G.OpenNode graph.now) (IsStep (G.IsBeside graph.now) (G.OpenStep graph.now)) (Contains starts) (G.back_bound_of graph.now) marks.new }
+    ensures is { IfOk result (λ is_open. IsTrue is_open ↔ G.OpenNode graph.now node) }
+    ensures known { AreKnown (G.OpenNode graph.now) (IsStep (G.IsBeside graph.now) (G.OpenStep graph.now)) (IsOrigin (G.size_of graph.now) (G.back_bound_of graph.now)) marks.new }
     ensures noted { IsNoted marks.new touched.new.items }
 {
     match marks[node as usize] {
@@ -161,8 +157,6 @@ pub(crate) fn is_open<G: Graph, A: Allocator + Copy>(
         marks[node as usize] = Mark::Shut;
         return Ok(false);
     }
-    marks[node as usize] = Mark::Far {
-        steps: graph.back_bound(node),
-    };
+    marks[node as usize] = Mark::Far { steps };
     Ok(true)
 }

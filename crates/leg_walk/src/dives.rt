@@ -1,13 +1,14 @@
 //! Dives from the ends, in rounds of a growing limit.
 
-ghost use Rattle.std.specs.Prelude.{◌≡◌, ◌≤◌, ◌<◌, ◌↔◌, ℕ, [], true, List, length, All, Contains, IfOk, IfSome};
-ghost use Rattle.std.specs.List.Sorted.{IsNonDecreasing};
-ghost use Rattle.leg_walk.specs.Walk.{IsStep, IsShortest};
+ghost use Rattle.std.specs.Prelude.{◌≡◌, ◌<◌, ℕ, [], false, length, All, Contains, IfOk, IfSome};
+ghost use Rattle.std.specs.Option.{option_map};
+ghost use Rattle.leg_walk.specs.Walk.{IsStep};
 ghost use Rattle.leg_walk.specs.Marks.{AreUnseen};
 ghost use Rattle.leg_walk.specs.Steps.Marks.{IsNoted};
-ghost use Rattle.leg_walk.specs.Steps.Dive.{IsFar, AreKnown, IsWalkBack};
+ghost use Rattle.leg_walk.specs.Steps.Dive.{IsOrigin, IsFar, AreKnown, IsWalkBack};
+ghost use Rattle.leg_walk.specs.Steps.Search.{IsRound};
 
-use crate::dive::{dive, is_open, steps_left};
+use crate::dive::{dive, is_open, one_more, steps_left};
 use crate::graph::Graph;
 use crate::mark::Mark;
 use std::alloc::{AllocError, Allocator};
@@ -25,88 +26,97 @@ const DEEPEST: u32 = 2_000;
 const NOTED_FOR_EACH_STEP: usize = 64;
 
 /// A shortest walk, where a few rounds of dives find one. Each round looks for a walk of as many steps as each has at least, as
-/// far as the rounds before it have found. Where none is found, `limit` grows to that number.
+/// far as the rounds before it have found. Where none is found, `limit` is that number, and `left_out` whether there may be a walk:
+/// there is none where no end is open.
 pub(crate) fn walk_by_dives<G: Graph, A: Allocator + Copy>(
     alloc: A,
     graph: &G,
-    starts: &[u32],
     ends: &[u32],
     limit: &mut u64,
     marks: &mut [Mark],
     touched: &mut Vec<u32, A>,
+    left_out: &mut bool,
 ) -> Result<Option<Vec<u32, A>>, AllocError>
     requires count { length marks.old ≡ G.size_of graph.now }
     requires unseen { AreUnseen marks.old }
     requires untouched { touched.old.items ≡ [] }
-    requires starts { All (λ a. a < G.size_of graph.now) starts.now }
     requires ends { All (λ a. a < G.size_of graph.now) ends.now }
-    ensures found { IfOk result (λ walk. IfSome walk (λ nodes. IsShortest (G.OpenNode graph.now) (IsStep (G.IsBeside graph.now) (G.OpenStep graph.now))
-        (Contains starts.now) (Contains ends.now) nodes.items)) }
+    ensures found { IfOk result (λ walk. IsRound (G.OpenNode graph.now) (IsStep (G.IsBeside graph.now) (G.OpenStep graph.now))
+        (IsOrigin (G.size_of graph.now) (G.back_bound_of graph.now)) (Contains ends.now) left_out.new (option_map (λ nodes. nodes.items) walk)) }
     ensures noted { IsNoted marks.new touched.new.items }
 {
-    if !is_none_left(graph, starts) {
-        return Ok(None);
-    }
-    let starts = in_order(alloc, starts)?;
-    let ends = in_order(alloc, ends)?;
-    let mut left = least_left(graph, &ends, marks);
+    let mut left = least_left(graph, ends, marks);
     let most = left as usize * NOTED_FOR_EACH_STEP;
     'rounds: for _ in 0..ROUNDS {
         if left > DEEPEST || touched.len() >= most {
             break;
         }
-        let walk = dive_from_ends(alloc, graph, &starts, &ends, left, most, marks, touched)?;
+        let near = near_ends(alloc, graph, ends, left, marks)?;
+        let walk = dive_from_ends(alloc, graph, &near, left, most, marks, touched)?;
         if let Some(nodes) = walk {
             return Ok(Some(nodes));
         }
-        left = least_left(graph, &ends, marks);
+        left = least_left(graph, ends, marks);
     }
-    *limit = (*limit).max(u64::from(left));
+    *limit = u64::from(left);
+    *left_out = is_one_open(graph, ends);
     Ok(None)
-}
-
-/// Whether the graph's bound on the steps left is 0 at each start.
-fn is_none_left<G: Graph>(graph: &G, starts: &[u32]) -> bool
-    requires { All (λ a. a < G.size_of graph.now) starts.now }
-    ensures { result ≡ true → All (λ a. G.back_bound_of graph.now a ≡ 0) starts.now }
-{
-    for start in starts {
-        if graph.back_bound(*start) != 0 {
-            return false;
-        }
-    }
-    true
-}
-
-/// The numbers in increasing order.
-fn in_order<A: Allocator>(alloc: A, numbers: &[u32]) -> Result<Vec<u32, A>, AllocError>
-    ensures in_order { IfOk result (λ sorted. IsNonDecreasing sorted.items) }
-    ensures same { IfOk result (λ sorted. (a : ℕ) → Contains sorted.items a ↔ Contains numbers.now a) }
-{
-    let mut sorted = Vec::from_slice(alloc, numbers)?;
-    sorted.sort_unstable();
-    Ok(sorted)
 }
 
 /// How many steps a walk from a start to an end has at least, as far as is known.
 fn least_left<G: Graph>(graph: &G, ends: &[u32], marks: &[Mark]) -> u32
     requires count { length marks.now ≡ G.size_of graph.now }
-    requires within { (a : ℕ) → Contains ends.now a → a < G.size_of graph.now }
-    ensures { (starts : List ℕ) → AreKnown (G.OpenNode graph.now) (IsStep (G.IsBeside graph.now) (G.OpenStep graph.now)) (Contains starts) (G.back_bound_of graph.now) marks.now
-        → All (IsFar (G.OpenNode graph.now) (IsStep (G.IsBeside graph.now) (G.OpenStep graph.now)) (Contains starts) result) ends.now }
+    requires within { All (λ a. a < G.size_of graph.now) ends.now }
+    requires known { AreKnown (G.OpenNode graph.now) (IsStep (G.IsBeside graph.now) (G.OpenStep graph.now)) (IsOrigin (G.size_of graph.now) (G.back_bound_of graph.now)) marks.now }
+    ensures { All (IsFar (G.OpenNode graph.now) (IsStep (G.IsBeside graph.now) (G.OpenStep graph.now)) (IsOrigin (G.size_of graph.now) (G.back_bound_of graph.now)) result) ends.now }
 {
     let mut least = u32::MAX;
     for end in ends {
-        least = least.min(steps_left(graph, *end, marks));
+        least = least.min(steps_left(graph, *end, least, marks));
     }
     least
+}
+
+/// The ends to which a walk may have at most `left` steps, as far as is known, in increasing order.
+fn near_ends<G: Graph, A: Allocator>(
+    alloc: A,
+    graph: &G,
+    ends: &[u32],
+    left: u32,
+    marks: &[Mark],
+) -> Result<Vec<u32, A>, AllocError>
+    requires count { length marks.now ≡ G.size_of graph.now }
+    requires within { All (λ a. a < G.size_of graph.now) ends.now }
+    requires known { AreKnown (G.OpenNode graph.now) (IsStep (G.IsBeside graph.now) (G.OpenStep graph.now)) (IsOrigin (G.size_of graph.now) (G.back_bound_of graph.now)) marks.now }
+    ensures { IfOk result (λ near. (a : ℕ) → Contains near.items a → Contains ends.now a) }
+{
+    let mut near = Vec::new(alloc);
+    for end in ends {
+        if steps_left(graph, *end, one_more(left), marks) <= left {
+            near.push(*end)?;
+        }
+    }
+    near.sort_unstable();
+    Ok(near)
+}
+
+/// Whether one of the ends is open.
+fn is_one_open<G: Graph>(graph: &G, ends: &[u32]) -> bool
+    requires { All (λ a. a < G.size_of graph.now) ends.now }
+    ensures { result ≡ false → All (λ a. ¬ G.OpenNode graph.now a) ends.now }
+{
+    for end in ends {
+        if graph.is_open_node(*end) {
+            return true;
+        }
+    }
+    false
 }
 
 /// An open walk of at most `left` steps from a start to the first of the ends to which one is found before `most` nodes are noted.
 fn dive_from_ends<G: Graph, A: Allocator + Copy>(
     alloc: A,
     graph: &G,
-    starts: &[u32],
     ends: &[u32],
     left: u32,
     most: usize,
@@ -115,16 +125,15 @@ fn dive_from_ends<G: Graph, A: Allocator + Copy>(
 ) -> Result<Option<Vec<u32, A>>, AllocError>
     requires count { length marks.old ≡ G.size_of graph.now }
     requires within { (a : ℕ) → Contains ends.now a → a < G.size_of graph.now }
-    requires in_order { IsNonDecreasing starts.now }
-    requires known { AreKnown (G.OpenNode graph.now) (IsStep (G.IsBeside graph.now) (G.OpenStep graph.now)) (Contains starts.now) (G.back_bound_of graph.now) marks.old }
+    requires known { AreKnown (G.OpenNode graph.now) (IsStep (G.IsBeside graph.now) (G.OpenStep graph.now)) (IsOrigin (G.size_of graph.now) (G.back_bound_of graph.now)) marks.old }
     requires noted { IsNoted marks.old touched.old.items }
     ensures found { IfOk result (λ walk. IfSome walk (λ nodes. (end : ℕ) × Contains ends.now end
-        × IsWalkBack (G.OpenNode graph.now) (IsStep (G.IsBeside graph.now) (G.OpenStep graph.now)) (Contains starts.now) left end nodes.items)) }
-    ensures known { AreKnown (G.OpenNode graph.now) (IsStep (G.IsBeside graph.now) (G.OpenStep graph.now)) (Contains starts.now) (G.back_bound_of graph.now) marks.new }
+        × IsWalkBack (G.OpenNode graph.now) (IsStep (G.IsBeside graph.now) (G.OpenStep graph.now)) (IsOrigin (G.size_of graph.now) (G.back_bound_of graph.now)) left end nodes.items)) }
+    ensures known { AreKnown (G.OpenNode graph.now) (IsStep (G.IsBeside graph.now) (G.OpenStep graph.now)) (IsOrigin (G.size_of graph.now) (G.back_bound_of graph.now)) marks.new }
     ensures noted { IsNoted marks.new touched.new.items }
 {
     for end in ends {
-        let walk = dive_from(alloc, graph, starts, *end, left, most, marks, touched)?;
+        let walk = dive_from(alloc, graph, *end, left, most, marks, touched)?;
         if let Some(nodes) = walk {
             return Ok(Some(nodes));
         }
@@ -136,7 +145,6 @@ fn dive_from_ends<G: Graph, A: Allocator + Copy>(
 fn dive_from<G: Graph, A: Allocator + Copy>(
     alloc: A,
     graph: &G,
-    starts: &[u32],
     end: u32,
     left: u32,
     most: usize,
@@ -145,20 +153,20 @@ fn dive_from<G: Graph, A: Allocator + Copy>(
 ) -> Result<Option<Vec<u32, A>>, AllocError>
     requires count { length marks.old ≡ G.size_of graph.now }
     requires within { end < G.size_of graph.now }
-    requires in_order { IsNonDecreasing starts.now }
-    requires known { AreKnown (G.OpenNode graph.now) (IsStep (G.IsBeside graph.now) (G.OpenStep graph.now)) (Contains starts.now) (G.back_bound_of graph.now) marks.old }
+    requires known { AreKnown (G.OpenNode graph.now) (IsStep (G.IsBeside graph.now) (G.OpenStep graph.now)) (IsOrigin (G.size_of graph.now) (G.back_bound_of graph.now)) marks.old }
     requires noted { IsNoted marks.old touched.old.items }
     ensures found { IfOk result (λ walk. IfSome walk (λ nodes. IsWalkBack (G.OpenNode graph.now) (IsStep (G.IsBeside graph.now) (G.OpenStep graph.now))
-        (Contains starts.now) left end nodes.items)) }
-    ensures known { AreKnown (G.OpenNode graph.now) (IsStep (G.IsBeside graph.now) (G.OpenStep graph.now)) (Contains starts.now) (G.back_bound_of graph.now) marks.new }
+        (IsOrigin (G.size_of graph.now) (G.back_bound_of graph.now)) left end nodes.items)) }
+    ensures known { AreKnown (G.OpenNode graph.now) (IsStep (G.IsBeside graph.now) (G.OpenStep graph.now)) (IsOrigin (G.size_of graph.now) (G.back_bound_of graph.now)) marks.new }
     ensures noted { IsNoted marks.new touched.new.items }
 {
-    if steps_left(graph, end, marks) > left {
+    let least = steps_left(graph, end, one_more(left), marks);
+    if least > left {
         return Ok(None);
     }
-    if !is_open(graph, end, marks, touched)? {
+    if !is_open(graph, end, least, marks, touched)? {
         return Ok(None);
     }
-    let walk = dive(alloc, graph, starts, end, left, most, marks, touched)?;
+    let walk = dive(alloc, graph, end, left, most, marks, touched)?;
     Ok(walk)
 }

@@ -1,6 +1,6 @@
 //! What a search asks of a graph.
 
-ghost use Rattle.std.specs.Prelude.{◌≡◌, ◌≤◌, ◌<◌, ◌+◌, ◌↔◌, ℕ, IsTrue, IfSome};
+ghost use Rattle.std.specs.Prelude.{◌≡◌, ◌≤◌, ◌<◌, ◌+◌, ◌^◌, ◌↔◌, ℕ, min, IsTrue, IfSome};
 
 use crate::side::Side;
 
@@ -51,16 +51,16 @@ pub trait Graph {
         self.is_open_node(next)
     }
 
-    /// How many steps are left at least from the node to an end.
-    fn bound(&self, node: u32) -> u32
+    /// How many steps are left at least from the node to an end, or `most` where those are more.
+    fn bound(&self, node: u32, most: u32) -> u32
         requires { node < size_of self.now }
-        ensures { result ≡ bound_of self.now node };
+        ensures is { result ≡ min most (bound_of self.now node) }
+        ensures small { bound_of self.now node < 2 ^ 32 };
 
-    /// How many steps are left at least from a start to the node. A graph that gives more than 0 at some start is
-    /// searched without it.
-    fn back_bound(&self, node: u32) -> u32
+    /// How many steps are left at least from a start to the node, or `most` where those are more.
+    fn back_bound(&self, node: u32, most: u32) -> u32
         requires { node < size_of self.now }
-        ensures { result ≡ back_bound_of self.now node };
+        ensures { result ≡ min most (back_bound_of self.now node) };
 
     ghost one_nearer: { (g : Self) (side : Side) (a b : ℕ) → IsBeside g side a b → bound_of g a ≤ bound_of g b + 1 };
 

@@ -181,6 +181,9 @@ fn is_unseen(marks: &[Mark], node: u32) -> bool
     matches!(marks[node as usize], Mark::Unseen)
 }
 
+/// The most steps that may be left and are told from more.
+const MOST_LEFT: u32 = u32::MAX - 1;
+
 /// Whether the node, at this level, is too far from the ends for the limit.
 fn is_too_far<G: Graph>(graph: &G, node: u32, level: Level) -> bool
     requires { node < G.size_of graph.now }
@@ -188,7 +191,10 @@ fn is_too_far<G: Graph>(graph: &G, node: u32, level: Level) -> bool
     ensures low { result ≡ true → level.limit < 2 ^ 33 }
     ensures near { result ≡ false → level.number + G.bound_of graph.now node ≤ level.limit }
 {
-    u64::from(level.number) + u64::from(graph.bound(node)) > level.limit
+    let number = u64::from(level.number);
+    let left = level.limit.saturating_sub(number);
+    let most = left.min(u64::from(MOST_LEFT)) as u32 + 1;
+    number + u64::from(graph.bound(node, most)) > level.limit
 }
 
 /// Where the node is open, gives it the mark and puts it into `next`, and else shuts it.

@@ -1,10 +1,11 @@
 //! A shortest walk, found in rounds of a growing limit.
 
-ghost use Rattle.std.specs.Prelude.{◌≡◌, ◌≤◌, ◌<◌, ◌^◌, [], true, false, length, All, Contains, IfOk, IfSome, OnOk};
+ghost use Rattle.std.specs.Prelude.{◌≡◌, ◌≤◌, ◌<◌, ◌^◌, ◌↔◌, ℕ, [], true, false, length, All, Contains, IfOk, OnOk};
 ghost use Rattle.std.specs.Option.{option_map};
-ghost use Rattle.leg_walk.specs.Walk.{IsStep, IsShortest, IsAnswer};
+ghost use Rattle.leg_walk.specs.Walk.{IsStep, IsAnswer};
 ghost use Rattle.leg_walk.specs.Marks.{AreUnseen};
 ghost use Rattle.leg_walk.specs.Steps.Marks.{IsNoted};
+ghost use Rattle.leg_walk.specs.Steps.Dive.{IsOrigin};
 ghost use Rattle.leg_walk.specs.Steps.Search.{IsRound};
 
 use crate::back::way_to;
@@ -19,8 +20,8 @@ use std::alloc::{AllocError, Allocator};
 const FIRST_GROWTH: u64 = 2;
 
 /// The nodes of a shortest open walk from a start to an end, or none where there is no such walk. Starts and ends may repeat
-/// and need not be open; an open node that is both is a walk of no steps. `marks` has one for each node. `touched` is room to
-/// work in.
+/// and need not be open; an open node that is both is a walk of no steps. The starts are those nodes to which the graph says that
+/// no steps are left from a start. `marks` has one for each node. `touched` is room to work in.
 ///
 /// Of the nearest ends it is the one with the least number. Each node before it is, of those from which a shortest walk can
 /// enter the next one, the first of west, east, south, north, below and above.
@@ -38,16 +39,29 @@ pub fn shortest<G: Graph, A: Allocator + Copy>(
     requires untouched { touched.old.items ≡ [] }
     requires starts { All (λ a. a < G.size_of graph.now) starts.now }
     requires ends { All (λ a. a < G.size_of graph.now) ends.now }
+    requires at_start { (a : ℕ) → Contains starts.now a ↔ ((a < G.size_of graph.now) × (G.back_bound_of graph.now a ≡ 0)) }
     requires at_end { All (λ a. G.bound_of graph.now a ≡ 0) ends.now }
     ensures found { IfOk result (λ walk. IsAnswer (G.OpenNode graph.now) (IsStep (G.IsBeside graph.now) (G.OpenStep graph.now))
         (Contains starts.now) (Contains ends.now) (option_map (λ nodes. nodes.items) walk)) }
     ensures unseen { AreUnseen marks.new }
     ensures untouched { touched.new.items ≡ [] }
 {
-    let mut limit = least_bound(graph, starts);
-    let near = near_walk(alloc, graph, starts, ends, &mut limit, marks, touched)?;
+    let mut limit = 0;
+    let mut left_out = false;
+    let near = near_walk(
+        alloc,
+        graph,
+        ends,
+        &mut limit,
+        marks,
+        touched,
+        &mut left_out,
+    )?;
     if let Some(walk) = near {
         return Ok(Some(walk));
+    }
+    if !left_out {
+        return Ok(None);
     }
     let mut growth = FIRST_GROWTH;
     'rounds: loop {
@@ -73,42 +87,29 @@ pub fn shortest<G: Graph, A: Allocator + Copy>(
     }
 }
 
-/// Looks for a shortest walk by dives, and leaves all nodes unseen. Where none is found, `limit` may grow, and no walk has fewer
-/// steps.
+/// Looks for a shortest walk by dives, and leaves all nodes unseen. Where none is found, no walk has fewer steps than the limit, and
+/// `left_out` is whether there may be one.
 fn near_walk<G: Graph, A: Allocator + Copy>(
     alloc: A,
     graph: &G,
-    starts: &[u32],
     ends: &[u32],
     limit: &mut u64,
     marks: &mut [Mark],
     touched: &mut Vec<u32, A>,
+    left_out: &mut bool,
 ) -> Result<Option<Vec<u32, A>>, AllocError>
     requires count { length marks.old ≡ G.size_of graph.now }
     requires unseen { AreUnseen marks.old }
     requires untouched { touched.old.items ≡ [] }
-    requires starts { All (λ a. a < G.size_of graph.now) starts.now }
     requires ends { All (λ a. a < G.size_of graph.now) ends.now }
-    ensures found { IfOk result (λ walk. IfSome walk (λ nodes. IsShortest (G.OpenNode graph.now) (IsStep (G.IsBeside graph.now) (G.OpenStep graph.now))
-        (Contains starts.now) (Contains ends.now) nodes.items)) }
+    ensures found { IfOk result (λ walk. IsRound (G.OpenNode graph.now) (IsStep (G.IsBeside graph.now) (G.OpenStep graph.now))
+        (IsOrigin (G.size_of graph.now) (G.back_bound_of graph.now)) (Contains ends.now) left_out.new (option_map (λ nodes. nodes.items) walk)) }
     ensures unseen { AreUnseen marks.new }
     ensures untouched { touched.new.items ≡ [] }
 {
-    let walk = walk_by_dives(alloc, graph, starts, ends, limit, marks, touched);
+    let walk = walk_by_dives(alloc, graph, ends, limit, marks, touched, left_out);
     reset(marks, touched);
     walk
-}
-
-/// The least number of steps that are left from a start to an end, as far as the graph knows.
-fn least_bound<G: Graph>(graph: &G, starts: &[u32]) -> u64
-    requires { All (λ a. a < G.size_of graph.now) starts.now }
-    ensures { result < 2 ^ 32 }
-{
-    let mut least = u32::MAX;
-    for start in starts {
-        least = least.min(graph.bound(*start));
-    }
-    u64::from(least)
 }
 
 /// Looks for a shortest walk within a limit, and leaves all nodes unseen.

@@ -8,7 +8,7 @@ use std::alloc::{AllocError, Allocator};
 use std::cell::Cell;
 
 /// A place of a maze: its neighbours, whether it is open, whether the steps to the west and to the east are, how many steps it
-/// is from the start at least, and how many are left at least.
+/// is from the nearest start at least, and how many are left at least.
 #[derive(Clone, Copy)]
 pub struct Place {
     pub west: Option<u32>,
@@ -57,7 +57,6 @@ pub struct Plan {
     pub layers: u32,
     /// Whether all steps of a layer go along one axis: along x on the lowest layer, along y on the next, and so on.
     pub one_way: bool,
-    pub start: Position,
     pub goal: Position,
     pub known: Known,
 }
@@ -65,15 +64,15 @@ pub struct Plan {
 /// Where a place lies: along x, along y, and on which layer.
 pub type Position = (u32, u32, u32);
 
-/// What is known of how many steps lie between a place and the start, and between it and the goal.
+/// What is known of how many steps lie between a place and the nearest start, and between it and the goal.
 #[derive(Clone, Copy)]
 pub enum Known {
     /// Both are at least the distance along x, y and the layers.
     Both,
-    /// The same of the goal; the start is taken to be a step away from each place, the start too. So no search dives.
+    /// The same of the goal; each place but the starts is taken to be a step away from one. So dives soon give up.
     Goal,
-    /// Nothing: there may be none.
-    Nothing,
+    /// The same of the starts, and nothing of the goal: there may be no step left.
+    Starts,
 }
 
 /// A wall: what it closes.
@@ -100,12 +99,13 @@ pub struct Questions {
 #[derive(Drop)]
 pub struct Maze<A: Allocator> {
     pub places: Vec<Place, A>,
+    plan: Plan,
     /// How often it was asked of each place whether the step to each side is open, and whether it is itself.
     asked: Vec<Cell<u32>, A>,
 }
 
 impl<A: Allocator + Copy> Maze<A> {
-    /// The maze that is planned, without walls.
+    /// The maze that is planned, without walls and starts.
     pub fn new(alloc: A, plan: &Plan) -> Result<Maze<A>, AllocError> {
         let area = plan.width.wrapping_mul(plan.height);
         let mut places = Vec::new(alloc);
@@ -118,7 +118,22 @@ impl<A: Allocator + Copy> Maze<A> {
         for _ in 0..places.len().wrapping_mul(QUESTIONS) {
             asked.push(Cell::new(0))?;
         }
-        Ok(Maze { places, asked })
+        Ok(Maze {
+            places,
+            plan: *plan,
+            asked,
+        })
+    }
+
+    /// Takes these places as the starts: notes of each place how many steps it is from the nearest of them at least.
+    pub fn start_at(&mut self, starts: &[u32]) {
+        for node in 0..self.places.len() {
+            self.places[node].gone = steps_from(
+                &self.plan,
+                starts,
+                u32::try_from(node).unwrap_or(u32::MAX),
+            );
+        }
     }
 
     /// Builds the walls, one after the other.
@@ -209,13 +224,9 @@ fn open_place(plan: &Plan, number: u32, position: Position) -> Place {
     let (width, area) = (plan.width, plan.width.wrapping_mul(plan.height));
     let along_x = !plan.one_way || layer % 2 == 0;
     let along_y = !plan.one_way || layer % 2 == 1;
-    let (gone, left) = match plan.known {
-        Known::Both => (
-            steps_between(plan.start, position),
-            steps_between(position, plan.goal),
-        ),
-        Known::Goal => (1, steps_between(position, plan.goal)),
-        Known::Nothing => (0, 0),
+    let left = match plan.known {
+        Known::Both | Known::Goal => steps_between(position, plan.goal),
+        Known::Starts => 0,
     };
     Place {
         west: (along_x && x > 0).then_some(number.wrapping_sub(1)),
@@ -227,9 +238,30 @@ fn open_place(plan: &Plan, number: u32, position: Position) -> Place {
         is_open: true,
         opens_west: true,
         opens_east: true,
-        gone,
+        gone: u32::MAX,
         left,
     }
+}
+
+/// The position of the place of this number.
+fn position_of(plan: &Plan, number: u32) -> Position {
+    let rows = number.checked_div(plan.width).unwrap_or(0);
+    let x = number.wrapping_sub(rows.wrapping_mul(plan.width));
+    let layer = rows.checked_div(plan.height).unwrap_or(0);
+    (x, rows.wrapping_sub(layer.wrapping_mul(plan.height)), layer)
+}
+
+/// How many steps there are at least from one of these places to the place, as far as is known.
+fn steps_from(plan: &Plan, starts: &[u32], node: u32) -> u32 {
+    let mut least = u32::MAX;
+    for start in starts {
+        let steps = match plan.known {
+            Known::Both => steps_between(position_of(plan, *start), position_of(plan, node)),
+            Known::Goal | Known::Starts => u32::from(*start != node),
+        };
+        least = least.min(steps);
+    }
+    least
 }
 
 /// How many steps there are at least from one place to another.
@@ -301,12 +333,12 @@ impl<A: Allocator + Copy> Graph for Maze<A> {
         self.places[node as usize].is_open
     }
 
-    fn bound(&self, node: u32) -> u32 {
-        self.places[node as usize].left
+    fn bound(&self, node: u32, most: u32) -> u32 {
+        most.min(self.places[node as usize].left)
     }
 
-    fn back_bound(&self, node: u32) -> u32 {
-        self.places[node as usize].gone
+    fn back_bound(&self, node: u32, most: u32) -> u32 {
+        most.min(self.places[node as usize].gone)
     }
 
     ghost one_nearer = { λ m side a b beside. beside.there.2 };

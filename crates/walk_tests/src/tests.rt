@@ -1,6 +1,6 @@
 //! Walks in mazes: which of the shortest is taken, what is asked, and how often.
 
-ghost use Rattle.std.specs.Prelude.{◌≡◌, ◌<◌, true, length, All};
+ghost use Rattle.std.specs.Prelude.{◌≡◌, ◌<◌, ◌^◌, ℕ, true, length, All, Contains};
 ghost use Rattle.walk_tests.specs.Maze.{place_at};
 
 use crate::maze::{Known, Maze, Plan, Wall};
@@ -33,6 +33,32 @@ fn are_goals(maze: &Maze<Global>, nodes: &[u32]) -> bool
     true
 }
 
+/// Whether no steps lie between a start and any of these.
+fn are_starts(maze: &Maze<Global>, nodes: &[u32]) -> bool
+    requires { All (λ a. a < length maze.now.places.items) nodes.now }
+    ensures { result ≡ true → All (λ a. (place_at maze.now.places.items a).gone ≡ 0) nodes.now }
+{
+    for node in nodes {
+        if maze.places[*node as usize].gone != 0 {
+            return false;
+        }
+    }
+    true
+}
+
+/// Whether each place of which no steps lie between it and a start is one of these.
+fn are_all_starts(maze: &Maze<Global>, nodes: &[u32]) -> bool
+    requires { length maze.now.places.items < 2 ^ 32 }
+    ensures { result ≡ true → (a : ℕ) → a < length maze.now.places.items → (place_at maze.now.places.items a).gone ≡ 0 → Contains nodes.now a }
+{
+    for place in 0..maze.places.len() {
+        if maze.places[place].gone == 0 && !nodes.contains(&(place as u32)) {
+            return false;
+        }
+    }
+    true
+}
+
 /// A shortest walk, after which no place is seen.
 fn walk(
     rt: &impl Abort,
@@ -44,6 +70,7 @@ fn walk(
     let count = maze.places.len();
     assert!(rt; count < 1 << 32);
     assert!(rt; are_places(maze, starts) && are_places(maze, ends) && are_goals(maze, ends));
+    assert!(rt; are_starts(maze, starts) && are_all_starts(maze, starts));
     let mut marks = unseen_marks(alloc, count).expect(rt, "memory");
     let mut touched = Vec::new(alloc);
     let found = shortest(alloc, maze, starts, ends, &mut marks, &mut touched).expect(rt, "memory");
@@ -87,6 +114,7 @@ fn is_found(walk: Option<&[u32]>, expected: Found) -> bool {
 fn check_searches(rt: &impl Abort, alloc: Global, maze: &mut Maze<Global>, searches: &[Search]) {
     for search in searches {
         maze.close_all(search.walls);
+        maze.start_at(search.starts);
         let found = walk(rt, alloc, maze, search.starts, search.ends);
         assert!(rt; is_found(found.as_deref(), search.found), "found {found:?}");
     }
@@ -107,20 +135,18 @@ static FOUR_ROWS: Plan = Plan {
     height: 4,
     layers: 1,
     one_way: false,
-    start: (0, 0, 0),
     goal: (4, 3, 0),
     known: Known::Both,
 };
 
-/// The same with nothing known of the start and the goal.
+/// The same with nothing known of the goal.
 static ROWS_WITHOUT_GOAL: Plan = Plan {
     width: 5,
     height: 4,
     layers: 1,
     one_way: false,
-    start: (0, 0, 0),
     goal: (4, 3, 0),
-    known: Known::Nothing,
+    known: Known::Starts,
 };
 
 #[test]
@@ -155,7 +181,6 @@ fn comes_from_the_east_before_the_south_and_from_below_last(rt: HostRuntime) {
         height: 3,
         layers: 2,
         one_way: false,
-        start: (2, 0, 0),
         goal: (0, 2, 1),
         known: Known::Both,
     };
@@ -170,7 +195,6 @@ fn comes_from_the_east_before_the_south_and_from_below_last(rt: HostRuntime) {
         height: 3,
         layers: 2,
         one_way: false,
-        start: (0, 2, 1),
         goal: (0, 0, 0),
         known: Known::Both,
     };
@@ -272,7 +296,6 @@ fn goes_a_long_way_round_a_wall(rt: HostRuntime) {
         height: 20,
         layers: 1,
         one_way: false,
-        start: (0, 0, 0),
         goal: (19, 0, 0),
         known: Known::Both,
     };
@@ -287,6 +310,20 @@ fn goes_a_long_way_round_a_wall(rt: HostRuntime) {
         maze.close(Wall::At(20 * row + 10));
     }
     check_searches(&rt, rt.alloc(), &mut maze, &SEARCHES);
+}
+
+#[test]
+fn looks_for_no_walk_to_closed_ends(rt: HostRuntime) {
+    static SEARCHES: [Search; 1] = [Search {
+        walls: &[Wall::At(12), Wall::At(19)],
+        starts: &[0],
+        ends: &[19, 19],
+        found: Found::Nothing,
+    }];
+    let mut maze = open_maze(&rt, rt.alloc(), &FOUR_ROWS);
+    check_searches(&rt, rt.alloc(), &mut maze, &SEARCHES);
+    let asked = maze.questions();
+    assert!(rt; asked.steps == 0 && asked.nodes < 4);
 }
 
 #[test]
@@ -309,7 +346,6 @@ fn keeps_near_a_shortest_walk_in_the_open(rt: HostRuntime) {
         height: 200,
         layers: 6,
         one_way: true,
-        start: (50, 50, 0),
         goal: (150, 150, 0),
         known: Known::Both,
     };
@@ -332,12 +368,12 @@ fn walk_by_seed(rt: &impl Abort, alloc: Global, seed: u32, known: Known) -> Opti
         height: 12,
         layers: 2,
         one_way: false,
-        start: (2, 3, 0),
         goal: (10, 8, 1),
         known,
     };
     let mut maze = open_maze(rt, alloc, &plan);
     maze.scatter_walls(seed);
+    maze.start_at(&[38]);
     walk(rt, alloc, &maze, &[38], &[250])
 }
 

@@ -1,5 +1,5 @@
 -- The lines of tracks.
-use Rattle.std.specs.Prelude.{◌≡◌, ℕ, ℤ, pos, ◌≤ℤ◌, List, Contains}
+use Rattle.std.specs.Prelude.{◌≡◌, ◌↔◌, ◌⊎◌, ℕ, ℤ, pos, ◌≤ℤ◌, Bool, true, List, length, Some, slice_get, Contains}
 use Rattle.leg_lex.specs.Number.{IsNumber}
 use Rattle.leg_cells.specs.declared.records.Direction.{Direction}
 use Rattle.leg_cells.specs.Records.{Contents}
@@ -33,3 +33,14 @@ pub record IsLineAlong (library : Contents) (tracks : List TrackSaid) (direction
   pub track : TrackSaid
   pub given : Contains tracks track
   pub is : IsLineFor library direction axis track z
+
+-- one of these tracks lies at z, along this axis, and is for the layer of this number
+pub record IsTrackAt (number : ℕ) (axis : Axis) (z : ℤ) (track : TrackSaid) : Type 0 where
+  pub along : track.axis ≡ axis
+  pub are_for : AreFor track number
+  pub line : IsLineOf track z
+
+-- the marks, one for each of the values, have been set at the values of which this holds, and are else as before
+pub record HaveMarked (values : List ℤ) (Holds : ℤ → Type 0) (before after : List Bool) : Type 0 where
+  pub count : length after ≡ length before
+  pub each : (i : ℕ) (z : ℤ) → slice_get values i ≡ Some z → (slice_get after i ≡ Some true) ↔ ((slice_get before i ≡ Some true) ⊎ Holds z)

@@ -31,3 +31,8 @@ IsInRows grid layer rows columns n = IsAmong (λ row m. IsInRow grid layer row c
 -- the numbers have got those of which this holds, and no others
 abbrev pub HaveGot : (ℕ → Type 0) → List ℕ → List ℕ → Type 0
 HaveGot New before after = (n : ℕ) → Contains after n ↔ (Contains before n ⊎ New n)
+
+-- of the numbers some have been dropped of which this holds, and no others
+pub record HaveDropped (P : ℕ → Type 0) (before after : List ℕ) : Type 0 where
+  pub old : (n : ℕ) → Contains after n → Contains before n
+  pub kept : (n : ℕ) → Contains before n → Contains after n ⊎ P n

@@ -1,18 +1,35 @@
 -- What is kept of slots, while shapes are added one by one.
-use Rattle.std.specs.Prelude.{◌≡◌, ◌↔◌, ◌⊎◌, ℕ, ℤ, ◌+◌, ◌<◌, ◌≤◌, ◌<ℤ◌, List, ◌++◌, ◌∷◌, [], Some, Option, MatchOption, length, slice_get}
+use Rattle.std.specs.Prelude.{◌≡◌, ◌↔◌, ◌⊎◌, ℕ, ℤ, Bool, IsTrue, ◌+◌, ◌<◌, ◌≤◌, ◌<ℤ◌, List, ◌++◌, ◌∷◌, [], Some, Option, MatchOption, length, slice_get}
 use Rattle.leg_walk.specs.declared.side.Side.TheVariants.{East, North}
+use Rattle.leg_flat.specs.declared.owner.Owner.{Owner}
+use Rattle.leg_flat.specs.declared.owner.Owner.TheVariants.{Net}
 use Rattle.leg_flat.specs.declared.shape.Shape.{Shape}
 use Rattle.leg_flat.specs.Flat.{FlatSaid}
 use Rattle.leg_wire.specs.declared.access.Access.{Access}
+use Rattle.leg_wire.specs.declared.access.Access.TheVariants.{Free, Only, Blocked}
 use Rattle.leg_wire.specs.Access.{Admits}
+use Rattle.leg_grid.specs.declared.layers.RoutingLayer.{RoutingLayer}
 use Rattle.leg_grid.specs.declared.slot_access.SlotAccess.{SlotAccess}
 use Rattle.leg_grid.specs.Grid.{GridSaid, IsSlot}
 use Rattle.leg_grid.specs.Numbered.{IsBesideAt}
 use Rattle.leg_grid.specs.Told.{TellsSlot}
+use Rattle.leg_grid.specs.Steps.Reaches.{one_if}
 
 -- the third admits what the first two both admit
 abbrev pub IsBoth : Access → Access → Access → Type 0
 IsBoth a b both = (net : ℕ) → Admits both net ↔ (Admits a net × Admits b net)
+
+-- metal of this owner takes away none of the nets that are admitted
+abbrev pub IsSettled : Access → Owner → Type 0
+IsSettled Free owner = ⊥
+IsSettled (Only net) owner = owner ≡ Net net
+IsSettled Blocked owner = Unit {0}
+
+-- nor does it of what is kept of a slot: of its node and the step along its layer, if metal on that layer is spoken of, and of the step up
+pub record AreSettled (slot : SlotAccess) (owner : Owner) (on_layer : Bool) : Type 0 where
+  pub node : IsTrue on_layer → IsSettled slot.node owner
+  pub along : IsTrue on_layer → IsSettled slot.along owner
+  pub above : IsSettled slot.above owner
 
 -- the slot of the number m lies to the east or to the north of that of n
 abbrev pub IsNextAlong : GridSaid → ℕ → ℕ → Type 0
@@ -37,10 +54,10 @@ pub record AreTold (grid : GridSaid) (shape : Shape) (P : ℕ → Type 0) (befor
   pub told : (n : ℕ) → P n → IsTold grid shape n before after
   pub others : (n : ℕ) → ¬ P n → slice_get after n ≡ slice_get before n
 
--- the places of the values from the last one below low to the last one not above high
-pub record ArePlacesNear (values : List ℤ) (low high : ℤ) (first end : ℕ) : Type 0 where
+-- the places of the values from the first one not below low, or from the last one below it if `back` is set, to the last one not above high
+pub record ArePlacesNear (values : List ℤ) (back : Bool) (low high : ℤ) (first end : ℕ) : Type 0 where
   pub within : end ≤ length values
-  pub before : (k m : ℕ) (z : ℤ) → k < first → m ≤ k + 1 → slice_get values m ≡ Some z → z <ℤ low
+  pub before : (k m : ℕ) (z : ℤ) → k < first → m ≤ k + one_if back → slice_get values m ≡ Some z → z <ℤ low
   pub behind : (k : ℕ) (z : ℤ) → end ≤ k → slice_get values k ≡ Some z → high <ℤ z
 
 -- n is the number of a slot of routing layer k
@@ -48,3 +65,7 @@ pub record IsOnLayer (grid : GridSaid) (k n : ℕ) : Type 0 where
   pub j : ℕ
   pub i : ℕ
   pub slot : IsSlot grid n k j i
+
+-- where routing layer k is the layer of this number in the library, the mark is set
+abbrev pub LiesOnIf : GridSaid → ℕ → ℕ → Bool → Type 0
+LiesOnIf grid k number set = (own : RoutingLayer) → slice_get grid.layers k ≡ Some own → own.number ≡ number → IsTrue set

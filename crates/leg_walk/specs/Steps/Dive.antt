@@ -1,11 +1,15 @@
 -- What a dive knows: a search depth first, from a node back to a start.
-use Rattle.std.specs.Prelude.{◌≡◌, ℕ, ◌+◌, ◌≤◌, List, length}
+use Rattle.std.specs.Prelude.{◌≡◌, ℕ, ◌+◌, ◌<◌, ◌≤◌, List, length}
 use Rattle.leg_walk.specs.declared.mark.Mark.{Mark}
 use Rattle.leg_walk.specs.declared.mark.Mark.TheVariants.{Shut, Far}
 use Rattle.leg_walk.specs.declared.side.Side.{Side}
 use Rattle.leg_walk.specs.Side.{opposite}
 use Rattle.leg_walk.specs.Walk.{Walk, IsStep, IsStepTo}
 use Rattle.leg_walk.specs.Steps.Marks.{IsMark}
+
+-- the node is one to which no steps are left: a start
+abbrev pub IsOrigin : ℕ → (ℕ → ℕ) → ℕ → Type 0
+IsOrigin size bound a = (a < size) × (bound a ≡ 0)
 
 -- each walk from a start to the node has at least this many steps
 abbrev pub IsFar : (ℕ → Type 0) → (ℕ → ℕ → Type 0) → (ℕ → Type 0) → ℕ → ℕ → Type 0
@@ -17,9 +21,8 @@ IsFarFrom IsBeside OpenStep Open Start steps node side =
     (last from : ℕ) (nodes : List ℕ) → IsStepTo IsBeside OpenStep (opposite side) last node → Start from
     → Walk Open (IsStep IsBeside OpenStep) from nodes last → steps ≤ length nodes
 
--- What the marks state is true, whatever the limit of the dive that made them, and no steps are left at a start.
-pub record AreKnown (Open : ℕ → Type 0) (Step : ℕ → ℕ → Type 0) (Start : ℕ → Type 0) (bound : ℕ → ℕ) (marks : List Mark) : Type 0 where
-  pub at_start : (a : ℕ) → Start a → bound a ≡ 0
+-- What the marks state is true, whatever the limit of the dive that made them.
+pub record AreKnown (Open : ℕ → Type 0) (Step : ℕ → ℕ → Type 0) (Start : ℕ → Type 0) (marks : List Mark) : Type 0 where
   pub shut : (a : ℕ) → IsMark marks a Shut → Open a → ⊥
   pub is_open : (a steps : ℕ) → IsMark marks a (Far steps) → Open a
   pub far : (a steps : ℕ) → IsMark marks a (Far steps) → IsFar Open Step Start steps a

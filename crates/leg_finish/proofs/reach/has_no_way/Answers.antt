@@ -13,12 +13,12 @@ returns-clause-none g c =
     let starts = c.args.starts.now.slots.items in
     let ends = c.args.ends.now.slots.items in
     let origin = c.as_slice.result.now in
-    let around = c.as_slice-2.result.now in
+    let around = c.as_slice-3.result.now in
     let law = c.searches_walk_as_nodes.ensures in
     let proper = c.grid_is_sound.ensures.proper in
     let sound = c.grid_is_sound.ensures.library in
     let told = c.requires.told in
-    let found = rw (c.deref.ensures.value, c.deref-2.ensures.value) at c.in_ok-walk.ensures.found in
+    let found = rw (c.deref-3.ensures.value, c.deref-4.ensures.value) at c.in_ok-walk.ensures.found in
     way_told grid flat net starts ends slots origin around (λ numbers is. law.shortest grid origin around flat slots net starts ends numbers proper sound told is)
     (λ none. law.none grid origin around flat slots net starts ends proper sound told none) (λ v. v.items) c.in_ok-walk.walk c.is_none.result found c.is_none.ensures
 

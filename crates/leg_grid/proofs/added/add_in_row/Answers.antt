@@ -1,7 +1,13 @@
-use Rattle.std.proofs.Common.{arith}
+use Rattle.std.proofs.Common.{sym, ◌∙◌, arith}
 use Rattle.leg_grid.specs.Grid.{IsSlot}
+use Rattle.leg_grid.proofs.GridSlots.{lies_at}
 use Rattle.leg_grid.proofs.SlotsAdded.{none_among, one_among, all_among, one_slot_told, one_column}
 use Rattle.leg_grid.proofs.added.add_in_row.Goals as goal
+
+pub add_at-requires-clause-on_layer : goal.add_at-requires-clause-on_layer
+add_at-requires-clause-on_layer g c node number same =
+    let lies = lies_at c.args.grid.now c.number_at-number.result c.args.layer c.args.row c.loop-column.column node c.number_at-number.ensures.is number in
+    c.requires.on_layer lies.layer lies.there (sym lies.on ∙ same)
 
 pub loop-column-init : goal.loop-column-init
 loop-column-init g c =

@@ -1,33 +1,41 @@
-use Rattle.std.proofs.Common.{◌+ℤ◌, ◌-ℤ◌, FitsSigned, w64, arith}
-use Rattle.std.proofs.lemmas.Int.{ints, to_z-of_z}
+use Rattle.std.proofs.Common.{◌+ℤ◌, ◌-ℤ◌, inl, true, false, w64, arith}
+use Rattle.std.proofs.lemmas.Int.{to_z-of_z}
 use Rattle.leg_grid.specs.Places.{ArePlaces}
-use Rattle.leg_grid.proofs.Reached.{places_before, place_before}
+use Rattle.leg_grid.proofs.Reached.{places_before, place_before, far_fits, low_fits, high_fits, coordinate_fits}
 use Rattle.leg_grid.proofs.added.places_near.Goals as goal
 
-pub returns : goal.returns
-returns c =
-    let low_in = c.requires.low in
-    let high_in = c.requires.high in
-    let reach_least = c.requires.reach.least in
-    let reach_most = c.requires.reach.most in
-    let apart_least = c.requires.apart.least in
-    let apart_most = c.requires.apart.most in
-    let far = c.args.reach +ℤ c.args.apart in
-    let reach_fits : FitsSigned w64 c.args.reach = omega (arith, ints) in
-    let apart_fits : FitsSigned w64 c.args.apart = omega (arith, ints) in
-    let low_fits : FitsSigned w64 c.args.low = omega (arith, ints) in
-    let high_fits : FitsSigned w64 c.args.high = omega (arith, ints) in
-    let far_fits : FitsSigned w64 (c.args.reach +ℤ c.args.apart) = omega (arith, ints) in
-    let from_fits : FitsSigned w64 (c.args.low -ℤ (c.args.reach +ℤ c.args.apart)) = omega (arith, ints) in
-    let to_fits : FitsSigned w64 (c.args.high +ℤ (c.args.reach +ℤ c.args.apart)) = omega (arith, ints) in
-    let places : ArePlaces c.args.values.now (c.args.low -ℤ far) (c.args.high +ℤ far) c.places_within-first.result.0 c.places_within-first.result.1 =
+pub returns-then-back : goal.returns-then-back
+returns-then-back c =
+    let values = c.args.values.now in
+    let low = c.args.low in
+    let high = c.args.high in
+    let far = c.args.far in
+    let is_far = c.requires.far in
+    let places : ArePlaces values (low -ℤ far) (high +ℤ far) c.places_within-first.result.0 c.places_within-first.result.1 =
     rw (
-      to_z-of_z w64 c.args.reach reach_fits,
-      to_z-of_z w64 c.args.apart apart_fits,
-      to_z-of_z w64 c.args.low low_fits,
-      to_z-of_z w64 c.args.high high_fits,
-      to_z-of_z w64 (c.args.reach +ℤ c.args.apart) far_fits,
-      to_z-of_z w64 (c.args.low -ℤ (c.args.reach +ℤ c.args.apart)) from_fits,
-      to_z-of_z w64 (c.args.high +ℤ (c.args.reach +ℤ c.args.apart)) to_fits,
+      to_z-of_z w64 far (far_fits far is_far),
+      to_z-of_z w64 low (coordinate_fits low c.requires.low),
+      to_z-of_z w64 high (coordinate_fits high c.requires.high),
+      to_z-of_z w64 (low -ℤ far) (low_fits low far c.requires.low is_far),
+      to_z-of_z w64 (high +ℤ far) (high_fits high far c.requires.high is_far),
     ) at c.places_within-first.ensures in
-    places_before c.args.values.now _ _ c.places_within-first.result.0 c.places_within-first.result.1 c.saturating_sub.result places (place_before c.places_within-first.result.0 c.saturating_sub.result c.saturating_sub.ensures)
+    rw c.if-back.true
+    (places_before values true (low -ℤ far) (high +ℤ far) c.places_within-first.result.0 c.places_within-first.result.1 c.saturating_sub.result places (place_before c.places_within-first.result.0 c.saturating_sub.result c.saturating_sub.ensures))
+
+pub returns-else-back : goal.returns-else-back
+returns-else-back c =
+    let values = c.args.values.now in
+    let low = c.args.low in
+    let high = c.args.high in
+    let far = c.args.far in
+    let is_far = c.requires.far in
+    let places : ArePlaces values (low -ℤ far) (high +ℤ far) c.places_within-first.result.0 c.places_within-first.result.1 =
+    rw (
+      to_z-of_z w64 far (far_fits far is_far),
+      to_z-of_z w64 low (coordinate_fits low c.requires.low),
+      to_z-of_z w64 high (coordinate_fits high c.requires.high),
+      to_z-of_z w64 (low -ℤ far) (low_fits low far c.requires.low is_far),
+      to_z-of_z w64 (high +ℤ far) (high_fits high far c.requires.high is_far),
+    ) at c.places_within-first.ensures in
+    rw c.if-back.false
+    (places_before values false (low -ℤ far) (high +ℤ far) c.places_within-first.result.0 c.places_within-first.result.1 c.places_within-first.result.0 places (inl (omega arith)))

@@ -1,40 +1,62 @@
-use Rattle.std.proofs.Common.{◌≡◌, ◌+◌, ◌++◌, ◌∷◌, [], ◌<◌, ◌≤◌, min, length, take, get_or, refl, sym, ap, ◌∙◌, arith}
-use Rattle.std.proofs.lemmas.List.{take_more, take_all}
-use Rattle.leg_grid.specs.declared.slot_box.SlotBox.{SlotBox}
-use Rattle.leg_grid.specs.Bound.{slot_bound, nearest, IsBoxOf}
-use Rattle.leg_grid.proofs.Bounds.{bound_is, bound_small, nearest_few, nearest_more}
-use Rattle.leg_grid.proofs.slot_box.bound.Given.{Over}
+use Rattle.std.proofs.Common.{◌≡◌, ℕ, ◌+◌, ◌-◌, ◌<◌, ◌≤◌, min, length, get_or, sym, ap, ◌∙◌, arith}
+use Rattle.leg_grid.specs.Bound.{slot_bound, nearest}
+use Rattle.leg_grid.proofs.Bounds.{bound_is, bound_small}
+use Rattle.leg_grid.proofs.HullBoxes.{nowhere, no_hull, hull_before, hull_upto, hull_small, nearest_past, nearest_none_left}
 use Rattle.leg_grid.proofs.slot_box.bound.Goals as goal
-
-pub loop-ends-init : goal.loop-ends-init
-loop-ends-init g c = refl
+use Rattle.leg_grid.proofs.slot_box.bound.Goals.{then-boxes-test+else-least-gt0, else-boxes-test}
 
 pub outside-requires : goal.outside-requires
 outside-requires g c =
-    let within : c.loop-ends.ends-index < length c.args.boxes.now = c.loop-ends-test.true in
-    let ends : SlotBox = get_or c.args.boxes.now c.loop-ends.ends-index (record { low = record { layer = 0; row = 0; column = 0 }; high = record { layer = 0; row = 0; column = 0 } }) in
-    let corners : IsBoxOf c.args.grid.now ends = c.requires.boxes c.loop-ends.ends-index _ within in
-    let small : slot_bound ends c.slot-slot.result ≤ 50331648 = bound_small c.args.grid.now ends c.args.number c.slot-slot.result c.slot-slot.ensures.proper corners c.slot-slot.ensures.is in
+    let hull = get_or c.args.hulls.now (c.boxes.before - 1) no_hull in
+    let is = hull_before c.args.boxes.now c.args.hulls.now c.boxes.before c.requires.hulls (omega (arith, c.boxes-test.true)) c.boxes.invariant.within in
+    let small : slot_bound hull.ends c.slot-slot.result ≤ 50331648 = hull_small c.args.boxes.now (c.boxes.before - 1) hull is (omega (arith, c.boxes-test.true, c.boxes.invariant.within)) c.args.grid.now c.args.number c.slot-slot.result
+    c.slot-slot.ensures.proper c.requires.boxes c.slot-slot.ensures.is in
     omega (arith, small)
 
-pub loop-ends-preserved : goal.loop-ends-preserved
-loop-ends-preserved g c =
+pub overflow_sub-before : goal.overflow_sub-before
+overflow_sub-before g c =
+    let is = hull_before c.args.boxes.now c.args.hulls.now c.boxes.before c.requires.hulls (omega (arith, c.boxes-test.true)) c.boxes.invariant.within in
+    let within : (get_or c.args.hulls.now (c.boxes.before - 1) no_hull).count ≤ c.boxes.before - 1 + 1 = is.within in
+    omega (arith, within, c.boxes-test.true)
+
+pub boxes-smaller-then-outside-least : goal.boxes-smaller-then-outside-least
+boxes-smaller-then-outside-least g c =
+    let is = hull_before c.args.boxes.now c.args.hulls.now c.boxes.before c.requires.hulls (omega (arith, c.boxes-test.true)) c.boxes.invariant.within in
+    let some : 0 < (get_or c.args.hulls.now (c.boxes.before - 1) no_hull).count = is.some in
+    omega (arith, some, c.boxes-test.true)
+
+pub boxes-preserved-then-outside-least : goal.boxes-preserved-then-outside-least
+boxes-preserved-then-outside-least g c =
     let boxes = c.args.boxes.now in
-    let i = c.loop-ends.ends-index in
+    let before : ℕ = c.boxes.before in
     let slot = c.slot-slot.result in
-    let d : SlotBox = record { low = record { layer = 0; row = 0; column = 0 }; high = record { layer = 0; row = 0; column = 0 } } in
-    let longer : take (i + 1) boxes ≡ take i boxes ++ get_or boxes i d ∷ [] = take_more boxes i d c.loop-ends-test.true in
-    c.min-least.ensures ∙ (λ j. min (c.loop-ends.invariant j) (c.outside.ensures j)) ∙ sym (nearest_more (take i boxes) (get_or boxes i d) slot) ∙ sym (ap (λ bs. nearest bs slot) longer)
+    let hull = get_or c.args.hulls.now (before - 1) no_hull in
+    let some : 0 < before = omega (arith, c.boxes-test.true) in
+    let within : before ≤ length boxes = c.boxes.invariant.within in
+    let is = hull_before boxes c.args.hulls.now before c.requires.hulls (omega (arith, some)) within in
+    let room : hull.count ≤ before - 1 + 1 = is.within in
+    let far : c.boxes.least ≤ slot_bound hull.ends slot = omega (arith, c.outside.ensures, c.if-outside-least.true) in
+    record {
+      within = omega (arith, within);
+      least = nearest_past boxes slot c.args.most c.boxes.least before hull.count (omega (arith, room, some)) within
+          (λ j from below. let upto : slot_bound hull.ends slot ≤ slot_bound (get_or boxes j nowhere) slot = hull_upto boxes (before - 1) hull is (omega (arith, some, within)) slot j (omega (arith, below)) (omega (arith, from, some)) in omega (arith, upto, far))
+          c.boxes.invariant.least;
+    }
 
--- the nearest of all
-whole : (g : Over) (c : goal.After-loop-ends g) → c.loop-ends.least ≡ nearest c.args.boxes.now c.slot-slot.result
-whole g c = c.loop-ends.invariant ∙ ap (λ bs. nearest bs c.slot-slot.result) (take_all c.loop-ends.ends-index c.args.boxes.now (let past = c.loop-ends-test.false in omega (arith, past)))
-
-pub overflow_cast-result : goal.overflow_cast-result
-overflow_cast-result g c =
-    let is = whole g c in
-    let few = nearest_few c.args.boxes.now c.slot-slot.result in
-    omega (arith, is, few)
+pub outside-requires-else-outside-least : goal.outside-requires-else-outside-least
+outside-requires-else-outside-least g c =
+    let last = c.boxes.before - 1 in
+    let within : last < length c.args.boxes.now = omega (arith, c.boxes-test.true, c.boxes.invariant.within) in
+    let small : slot_bound (get_or c.args.boxes.now last nowhere) c.slot-slot.result ≤ 50331648 = bound_small c.args.grid.now (get_or c.args.boxes.now last nowhere) c.args.number c.slot-slot.result c.slot-slot.ensures.proper (c.requires.boxes last nowhere within) c.slot-slot.ensures.is in
+    omega (arith, small)
 
 pub returns : goal.returns
-returns g c = whole g c ∙ sym (bound_is c.args.grid.now c.args.boxes.now c.args.number c.slot-slot.result c.slot-slot.ensures.is)
+returns g c =
+    let boxes = c.args.boxes.now in
+    let slot = c.slot-slot.result in
+    let so_far = c.boxes.invariant.least in
+    let all : c.boxes.least ≡ min c.args.most (nearest boxes slot) = elim c.boxes-test.branch [
+      | then-boxes-test+else-least-gt0 w ↦ nearest_none_left boxes slot c.args.most c.boxes.least c.boxes.before (omega (arith, w.if-least-gt0.false)) so_far
+      | else-boxes-test w ↦ let none : c.boxes.before ≡ 0 = omega (arith, w.boxes-test.false) in rw none at so_far
+    ] in
+    all ∙ sym (ap (min c.args.most) (bound_is c.args.grid.now boxes c.args.number slot c.slot-slot.ensures.is))

@@ -1,7 +1,13 @@
--- The nearest of the boxes so far.
-use Rattle.std.proofs.Common.{◌≡◌, take}
+-- The nearest of the boxes so far, from the last one on.
+use Rattle.std.proofs.Common.{◌≡◌, ◌≤◌, min, drop, length}
 use Rattle.leg_grid.specs.Bound.{nearest}
 use Rattle.leg_grid.proofs.slot_box.bound.Given as goal
 
-abbrev pub invariant-loop-ends : goal.invariant-loop-ends
-invariant-loop-ends g l = l.least ≡ nearest (take l.ends-index l.boxes) l.slot
+abbrev pub invariant-boxes : goal.invariant-boxes
+invariant-boxes g l = record {
+  within : l.before ≤ length l.boxes;
+  least : l.least ≡ min l.most (nearest (drop l.before l.boxes) l.slot);
+}
+
+abbrev pub decreases-boxes : goal.decreases-boxes
+decreases-boxes g l = l.before

@@ -1,16 +1,30 @@
-use Rattle.std.proofs.Common.{◌↔◌, ℤ, pos, FitsSigned, w64, IsTrue, get_or, arith}
-use Rattle.std.proofs.lemmas.Int.{ints, to_z-of_z}
-use Rattle.std.proofs.lemmas.List.{get_or_default}
-use Rattle.leg_grid.specs.Tracks.{HasTrack}
-use Rattle.leg_grid.proofs.Marked.{one_mark_more}
+use Rattle.std.proofs.Common.{◌≡◌, ◌++◌, List, Bool, length, take, drop, sym, ap, subst, ◌∙◌, arith}
+use Rattle.std.proofs.lemmas.List.{take_all, take-append-le}
+use Rattle.leg_block.specs.Records.{TrackSaid}
+use Rattle.leg_grid.specs.Steps.Lines.{IsTrackAt, HaveMarked}
+use Rattle.leg_grid.proofs.Marked.{IsTrackAmong, unset, one_track_marked, marks_are}
 use Rattle.leg_grid.proofs.track_marks.track_marks.Goals as goal
 
-pub loop-z-preserved : goal.loop-z-preserved
-loop-z-preserved g c =
-    let i = c.loop-z.z-index in
-    let z : ℤ = get_or c.args.values.now i (pos 0) in
-    let within = c.loop-z-test.true in
-    let fits : FitsSigned w64 z = let is = c.requires i (pos 0) within in omega (arith, ints, is) in
-    let is : IsTrue c.has_track.result ↔ HasTrack c.args.design.now c.args.number c.args.axis z = simp to_z-of_z at c.has_track.ensures in
-    one_mark_more c.args.design.now c.args.number c.args.axis c.args.values.now i z c.loop-z.marks.items c.push.new.self.items c.has_track.result within
-    (get_or_default c.args.values.now i z (pos 0) within) c.loop-z.invariant c.in_ok-push.ensures.items is
+pub loop-track-preserved : goal.loop-track-preserved
+loop-track-preserved g c =
+    let values = c.args.values.now in
+    let number = c.args.number in
+    let axis = c.args.axis in
+    let new = c.mark_lines_for.new.marks in
+    let items = c.loop-track.marks.items in
+    let len : length new ≡ length items = c.mark_lines_for.ensures.count ∙ ap length c.deref_mut.ensures.value in
+    let whole : c.loop-track.marks.len ≡ length items = c.loop-track.marks.ok.0 in
+    let same : take c.loop-track.marks.len (new ++ drop (length new) items) ≡ new =
+    take-append-le c.loop-track.marks.len new (drop (length new) items) (omega (arith, len, whole)) ∙ take_all c.loop-track.marks.len new (omega (arith, len, whole)) in
+    let P : List Bool → Type 0 = λ marks. HaveMarked values (λ z. IsTrackAt number axis z c.track-item.result) marks new in
+    let more : HaveMarked values (λ z. IsTrackAt number axis z c.track-item.result) items new = subst P c.deref_mut.ensures.value c.mark_lines_for.ensures in
+    rw same (one_track_marked values number axis c.tracks-track-items.result.now c.loop-track.track-index c.track-item.result items new c.loop-track-test.true (sym c.track-item.is) c.loop-track.invariant more)
+
+pub returns : goal.returns
+returns g c =
+    let values = c.args.values.now in
+    let number = c.args.number in
+    let axis = c.args.axis in
+    let P : List TrackSaid → Type 0 = λ tracks. HaveMarked values (IsTrackAmong values number axis tracks) (unset values number axis) c.loop-track.marks.items in
+    marks_are values number axis c.args.design.now c.loop-track.marks.items
+    (subst P (take_all c.loop-track.track-index c.tracks-track-items.result.now c.loop-track-test.false ∙ c.tracks-track-items.ensures.is) c.loop-track.invariant)

@@ -3,19 +3,20 @@ use Rattle.std.proofs.Common.{◌≡◌, false, All, ◌-◌, ◌*◌}
 use Rattle.leg_block.specs.declared.limits.TheConstants.{PART_LIMIT}
 use Rattle.leg_block.specs.WellFormedNets.{IsWire}
 use Rattle.leg_flat.specs.Flat.{IsWithin}
-use Rattle.leg_wire.specs.Touch.{piece_count}
+use Rattle.leg_wire.specs.Touch.{piece_count, AreJoined, AreMarks}
 use Rattle.leg_route.specs.Steps.NetRun.{NetRun}
 use Rattle.leg_route.proofs.net_turn.route_net.Given as goal
 
-abbrev pub invariant-loop-wires : goal.invariant-loop-wires
-invariant-loop-wires g l =
+abbrev pub invariant-walks : goal.invariant-walks
+invariant-walks g l =
     let ground = g.G.Ground in record {
       same : ground.design l.ground ≡ ground.design l.fn.ground;
       within : IsWithin (ground.flat l.ground);
       ready : ground.IsReady l.ground;
+      joined : AreMarks (AreJoined (ground.flat l.ground) l.net 0) (piece_count (ground.flat l.ground) l.net) l.joined.items;
       spelled : All (IsWire (ground.design l.fn.ground).library (ground.design l.fn.ground).vias false) l.wires.items;
       run : NetRun (ground.design l.fn.ground) l.net (ground.flat l.fn.ground) l.wires.items (ground.flat l.ground);
     }
 
-abbrev pub decreases-loop-wires : goal.decreases-loop-wires
-decreases-loop-wires g l = let ground = g.G.Ground in 3 * PART_LIMIT - piece_count (ground.flat l.ground) l.net
+abbrev pub decreases-walks : goal.decreases-walks
+decreases-walks g l = let ground = g.G.Ground in 3 * PART_LIMIT - piece_count (ground.flat l.ground) l.net

@@ -1,8 +1,9 @@
--- One shape more, whose piece has the mark or hasn't.
+-- One shape more, whose piece has the mark or hasn't; and the boxes in their order.
 use Rattle.std.proofs.Common.{◌≡◌, ◌+◌, ◌++◌, ◌∷◌, [], ◌<◌, Some, slice_get, length, take, get_or, refl, true≢false, sym, ◌∙◌, arith}
-use Rattle.std.proofs.lemmas.List.{take_more}
+use Rattle.std.proofs.lemmas.List.{take_more, take_all}
 use Rattle.std.proofs.lemmas.List.Elements.{All-get_or}
 use Rattle.std.proofs.lemmas.Option.{slice_get_read}
+use Rattle.leg_route.specs.Steps.NetSlots.{AreMarkedSlots}
 use Rattle.leg_route.proofs.NetSlots.{slots_more, slots_skip}
 use Rattle.leg_route.proofs.next_wires.marked_slots.Goals as goal
 use Rattle.leg_route.proofs.next_wires.marked_slots.Goals.{then-has_mark+in_ok-add_slots_in, else-has_mark}
@@ -32,3 +33,12 @@ loop-number-preserved g c =
           rw (w.found-is, more)
           (slots_skip grid shapes marks mark (take i numbers) boxes slots done k shape there (λ has. true≢false (sym (c.has_mark.ensures.1 has) ∙ w.if-has_mark.false)))
     ]
+
+pub returns : goal.returns
+returns g c =
+    let numbers = c.args.numbers.now in
+    let found = c.loop-number.found in
+    let done : AreMarkedSlots c.args.grid.now c.args.shapes.now c.args.marks.now c.args.mark numbers found.boxes.items found.slots.items =
+    rw (take_all c.loop-number.number-index numbers (omega arith)) at c.loop-number.invariant in
+    let same = c.sort_boxes.ensures.slots in
+    record { are = rw same done.are; within = rw same done.within; boxed = c.sort_boxes.ensures.boxed c.args.grid.now done.boxed }

@@ -21,11 +21,11 @@ next_walk-requires-clause-starts g c =
     let flat = c.args.flat.now in
     let net = c.args.net in
     let numbers = c.args.numbers.now in
-    let joined = c.in_ok-joined.joined.items in
+    let joined = c.args.joined.now in
     let boxes = c.in_ok-starts.starts.boxes.items in
     let starts = c.in_ok-starts.starts.slots.items in
-    let told : AreMarkedSlots grid flat.shapes joined true numbers boxes starts = rw (c.shapes-shapes.ensures.is, c.deref.ensures.value) at c.in_ok-starts.ensures in
-    starts_are flat net numbers c.requires.numbers joined c.in_ok-joined.ensures grid boxes starts told
+    let told : AreMarkedSlots grid flat.shapes joined true numbers boxes starts = rw c.shapes-shapes.ensures.is at c.in_ok-starts.ensures in
+    starts_are flat net numbers c.requires.numbers joined c.requires.joined grid boxes starts told
 
 pub next_walk-requires-clause-ends : goal.next_walk-requires-clause-ends
 next_walk-requires-clause-ends g c =
@@ -33,11 +33,11 @@ next_walk-requires-clause-ends g c =
     let flat = c.args.flat.now in
     let net = c.args.net in
     let numbers = c.args.numbers.now in
-    let joined = c.in_ok-joined.joined.items in
+    let joined = c.args.joined.now in
     let boxes = c.in_ok-ends.ends.boxes.items in
     let ends = c.in_ok-ends.ends.slots.items in
-    let told : AreMarkedSlots grid flat.shapes joined false numbers boxes ends = rw (c.shapes-shapes.ensures.is, c.deref-2.ensures.value) at c.in_ok-ends.ensures in
-    ends_are flat net numbers c.requires.numbers joined c.in_ok-joined.ensures grid boxes ends told
+    let told : AreMarkedSlots grid flat.shapes joined false numbers boxes ends = rw c.shapes-shapes.ensures.is at c.in_ok-ends.ensures in
+    ends_are flat net numbers c.requires.numbers joined c.requires.joined grid boxes ends told
 
 pub wires_of-requires : goal.wires_of-requires
 wires_of-requires g c =
@@ -49,10 +49,10 @@ wires_of-requires g c =
     let nodes = c.in_ok-nodes.nodes.items in
     let proper = c.grid_is_sound.ensures.proper in
     let walk : IsNextWalkAt grid flat net numbers = rw c.in-Some.is at c.in_ok-found.ensures.answer in
-    let each : AllZip (IsNumberOf grid) numbers nodes = rw c.deref-3.ensures.value at c.in_ok-nodes.ensures in
+    let each : AllZip (IsNumberOf grid) numbers nodes = rw c.deref.ensures.value at c.in_ok-nodes.ensures in
     let next : IsNextWalk design flat net nodes = walk_of grid design flat net numbers nodes c.requires.of_design (λ n a b. c.nodes_have_numbers.ensures.apart grid n a b proper)
     (c.numbers_walk_as_nodes.ensures.shortest grid flat net numbers proper walk) each in
-    rw c.deref-4.ensures.value (c.open_walks_are_grid_walks.ensures design flat net nodes next)
+    rw c.deref-2.ensures.value (c.open_walks_are_grid_walks.ensures design flat net nodes next)
 
 pub returns-clause-answer : goal.returns-clause-answer
 returns-clause-answer g c =
@@ -64,11 +64,11 @@ returns-clause-answer g c =
     let nodes = c.in_ok-nodes.nodes.items in
     let proper = c.grid_is_sound.ensures.proper in
     let walk : IsNextWalkAt grid flat net numbers = rw c.in-Some.is at c.in_ok-found.ensures.answer in
-    let each : AllZip (IsNumberOf grid) numbers nodes = rw c.deref-3.ensures.value at c.in_ok-nodes.ensures in
+    let each : AllZip (IsNumberOf grid) numbers nodes = rw c.deref.ensures.value at c.in_ok-nodes.ensures in
     record {
       nodes = nodes;
       walk = walk_of grid design flat net numbers nodes c.requires.of_design (λ n a b. c.nodes_have_numbers.ensures.apart grid n a b proper)
           (c.numbers_walk_as_nodes.ensures.shortest grid flat net numbers proper walk) each;
-      are = rw c.deref-4.ensures.value at c.in_ok-wires.ensures.wires;
+      are = rw c.deref-2.ensures.value at c.in_ok-wires.ensures.wires;
       spelled = c.in_ok-wires.ensures.spelled;
     }

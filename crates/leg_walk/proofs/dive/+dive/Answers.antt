@@ -1,4 +1,4 @@
-use Rattle.std.proofs.Common.{ℕ, ◌<◌, ◌≤◌, ◌∷◌, [], get_or, Contains, arith}
+use Rattle.std.proofs.Common.{ℕ, ◌<◌, ◌≤◌, ◌∷◌, [], get_or, arith}
 use Rattle.std.proofs.lemmas.List.Elements.{All-nil}
 use Rattle.std.proofs.lemmas.List.{take_all}
 use Rattle.std.proofs.lemmas.Result.{IfOk-from_err}
@@ -7,7 +7,7 @@ use Rattle.leg_walk.specs.declared.side.Side.{Side}
 use Rattle.leg_walk.specs.declared.side.Side.TheVariants.{West, East, South, North, Below, Above}
 use Rattle.leg_walk.specs.Side.{opposite}
 use Rattle.leg_walk.specs.Walk.Walk.{here}
-use Rattle.leg_walk.specs.Steps.Dive.{IsFarFrom}
+use Rattle.leg_walk.specs.Steps.Dive.{IsOrigin, IsFarFrom}
 use Rattle.leg_walk.proofs.Marks.{noted_push_mark}
 use Rattle.leg_walk.proofs.WalksBack.{far_more, far_less, far_beyond, far_from_sides, back_push, known_far}
 use Rattle.leg_walk.proofs.dive.+dive.Goals as goal
@@ -28,13 +28,12 @@ pub loop-side-preserved-in_default : goal.loop-side-preserved-in_default
 loop-side-preserved-in_default g t c =
     let graph = g.G.Graph in
     let at_graph = c.args.graph.now in
-    let starts = c.args.starts.now in
     let so_far = c.loop-side.invariant in record {
       noted = c.in_ok-from.ensures.noted;
-      known = c.in_ok-from.ensures.known starts so_far.known;
-      far = far_more (λ steps side. IsFarFrom (graph.IsBeside at_graph) (graph.OpenStep at_graph) (graph.OpenNode at_graph) (Contains starts) steps c.args.node side)
-          (λ steps fewer side. far_less (graph.IsBeside at_graph) (graph.OpenStep at_graph) (graph.OpenNode at_graph) (Contains starts) steps fewer c.args.node side)
-          _ c.loop-side.side-index _ _ (omega arith) c.in_ok-from.ensures.fewer so_far.far (rw c.in_default.is at c.in_ok-from.ensures.past starts so_far.known);
+      known = c.in_ok-from.ensures.known;
+      far = far_more (λ steps side. IsFarFrom (graph.IsBeside at_graph) (graph.OpenStep at_graph) (graph.OpenNode at_graph) (IsOrigin (graph.size_of at_graph) (graph.back_bound_of at_graph)) steps c.args.node side)
+          (λ steps fewer side. far_less (graph.IsBeside at_graph) (graph.OpenStep at_graph) (graph.OpenNode at_graph) (IsOrigin (graph.size_of at_graph) (graph.back_bound_of at_graph)) steps fewer c.args.node side)
+          _ c.loop-side.side-index _ _ (omega arith) c.in_ok-from.ensures.fewer so_far.far (rw c.in_default.is at c.in_ok-from.ensures.past);
     }
 
 pub returns-in-Some-walk-clause-found : goal.returns-in-Some-walk-clause-found
@@ -49,29 +48,26 @@ pub loop-side-preserved : goal.loop-side-preserved
 loop-side-preserved g t c =
     let graph = g.G.Graph in
     let at_graph = c.args.graph.now in
-    let starts = c.args.starts.now in
     let so_far = c.loop-side.invariant in
     let side : Side = get_or (West ∷ East ∷ South ∷ North ∷ Below ∷ Above ∷ []) c.loop-side.side-index West in
-    let only = rw c.in-Some.is at c.in_ok-from.ensures.only in
-    let known = c.in_ok-walk.ensures.known in record {
+    let only = rw c.in-Some.is at c.in_ok-from.ensures.only in record {
       noted = c.in_ok-walk.ensures.noted;
-      known = known;
-      far = far_more (λ steps side. IsFarFrom (graph.IsBeside at_graph) (graph.OpenStep at_graph) (graph.OpenNode at_graph) (Contains starts) steps c.args.node side)
-          (λ steps fewer side. far_less (graph.IsBeside at_graph) (graph.OpenStep at_graph) (graph.OpenNode at_graph) (Contains starts) steps fewer c.args.node side)
+      known = c.in_ok-walk.ensures.known;
+      far = far_more (λ steps side. IsFarFrom (graph.IsBeside at_graph) (graph.OpenStep at_graph) (graph.OpenNode at_graph) (IsOrigin (graph.size_of at_graph) (graph.back_bound_of at_graph)) steps c.args.node side)
+          (λ steps fewer side. far_less (graph.IsBeside at_graph) (graph.OpenStep at_graph) (graph.OpenNode at_graph) (IsOrigin (graph.size_of at_graph) (graph.back_bound_of at_graph)) steps fewer c.args.node side)
           _ c.loop-side.side-index _ _ (omega arith) (omega (arith, c.min-steps.ensures, c.in_ok-from.ensures.fewer)) so_far.far
-          (far_beyond (graph.IsBeside at_graph) (graph.OpenStep at_graph) (graph.OpenNode at_graph) (Contains starts) _ c.steps_left.result c.args.node c.in-Some.from side
-          (omega (arith, c.min-steps.ensures, c.one_more.ensures)) only (c.steps_left.ensures starts known));
+          (far_beyond (graph.IsBeside at_graph) (graph.OpenStep at_graph) (graph.OpenNode at_graph) (IsOrigin (graph.size_of at_graph) (graph.back_bound_of at_graph)) _ c.steps_left.result c.args.node c.in-Some.from side
+          (omega (arith, c.min-steps.ensures, c.one_more.ensures)) only c.steps_left.ensures);
     }
 
 pub returns-clause-known : goal.returns-clause-known
 returns-clause-known g t c =
     let graph = g.G.Graph in
     let at_graph = c.args.graph.now in
-    let starts = c.args.starts.now in
     let so_far = c.loop-side.invariant in
     let sides = West ∷ East ∷ South ∷ North ∷ Below ∷ Above ∷ [] in
-    known_far (graph.back_bound_of at_graph) c.loop-side.marks c.args.node c.loop-side.steps (omega (arith, c.requires.count, c.requires.within)) c.requires.is_open
-    (far_from_sides (graph.IsBeside at_graph) (graph.OpenStep at_graph) (graph.OpenNode at_graph) (Contains starts) c.loop-side.steps c.args.node
+    known_far c.loop-side.marks c.args.node c.loop-side.steps (omega (arith, c.requires.count, c.requires.within)) c.requires.is_open
+    (far_from_sides (graph.IsBeside at_graph) (graph.OpenStep at_graph) (graph.OpenNode at_graph) (IsOrigin (graph.size_of at_graph) (graph.back_bound_of at_graph)) c.loop-side.steps c.args.node
     (rw (take_all c.loop-side.side-index sides (omega arith)) at so_far.far) (c.is_start.ensures.other c.if-is_start.false)) so_far.known
 
 pub returns-clause-noted : goal.returns-clause-noted
@@ -98,7 +94,7 @@ pub returns-in_err-walk-clause-noted : goal.returns-in_err-walk-clause-noted
 returns-in_err-walk-clause-noted g t c = c.in_err-walk.ensures.noted
 
 pub returns-in_err-from-clause-known : goal.returns-in_err-from-clause-known
-returns-in_err-from-clause-known g t c = c.in_err-from.ensures.known c.args.starts.now c.loop-side.invariant.known
+returns-in_err-from-clause-known g t c = c.in_err-from.ensures.known
 
 pub returns-in_err-from-clause-noted : goal.returns-in_err-from-clause-noted
 returns-in_err-from-clause-noted g t c = c.in_err-from.ensures.noted
@@ -118,7 +114,7 @@ loop-side-init g t c =
     let at_graph = c.args.graph.now in record {
       noted = c.requires.noted;
       known = c.requires.known;
-      far = All-nil (λ side. IsFarFrom (graph.IsBeside at_graph) (graph.OpenStep at_graph) (graph.OpenNode at_graph) (Contains c.args.starts.now) _ c.args.node side);
+      far = All-nil (λ side. IsFarFrom (graph.IsBeside at_graph) (graph.OpenStep at_graph) (graph.OpenNode at_graph) (IsOrigin (graph.size_of at_graph) (graph.back_bound_of at_graph)) _ c.args.node side);
     }
 
 pub overflow_sub-left : goal.overflow_sub-left

@@ -1,16 +1,16 @@
 -- What is known of the sides so far, and that fewer steps are left each time.
-use Rattle.std.proofs.Common.{take, All, Contains}
+use Rattle.std.proofs.Common.{take, All}
 use Rattle.leg_walk.specs.Walk.{IsStep}
 use Rattle.leg_walk.specs.Steps.Marks.{IsNoted}
-use Rattle.leg_walk.specs.Steps.Dive.{IsFarFrom, AreKnown}
+use Rattle.leg_walk.specs.Steps.Dive.{IsOrigin, IsFarFrom, AreKnown}
 use Rattle.leg_walk.proofs.dive.+dive.Given as goal
 
 abbrev pub invariant-loop-side : goal.invariant-loop-side
 invariant-loop-side g l =
     let graph = g.G.Graph in record {
       noted : IsNoted l.marks l.touched.items;
-      known : AreKnown (graph.OpenNode l.graph) (IsStep (graph.IsBeside l.graph) (graph.OpenStep l.graph)) (Contains l.starts) (graph.back_bound_of l.graph) l.marks;
-      far : All (IsFarFrom (graph.IsBeside l.graph) (graph.OpenStep l.graph) (graph.OpenNode l.graph) (Contains l.starts) l.steps l.node) (take l.side-index l.side-items);
+      known : AreKnown (graph.OpenNode l.graph) (IsStep (graph.IsBeside l.graph) (graph.OpenStep l.graph)) (IsOrigin (graph.size_of l.graph) (graph.back_bound_of l.graph)) l.marks;
+      far : All (IsFarFrom (graph.IsBeside l.graph) (graph.OpenStep l.graph) (graph.OpenNode l.graph) (IsOrigin (graph.size_of l.graph) (graph.back_bound_of l.graph)) l.steps l.node) (take l.side-index l.side-items);
     }
 
 abbrev pub decreases-dive : goal.decreases-dive

@@ -17,11 +17,11 @@ is_open_step-requires-clause-beside g c =
     (node, subst (λ (s : Side). graph.IsBeside here s from node) (sym c.opposite.ensures) (g.met.G.Graph.both_ways here c.args.side node from ((c.in-Some.ensures.is from).0 refl)))
 
 pub returns-then-not-branch-clause-past : goal.returns-then-not-branch-clause-past
-returns-then-not-branch-clause-past g c starts known last first nodes step start walk =
+returns-then-not-branch-clause-past g c last first nodes step start walk =
     let here = c.args.graph.now in
     let same = only_beyond (g.G.Graph.IsBeside here) (g.met.G.Graph.both_ways here) c.args.side c.args.node c.in-Some.from c.in-Some.ensures.is last step.0 in
     let there : g.G.Graph.OpenNode here last = end_open walk in
-    absurd (false≢true (sym c.if-not-branch.true ∙ (c.in_ok-is_open.ensures.is starts known).1 (rw same at there)))
+    absurd (false≢true (sym c.if-not-branch.true ∙ c.in_ok-is_open.ensures.is.1 (rw same at there)))
 
 pub returns-clause-only : goal.returns-clause-only
 returns-clause-only g c last beside =
@@ -47,10 +47,10 @@ pub returns-in_err-is_open-clause-noted : goal.returns-in_err-is_open-clause-not
 returns-in_err-is_open-clause-noted g c = c.in_err-is_open.ensures.noted
 
 pub returns-clause-is_open : goal.returns-clause-is_open
-returns-clause-is_open g c starts known = (c.in_ok-is_open.ensures.is starts known).0 c.if-not-branch.false
+returns-clause-is_open g c = c.in_ok-is_open.ensures.is.0 c.if-not-branch.false
 
 pub returns-then-not-is_open_step-clause-past : goal.returns-then-not-is_open_step-clause-past
-returns-then-not-is_open_step-clause-past g c starts known last first nodes step start walk =
+returns-then-not-is_open_step-clause-past g c last first nodes step start walk =
     let here = c.args.graph.now in
     let same = only_beyond (g.G.Graph.IsBeside here) (g.met.G.Graph.both_ways here) c.args.side c.args.node c.in-Some.from c.in-Some.ensures.is last step.0 in
     let beyond : g.G.Graph.OpenStep here (opposite c.args.side) c.in-Some.from = rw same at step.1 in

@@ -1,13 +1,10 @@
 use Rattle.leg_walk.proofs.dives.dive_from.Goals as goal
 
-pub dive-requires-clause-in_order : goal.dive-requires-clause-in_order
-dive-requires-clause-in_order g c = c.requires.in_order
-
 pub dive-requires-clause-known : goal.dive-requires-clause-known
-dive-requires-clause-known g c = c.in_ok-is_open.ensures.known c.args.starts.now c.requires.known
+dive-requires-clause-known g c = c.in_ok-is_open.ensures.known
 
 pub returns-then-not-branch-clause-known : goal.returns-then-not-branch-clause-known
-returns-then-not-branch-clause-known g c = c.in_ok-is_open.ensures.known c.args.starts.now c.requires.known
+returns-then-not-branch-clause-known g c = c.in_ok-is_open.ensures.known
 
 pub returns-then-not-branch-clause-noted : goal.returns-then-not-branch-clause-noted
 returns-then-not-branch-clause-noted g c = c.in_ok-is_open.ensures.noted

@@ -1,14 +1,14 @@
 -- What the marks say stays true, and each walk has as many steps as the next round looks for.
-use Rattle.std.proofs.Common.{All, Contains}
+use Rattle.std.proofs.Common.{All}
 use Rattle.leg_walk.specs.Walk.{IsStep}
 use Rattle.leg_walk.specs.Steps.Marks.{IsNoted}
-use Rattle.leg_walk.specs.Steps.Dive.{IsFar, AreKnown}
+use Rattle.leg_walk.specs.Steps.Dive.{IsOrigin, IsFar, AreKnown}
 use Rattle.leg_walk.proofs.dives.walk_by_dives.Given as goal
 
 abbrev pub invariant-rounds : goal.invariant-rounds
 invariant-rounds g l =
     let graph = g.G.Graph in record {
       noted : IsNoted l.marks l.touched.items;
-      known : AreKnown (graph.OpenNode l.graph) (IsStep (graph.IsBeside l.graph) (graph.OpenStep l.graph)) (Contains l.starts.items) (graph.back_bound_of l.graph) l.marks;
-      far : All (IsFar (graph.OpenNode l.graph) (IsStep (graph.IsBeside l.graph) (graph.OpenStep l.graph)) (Contains l.starts.items) l.left) l.ends.items;
+      known : AreKnown (graph.OpenNode l.graph) (IsStep (graph.IsBeside l.graph) (graph.OpenStep l.graph)) (IsOrigin (graph.size_of l.graph) (graph.back_bound_of l.graph)) l.marks;
+      far : All (IsFar (graph.OpenNode l.graph) (IsStep (graph.IsBeside l.graph) (graph.OpenStep l.graph)) (IsOrigin (graph.size_of l.graph) (graph.back_bound_of l.graph)) l.left) l.ends;
     }

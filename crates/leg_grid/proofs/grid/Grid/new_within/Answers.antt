@@ -18,10 +18,10 @@ returns-then-not-fits-clause-large g c large =
     (λ few. true≢false (sym (c.if-not-fits.ensures.1 (rw (layers, rows, columns) few))))
 
 pub all_track_marks-requires-clause-xs : goal.all_track_marks-requires-clause-xs
-all_track_marks-requires-clause-xs g c = rw c.deref-2.ensures.value (xs_within c.args.design.now c.in_ok-xs.xs.items c.tracks.ensures.proper c.in_ok-xs.ensures)
+all_track_marks-requires-clause-xs g c = rw c.deref-2.ensures.value c.in_ok-xs.ensures.increasing
 
 pub all_track_marks-requires-clause-ys : goal.all_track_marks-requires-clause-ys
-all_track_marks-requires-clause-ys g c = rw c.deref-3.ensures.value (ys_within c.args.design.now c.in_ok-ys.ys.items c.tracks.ensures.proper c.in_ok-ys.ensures)
+all_track_marks-requires-clause-ys g c = rw c.deref-3.ensures.value c.in_ok-ys.ensures.increasing
 
 pub vias_between-requires : goal.vias_between-requires
 vias_between-requires g c = rw (c.deref-4.ensures.value, c.in_ok-layers.ensures, c.layers.ensures.is) (layers_are c.library-library.result.now)
