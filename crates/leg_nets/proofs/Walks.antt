@@ -9,7 +9,7 @@ use Rattle.leg_nets.specs.declared.path.Item.TheVariants.{ToPoint, AtVia, AtRect
 use Rattle.leg_block.specs.declared.records.Wire.{Wire}
 use Rattle.leg_block.specs.declared.records.Wire.TheVariants.{ViaAt, Patch}
 use Rattle.leg_section.specs.Namespace.{KnownSaid}
-use Rattle.leg_nets.specs.Path.{next_spot, is_same_spot, extension_at, segment_to, across, wires_from, path_wires}
+use Rattle.leg_nets.specs.Path.{next_spot, is_same_spot, extension_at, segment_to, across, wires_from}
 use Rattle.leg_nets.specs.Steps.Walk.{Walked, wires_with, walked_to, walked_past}
 
 -- all of what is left
@@ -88,11 +88,3 @@ walk_fails known written walk items i item less is said =
 pub walk_ends : (known : KnownSaid) (written : Option ℤ) (walk : Walked) (items : List Item) (i : ℕ) → length items ≤ i → wires_with known written walk (drop i items) ≡ Some walk.wires
 unfolding wires_from
 walk_ends known written walk items i past = rw (drop_all i items past) (ap Some (append-nil walk.wires))
-
-no_wires_before : (others : Option (List Wire)) → option_map (λ last. [] ++ last) others ≡ others
-no_wires_before None = refl
-no_wires_before (Some last) = refl
-
--- The path begins.
-pub walk_starts : (known : KnownSaid) (written : Option ℤ) (layer : ℕ) (first : Spot) (given : Option ℤ) (items : List Item) → wires_with known written (record { layer = layer; at = first; extension = extension_at first given items; wires = [] }) items ≡ path_wires known written layer first given items
-walk_starts known written layer first given items = no_wires_before (wires_from known written layer first (extension_at first given items) items)

@@ -6,7 +6,7 @@ ghost use Rattle.leg_lex.specs.Words.{Means};
 ghost use Rattle.leg_geom.specs.Plane.{halfway};
 ghost use Rattle.leg_nets.specs.Path.{next_spot, is_same_spot, last_given, extension_at, segment_width, segment_to, other_layer, across, path_wires};
 ghost use Rattle.leg_block.specs.Wires.{is_straight, default_extension};
-ghost use Rattle.leg_nets.specs.Steps.Walk.{wires_with, walked_to, walked_past};
+ghost use Rattle.leg_nets.specs.Steps.Walk.{behind, wires_with, walked_to, walked_past};
 
 use crate::coordinate::{Coordinate, coordinate_or};
 use leg_block::Wire;
@@ -338,10 +338,9 @@ impl<A: Allocator + Copy> Walk<A> {
     }
 }
 
-/// The wires of a path that begins at this point with this extension.
-#[tactic(auto, using(crate::proofs::Walks::walk_starts))]
+/// These wires and those of a path that begins at this point with this extension.
 pub(crate) fn path_wires<A: Allocator + Copy>(
-    alloc: A,
+    wires: Vec<Wire, A>,
     known: &Known<'_, '_, A>,
     written: Option<i64>,
     layer: usize,
@@ -349,13 +348,13 @@ pub(crate) fn path_wires<A: Allocator + Copy>(
     given: Option<i64>,
     items: &[ItemAt<'_>],
 ) -> Result<Vec<Wire, A>, ReadFault>
-    ensures { Means (λ v. v.items) result (path_wires known.now written layer first given items.now) }
+    ensures { Means (λ v. v.items) result (behind wires.items (path_wires known.now written layer first given items.now)) }
 {
     let mut walk = Walk {
         layer,
         at: first,
         extension: extension_at(first, given, items),
-        wires: Vec::new(alloc),
+        wires,
     };
     walk.go_past_all(known, written, items)?;
     Ok(walk.wires)

@@ -4,6 +4,7 @@ ghost use Rattle.std.specs.Prelude.{◌≡◌, ◌&&◌, drop, Some, codes};
 ghost use Rattle.leg_lex.specs.Words.{Reads, Means, is_at};
 ghost use Rattle.leg_lex.specs.Until.{until};
 ghost use Rattle.leg_nets.specs.Wiring.{routing_at, past_taper, written_width_at, at_no_shape, past_shape, written_at, path_at, at_no_new, new_path, paths_at, is_wiring, wiring_start, wiring_at};
+ghost use Rattle.leg_nets.specs.Steps.Walk.{path_behind};
 ghost use Rattle.leg_block.specs.Wires.{is_even};
 
 use crate::path::{ItemAt, half, path_wires};
@@ -113,24 +114,24 @@ fn written(special: bool, words: &mut Cursor<'_, '_>) -> Result<Option<i64>, Rea
     Ok(None)
 }
 
-/// The wires of a path, from its layer to its last item. Of two faults the first one is reported. The path's items are left in
-/// `items`, whose room serves one path after the other.
+/// These wires and those of a path, from its layer to its last item. Of two faults the first one is reported. The path's items are left
+/// in `items`, whose room serves one path after the other.
 #[tactic(auto, unfolding(crate::specs::Wiring::path_at))]
 fn path<'t, A: Allocator + Copy>(
-    alloc: A,
     known: &Known<'_, '_, A>,
     special: bool,
+    wires: Vec<Wire, A>,
     items: &mut Vec<ItemAt<'t>, A>,
     words: &mut Cursor<'t, '_>,
 ) -> Result<Vec<Wire, A>, ReadFault>
-    ensures { Reads (λ v. v.items) result words.new (path_at known.now special words.old) }
+    ensures { Reads (λ v. v.items) result words.new (path_behind known.now special wires.items words.old) }
 {
     let layer = routing(known.library, words)?;
     let written = written(special, words)?;
     let (first, given) = first_point(words)?;
     items.clear();
     let read = add_items(known, special, items, words);
-    let wires = path_wires(alloc, known, written, layer, first, given, items);
+    let wires = path_wires(wires, known, written, layer, first, given, items);
     match (read, wires) {
         (Ok(()), wires) => wires,
         (Err(fault), Err(earlier)) if fault.kind != FaultKind::Memory => Err(earlier),
@@ -141,37 +142,34 @@ fn path<'t, A: Allocator + Copy>(
 /// `NEW` and the wires of one more path.
 #[tactic(auto, unfolding(crate::specs::Wiring::new_path))]
 fn new_path<'t, A: Allocator + Copy>(
-    alloc: A,
     known: &Known<'_, '_, A>,
     special: bool,
-    wires: &mut Vec<Wire, A>,
+    wires: Vec<Wire, A>,
     items: &mut Vec<ItemAt<'t>, A>,
     words: &mut Cursor<'t, '_>,
-) -> Result<(), ReadFault>
-    ensures { Reads (λ _. wires.new.items) result words.new (new_path known.now special wires.old.items words.old) }
+) -> Result<Vec<Wire, A>, ReadFault>
+    ensures { Reads (λ v. v.items) result words.new (new_path known.now special wires.items words.old) }
 {
     words.keyword(b"NEW")?;
-    let path = path(alloc, known, special, items, words)?;
-    wires.extend_from_slice(&path)?;
-    Ok(())
+    path(known, special, wires, items, words)
 }
 
 /// The wires of every path that `NEW` joins to the ones before.
 #[tactic(auto, using(leg_lex::proofs::Until::ends, leg_lex::proofs::Until::goes_on, leg_lex::proofs::Until::fails, crate::proofs::Wirings::new_path_shortens, crate::proofs::Wirings::new_path_shorter))]
 fn new_paths<'t, A: Allocator + Copy>(
-    alloc: A,
     known: &Known<'_, '_, A>,
     special: bool,
-    wires: &mut Vec<Wire, A>,
+    first: Vec<Wire, A>,
     items: &mut Vec<ItemAt<'t>, A>,
     words: &mut Cursor<'t, '_>,
-) -> Result<(), ReadFault>
-    ensures { Reads (λ _. wires.new.items) result words.new (until at_no_new (new_path known.now special) wires.old.items words.old) }
+) -> Result<Vec<Wire, A>, ReadFault>
+    ensures { Reads (λ v. v.items) result words.new (until at_no_new (new_path known.now special) first.items words.old) }
 {
+    let mut wires = first;
     'paths: while words.is_at(b"NEW") {
-        new_path(alloc, known, special, wires, items, words)?;
+        wires = new_path(known, special, wires, items, words)?;
     }
-    Ok(())
+    Ok(wires)
 }
 
 /// The wires of paths that `NEW` joins.
@@ -185,9 +183,8 @@ fn paths<A: Allocator + Copy>(
     ensures { Reads (λ v. v.items) result words.new (paths_at known.now special words.old) }
 {
     let mut items = Vec::new(alloc);
-    let mut wires = path(alloc, known, special, &mut items, words)?;
-    new_paths(alloc, known, special, &mut wires, &mut items, words)?;
-    Ok(wires)
+    let wires = path(known, special, Vec::new(alloc), &mut items, words)?;
+    new_paths(known, special, wires, &mut items, words)
 }
 
 /// Whether a clause contains wiring.

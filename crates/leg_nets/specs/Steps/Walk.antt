@@ -1,6 +1,6 @@
 -- A path that is followed item by item: what the definitions of paths state, one item at a time.
-use Rattle.std.specs.Prelude.{ℕ, ℤ, if◌then◌else◌, List, [], ◌∷◌, ◌++◌, Option, Some, option_map}
-use Rattle.leg_lex.specs.Words.{◌>>=◌}
+use Rattle.std.specs.Prelude.{ℕ, ℤ, Bool, if◌then◌else◌, List, [], ◌∷◌, ◌++◌, Option, Some, option_map}
+use Rattle.leg_lex.specs.Words.{Words, ◌>>=◌}
 use Rattle.leg_geom.specs.Plane.{Spot}
 use Rattle.leg_nets.specs.declared.path.Item.{Item}
 use Rattle.leg_nets.specs.declared.path.Item.TheVariants.{ToPoint, AtVia, AtRect}
@@ -8,6 +8,7 @@ use Rattle.leg_block.specs.declared.records.Wire.{Wire}
 use Rattle.leg_block.specs.declared.records.Wire.TheVariants.{ViaAt, Patch}
 use Rattle.leg_section.specs.Namespace.{KnownSaid}
 use Rattle.leg_nets.specs.Path.{next_spot, is_same_spot, extension_at, segment_to, across, wires_from}
+use Rattle.leg_nets.specs.Wiring.{path_at}
 
 -- where a path is after some of its items: its layer, its point with the extension there, and its wires so far
 pub record Walked : Type 0 where
@@ -16,10 +17,14 @@ pub record Walked : Type 0 where
   pub extension : Option ℤ
   pub wires : List Wire
 
+-- these wires and the others
+abbrev pub behind : List Wire → Option (List Wire) → Option (List Wire)
+behind wires = option_map (λ others. wires ++ others)
+
 -- all wires of the path, where these items follow
 abbrev pub wires_with : KnownSaid → Option ℤ → Walked → List Item → Option (List Wire)
 wires_with known written walk items =
-    option_map (λ others. walk.wires ++ others) (wires_from known written walk.layer walk.at walk.extension items)
+    behind walk.wires (wires_from known written walk.layer walk.at walk.extension items)
 
 -- after a step to a point with this extension
 unfoldable pub walked_to : KnownSaid → Option ℤ → Spot → Option ℤ → Walked → Option Walked
@@ -37,3 +42,7 @@ walked_past known written (AtVia via) later walk = do
   Some (record walk { layer = other; wires = walk.wires ++ ViaAt via walk.at ∷ [] })
 walked_past known written (AtRect rect) later walk =
     Some (record walk { wires = walk.wires ++ Patch walk.layer walk.at rect ∷ [] })
+
+-- these wires and those of a path
+abbrev pub path_behind : KnownSaid → Bool → List Wire → Words → Option (List Wire × Words)
+path_behind known special wires words = path_at known special words >>= λ path. Some (wires ++ path.0, path.1)
