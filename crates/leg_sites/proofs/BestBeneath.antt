@@ -16,7 +16,8 @@ use Rattle.leg_sites.specs.Stretches.{IsFreeSite}
 use Rattle.leg_sites.specs.SiteBounds.{DoBoundSite, DoBound}
 use Rattle.leg_sites.specs.RowOrder.{IsRowOrder}
 use Rattle.leg_sites.specs.BestPosition.{AreReady, IsCandidate, IsNoWorse, IsBestOf, IsBetterOf}
-use Rattle.leg_sites.specs.FreeRows.{IsRowAt, AreRowsOf, IsOfItsSite}
+use Rattle.leg_sites.specs.FreeRows.{IsRowAt, DoFit, IsOfItsSite}
+use Rattle.leg_sites.specs.RowTree.{IsLeafBeneath}
 use Rattle.leg_sites.specs.Steps.Bounds.{HasNone, IsBetterThan, IsBetterThanAll, AreNoBetter}
 use Rattle.leg_sites.specs.Steps.RowsSeen.{IsCandidateOf, IsCandidateBeneath, IsBestOrBeneath}
 use Rattle.leg_sites.proofs.BestSoFar.{no_worse_itself, no_worse_than_worse, best_of_both, best_of_same}
@@ -92,8 +93,8 @@ module _ (P Q : Candidate → Type 0) where
         ],
   )
 
-module _ (design : DesignContents) (proper : All (IsRow design.library) design.rows) (free : List (List Stretch)) (order : List RowKey) (nodes : List Bounds) (wanted : Wanted)
-    (rows : AreRowsOf design (record { lists = free; order = order; nodes = nodes })) (ready : AreReady design.rows free wanted) (sized : IsOfItsSite design wanted) where
+module _ (design : DesignContents) (proper : All (IsRow design.library) design.rows) (free : List (List Stretch)) (order : List RowKey) (wanted : Wanted)
+    (ready : AreReady design.rows free wanted) (sized : IsOfItsSite design wanted) where
   abbrev Beneath : ℕ → Candidate → Type 0
   Beneath node = IsCandidateBeneath design.rows order free wanted node
 
@@ -106,7 +107,7 @@ module _ (design : DesignContents) (proper : All (IsRow design.library) design.r
       let has = of_all (IsRow design.library) design.rows d.row is.row proper is.there in
       (has.site, record { there = is.there; sited = has.there })
 
-  module _ (node : ℕ) (bounds : Bounds) (some : 1 ≤ node) (there : slice_get nodes node ≡ Some bounds) (d : Candidate) (is : Beneath node d) where
+  module _ (node : ℕ) (bounds : Bounds) (fits : (key : RowKey) → IsLeafBeneath order node key → DoFit design free bounds key.row) (d : Candidate) (is : Beneath node d) where
     abbrev at : (site : Site) × IsRowAt design d.row is.candidate.row site
     at = row_at d is.candidate
 
@@ -114,7 +115,7 @@ module _ (design : DesignContents) (proper : All (IsRow design.library) design.r
     bound =
         let known : slice_get free is.key.row ≡ Some is.candidate.stretches = ap (slice_get free) is.row ∙ is.candidate.known in
         let here : IsRowAt design is.key.row is.candidate.row at.0 = rw is.row at.1 in
-        let all = rows.nodes.fit node bounds is.key some there is.leaf is.candidate.stretches known is.candidate.row at.0 here in
+        let all = fits is.key is.leaf is.candidate.stretches known is.candidate.row at.0 here in
         rw is.row at all
 
     width : at.0.size.width ≡ wanted.site_width
@@ -162,15 +163,15 @@ module _ (design : DesignContents) (proper : All (IsRow design.library) design.r
         }
 
   -- none beneath a node is better than the best one so far
-  pub best_kept : (node : ℕ) (bounds : Bounds) (best : Option Candidate) → 1 ≤ node → slice_get nodes node ≡ Some bounds → AreNoBetter bounds wanted best → IsBestOf (OrBest node best) best
-  best_kept node bounds None some there none =
-      best_stays (Beneath node) None (λ d is same. none_beneath node bounds some there d is none) (λ c d is p. absurd (none-some c is))
-  best_kept node bounds (Some b) some there either =
+  pub best_kept : (node : ℕ) (bounds : Bounds) (best : Option Candidate) → ((key : RowKey) → IsLeafBeneath order node key → DoFit design free bounds key.row) → AreNoBetter bounds wanted best → IsBestOf (OrBest node best) best
+  best_kept node bounds None fits none =
+      best_stays (Beneath node) None (λ d is same. none_beneath node bounds fits d is none) (λ c d is p. absurd (none-some c is))
+  best_kept node bounds (Some b) fits either =
       best_stays (Beneath node) (Some b) (λ d is same. none-some b (sym same)) (λ c d is p.
       let one : b ≡ c = same_Some b c is in
       rw (← one) (elim either [
-        | inl none ↦ absurd (none_beneath node bounds some there d p none)
-        | inr all ↦ better_still node bounds some there d p b all all.better
+        | inl none ↦ absurd (none_beneath node bounds fits d p none)
+        | inr all ↦ better_still node bounds fits d p b all all.better
       ]))
 
   -- a leaf has one row

@@ -1,5 +1,5 @@
 -- The keys of rows, and those once they are sorted.
-use Rattle.std.proofs.Common.{◌≡◌, ℕ, ◌+◌, ◌<◌, Bool, false, List, [], ◌∷◌, ◌++◌, Some, slice_get, length, get_or, eqb, Ordering, IsPermutation, IsSorted, inl, inr, refl, sym, ap, ◌∙◌, arith}
+use Rattle.std.proofs.Common.{◌≡◌, ℕ, ◌+◌, ◌<◌, Bool, false, List, [], ◌∷◌, ◌++◌, Some, slice_get, length, get_or, eqb, Ordering, IsPermutation, IsSorted, inl, inr, refl, sym, ap, ◌∙◌, arith, length-append}
 use Rattle.std.specs.Ordering.{is_lt, nat_cmp, int_cmp, ordering_then}
 use Rattle.std.specs.Cmp.{IsTotalOrder}
 use Rattle.std.specs.List.{IsDistinct}
@@ -40,6 +40,7 @@ same_key rows key row is there =
 
 pub keys_none : (rows : List Row) → AreKeysBelow rows 0 []
 keys_none rows = record {
+  count = refl;
   each = All-nil (IsKeyOf rows);
   below = All-nil (λ key. key.row < 0);
   all = λ number row below there. absurd (omega arith);
@@ -51,6 +52,7 @@ pub keys_more : (rows : List Row) (keys : List RowKey) (i : ℕ) (row : Row) →
 keys_more rows keys i row at done =
     let key : RowKey = key_of row i in
     record {
+      count = length-append keys (key ∷ []) ∙ ap (λ (n : ℕ). n + 1) done.count;
       each = All-push (IsKeyOf rows) keys key done.each (record { row = row; there = at; site = refl; bottom = refl; left = refl });
       below = All-push (λ k. k.row < i + 1) keys key (λ k d within. let below : (get_or keys k d).row < i = done.below k d within in omega arith) (omega arith);
       all = λ number other below there. elim (cases_lt number i) [

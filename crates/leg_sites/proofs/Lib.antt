@@ -16,6 +16,10 @@ mod ListPlaces
 mod Parts
 mod RowBounds
 mod RowTree
+mod RowPlaces
+mod SharedLists
+mod ListMoves
+mod BoxAtNode
 mod BestBeneath
 mod RowCandidates
 -- Sites by their edges
@@ -29,6 +33,8 @@ pub mod MetSites
 pub mod KnownSites
 mod RowsTaken
 mod RowsInside
+mod LeafLists
+mod Branches
 pub mod ClearBoxes
 pub mod MacroBoxes
 pub mod MacroPlaces

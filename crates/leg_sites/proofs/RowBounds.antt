@@ -1,5 +1,6 @@
 -- What bounds the free sites of rows.
-use Rattle.std.proofs.Common.{◌≡◌, ℕ, ◌+◌, ◌*◌, ◌≤◌, ℤ, pos, ◌+ℤ◌, ◌*ℤ◌, ◌≤ℤ◌, ◌<ℤ◌, unsigned_abs, w64, to_z, of_z, FitsSigned, List, inl, inr, ap, ◌∙◌, arith}
+use Rattle.std.proofs.Common.{◌≡◌, ℕ, ◌+◌, ◌*◌, ◌≤◌, ℤ, pos, negsuc, ◌+ℤ◌, ◌*ℤ◌, ◌≤ℤ◌, ◌<ℤ◌, unsigned_abs, w64, to_z, of_z, FitsSigned, List, inl, inr, ap, ◌∙◌, arith}
+use Rattle.std.specs.Int.{saturate_signed}
 use Rattle.std.proofs.Math.IntN.{pos-*ℤ-pos}
 use Rattle.std.proofs.Math.Nat.{mul-le-mul_right}
 use Rattle.std.proofs.lemmas.Bool.{cases_eq}
@@ -16,7 +17,7 @@ use Rattle.leg_sites.specs.declared.bounds.Bounds.{Bounds}
 use Rattle.leg_sites.specs.Stretches.{IsFreeSite}
 use Rattle.leg_sites.specs.RowSites.{HasAllSquares}
 use Rattle.leg_sites.specs.SiteBounds.{DoBoundSite, DoBound}
-use Rattle.leg_sites.specs.Steps.Bounds.{AreWithin, DoCover, IsBeside}
+use Rattle.leg_sites.specs.Steps.Bounds.{AreWithin, DoCover, DoBoundAlike, IsBeside}
 use Rattle.leg_sites.proofs.SharedSquares.{overlap_from_shared, bounds_from_all_squares}
 use Rattle.leg_sites.proofs.SiteSquares.{site_proper}
 
@@ -116,6 +117,39 @@ module _ (number : ℕ) (row : Row) (size : Lengths) where
       longest = λ many from sites. let most = span.longest many from sites in omega (arith, most, is.longest);
     }
 
+    -- the numbers that the sites of one list make, of rows that others bound and that begin at one x
+    pub record IsOfSites (old bounds : Bounds) : Type 0 where
+      pub least_row : bounds.least_row ≡ old.least_row
+      pub least_site : bounds.least_site ≡ old.least_site
+      pub most_site : bounds.most_site ≡ old.most_site
+      pub low : bounds.low ≡ old.low
+      pub high : bounds.high ≡ old.high
+      pub top : bounds.top ≡ old.top
+      pub left : bounds.left ≡ row.at.x +ℤ pos ends.from *ℤ size.width
+      pub right : bounds.right ≡ row.at.x +ℤ pos ends.end *ℤ size.width
+      pub corner : (y : ℤ) → IsCoordinate y → old.low ≤ℤ y → bounds.corner ≤ℤ ((row.at.x +ℤ pos ends.from *ℤ size.width) +ℤ y)
+      pub longest : bounds.longest ≡ ends.longest
+
+    pub bound_alike : (old bounds : Bounds) → IsOfSites old bounds → DoBoundAlike old row size free bounds
+    bound_alike old bounds is its other same far fits = record {
+      sites = λ k site.
+          let before = fits k site in
+          let left = edges_rise row.at.x size.width ends.from k area.wide (span.above k site) in
+          let right = edges_rise row.at.x size.width (k + 1) ends.end area.wide (let below = span.below k site in omega (arith, below)) in
+          let corner = is.corner other.at.y far before.low in record {
+            least_row = omega (arith, is.least_row, before.least_row);
+            least_site = omega (arith, is.least_site, before.least_site);
+            most_site = omega (arith, is.most_site, before.most_site);
+            low = omega (arith, ints, is.low, before.low);
+            high = omega (arith, ints, is.high, before.high);
+            top = omega (arith, ints, is.top, before.top);
+            left = omega (arith, ints, left, is.left, same);
+            right = omega (arith, ints, right, is.right, same);
+            corner = omega (arith, ints, left, corner, same);
+          };
+      longest = λ many from sites. let most = span.longest many from sites in omega (arith, most, is.longest);
+    }
+
   -- free sites in the die begin and end within the limit
   pub within_die : (area : HasArea size) (die : Sides) → IsArea die → (free : List Stretch) → ((k : ℕ) → IsFreeSite free k → HasAllSquares die (site_box row size k)) → AreWithin row size free
   within_die area die rect free inside = record {
@@ -135,3 +169,8 @@ sum_fits a b first second = fits_signed_from_abs w64 (a +ℤ b) (omega (arith, i
 
 pub sum_passed : (a b : ℤ) → IsCoordinate a → IsCoordinate b → to_z w64 (of_z w64 (a +ℤ b)) ≡ a +ℤ b
 sum_passed a b first second = to_z-of_z w64 (a +ℤ b) (sum_fits a b first second)
+
+-- a sum that is cut off at the ends of its type is no more than what the whole one is no more than
+pub saturated_upto : (s t : ℤ) → s ≤ℤ t → FitsSigned w64 t → saturate_signed w64 s ≤ℤ t
+saturated_upto (pos n) t below fits = grind (arith, ints)
+saturated_upto (negsuc n) t below fits = grind (arith, ints)

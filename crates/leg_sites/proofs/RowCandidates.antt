@@ -1,6 +1,6 @@
 -- The positions in one row.
-use Rattle.std.proofs.Common.{◌≡◌, ◌↔◌, ℕ, ◌+◌, pos, ◌+ℤ◌, ◌*ℤ◌, List, None, Some, slice_get, IsTrue, sym, ap, ◌∙◌, subst, arith}
-use Rattle.std.proofs.lemmas.Option.{same_Some}
+use Rattle.std.proofs.Common.{◌≡◌, ◌↔◌, ℕ, ◌+◌, pos, ◌+ℤ◌, ◌*ℤ◌, ◌≤◌, List, [], length, None, Some, slice_get, IsTrue, sym, ap, ◌∙◌, subst, arith}
+use Rattle.std.proofs.lemmas.Option.{same_Some, slice_get_within}
 use Rattle.leg_geom.specs.Gap.{apart}
 use Rattle.leg_block.specs.declared.records.Row.{Row}
 use Rattle.leg_sites.specs.declared.stretch.Stretch.{Stretch}
@@ -43,6 +43,12 @@ module _ (rows : List Row) (free : List (List Stretch)) (wanted : Wanted) (numbe
 
   pub none_free : ((k : ℕ) → ¬ AreFreeSites stretches wanted.many k) → IsBestOf (IsCandidateOf rows free wanted number) None
   none_free never d of = never d.first (sites_of d of)
+
+  pub none_of_nothing : stretches ≡ [] → 1 ≤ wanted.many → IsBestOf (IsCandidateOf rows free wanted number) None
+  none_of_nothing none some d of =
+      let site = sites_of d of d.first (omega arith) (omega (arith, some)) in
+      let length_none : length stretches ≡ 0 = ap length none in
+      omega (arith, length_none, slice_get_within stretches site.number site.stretch site.there)
 
   pub best_there : (c : Candidate) → c.row ≡ number → row.site ≡ wanted.site → c.distance ≡ x_away (pitch_in row wanted) c.first + apart row.at.y wanted.start.y → IsTrue c.turned ↔ IsTurned row.orient wanted.y_symmetric wanted.orient → IsLeastOf (x_away (pitch_in row wanted)) (AreFreeSites stretches wanted.many) c.first → IsBestOf (IsCandidateOf rows free wanted number) (Some c)
   best_there c at same distance turned least = (

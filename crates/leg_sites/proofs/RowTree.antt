@@ -10,7 +10,7 @@ use Rattle.leg_sites.specs.Steps.RowTree.{AreLeavesUpTo, AreJoinedFrom}
 use Rattle.leg_sites.proofs.ListPlaces.{slice_get-set_same, slice_get-set_other, set_kept, in_longer}
 
 -- a node beneath another has no lower number
-not_before : (levels node other : ℕ) → IsLevelsBeneath levels node other → node ≤ other
+pub not_before : (levels node other : ℕ) → IsLevelsBeneath levels node other → node ≤ other
 not_before zero node other same = omega (arith, same)
 not_before (suc levels) node other (inl left) = let more = not_before levels (2 * node) other left in omega (arith, more)
 not_before (suc levels) node other (inr right) = let more = not_before levels (2 * node + 1) other right in omega (arith, more)
@@ -21,17 +21,17 @@ twice levels node other (inl left) = not_before levels (2 * node) other left
 twice levels node other (inr right) = let more = not_before levels (2 * node + 1) other right in omega (arith, more)
 
 -- what is below a node that lies beneath another, lies beneath that one too
-one_lower : (levels node p q : ℕ) → IsLevelsBeneath levels node p → (q ≡ 2 * p) ⊎ (q ≡ 2 * p + 1) → IsLevelsBeneath (suc levels) node q
+pub one_lower : (levels node p q : ℕ) → IsLevelsBeneath levels node p → (q ≡ 2 * p) ⊎ (q ≡ 2 * p + 1) → IsLevelsBeneath (suc levels) node q
 one_lower zero node p q same (inl left) = inl (omega (arith, same, left))
 one_lower zero node p q same (inr right) = inr (omega (arith, same, right))
 one_lower (suc levels) node p q (inl below) side = inl (one_lower levels (2 * node) p q below side)
 one_lower (suc levels) node p q (inr below) side = inr (one_lower levels (2 * node + 1) p q below side)
 
-record Half (q : ℕ) : Type 0 where
-  p : ℕ
-  is : (q ≡ 2 * p) ⊎ (q ≡ 2 * p + 1)
+pub record Half (q : ℕ) : Type 0 where
+  pub p : ℕ
+  pub is : (q ≡ 2 * p) ⊎ (q ≡ 2 * p + 1)
 
-half : (q : ℕ) → Half q
+pub half : (q : ℕ) → Half q
 half zero = record { p = 0; is = inl refl }
 half (suc q) =
     let h = half q in

@@ -1,5 +1,5 @@
 -- Rows with nothing in the way: their sites in the die, and their tallest site.
-use Rattle.std.proofs.Common.{◌≡◌, ◌↔◌, ◌≤◌, ◌<◌, ℕ, ◌+◌, List, [], ◌∷◌, ◌++◌, Contains, ap, ◌∙◌, inl, inr, arith, length-append}
+use Rattle.std.proofs.Common.{◌↔◌, ◌≤◌, ◌<◌, ℕ, List, [], Result, Ok, Err, IfOk, Contains, arith}
 use Rattle.leg_geom.specs.Plane.{Sides}
 use Rattle.leg_cells.specs.Measure.{Lengths}
 use Rattle.leg_cells.specs.declared.records.Site.{Site}
@@ -12,7 +12,6 @@ use Rattle.leg_sites.specs.Known.{IsKnown, NoneTaken}
 use Rattle.leg_sites.specs.FreeRows.{IsRowAt, AreAllInDie}
 use Rattle.leg_sites.specs.Steps.FreeRows.{AreInside}
 use Rattle.leg_sites.proofs.KnownSites.{known_at_first, known_same}
-use Rattle.leg_sites.proofs.ListPlaces.{in_longer}
 use Rattle.leg_sites.proofs.RowsTaken.{same_row}
 
 no_box : (box : Sides) → ¬ Contains [] box
@@ -23,19 +22,15 @@ pub known_of_none : (row : Row) (size : Lengths) (die : Sides) (sites : Stretch)
 known_of_none row size die sites free inside between =
     known_same row size die NoneTaken (Contains []) free (λ box. (λ never. absurd never, λ has. no_box box has)) (known_at_first row size die sites free inside between)
 
-module _ (design : DesignContents) where
-  pub one_more_inside : (i : ℕ) (row : Row) (site : Site) (lists : List (List Stretch)) (list : List Stretch) → IsRowAt design i row site → IsKnown row site.size design.die (Contains []) list → AreInside design i lists → AreInside design (i + 1) (lists ++ list ∷ [])
-  one_more_inside i row site lists list at known so_far = record {
-    count = length-append lists (list ∷ []) ∙ ap (λ (n : ℕ). n + 1) so_far.count;
-    each = λ number other its told there told_at. elim (in_longer lists list number told told_at) [
-      | inl before ↦ so_far.each number other its told there before
-      | inr last ↦
-          let here : number ≡ i = last.0 ∙ so_far.count in
-          let same = same_row design i row other site its at (rw here at there) in
-          rw (same.0, same.1, last.1) known
-    ];
-  }
+-- what a list is made of, for the row of this number
+pub known_of_row : {E : Type 0} (r : Result (List Stretch) E) (design : DesignContents) (number : ℕ) (row : Row) (site : Site) (sites : Stretch) → IsRowAt design number row site → AreSitesInside row site.size design.die sites → IfOk r (λ free. (k : ℕ) → IsFreeSite free k ↔ ((sites.from ≤ k) × (k < sites.end)))
+    → IfOk r (λ free. (other : Row) (its : Site) → IsRowAt design number other its → IsKnown other its.size design.die (Contains []) free)
+known_of_row (Ok free) design number row site sites at inside between = λ other its is.
+    let same = same_row design number row other site its at is in
+    rw (same.0, same.1) (known_of_none row site.size design.die sites free inside between)
+known_of_row (Err e) design number row site sites at inside none = tt
 
+module _ (design : DesignContents) where
   -- the free sites of all rows lie in the die
   pub inside_die : (end : ℕ) (lists : List (List Stretch)) → AreInside design end lists → AreAllInDie design lists
   inside_die end lists are number list at row site is k free = ((are.each number row site list is at k).0 free).1.inside

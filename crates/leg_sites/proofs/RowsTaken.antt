@@ -1,9 +1,9 @@
 -- Lists of free sites, one for each row, once a rectangle is taken from those that it may meet.
-use Rattle.std.proofs.Common.{◌≡◌, ◌↔◌, ◌⊎◌, ℕ, ◌+◌, ◌*◌, ◌<◌, ◌≤◌, pos, List, [], ◌∷◌, ◌++◌, Some, Result, Ok, Err, OnOk, Contains, slice_get, length, get_or, set, refl, sym, ap, ◌∙◌, inl, inr, arith, length-set}
-use Rattle.std.proofs.lemmas.Bool.{cases_eq}
+use Rattle.std.proofs.Common.{◌≡◌, ◌⊎◌, ℕ, ◌+◌, ◌*◌, ◌<◌, ◌≤◌, pos, List, [], ◌∷◌, ◌++◌, Some, Result, Ok, Err, OnOk, Contains, slice_get, length, get_or, set, refl, sym, ap, ◌∙◌, inl, inr, arith}
 use Rattle.std.proofs.lemmas.Option.{same_Some, slice_get-get_or, slice_get_within, get_or_from_slice_get}
 use Rattle.std.proofs.lemmas.List.Elements.{Contains-append_left, Contains-append_right, Contains-append_cases}
 use Rattle.leg_geom.specs.Plane.{Sides, ShareSquare}
+use Rattle.leg_cells.specs.Measure.{Lengths}
 use Rattle.leg_cells.specs.declared.records.Site.{Site}
 use Rattle.leg_block.specs.declared.records.Row.{Row}
 use Rattle.leg_block.specs.Records.{DesignContents}
@@ -18,11 +18,11 @@ use Rattle.leg_sites.specs.Known.{IsClear}
 use Rattle.leg_sites.specs.FreeRows.{RowLists, IsRowAt, AreAllInDie, DoFit, AreRowsOf, AreKnown}
 use Rattle.leg_sites.specs.Steps.Parts.{LosesSites}
 use Rattle.leg_sites.specs.Steps.Bounds.{DoCover, IsBeside}
-use Rattle.leg_sites.specs.Steps.FreeRows.{LosesMet, IsTakenAt, AreTakenBeneath, AreTaken}
+use Rattle.leg_sites.specs.Steps.FreeRows.{LosesMet, AreTakenBeneath, AreTaken}
+use Rattle.leg_sites.specs.Steps.SharedLists.{LosesShared}
 use Rattle.leg_sites.proofs.KnownSites.{outside, beside}
-use Rattle.leg_sites.proofs.ListPlaces.{slice_get-set_same, slice_get-set_other}
 use Rattle.leg_sites.proofs.RowBounds.{bound_fewer, bound_more, unmet_beside}
-use Rattle.leg_sites.proofs.RowTree.{leaf_beneath_first, leaf_alone, beneath_either, nodes_set, nodes_weaker, fits_joined}
+use Rattle.leg_sites.proofs.RowTree.{leaf_beneath_first, beneath_either, nodes_set, fits_joined}
 
 -- a number has one row, and that one site
 pub same_row : (design : DesignContents) (number : ℕ) (row other : Row) (site its : Site) → IsRowAt design number row site → IsRowAt design number other its → (other ≡ row) × (its ≡ site)
@@ -31,18 +31,6 @@ same_row design number row other site its at there =
     (one, same_Some its site (sym there.sited ∙ ap (λ (r : Row). slice_get design.library.sites r.site) one ∙ at.sited))
 
 module _ (design : DesignContents) (rect : Sides) (number : ℕ) where
-  module _ (row : Row) (site : Site) (at : IsRowAt design number row site) where
-    pub loses_from_take : (old new : List Stretch) (sites : Stretch) → AreSitesMet row site.size rect sites → LosesSites old sites.from sites.end new → LosesMet design rect number old new
-    loses_from_take old new sites met without other its there k =
-        let same = same_row design number row other site its at there in
-        rw (same.0, same.1) (
-          λ free. let both = (without k).0 free in (both.0, λ shared. outside sites k both.1 ((met k).1 shared)),
-          λ both. (without k).1 (both.0, beside sites k (λ among. both.1 ((met k).0 among))),
-        )
-
-    pub loses_unmet : (list : List Stretch) → ((k : ℕ) → ¬ ShareSquare rect (site_box row site.size k)) → (k : ℕ) → IsFreeSite list k ↔ (IsFreeSite list k × ¬ ShareSquare rect (site_box row site.size k))
-    loses_unmet list unmet k = (λ free. (free, unmet k), λ both. both.0)
-
   pub loses_twice : (old mid new : List Stretch) → LosesMet design rect number old mid → LosesMet design rect number mid new → LosesMet design rect number old new
   loses_twice old mid new first then row site there k = (
     λ free.
@@ -52,11 +40,12 @@ module _ (design : DesignContents) (rect : Sides) (number : ℕ) where
     λ both. (then row site there k).1 ((first row site there k).1 both, both.1),
   )
 
--- what is taken from one list
-pub taken_at : {T E : Type 0} (r : Result T E) (design : DesignContents) (rect : Sides) (number : ℕ) (row : Row) (site : Site) (lists : List (List Stretch)) (list rest : List Stretch) (sites : Stretch) → IsRowAt design number row site → slice_get lists number ≡ Some list → AreSitesMet row site.size rect sites → OnOk r (LosesSites list sites.from sites.end rest) → OnOk r (IsTakenAt design rect number lists (set lists number rest))
-taken_at (Ok x) design rect number row site lists list rest sites at there met without =
-    record { list = list; there = there; rest = rest; loses = loses_from_take design rect number row site at list rest sites met without; set = refl }
-taken_at (Err e) design rect number row site lists list rest sites at there met without = tt
+-- of the free sites of a row those are left that aren't taken
+pub loses_from_sites : (rect : Sides) (row : Row) (size : Lengths) (old new : List Stretch) (sites : Stretch) → AreSitesMet row size rect sites → LosesSites old sites.from sites.end new → LosesShared rect row size old new
+loses_from_sites rect row size old new sites met without k = (
+  λ free. let both = (without k).0 free in (both.0, λ shared. outside sites k both.1 ((met k).1 shared)),
+  λ both. (without k).1 (both.0, beside sites k (λ among. both.1 ((met k).0 among))),
+)
 
 -- more sites are bounded by what covers the bounds of fewer
 pub row_covered : (design : DesignContents) (lists : List (List Stretch)) (outer inner : Bounds) (number : ℕ) → DoCover outer inner → DoFit design lists inner number → DoFit design lists outer number
@@ -97,56 +86,6 @@ module _ (design : DesignContents) (rect : Sides) where
           let bound = rows.nodes.fit node bounds key some there leaf a at row site is in
           rw one (λ free. (free, unmet_beside key.row row site.size bounds rect k beside (bound.sites k free)), λ both. both.0);
     }
-
-    module _ (number : ℕ) (old new : List (List Stretch)) (took : IsTakenAt design rect number old new) where
-      taken_there : (other : ℕ) (a b : List Stretch) → slice_get old other ≡ Some a → slice_get new other ≡ Some b → (other ≡ number → LosesMet design rect other a b) × (LosesMet design rect other a b ⊎ (b ≡ a))
-      taken_there other a b at now_at =
-          let now : slice_get (set old number took.rest) other ≡ Some b = rw took.set at now_at in
-          elim (cases_eq other number) [
-            | inl same ↦
-                let is : b ≡ took.rest = slice_get-set_same old number other took.rest b same now in
-                let was : a ≡ took.list = same_Some a took.list (sym at ∙ ap (slice_get old) same ∙ took.there) in
-                let loses : LosesMet design rect other a b = rw (same, is, was) took.loses in
-                (λ here. loses, inl loses)
-            | inr differ ↦ (λ here. absurd (differ here), inr (same_Some b a (sym (slice_get-set_other old number other took.rest b differ now) ∙ at)))
-          ]
-
-      pub taken_count : length new ≡ length old
-      taken_count = ap length took.set ∙ length-set old number took.rest
-
-      pub taken_each : (other : ℕ) (a b : List Stretch) → slice_get old other ≡ Some a → slice_get new other ≡ Some b → LosesMet design rect other a b ⊎ (b ≡ a)
-      taken_each other a b at now = (taken_there other a b at now).1
-
-      -- at a leaf
-      pub taken_at_leaf : (node place : ℕ) (key : RowKey) → length order ≤ node → node ≡ length order + place → slice_get order place ≡ Some key → key.row ≡ number → AreTakenBeneath design rect order node old new
-      taken_at_leaf node place key from is there same = record {
-        count = taken_count;
-        each = taken_each;
-        these = λ other a b leaf at now.
-            let alone = leaf_alone order node other leaf from in
-            let here : leaf.place ≡ place = omega (arith, alone, is) in
-            let one : other ≡ key = same_Some other key (sym leaf.there ∙ ap (slice_get order) here ∙ there) in
-            (taken_there other.row a b at now).0 (ap (λ (k : RowKey). k.row) one ∙ same);
-      }
-
-      -- the node of the leaf is made anew
-      pub rows_at_leaf : (nodes : List Bounds) (node place : ℕ) (key : RowKey) (bounds : Bounds) → length order ≤ node → node ≡ length order + place → slice_get order place ≡ Some key → key.row ≡ number → DoFit design new bounds number → AreRowsOf design (record { lists = old; order = order; nodes = nodes }) → AreRowsOf design (record { lists = new; order = order; nodes = set nodes node bounds })
-      rows_at_leaf nodes node place key bounds from is there same fits rows = record {
-        lists = taken_count ∙ rows.lists;
-        inside = inside_still old new taken_count taken_each rows.inside;
-        order = rows.order;
-        nodes = nodes_set order (DoFit design new) nodes node bounds
-            (λ other leaf list at.
-            let alone = leaf_alone order node other leaf from in
-            let here : leaf.place ≡ place = omega (arith, alone, is) in
-            let one : other ≡ key = same_Some other key (sym leaf.there ∙ ap (slice_get order) here ∙ there) in
-            let row : other.row ≡ number = ap (λ (k : RowKey). k.row) one ∙ same in
-            rw row (fits list (rw row at at)))
-            (nodes_weaker order (DoFit design old) (DoFit design new) nodes (fit_still old new taken_count taken_each) rows.nodes);
-      }
-
-      pub inside_taken : AreAllInDie design old → AreAllInDie design new
-      inside_taken inside = inside_still old new taken_count taken_each inside
 
     -- beneath both nodes below one
     pub taken_both : (node : ℕ) (old mid new : List (List Stretch)) → node < length order → AreTakenBeneath design rect order (2 * node) old mid → AreTakenBeneath design rect order (2 * node + 1) mid new → AreTakenBeneath design rect order node old new

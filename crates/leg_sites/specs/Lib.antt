@@ -5,5 +5,6 @@ pub mod RowSites
 pub mod Known
 pub mod SiteBounds
 pub mod RowTree
+pub mod SharedLists
 pub mod FreeRows
 pub mod Steps

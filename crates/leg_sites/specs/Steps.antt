@@ -8,3 +8,5 @@ pub mod FreeRows
 pub mod Bounds
 pub mod RowTree
 pub mod Parts
+pub mod SharedLists
+pub mod Branches

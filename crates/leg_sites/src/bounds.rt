@@ -2,9 +2,10 @@
 
 ghost use Rattle.std.specs.Prelude.{◌≡◌, ◌+ℤ◌, ◌*ℤ◌, pos};
 ghost use Rattle.leg_geom.specs.Plane.{IsCoordinate};
+ghost use Rattle.leg_cells.specs.Measure.{HasArea};
 ghost use Rattle.leg_sites.specs.SiteBounds.{DoBound};
 ghost use Rattle.leg_sites.specs.Steps.Parts.{all_of, AreInRow};
-ghost use Rattle.leg_sites.specs.Steps.Bounds.{AreWithin, DoCover};
+ghost use Rattle.leg_sites.specs.Steps.Bounds.{AreWithin, DoCover, DoBoundAlike, AreOfBoth};
 
 use crate::free_sites::FreeSites;
 use crate::row_parts::ends_of;
@@ -83,6 +84,55 @@ impl Bounds {
             right: edge(row, size, ends.end),
             corner: left + y,
             longest: ends.longest,
+        }
+    }
+
+    /// What bounds the free sites of the rows that this bounds, now that they are those of one list, and begin where those of
+    /// this row do, which are of this size.
+    pub(crate) fn with_sites<A: Allocator>(
+        &self,
+        row: &Row<'_>,
+        size: &Extent,
+        parts: &[FreeSites<A>],
+    ) -> Bounds
+        requires in_row { AreInRow parts.now }
+        requires area { HasArea size.now }
+        requires within { AreWithin row.now size.now (all_of parts.now) }
+        ensures { DoBoundAlike self.now row.now size.now (all_of parts.now) result }
+    {
+        let Some(ends) = ends_of(parts) else {
+            return Bounds::of_nothing();
+        };
+        let left = edge(row, size, ends.from);
+        Bounds {
+            least_row: self.least_row,
+            least_site: self.least_site,
+            most_site: self.most_site,
+            low: self.low,
+            high: self.high,
+            top: self.top,
+            left,
+            right: edge(row, size, ends.end),
+            corner: left.saturating_add(self.low),
+            longest: ends.longest,
+        }
+    }
+
+    /// What bounds the free sites that both bound.
+    pub(crate) fn within(&self, other: &Bounds) -> Bounds
+        ensures { AreOfBoth self.now other.now result }
+    {
+        Bounds {
+            least_row: self.least_row.max(other.least_row),
+            least_site: self.least_site.max(other.least_site),
+            most_site: self.most_site.min(other.most_site),
+            low: self.low.max(other.low),
+            high: self.high.min(other.high),
+            top: self.top.min(other.top),
+            left: self.left.max(other.left),
+            right: self.right.min(other.right),
+            corner: self.corner.max(other.corner),
+            longest: self.longest.min(other.longest),
         }
     }
 

@@ -6,6 +6,7 @@ ghost use Rattle.leg_sites.specs.BestPosition.{AreReady, IsCandidate, IsBestOf};
 ghost use Rattle.leg_sites.specs.FreeRows.{AreRowsOf, AreKnown, IsOfItsSite};
 
 use crate::bounds::Bounds;
+use crate::branch::Branch;
 use crate::candidate::{Candidate, Wanted};
 use crate::row_keys::{RowKey, row_order};
 use crate::row_parts::RowParts;
@@ -13,6 +14,7 @@ use crate::row_search::best_beneath;
 use crate::row_tree::nodes_of;
 use crate::rows_inside::rows_inside;
 use crate::rows_taken::take_beneath;
+use crate::shared_lists::share_upward;
 use leg_block::Design;
 use leg_geom::Rect;
 use std::alloc::{AllocError, Allocator};
@@ -22,17 +24,22 @@ use std::marker::Model;
 /// nodes of a tree over these, each of which bounds the free sites of the rows beneath it.
 #[derive(Drop)]
 pub struct FreeRows<A: Allocator> {
-    lists: Vec<RowParts<A>, A>,
+    /// The list of a node is that of all rows beneath it.
+    lists: Vec<Option<RowParts<A>>, A>,
     order: Vec<RowKey, A>,
     nodes: Vec<Bounds, A>,
 }
 
 impl<A: Allocator> Model for FreeRows<A> {
     ghost use Rattle.leg_sites.specs.FreeRows.{RowLists};
+    ghost use Rattle.leg_sites.specs.SharedLists.{row_lists};
+    ghost use Rattle.leg_sites.specs.Steps.SharedLists.{AreShared};
 
     ghost Value = { RowLists };
 
-    ghost view = { λ f. record { lists = f.lists.items; order = f.order.items; nodes = f.nodes.items } };
+    ghost view = { λ f. record { lists = row_lists f.order.items f.lists.items; order = f.order.items; nodes = f.nodes.items } };
+
+    ghost invariant = { λ f. AreShared f.order.items f.lists.items };
 }
 
 impl<A: Allocator + Copy> FreeRows<A> {
@@ -40,9 +47,10 @@ impl<A: Allocator + Copy> FreeRows<A> {
     pub fn of_design(alloc: A, design: &Design<'_, A>) -> Result<FreeRows<A>, AllocError>
         ensures { IfOk result (AreKnown design.now []) }
     {
-        let lists = rows_inside(alloc, design)?;
         let order = row_order(alloc, design.rows())?;
+        let mut lists = rows_inside(alloc, design, order.as_slice())?;
         let nodes = nodes_of(alloc, design, order.as_slice(), lists.as_slice())?;
+        share_upward(lists.as_mut_slice(), order.as_slice());
         Ok(FreeRows {
             lists,
             order,
@@ -63,7 +71,20 @@ impl<A: Allocator + Copy> FreeRows<A> {
             return None;
         }
         let nodes = self.nodes.as_slice();
-        best_beneath(design, self.lists.as_slice(), order, nodes, wanted, 1, None)
+        let first = Branch {
+            node: 1,
+            owner: 1,
+            bounds: nodes[1],
+        };
+        best_beneath(
+            design,
+            self.lists.as_slice(),
+            order,
+            nodes,
+            wanted,
+            &first,
+            None,
+        )
     }
 
     /// Takes the sites that share a unit square with the rectangle away from those of each row. It fails only when out of

@@ -103,6 +103,17 @@ impl<A: Allocator> FreeSites<A> {
 }
 
 impl<A: Allocator + Copy> FreeSites<A> {
+    /// The same free sites once more. It fails only when out of memory.
+    pub(crate) fn copied(&self) -> Result<FreeSites<A>, AllocError>
+        ensures { IfOk result (λ copy. copy ≡ self.now) }
+    {
+        let stretches = self.stretches.clone()?;
+        Ok(FreeSites {
+            stretches,
+            longest: self.longest,
+        })
+    }
+
     /// The last quarter of the stretches, which are no longer among these.
     pub(crate) fn cut(&mut self) -> Result<FreeSites<A>, AllocError>
         ensures ok { IfOk result (λ rest. self.new ++ rest ≡ self.old) }
@@ -110,10 +121,9 @@ impl<A: Allocator + Copy> FreeSites<A> {
         ensures err { OnErr result (self.new ≡ self.old) }
     {
         let stretches = self.stretches.split_off(self.stretches.len() / 4 * 3)?;
-        Ok(FreeSites {
-            stretches,
-            longest: self.longest,
-        })
+        self.longest = longest_of(self.stretches.as_slice());
+        let longest = longest_of(stretches.as_slice());
+        Ok(FreeSites { stretches, longest })
     }
 }
 

@@ -5,6 +5,7 @@
 #![tactic(auto)]
 
 mod bounds;
+mod branch;
 mod candidate;
 mod ends;
 mod free_rows;
@@ -18,6 +19,7 @@ mod row_sites;
 mod row_tree;
 mod rows_inside;
 mod rows_taken;
+mod shared_lists;
 mod site_edges;
 mod stretch;
 mod take_sites;

@@ -1,6 +1,6 @@
 //! How near to a component's start the free sites of some rows may be.
 
-ghost use Rattle.std.specs.Prelude.{◌≡◌, ◌⊎◌, ◌+◌, ◌*◌, ◌<◌, ◌≤◌, ◌≤ℤ◌, ◌+ℤ◌, ℤ, length, IsTrue};
+ghost use Rattle.std.specs.Prelude.{◌+◌, ◌≤◌, ◌≤ℤ◌, ◌+ℤ◌, ℤ, IsTrue};
 ghost use Rattle.leg_geom.specs.Gap.{apart};
 ghost use Rattle.leg_sites.specs.Steps.Bounds.{IsWithinReach, HasNone, IsBetterThan, AreNoBetter};
 
@@ -49,7 +49,7 @@ fn corner_gap(bounds: &Bounds, start: &Point) -> u64
 }
 
 /// How far the sites are from the start at least, along both axes together.
-fn away(bounds: &Bounds, start: &Point) -> u64
+pub(crate) fn away(bounds: &Bounds, start: &Point) -> u64
     ensures { IsWithinReach bounds.now start.now result }
 {
     x_gap(bounds, start)
@@ -83,19 +83,5 @@ pub(crate) fn are_no_better(bounds: &Bounds, wanted: &Wanted, best: &Option<Cand
     match best {
         Some(best) => is_better_than(best, away(bounds, &wanted.start), bounds.least_row),
         None => false,
-    }
-}
-
-/// The two nodes below one of the tree, first the one that may be nearer to the start.
-pub(crate) fn nearer_first(nodes: &[Bounds], node: usize, start: &Point) -> (usize, usize)
-    requires { 2 * node + 1 < length nodes.now }
-    ensures { ((result.0 ≡ 2 * node) × (result.1 ≡ 2 * node + 1)) ⊎ ((result.0 ≡ 2 * node + 1) × (result.1 ≡ 2 * node)) }
-{
-    let left = 2 * node;
-    let right = left + 1;
-    if away(&nodes[right], start) < away(&nodes[left], start) {
-        (right, left)
-    } else {
-        (left, right)
     }
 }

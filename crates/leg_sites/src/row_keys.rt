@@ -23,7 +23,8 @@ pub struct RowKey {
 
 /// The keys of all rows, in increasing order. It fails only when out of memory.
 pub fn row_order<A: Allocator>(alloc: A, rows: &[Row<'_>]) -> Result<Vec<RowKey, A>, AllocError>
-    ensures { IfOk result (λ order. IsRowOrder rows.now order.items) }
+    ensures order { IfOk result (λ order. IsRowOrder rows.now order.items) }
+    ensures count { IfOk result (λ order. length order.items ≡ length rows.now) }
 {
     let mut keys = row_keys(alloc, rows)?;
     keys.sort_unstable();

@@ -1,6 +1,6 @@
 //! The free sites of one row in parts, so that a change of a few of them does not touch all that lie behind.
 
-ghost use Rattle.std.specs.Prelude.{◌≡◌, ◌↔◌, ◌+◌, ◌<◌, ◌≤◌, ℕ, length, vec_len, IfOk, IfSome, OnOk};
+ghost use Rattle.std.specs.Prelude.{◌≡◌, ◌↔◌, ◌+◌, ◌<◌, ◌≤◌, ℕ, length, vec_len, IsTrue, IfOk, IfSome, OnOk};
 ghost use Rattle.leg_sites.specs.Stretches.{IsFreeSite};
 ghost use Rattle.leg_sites.specs.Steps.Parts.{all_of, AreInRow, HasSpan, LosesSites, AreLostUpTo, AreAllFewer, AreJoinedEnds, HasSpanUpTo};
 
@@ -36,7 +36,7 @@ impl<A: Allocator + Copy> RowParts<A> {
         ensures { IfOk result (λ free. (k : ℕ) → IsFreeSite free k ↔ ((from ≤ k) × (k < end))) }
     {
         let sites = FreeSites::new(alloc, from, end)?;
-        let mut parts = Vec::new(alloc);
+        let mut parts = Vec::with_capacity(alloc, 1)?;
         parts.push(sites)?;
         Ok(RowParts { parts })
     }
@@ -47,6 +47,31 @@ impl<A: Allocator + Copy> RowParts<A> {
         ensures in_row { AreInRow result.now }
     {
         self.parts.as_slice()
+    }
+
+    /// The same free sites once more. It fails only when out of memory.
+    pub(crate) fn copied(&self) -> Result<RowParts<A>, AllocError>
+        ensures { IfOk result (λ copy. copy ≡ self.now) }
+    {
+        let mut parts = Vec::with_capacity(*self.parts.allocator(), self.parts.len())?;
+        for part in &self.parts {
+            let copy = part.copied()?;
+            parts.push(copy)?;
+        }
+        Ok(RowParts { parts })
+    }
+
+    /// Whether both have one part, of the same stretches.
+    pub(crate) fn is_same(&self, other: &RowParts<A>) -> bool
+        ensures { IsTrue result → self.now ≡ other.now }
+    {
+        if self.parts.len() != 1 {
+            return false;
+        }
+        if other.parts.len() != 1 {
+            return false;
+        }
+        self.parts[0].stretches() == other.parts[0].stretches()
     }
 
     /// Takes the sites from the one of the first number up to the one of the second away, those of them that are free.

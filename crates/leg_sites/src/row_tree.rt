@@ -6,9 +6,11 @@
 ghost use Rattle.std.specs.Prelude.{◌≡◌, ◌*◌, ◌<◌, ◌≤◌, length, IfOk};
 ghost use Rattle.leg_sites.specs.Steps.Parts.{all_of, AreInRow};
 ghost use Rattle.leg_sites.specs.RowOrder.{IsRowOrder};
-ghost use Rattle.leg_sites.specs.FreeRows.{AreInDie, AreAllInDie, DoBoundRow, DoFit};
+ghost use Rattle.leg_sites.specs.SharedLists.{row_lists};
+ghost use Rattle.leg_sites.specs.FreeRows.{AreInDie, DoBoundRow, DoFit};
 ghost use Rattle.leg_sites.specs.RowTree.{AreNodes};
 ghost use Rattle.leg_sites.specs.Steps.RowTree.{AreLeavesUpTo, AreJoinedFrom};
+ghost use Rattle.leg_sites.specs.Steps.SharedLists.{own_list, AreLeafLists};
 
 use crate::bounds::Bounds;
 use crate::free_sites::FreeSites;
@@ -17,17 +19,16 @@ use crate::row_parts::RowParts;
 use leg_block::Design;
 use std::alloc::{AllocError, Allocator};
 
-/// The nodes of the tree. It fails only when out of memory.
+/// The nodes of the tree, where each leaf has its own list.
 pub(crate) fn nodes_of<A: Allocator + Copy>(
     alloc: A,
     design: &Design<'_, A>,
     order: &[RowKey],
-    lists: &[RowParts<A>],
+    lists: &[Option<RowParts<A>>],
 ) -> Result<Vec<Bounds, A>, AllocError>
     requires order { IsRowOrder design.now.rows order.now }
-    requires lists { length lists.now ≡ length design.now.rows }
-    requires inside { AreAllInDie design.now lists.now }
-    ensures { IfOk result (λ nodes. AreNodes order.now (DoFit design.now lists.now) nodes.items) }
+    requires lists { AreLeafLists design.now order.now (length order.now) lists.now }
+    ensures { IfOk result (λ nodes. AreNodes order.now (DoFit design.now (row_lists order.now lists.now)) nodes.items) }
 {
     let mut nodes = with_leaves(alloc, design, order, lists)?;
     join_upward(nodes.as_mut_slice(), order.len());
@@ -39,32 +40,36 @@ fn with_leaves<A: Allocator + Copy>(
     alloc: A,
     design: &Design<'_, A>,
     order: &[RowKey],
-    lists: &[RowParts<A>],
+    lists: &[Option<RowParts<A>>],
 ) -> Result<Vec<Bounds, A>, AllocError>
     requires order { IsRowOrder design.now.rows order.now }
-    requires lists { length lists.now ≡ length design.now.rows }
-    requires inside { AreAllInDie design.now lists.now }
-    ensures { IfOk result (λ nodes. AreLeavesUpTo order.now (DoFit design.now lists.now) (length order.now) nodes.items) }
+    requires lists { AreLeafLists design.now order.now (length order.now) lists.now }
+    ensures { IfOk result (λ nodes. AreLeavesUpTo order.now (DoFit design.now (row_lists order.now lists.now)) (length order.now) nodes.items) }
 {
     let mut nodes = Vec::from_elem(alloc, Bounds::of_nothing(), order.len())?;
     for key in order {
-        nodes.push(bounds_at(design, lists, key.row))?;
+        let leaf = nodes.len();
+        nodes.push(bounds_at(design, lists, leaf, key.row))?;
     }
     Ok(nodes)
 }
 
-/// What bounds the free sites of the row of this number, of those of all rows.
-pub(crate) fn bounds_at<A: Allocator + Copy>(
+/// What bounds the free sites of the row of this number, which has the list of this node.
+fn bounds_at<A: Allocator + Copy>(
     design: &Design<'_, A>,
-    lists: &[RowParts<A>],
+    lists: &[Option<RowParts<A>>],
+    node: usize,
     number: usize,
 ) -> Bounds
-    requires there { number < length lists.now }
-    requires lists { length lists.now ≡ length design.now.rows }
-    requires inside { AreAllInDie design.now lists.now }
-    ensures { DoFit design.now lists.now result number }
+    requires there { number < length design.now.rows }
+    requires node { node < length lists.now }
+    requires inside { AreInDie design.now number (own_list lists.now node) }
+    ensures { DoBoundRow design.now result number (own_list lists.now node) }
 {
-    bounds_of(design, number, lists[number].parts())
+    let Some(list) = &lists[node] else {
+        return Bounds::of_nothing();
+    };
+    bounds_of(design, number, list.parts())
 }
 
 /// What bounds these free sites of the row of this number. (That a site has a height is known once it is asked.)

@@ -1,5 +1,6 @@
 -- Bounds of free sites that are made, compared and joined.
-use Rattle.std.specs.Prelude.{◌≡◌, ◌⊎◌, ℕ, ◌+◌, ◌<◌, ◌≤◌, ℤ, pos, ◌+ℤ◌, ◌*ℤ◌, ◌≤ℤ◌, false, List, Option, None, Some}
+use Rattle.std.specs.Prelude.{◌≡◌, ◌⊎◌, ℕ, ◌+◌, ◌<◌, ◌≤◌, ℤ, pos, ◌+ℤ◌, ◌*ℤ◌, ◌≤ℤ◌, min, max, false, List, Option, None, Some}
+use Rattle.std.specs.Int.{int_max, int_min}
 use Rattle.leg_geom.specs.Gap.{apart}
 use Rattle.leg_geom.specs.Plane.{Spot, Sides, IsCoordinate}
 use Rattle.leg_cells.specs.Measure.{Lengths}
@@ -9,6 +10,7 @@ use Rattle.leg_sites.specs.declared.bounds.Bounds.{Bounds}
 use Rattle.leg_sites.specs.declared.candidate.Wanted.{Wanted}
 use Rattle.leg_sites.specs.declared.candidate.Candidate.{Candidate}
 use Rattle.leg_sites.specs.Stretches.{IsFreeSite}
+use Rattle.leg_sites.specs.SiteBounds.{DoBoundSite, DoBound}
 
 -- the free sites begin and end within the limit
 pub record AreWithin (row : Row) (size : Lengths) (free : List Stretch) : Type 0 where
@@ -27,6 +29,24 @@ pub record DoCover (outer inner : Bounds) : Type 0 where
   pub right : inner.right ≤ℤ outer.right
   pub corner : outer.corner ≤ℤ inner.corner
   pub longest : inner.longest ≤ outer.longest
+
+-- what both bound, these bounds do
+pub record AreOfBoth (a b both : Bounds) : Type 0 where
+  pub least_row : both.least_row ≡ max a.least_row b.least_row
+  pub least_site : both.least_site ≡ max a.least_site b.least_site
+  pub most_site : both.most_site ≡ min a.most_site b.most_site
+  pub low : both.low ≡ int_max a.low b.low
+  pub high : both.high ≡ int_min a.high b.high
+  pub top : both.top ≡ int_min a.top b.top
+  pub left : both.left ≡ int_max a.left b.left
+  pub right : both.right ≡ int_min a.right b.right
+  pub corner : both.corner ≡ int_max a.corner b.corner
+  pub longest : both.longest ≡ min a.longest b.longest
+
+-- The new bounds bound free sites of each row of which the old ones bound them, that begins at the x of this one.
+abbrev pub DoBoundAlike : Bounds → Row → Lengths → List Stretch → Bounds → Type 0
+DoBoundAlike old row size free new =
+    (number : ℕ) (other : Row) → other.at.x ≡ row.at.x → IsCoordinate other.at.y → ((k : ℕ) → IsFreeSite free k → DoBoundSite old number other size k) → DoBound new number other size free
 
 -- the rectangle lies beside all that is bounded
 abbrev pub IsBeside : Bounds → Sides → Type 0

@@ -1,5 +1,5 @@
 -- Rows of which the lists of free sites are made, or lose the sites that a rectangle meets.
-use Rattle.std.specs.Prelude.{◌≡◌, ◌↔◌, ◌⊎◌, ℕ, List, [], length, Some, slice_get, slice_set, Contains}
+use Rattle.std.specs.Prelude.{◌≡◌, ◌↔◌, ◌⊎◌, ℕ, List, [], length, Some, slice_get, Contains}
 use Rattle.leg_geom.specs.Plane.{Sides, ShareSquare}
 use Rattle.leg_cells.specs.declared.records.Site.{Site}
 use Rattle.leg_block.specs.declared.records.Row.{Row}
@@ -21,14 +21,6 @@ pub record AreInside (design : DesignContents) (end : ℕ) (lists : List (List S
 abbrev pub LosesMet : DesignContents → Sides → ℕ → List Stretch → List Stretch → Type 0
 LosesMet design rect number old new =
     (row : Row) (site : Site) → IsRowAt design number row site → (k : ℕ) → IsFreeSite new k ↔ (IsFreeSite old k × ¬ ShareSquare rect (site_box row site.size k))
-
--- the list at this number has lost the sites of its row that the rectangle meets
-pub record IsTakenAt (design : DesignContents) (rect : Sides) (number : ℕ) (old new : List (List Stretch)) : Type 0 where
-  pub list : List Stretch
-  pub there : slice_get old number ≡ Some list
-  pub rest : List Stretch
-  pub loses : LosesMet design rect number list rest
-  pub set : new ≡ slice_set old number rest
 
 -- a list has lost what the rectangle meets, or is as it was; those of the rows beneath a node have lost it
 pub record AreTakenBeneath (design : DesignContents) (rect : Sides) (order : List RowKey) (node : ℕ) (old new : List (List Stretch)) : Type 0 where

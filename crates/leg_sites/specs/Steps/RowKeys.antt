@@ -1,5 +1,5 @@
 -- The keys of rows that a walk over them has made.
-use Rattle.std.specs.Prelude.{◌≡◌, ℕ, ◌<◌, List, Some, slice_get, All, AllPairs, Contains}
+use Rattle.std.specs.Prelude.{◌≡◌, ℕ, ◌<◌, List, length, Some, slice_get, All, AllPairs, Contains}
 use Rattle.leg_block.specs.declared.records.Row.{Row}
 use Rattle.leg_sites.specs.declared.row_keys.RowKey.{RowKey}
 use Rattle.leg_sites.specs.RowOrder.{IsKeyOf}
@@ -10,6 +10,7 @@ key_of row number = record { site = row.site; y = row.at.y; x = row.at.x; row = 
 
 -- the keys of the rows whose numbers are below end, in file order
 pub record AreKeysBelow (rows : List Row) (end : ℕ) (keys : List RowKey) : Type 0 where
+  pub count : length keys ≡ end
   pub each : All (IsKeyOf rows) keys
   pub below : All (λ key. key.row < end) keys
   pub all : (number : ℕ) (row : Row) → number < end → slice_get rows number ≡ Some row → Contains keys (key_of row number)

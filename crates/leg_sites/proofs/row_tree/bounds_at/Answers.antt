@@ -1,17 +1,24 @@
--- The list at the number is the row's.
-use Rattle.std.proofs.Common.{◌≡◌, slice_get, Some, refl, sym, ap, ◌∙◌}
-use Rattle.std.proofs.lemmas.Option.{slice_get_read, same_Some}
+-- The node's own list is bounded.
+use Rattle.std.proofs.Common.{◌≡◌, [], sym, ap, ◌∙◌}
+use Rattle.std.specs.Prelude.{unwrap_or}
+use Rattle.std.proofs.lemmas.Option.{none-some}
 use Rattle.leg_sites.specs.Steps.Parts.{all_of}
+use Rattle.leg_sites.specs.Steps.SharedLists.{own_list}
+use Rattle.leg_sites.proofs.SharedLists.{node_read}
+use Rattle.leg_sites.proofs.RowBounds.{bound_nothing}
 use Rattle.leg_sites.proofs.row_tree.bounds_at.Goals as goal
+
+pub returns-in_default : goal.returns-in_default
+returns-in_default g c row site at =
+    let none : own_list c.args.lists.now c.args.node ≡ [] = ap (λ o. unwrap_or o []) (node_read c.args.lists.now c.args.node c.requires.node c.index-lists-node.result c.index-lists-node.is ∙ c.in_default.is) in
+    bound_nothing c.args.number row site.size c.of_nothing.result (own_list c.args.lists.now c.args.node) (λ k free. let there = free.there in none-some free.stretch (rw none at there))
 
 pub bounds_of-requires-clause-inside : goal.bounds_of-requires-clause-inside
 bounds_of-requires-clause-inside g c =
-    let there : slice_get c.args.lists.now c.args.number ≡ Some (all_of c.parts.result.now) =
-    slice_get_read c.args.lists.now _ c.args.number c.index-lists-number.result refl c.requires.there c.index-lists-number.is ∙ ap Some (sym c.parts.ensures.is) in
-    c.requires.inside c.args.number (all_of c.parts.result.now) there
+    let had : own_list c.args.lists.now c.args.node ≡ all_of c.parts.result.now = ap (λ o. unwrap_or o []) (node_read c.args.lists.now c.args.node c.requires.node c.index-lists-node.result c.index-lists-node.is ∙ c.in-Some.is) ∙ sym c.parts.ensures.is in
+    rw had at c.requires.inside
 
 pub returns : goal.returns
 returns g c =
-    let there : slice_get c.args.lists.now c.args.number ≡ Some (all_of c.parts.result.now) =
-    slice_get_read c.args.lists.now _ c.args.number c.index-lists-number.result refl c.requires.there c.index-lists-number.is ∙ ap Some (sym c.parts.ensures.is) in
-    λ list at. let one : list ≡ (all_of c.parts.result.now) = same_Some list (all_of c.parts.result.now) (sym at ∙ there) in rw one c.bounds_of.ensures
+    let had : own_list c.args.lists.now c.args.node ≡ all_of c.parts.result.now = ap (λ o. unwrap_or o []) (node_read c.args.lists.now c.args.node c.requires.node c.index-lists-node.result c.index-lists-node.is ∙ c.in-Some.is) ∙ sym c.parts.ensures.is in
+    rw had c.bounds_of.ensures

@@ -1,6 +1,10 @@
 -- Beneath the first node lie all rows.
-use Rattle.std.proofs.Common.{◌≡◌, length, sym, ap, ◌∙◌}
+use Rattle.std.proofs.Common.{◌≡◌, List, length, sym, ap, subst}
 use Rattle.std.proofs.lemmas.Bool.{eqb-true}
+use Rattle.leg_sites.specs.declared.stretch.Stretch.{Stretch}
+use Rattle.leg_sites.specs.RowOrder.{IsRowOrder}
+use Rattle.leg_sites.specs.BestPosition.{IsCandidate, IsBestOf}
+use Rattle.leg_sites.specs.SharedLists.{row_lists}
 use Rattle.leg_sites.specs.FreeRows.{RowLists}
 use Rattle.leg_sites.proofs.BestBeneath.{best_of_all, none_without_rows}
 use Rattle.leg_sites.proofs.free_rows.FreeRows.best_position.Goals as goal
@@ -13,6 +17,11 @@ returns-then-is_empty g c =
 
 pub returns : goal.returns
 returns g c =
-    let order : c.as_slice-order.result.now ≡ c.args.self.now.order = c.as_slice-order.ensures.value ∙ ap (λ (f : RowLists). f.order) c.self.view_is in
-    let lists : c.as_slice.result.now ≡ c.args.self.now.lists = c.as_slice.ensures.value ∙ ap (λ (f : RowLists). f.lists) c.self.view_is in
-    best_of_all c.args.design.now c.args.self.now.lists c.args.self.now.order c.args.wanted.now c.requires.rows.order c.best_beneath.result (rw (order, lists) at c.best_beneath.ensures)
+    let design = c.args.design.now in
+    let order = c.self.inside.order.items in
+    let lists = c.self.inside.lists.items in
+    let same : order ≡ c.args.self.now.order = ap (λ (f : RowLists). f.order) c.self.view_is in
+    let is_order : IsRowOrder design.rows order = rw same c.requires.rows.order in
+    let best = rw (c.as_slice-order.ensures.value, c.as_slice.ensures.value) at c.best_beneath.ensures in
+    let P : List (List Stretch) → Type 0 = λ l. IsBestOf (IsCandidate design.rows l c.args.wanted.now) c.best_beneath.result in
+    subst P (ap (λ (f : RowLists). f.lists) c.self.view_is) (best_of_all design (row_lists order lists) order c.args.wanted.now is_order c.best_beneath.result best)

@@ -3,6 +3,7 @@ use Rattle.std.proofs.Common.{◌≡◌, length, drop, sym, ap, arith}
 use Rattle.std.proofs.lemmas.Bool.{eqb-true}
 use Rattle.std.proofs.lemmas.List.{take_at}
 use Rattle.leg_sites.specs.FreeRows.{RowLists}
+use Rattle.leg_sites.specs.SharedLists.{row_lists}
 use Rattle.leg_sites.proofs.RowsTaken.{box_taken, box_of_none}
 use Rattle.leg_sites.proofs.free_rows.FreeRows.take_box.Goals as goal
 
@@ -16,15 +17,18 @@ pub returns : goal.returns
 returns g c =
     let design = c.args.design.now in
     let rect = c.args.rect.now in
-    let free : RowLists = record { lists = c.self.inside.lists.items; order = c.self.inside.order.items; nodes = c.self.inside.nodes.items } in
+    let order = c.self.inside.order.items in
+    let lists = c.take_beneath.new.lists in
+    let nodes = c.take_beneath.new.nodes in
+    let free : RowLists = record { lists = row_lists order c.self.inside.lists.items; order = order; nodes = c.self.inside.nodes.items } in
     let long_lists = c.as_mut_slice.ensures.len in
     let kept_lists = c.take_beneath.auto.lists in
-    let count_lists : length c.take_beneath.new.lists ≡ c.self.inside.lists.len = omega (arith, long_lists, kept_lists) in
+    let count_lists : length lists ≡ c.self.inside.lists.len = omega (arith, long_lists, kept_lists) in
     let long_nodes = c.as_mut_slice-2.ensures.len in
     let kept_nodes = c.take_beneath.auto.nodes in
-    let count_nodes : length c.take_beneath.new.nodes ≡ c.self.inside.nodes.len = omega (arith, long_nodes, kept_nodes) in
-    let all_lists = take_at c.take_beneath.new.lists (drop (length c.take_beneath.new.lists) c.self.inside.lists.items) c.self.inside.lists.len count_lists in
-    let all_nodes = take_at c.take_beneath.new.nodes (drop (length c.take_beneath.new.nodes) c.self.inside.nodes.items) c.self.inside.nodes.len count_nodes in
-    rw (all_lists, all_nodes) (box_taken c.take_beneath.result design rect c.args.self.now free (record { lists = c.take_beneath.new.lists; order = c.self.inside.order.items; nodes = c.take_beneath.new.nodes }) c.self.view_is
+    let count_nodes : length nodes ≡ c.self.inside.nodes.len = omega (arith, long_nodes, kept_nodes) in
+    let all_lists = take_at lists (drop (length lists) c.self.inside.lists.items) c.self.inside.lists.len count_lists in
+    let all_nodes = take_at nodes (drop (length nodes) c.self.inside.nodes.items) c.self.inside.nodes.len count_nodes in
+    rw (all_lists, all_nodes) (box_taken c.take_beneath.result design rect c.args.self.now free (record { lists = row_lists order lists; order = order; nodes = nodes }) c.self.view_is
     (rw c.as_slice-order.ensures.value at c.take_beneath.ensures.rows)
     (rw (c.as_slice-order.ensures.value, c.as_mut_slice.ensures.value) at c.take_beneath.ensures.taken))

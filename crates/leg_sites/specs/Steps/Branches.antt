@@ -1,0 +1,25 @@
+-- Nodes of the tree on the way down, with what is known of the rows beneath.
+use Rattle.std.specs.Prelude.{◌≡◌, ◌⊎◌, ℕ, ◌*◌, ◌<◌, ◌≤◌, List, length, Option, None, IsSome, get_or, slice_get, Some}
+use Rattle.leg_block.specs.Records.{DesignContents}
+use Rattle.leg_sites.specs.declared.stretch.Stretch.{Stretch}
+use Rattle.leg_sites.specs.declared.bounds.Bounds.{Bounds}
+use Rattle.leg_sites.specs.declared.branch.Branch.{Branch}
+use Rattle.leg_sites.specs.declared.row_keys.RowKey.{RowKey}
+use Rattle.leg_sites.specs.SharedLists.{list_at, row_lists}
+use Rattle.leg_sites.specs.RowTree.{IsLeafBeneath}
+use Rattle.leg_sites.specs.FreeRows.{DoFit}
+use Rattle.leg_sites.specs.Steps.Bounds.{AreOfBoth}
+
+-- the owner's list is that of the rows beneath the node, as far as it is known, and the bounds fit them
+pub record IsBranch (design : DesignContents) (order : List RowKey) (lists : List (Option (List Stretch))) (branch : Branch) : Type 0 where
+  pub first : 1 ≤ branch.node
+  pub within : branch.node < 2 * length order
+  pub owned : branch.owner < 2 * length order
+  pub owner : get_or lists branch.owner None ≡ list_at lists branch.node
+  pub fits : (key : RowKey) → IsLeafBeneath order branch.node key → DoFit design (row_lists order lists) branch.bounds key.row
+
+-- a branch goes on to the node of this number: with the same owner, if that has a list, and with bounds that both had
+pub record IsBelow (lists : List (Option (List Stretch))) (nodes : List Bounds) (above : Branch) (node : ℕ) (branch : Branch) : Type 0 where
+  pub here : branch.node ≡ node
+  pub owner : (IsSome (get_or lists above.owner None) × (branch.owner ≡ above.owner)) ⊎ ((get_or lists above.owner None ≡ None) × (branch.owner ≡ node))
+  pub bounds : (own : Bounds) → slice_get nodes node ≡ Some own → AreOfBoth own above.bounds branch.bounds
