@@ -1,8 +1,8 @@
 -- Pieces whose metal is all that of another one, which stands for them.
-use Rattle.std.proofs.Common.{◌≡◌, ℕ, ◌+◌, ◌<◌, Bool, true, false, cond, List, [], ◌∷◌, ◌++◌, length, get_or, set, All, Contains, Some, slice_get, inl, inr, refl, sym, ap, subst, ◌∙◌, arith, length-append}
+use Rattle.std.proofs.Common.{◌≡◌, ℕ, ◌+◌, ◌<◌, Bool, true, false, cond, List, length, get_or, set, All, Contains, Some, slice_get, inl, inr, refl, sym, ap, subst, ◌∙◌, arith, length-append}
 use Rattle.std.proofs.lemmas.Bool.{cases_eq, cases_lt, cases_Bool, false≢true}
-use Rattle.std.proofs.lemmas.List.{get_or-set_same, get_or-set_other}
-use Rattle.std.proofs.lemmas.List.Elements.{All-nil, All-push, All-contains, Contains-append_left, Contains-append_right, Contains-push}
+use Rattle.std.proofs.lemmas.List.{get_or-set_same, get_or-set_other, length-set}
+use Rattle.std.proofs.lemmas.List.Elements.{All-append, All-weaker, All-set, All-contains, All-contains_itself, Contains-append_left}
 use Rattle.std.proofs.lemmas.Option.{same_Some, slice_get_within, slice_get_read, get_or_from_slice_get}
 use Rattle.leg_geom.specs.Plane.{Spot, ShareTwoPoints}
 use Rattle.leg_wire.specs.declared.piece_shape.PieceShape.{PieceShape}
@@ -11,7 +11,7 @@ use Rattle.leg_wire.specs.Touch.Joined.{itself, through}
 use Rattle.leg_wire.specs.Steps.Kinds.{AreSameMetal, IsOfKind, AreKinds}
 use Rattle.leg_wire.specs.Steps.NumberSets.{AreTogether}
 use Rattle.leg_wire.specs.Steps.PieceMetal.{LiesAmong, TouchAmong}
-use Rattle.leg_wire.specs.Steps.JoinSteps.{AreSomeJoined, AreSetsOf, AreKept, AreTogetherAlike, AreStaying, IsStayingMetal}
+use Rattle.leg_wire.specs.Steps.JoinSteps.{AreSomeJoined, AreSetsOf, AreKept, AreTogetherAlike, AreStaying, IsStayingMetal, AreLatest, HasOneMore}
 use Rattle.leg_wire.proofs.SetsUnited.{AreTogether-itself, AreTogether-back, AreTogether-onward}
 
 module _ (metal kinds : List PieceShape) (numbers stand_ins : List ℕ) (i : ℕ) (staying : List Bool) (done : AreStaying metal kinds numbers stand_ins i staying)
@@ -45,43 +45,65 @@ module _ (metal kinds : List PieceShape) (numbers stand_ins : List ℕ) (i : ℕ
         ]
   ]
 
-module _ (metal : List PieceShape) (staying : List Bool) where
+module _ (metal kinds : List PieceShape) (staying : List Bool) where
   -- no shape was looked at
-  pub staying_none : IsStayingMetal metal staying 0 []
-  staying_none = record { few = omega arith; among = All-nil (Contains metal); all = λ k one below at stays. absurd (let e : ⊥ = omega (arith, below) in e) }
+  pub staying_none : All (Contains metal) kinds → IsStayingMetal metal kinds staying 0 kinds
+  staying_none among = record {
+    few = omega arith;
+    among = among;
+    one_each = All-contains_itself kinds;
+    all = λ k one below at stays. absurd (let e : ⊥ = omega (arith, below) in e);
+  }
 
-  module _ (i : ℕ) (more : List PieceShape) (done : IsStayingMetal metal staying i more) (one : PieceShape) (at : slice_get metal i ≡ Some one) where
-    -- one more shape, whose piece stays
-    pub metal_more : IsStayingMetal metal staying (i + 1) (more ++ one ∷ [])
-    metal_more = record {
-      few = omega (arith, done.few, length-append more (one ∷ []));
-      among = All-push (Contains metal) more one done.among (i, slice_get_within metal i one at, get_or_from_slice_get metal i one one at);
-      all = λ k other below there stays. elim (cases_lt k i) [
-        | inl before ↦ Contains-append_left more (one ∷ []) other (done.all k other before there stays)
-        | inr late ↦
-            let here : k ≡ i = omega (arith, late, below) in
-            let same : one ≡ other = same_Some one other (sym at ∙ ap (slice_get metal) (sym here) ∙ there) in
-            rw (← same) (Contains-push more one)
-      ];
-    }
+  -- one shape more was looked at, and is there if its piece stays
+  pub staying_next : (i : ℕ) (rest after : List PieceShape) (one : PieceShape) → slice_get metal i ≡ Some one → IsStayingMetal metal kinds staying i rest → HasOneMore rest one after → (get_or staying one.piece true ≡ true → Contains after one)
+      → IsStayingMetal metal kinds staying (i + 1) after
+  staying_next i rest after one at done got there = record {
+    few = let few = got.few in let old = done.few in let size : length after ≡ length rest + length got.more = ap length got.is ∙ length-append rest got.more in omega (arith, few, old, size);
+    among = rw got.is (All-append (Contains metal) rest got.more done.among (All-weaker (λ s. s ≡ one) (Contains metal) (λ s same. rw same here) got.more got.only));
+    one_each = All-weaker (Contains rest) (Contains after) (λ s old. kept s old) kinds done.one_each;
+    all = λ k other below there_at stays. elim (cases_lt k i) [
+      | inl before ↦ kept other (done.all k other before there_at stays)
+      | inr late ↦
+          let now : k ≡ i = omega (arith, late, below) in
+          let same : one ≡ other = same_Some one other (sym at ∙ ap (slice_get metal) (sym now) ∙ there_at) in
+          rw (← same) (there (rw same stays))
+    ];
+  } where
+    here : Contains metal one
+    here = (i, slice_get_within metal i one at, get_or_from_slice_get metal i one one at)
 
-    -- one more, whose piece does not
-    pub metal_skip : get_or staying one.piece true ≡ false → IsStayingMetal metal staying (i + 1) more
-    metal_skip gone = record {
-      few = omega (arith, done.few);
-      among = done.among;
-      all = λ k other below there stays. elim (cases_lt k i) [
-        | inl before ↦ done.all k other before there stays
-        | inr late ↦
-            let here : k ≡ i = omega (arith, late, below) in
-            let same : one ≡ other = same_Some one other (sym at ∙ ap (slice_get metal) (sym here) ∙ there) in
-            absurd (false≢true (sym gone ∙ ap (λ (u : PieceShape). get_or staying u.piece true) same ∙ stays))
-      ];
-    }
+    kept : (s : PieceShape) → Contains rest s → Contains after s
+    kept s old = rw got.is (Contains-append_left rest got.more s old)
+
+-- a shape of each kind, at first that which stands for it
+pub latest_none : (kinds : List PieceShape) → AreLatest kinds kinds kinds
+latest_none kinds = record {
+  count = refl;
+  alike = λ n kind d at. rw (get_or_from_slice_get kinds n kind d at) (record { layer = refl; rect = refl });
+  there = All-contains_itself kinds;
+}
+
+-- a shape that is there takes the place of the one of its kind
+pub latest_next : (kinds rest latest after : List PieceShape) (n : ℕ) (one kind late : PieceShape) → slice_get kinds n ≡ Some kind → AreSameMetal one kind → AreSameMetal one late → Contains after late → HasOneMore rest one after → AreLatest kinds rest latest
+    → AreLatest kinds after (set latest n late)
+latest_next kinds rest latest after n one kind late at like alike there got done = record {
+  count = length-set latest n late ∙ done.count;
+  alike = λ m other d other_at. elim (cases_eq m n) [
+    | inl same ↦
+        let is_kind : kind ≡ other = same_Some kind other (sym at ∙ ap (slice_get kinds) (sym same) ∙ other_at) in
+        let new : get_or (set latest n late) m d ≡ late = ap (λ k. get_or (set latest n late) k d) same ∙ get_or-set_same latest n late d within in
+        rw (new, ← is_kind) (record { layer = sym like.layer ∙ alike.layer; rect = sym like.rect ∙ alike.rect })
+    | inr differ ↦ rw (get_or-set_other latest n m late d differ) (done.alike m other d other_at)
+  ];
+  there = All-set (Contains after) latest n late there (All-weaker (Contains rest) (Contains after) (λ s old. rw got.is (Contains-append_left rest got.more s old)) latest done.there);
+} where
+  within : n < length latest
+  within = let low = slice_get_within kinds n kind at in let count = done.count in omega (arith, low, count)
 
 module _ (metal kinds : List PieceShape) (numbers : List ℕ) (are_kinds : AreKinds AreSameMetal metal kinds numbers) (stand_ins : List ℕ) (staying : List Bool)
-    (are_staying : AreStaying metal kinds numbers stand_ins (length metal) staying) (more : List PieceShape) (is_more : IsStayingMetal metal staying (length metal) more)
-    (count : ℕ) (places : All (λ shape. shape.piece < count) metal) (sets after : List ℕ) (are : AreSetsOf (more ++ kinds) count sets)
+    (are_staying : AreStaying metal kinds numbers stand_ins (length metal) staying) (rest : List PieceShape) (is_rest : IsStayingMetal metal kinds staying (length metal) rest)
+    (count : ℕ) (places : All (λ shape. shape.piece < count) metal) (sets after : List ℕ) (are : AreSetsOf rest count sets)
     (some : AreSomeJoined metal count after) (kept : AreKept sets after) (alike : AreTogetherAlike metal kinds numbers (length metal) after) where
   -- the piece itself, or that which stands for it
   stand_in : ℕ → ℕ
@@ -91,7 +113,7 @@ module _ (metal kinds : List PieceShape) (numbers : List ℕ) (are_kinds : AreKi
   record IsMoved (a layer : ℕ) (p : Spot) : Type 0 where
     to : ℕ
     is : to ≡ cond (get_or staying a true) a (get_or stand_ins a 0)
-    lies : LiesAmong (more ++ kinds) to layer p
+    lies : LiesAmong rest to layer p
     together : AreTogether after a to
 
   moved : (a layer : ℕ) (p : Spot) → LiesAmong metal a layer p → IsMoved a layer p
@@ -101,7 +123,7 @@ module _ (metal kinds : List PieceShape) (numbers : List ℕ) (are_kinds : AreKi
       is = rw stays refl;
       lies = record {
         shape = s;
-        has = Contains-append_left more kinds s (is_more.all lies.has.0 s lies.has.1 at (rw lies.of_piece stays));
+        has = is_rest.all lies.has.0 s lies.has.1 at (rw lies.of_piece stays);
         of_piece = lies.of_piece;
         on_layer = lies.on_layer;
         inside = lies.inside;
@@ -116,7 +138,7 @@ module _ (metal kinds : List PieceShape) (numbers : List ℕ) (are_kinds : AreKi
           is = rw gone is_to;
           lies = record {
             shape = of.kind;
-            has = Contains-append_right more kinds of.kind (get_or numbers lies.has.0 0, slice_get_within kinds (get_or numbers lies.has.0 0) of.kind of.at, get_or_from_slice_get kinds (get_or numbers lies.has.0 0) of.kind of.kind of.at);
+            has = All-contains (Contains rest) kinds of.kind is_rest.one_each (get_or numbers lies.has.0 0, slice_get_within kinds (get_or numbers lies.has.0 0) of.kind of.at, get_or_from_slice_get kinds (get_or numbers lies.has.0 0) of.kind of.kind of.at);
             of_piece = refl;
             on_layer = sym of.alike.layer ∙ lies.on_layer;
             inside = rw of.alike.rect at lies.inside;
@@ -149,7 +171,7 @@ module _ (metal kinds : List PieceShape) (numbers : List ℕ) (are_kinds : AreKi
       let middle : AreTogether after p_a.to p_b.to = elim (cases_eq p_a.to p_b.to) [
         | inl same ↦ rw same (AreTogether-itself after p_b.to (slice_get_within after p_b.to p_b.together.least p_b.together.of_b))
         | inr others ↦
-            let touch : TouchAmong (more ++ kinds) p_a.to p_b.to = record {
+            let touch : TouchAmong rest p_a.to p_b.to = record {
               others = others;
               layer = t.layer;
               p = t.p;

@@ -9,7 +9,7 @@ use crate::kinds::{are_many_alike, kinds_of};
 use crate::meeting::Meeting;
 use crate::piece_shape::PieceShape;
 use crate::sets::Sets;
-use crate::stand_ins::{latest_stand_ins, push_all, push_staying, which_stay};
+use crate::stand_ins::{latest_stand_ins, staying_metal, which_stay};
 use leg_flat::Flat;
 use leg_sweep::{PairSink, each_pair};
 use std::alloc::{AllocError, Allocator};
@@ -167,9 +167,7 @@ fn sets_by_stand_ins<A: Allocator + Copy>(
     let (kinds, numbers) = kinds_of(alloc, metal)?;
     let stand_ins = latest_stand_ins(alloc, count, metal, &kinds, &numbers)?;
     let staying = which_stay(alloc, metal, &kinds, &numbers, &stand_ins)?;
-    let mut rest = Vec::new(alloc);
-    push_staying(metal, &staying, &mut rest)?;
-    push_all(&kinds, &mut rest)?;
+    let rest = staying_metal(alloc, metal, &kinds, &numbers, &staying)?;
     let mut sets = sets_of_metal(alloc, count, &rest)?;
     unite_alike(&mut sets, metal, &kinds, &numbers);
     Ok(sets)

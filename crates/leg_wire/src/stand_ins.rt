@@ -1,7 +1,8 @@
 //! Pieces whose metal is all that of another one.
 
-ghost use Rattle.std.specs.Prelude.{◌≡◌, ◌≤◌, ◌<◌, ◌++◌, length, All, IfOk, OnOk};
-ghost use Rattle.leg_wire.specs.Steps.JoinSteps.{AreStaying, IsStayingMetal};
+ghost use Rattle.std.specs.Prelude.{◌≡◌, ◌<◌, ◌++◌, length, IsTrue, All, Contains, IfOk, OnOk};
+ghost use Rattle.leg_wire.specs.Steps.Kinds.{AreSameMetal, AreKinds};
+ghost use Rattle.leg_wire.specs.Steps.JoinSteps.{AreStaying, IsStayingMetal, HasOneMore};
 
 use crate::piece_shape::PieceShape;
 use std::alloc::{AllocError, Allocator};
@@ -52,25 +53,56 @@ pub(crate) fn which_stay<A: Allocator>(
     Ok(staying)
 }
 
-/// Adds the metal of the pieces that stay.
-pub(crate) fn push_staying<A: Allocator>(
+/// One shape of each kind, and the metal of the pieces that stay. Of equal shapes of a piece that come one after another, one is
+/// enough, and none beside an equal one of that piece that stands for their kind.
+pub(crate) fn staying_metal<A: Allocator + Copy>(
+    alloc: A,
     metal: &[PieceShape],
+    kinds: &[PieceShape],
+    numbers: &[u32],
     staying: &[bool],
+) -> Result<Vec<PieceShape, A>, AllocError>
+    requires places { All (λ shape. shape.piece < length staying.now) metal.now }
+    requires kinds { AreKinds AreSameMetal metal.now kinds.now numbers.now }
+    ensures { IfOk result (λ rest. IsStayingMetal metal.now kinds.now staying.now (length metal.now) rest.items) }
+{
+    let mut latest = Vec::new(alloc);
+    push_all(kinds, &mut latest)?;
+    let mut rest = Vec::new(alloc);
+    push_all(kinds, &mut rest)?;
+    for k in 0..metal.len() {
+        let one = &metal[k];
+        let stays = staying[one.piece as usize];
+        add_once(one, stays, &mut latest[numbers[k] as usize], &mut rest)?;
+    }
+    Ok(rest)
+}
+
+/// Adds the shape, if it stays, unless the latest one of its kind that was added is of its piece too.
+fn add_once<A: Allocator>(
+    one: &PieceShape,
+    stays: bool,
+    latest: &mut PieceShape,
     rest: &mut Vec<PieceShape, A>,
 ) -> Result<(), AllocError>
-    requires { All (λ shape. shape.piece < length staying.now) metal.now }
-    ensures { OnOk result ((more : _) × (rest.new.items ≡ rest.old.items ++ more) × IsStayingMetal metal.now staying.now (length metal.now) more) }
+    requires alike { AreSameMetal one.now latest.old }
+    requires there { Contains rest.old.items latest.old }
+    ensures alike { AreSameMetal one.now latest.new }
+    ensures there { OnOk result (Contains rest.new.items latest.new) }
+    ensures more { OnOk result (HasOneMore rest.old.items one.now rest.new.items) }
+    ensures stays { OnOk result (IsTrue stays → Contains rest.new.items one.now) }
+    ensures once { latest.old.piece ≡ one.now.piece → OnOk result (rest.new.items ≡ rest.old.items) }
 {
-    for one in metal {
-        if staying[one.piece as usize] {
-            rest.push(*one)?;
-        }
+    if !stays || latest.piece == one.piece {
+        return Ok(());
     }
+    rest.push(*one)?;
+    *latest = *one;
     Ok(())
 }
 
 /// Adds all of this metal.
-pub(crate) fn push_all<A: Allocator>(
+fn push_all<A: Allocator>(
     metal: &[PieceShape],
     rest: &mut Vec<PieceShape, A>,
 ) -> Result<(), AllocError>

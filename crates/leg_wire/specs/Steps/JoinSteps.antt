@@ -1,5 +1,5 @@
 -- What a search for metal that meets has found: the sets of a net's pieces, and the single points that were seen.
-use Rattle.std.specs.Prelude.{◌≡◌, ◌≢◌, ◌↔◌, ◌<◌, ◌≤◌, ℕ, ℤ, Bool, true, false, List, All, Contains, length, get_or, Some, slice_get}
+use Rattle.std.specs.Prelude.{◌≡◌, ◌≢◌, ◌↔◌, ◌+◌, ◌<◌, ◌≤◌, ℕ, ℤ, Bool, true, false, List, ◌++◌, All, Contains, length, get_or, Some, slice_get}
 use Rattle.leg_geom.specs.Plane.{SharePoint, ShareTwoPoints}
 use Rattle.leg_flat.specs.Flat.{FlatSaid}
 use Rattle.leg_wire.specs.declared.corner.Beside.{Beside}
@@ -8,6 +8,7 @@ use Rattle.leg_wire.specs.Touch.{piece_count, Joined, AreJoined}
 use Rattle.leg_wire.specs.Steps.PieceMetal.{TouchAmong}
 use Rattle.leg_wire.specs.Steps.NumberSets.{AreTogether, AreUnited}
 use Rattle.leg_wire.specs.Steps.SharedPoints.{IsSeen}
+use Rattle.leg_wire.specs.Steps.Kinds.{AreSameMetal}
 
 -- each piece whose metal is there has a number in the sets
 abbrev pub HavePlaces : List ℕ → List PieceShape → Type 0
@@ -75,8 +76,22 @@ AreStaying metal kinds numbers stand_ins end staying =
     (k : ℕ) (one kind : PieceShape) → k < end → slice_get metal k ≡ Some one → slice_get kinds (get_or numbers k 0) ≡ Some kind
     → get_or staying one.piece true ≡ false → (kind.piece ≡ get_or stand_ins one.piece 0) × ShareTwoPoints one.rect kind.rect
 
--- more metal, of the pieces that stay
-pub record IsStayingMetal (metal : List PieceShape) (staying : List Bool) (end : ℕ) (more : List PieceShape) : Type 0 where
-  pub few : length more ≤ end
-  pub among : All (Contains metal) more
-  pub all : (k : ℕ) (one : PieceShape) → k < end → slice_get metal k ≡ Some one → get_or staying one.piece true ≡ true → Contains more one
+-- one shape of each kind, and more metal: all that the pieces have that stay
+pub record IsStayingMetal (metal kinds : List PieceShape) (staying : List Bool) (end : ℕ) (rest : List PieceShape) : Type 0 where
+  pub few : length rest ≤ length kinds + end
+  pub among : All (Contains metal) rest
+  pub one_each : All (Contains rest) kinds
+  pub all : (k : ℕ) (one : PieceShape) → k < end → slice_get metal k ≡ Some one → get_or staying one.piece true ≡ true → Contains rest one
+
+-- for each kind a shape of it that is there
+pub record AreLatest (kinds rest latest : List PieceShape) : Type 0 where
+  pub count : length latest ≡ length kinds
+  pub alike : (n : ℕ) (kind d : PieceShape) → slice_get kinds n ≡ Some kind → AreSameMetal kind (get_or latest n d)
+  pub there : All (Contains rest) latest
+
+-- there is this shape more, or no other
+pub record HasOneMore (before : List PieceShape) (one : PieceShape) (after : List PieceShape) : Type 0 where
+  pub more : List PieceShape
+  pub is : after ≡ before ++ more
+  pub few : length more ≤ 1
+  pub only : All (λ shape. shape ≡ one) more
