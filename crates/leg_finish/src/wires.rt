@@ -22,7 +22,7 @@ fn wires_of_walk<A: Allocator + Copy>(
         return Ok(None);
     }
     let nodes = nodes_of(alloc, grid, walk)?;
-    let wires = wires_of(alloc, design, &nodes)?;
+    let wires = wires_of(alloc, grid, design, &nodes)?;
     Ok(Some(wires))
 }
 

@@ -1,5 +1,5 @@
 -- What a table of slots admits is what is open, where it tells so.
-use Rattle.std.proofs.Common.{◌≡◌, ◌↔◌, ℕ, ◌<◌, List, Some, inl, inr, length, slice_get, arith}
+use Rattle.std.proofs.Common.{◌≡◌, ◌↔◌, ℕ, ◌<◌, List, Some, inl, inr, slice_get, arith}
 use Rattle.std.proofs.lemmas.Option.{slice_get_cases}
 use Rattle.leg_cells.specs.Sound.{IsSound}
 use Rattle.leg_flat.specs.Flat.{FlatSaid}
@@ -10,11 +10,11 @@ use Rattle.leg_grid.specs.declared.slot_access.SlotAccess.{SlotAccess}
 use Rattle.leg_grid.specs.OpenMetal.{IsOpenNode}
 use Rattle.leg_grid.specs.Grid.{GridSaid, IsGrid, IsNumberOf, slot_total}
 use Rattle.leg_grid.specs.Numbered.{IsOneOf, IsBesideAt, IsOpenStepAt}
-use Rattle.leg_grid.specs.Told.{Tells, TellsSlot, TellsSlots, IsOpenAlong}
+use Rattle.leg_grid.specs.Told.{Tells, TellsSlots, IsOpenAlong}
 use Rattle.leg_grid.specs.Admitted.{IsAdmittedAt, IsAdmittedThere, IsNodeAdmitted, IsStepAdmitted}
 use Rattle.leg_grid.proofs.SlotRanges.{below_total}
 use Rattle.leg_grid.proofs.OpenSteps.{one_number_beside}
-use Rattle.leg_grid.proofs.TurnedSteps.{along_east, along_north, along_west, along_south, swapped, open_across}
+use Rattle.leg_grid.proofs.TurnedSteps.{along_east, along_north, along_west, along_south, open_across}
 
 module _ (grid : GridSaid) (flat : FlatSaid) (slots : List SlotAccess) (told : TellsSlots grid flat slots) (net : ℕ) where
   -- a part of each slot, which tells this of it

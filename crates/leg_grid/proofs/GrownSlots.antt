@@ -105,6 +105,14 @@ module _ (design : DesignContents) (shape : Shape) (flat grown : FlatSaid) (has 
         record { wire = here.wire; adds = here.adds; clean = wire_grown here.wire here.clean other },
   )
 
+-- what is clean in a flat is clean beside one of its shapes
+wire_only : (design : DesignContents) (shape : Shape) (flat : FlatSaid) → Contains flat.shapes shape → (net : ℕ) (wire : Wire) → IsOpenWire design flat net wire → IsOpenWire design (alone shape) net wire
+wire_only design shape flat there net wire is_open metal rect has points =
+    let clean = is_open metal rect has points in
+    record { no_short = λ s only. clean.no_short s (one s only); far = λ s only. clean.far s (one s only) } where
+      one : (s : Shape) → Contains (shape ∷ []) s → Contains flat.shapes s
+      one s only = elim (Contains-push_cases [] shape s only) [ inl none ↦ absurd (omega (arith, none.1)) | inr same ↦ rw (← same) there ]
+
 module _ (grid : GridSaid) (is_grid : IsGrid grid) (n : ℕ) where
   -- the node on the side of an open step
   pub beside_open : (side : Side) (flat : FlatSaid) (net : ℕ) (step : IsOpenStepAt grid flat net side n) → (m : ℕ) × IsNumberOf grid m step.b × IsBesideAt grid side n m
@@ -203,3 +211,19 @@ module _ (grid : GridSaid) (is_grid : IsGrid grid) (n : ℕ) (shape : Shape) (fl
     along = told_same _ _ a.along here.along (λ net is_open. (along_grown grid is_grid n shape flat grown has net).1 (is_open, (far net).along is_open)) (λ net is_open. ((along_grown grid is_grid n shape flat grown has net).0 is_open).0);
     above = told_same _ _ a.above here.above (λ net is_open. (step_at_grown grid is_grid n shape flat grown has net Above).1 (is_open, (far net).above is_open)) (λ net is_open. ((step_at_grown grid is_grid n shape flat grown has net Above).0 is_open).0);
   }
+
+  -- a shape that is there already takes away nothing
+  pub tells_again : (a : SlotAccess) → Contains flat.shapes shape → TellsSlot grid flat n a → TellsSlot grid grown n a
+  tells_again a there here = tells_far a (λ net. record {
+    node = λ one. record { node = one.node; is = one.is; holds = record { is_node = one.holds.is_node; wire = one.holds.wire; adds = one.holds.adds; clean = wire_only grid.design shape flat there net one.holds.wire one.holds.clean } };
+    along = elim [ inl east ↦ inl (step_only net East east) | inr north ↦ inr (step_only net North north) ];
+    above = step_only net Above;
+  }) here where
+    step_only : (net : ℕ) (side : Side) → IsOpenStepAt grid flat net side n → IsOpenStepAt grid (alone shape) net side n
+    step_only net side step = record {
+      a = step.a;
+      b = step.b;
+      a_is = step.a_is;
+      beside = step.beside;
+      is_open = record { wire = step.is_open.wire; adds = step.is_open.adds; clean = wire_only grid.design shape flat there net step.is_open.wire step.is_open.clean };
+    }

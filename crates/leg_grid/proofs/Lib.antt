@@ -12,6 +12,8 @@ pub mod Sizes
 pub mod JoinsPair
 pub mod RoutingLayers
 pub mod FirstVia
+pub mod LowestLayer
+pub mod NotedVias
 pub mod ViaSteps
 pub mod GridMade
 pub mod GridSlots
@@ -42,6 +44,7 @@ pub mod GrownSlots
 pub mod FarMetal
 pub mod FarSlots
 pub mod FarAccess
+pub mod SameShapes
 pub mod SlotsAdded
 pub mod Reached
 pub mod BareSlots

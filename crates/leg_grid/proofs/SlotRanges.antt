@@ -1,8 +1,8 @@
 -- Slots of a grid by ranges of rows and columns.
 use Rattle.std.proofs.Common.{◌≡◌, ℕ, ◌+◌, ◌<◌, ◌≤◌, ◌⊎◌, inl, inr, true, false, ℤ, ◌<ℤ◌, ◌≤ℤ◌, List, [], ◌∷◌, ◌++◌, All, AllPairs, Some, length, get_or, slice_get, sym, ap, ◌∙◌, arith}
-use Rattle.std.specs.Prelude.{int_lt, int_le}
+use Rattle.std.specs.Prelude.{int_lt, int_le, ltb}
 use Rattle.std.specs.List.Sorted.{IsPartitionedBy, IsPartitionPoint}
-use Rattle.std.proofs.lemmas.Bool.{cases_eq}
+use Rattle.std.proofs.lemmas.Bool.{cases_eq, cases_lt}
 use Rattle.std.proofs.lemmas.Int.{ints}
 use Rattle.std.proofs.lemmas.Option.{same_Some, slice_get_within, slice_get-get_or, get_or_from_slice_get}
 use Rattle.std.proofs.lemmas.List.Elements.{Contains-append_left, Contains-push, Contains-push_cases}
@@ -89,21 +89,49 @@ places_from_points values low high first end within below upto = record {
   late_high : (k : ℕ) (z : ℤ) → slice_get values k ≡ Some z → end ≤ k → int_le z high ≡ false
   late_high k z there late = rw (get_or_from_slice_get values k z z there) at (upto.1 k z late (slice_get_within values k z there))
 
--- none of the first layers has the number
-abbrev pub NoLayerBefore : List RoutingLayer → ℕ → ℕ → Type 0
-NoLayerBefore layers number n = (k : ℕ) → k < n → ¬ IsLayerAt layers number k
+-- one layer has a number
+pub one_layer : (layers : List RoutingLayer) → AllPairs (λ a b. a.number < b.number) layers → (number k m : ℕ) → IsLayerAt layers number k → IsLayerAt layers number m → k ≡ m
+one_layer layers rising number k m at_k at_m = elim (order k m) [
+  | inl less ↦ absurd (apart k m at_k at_m less)
+  | inr (inl same) ↦ same
+  | inr (inr more) ↦ absurd (apart m k at_m at_k more)
+] where
+  order : (k m : ℕ) → (k < m) ⊎ ((k ≡ m) ⊎ (m < k))
+  order k m = grind arith
 
-pub one_layer_more : (layers : List RoutingLayer) (number n : ℕ) (layer : RoutingLayer) → slice_get layers n ≡ Some layer → ¬ (layer.number ≡ number)
-    → NoLayerBefore layers number n → NoLayerBefore layers number (n + 1)
-one_layer_more layers number n layer there other none k below at_k = elim (cases_eq k n) [
-  | inl same ↦
-      let one : at_k.layer ≡ layer = same_Some at_k.layer layer (sym at_k.there ∙ ap (slice_get layers) same ∙ there) in
-      other (sym (ap (λ (l : RoutingLayer). l.number) one) ∙ at_k.is)
-  | inr differ ↦ none k (omega arith) at_k
-]
+  apart : (k m : ℕ) → IsLayerAt layers number k → IsLayerAt layers number m → k < m → ⊥
+  apart k m at_k at_m less =
+      let more = rising k m at_k.layer less (slice_get_within layers m at_m.layer at_m.there) in
+      let low = get_or_from_slice_get layers k at_k.layer at_k.layer at_k.there in
+      let high = get_or_from_slice_get layers m at_m.layer at_k.layer at_m.there in
+      let rises : at_k.layer.number < at_m.layer.number = rw (low, high) at more in
+      omega (arith, rises, at_k.is, at_m.is)
 
-pub no_layer : (layers : List RoutingLayer) (number n : ℕ) → length layers ≤ n → NoLayerBefore layers number n → (k : ℕ) → ¬ IsLayerAt layers number k
-no_layer layers number n all none k at_k = none k (let within = slice_get_within layers k at_k.layer at_k.there in omega (arith, within, all)) at_k
+-- no layer has the number, where the first one that isn't below it has another
+pub no_layer : (layers : List RoutingLayer) (number point : ℕ) → AllPairs (λ a b. a.number < b.number) layers → IsPartitionPoint (λ (own : RoutingLayer). ltb own.number number ≡ true) (λ (own : RoutingLayer). ltb own.number number ≡ false) layers point
+    → ((own : RoutingLayer) → slice_get layers point ≡ Some own → ¬ (own.number ≡ number)) → (k : ℕ) → ¬ IsLayerAt layers number k
+no_layer layers number point rising is_point other k at_k = elim (cases_lt k point) [
+  | inl early ↦ let test = is_point.0 k at_k.layer (omega arith) early in below (get_or layers k at_k.layer).number number test (ap (λ (l : RoutingLayer). l.number) here ∙ at_k.is)
+  | inr late ↦ elim (cases_eq k point) [
+    | inl same ↦ other at_k.layer (ap (slice_get layers) (sym same) ∙ at_k.there) at_k.is
+    | inr differ ↦
+        let low : point < length layers = omega (arith, within, late) in
+        let test = is_point.1 point at_k.layer (omega arith) low in
+        let more = rising point k at_k.layer (omega (arith, late, differ)) within in
+        above (get_or layers point at_k.layer).number (get_or layers k at_k.layer).number number test more (ap (λ (l : RoutingLayer). l.number) here ∙ at_k.is)
+  ]
+] where
+  within : k < length layers
+  within = slice_get_within layers k at_k.layer at_k.there
+
+  here : get_or layers k at_k.layer ≡ at_k.layer
+  here = get_or_from_slice_get layers k at_k.layer at_k.layer at_k.there
+
+  below : (a b : ℕ) → ltb a b ≡ true → a ≡ b → ⊥
+  below a b test same = grind arith
+
+  above : (a b c : ℕ) → ltb a c ≡ false → a < b → b ≡ c → ⊥
+  above a b c test more same = grind arith
 
 module _ (At : ℕ → ℕ → Type 0) (first : ℕ) (before : List ℕ) where
   pub none_more : HaveGot (IsAmong At first first) before before

@@ -1,9 +1,10 @@
 -- Slots that are kept while a shape is added, some of them after others.
-use Rattle.std.proofs.Common.{◌≡◌, ℕ, ◌+◌, ◌*◌, ◌<◌, ◌≤◌, ◌⊎◌, inl, inr, ℤ, pos, ◌+ℤ◌, ◌-ℤ◌, Bool, true, List, [], ◌∷◌, ◌++◌, ◌/◌, ◌%◌, length, take, get_or, None, Some, slice_get, refl, sym, subst, ◌∙◌, arith}
+use Rattle.std.proofs.Common.{◌≡◌, ℕ, ◌+◌, ◌-◌, ◌*◌, ◌<◌, ◌≤◌, ◌⊎◌, inl, inr, ℤ, pos, ◌+ℤ◌, ◌-ℤ◌, Bool, true, List, [], ◌∷◌, ◌++◌, ◌/◌, ◌%◌, length, take, get_or, Contains, None, Some, slice_get, refl, sym, ap, subst, ◌∙◌, append_assoc, arith, length-take, get_or-take}
 use Rattle.std.specs.Prelude.{Option}
 use Rattle.std.proofs.lemmas.Bool.{cases_eq}
 use Rattle.std.proofs.lemmas.List.{take_more}
-use Rattle.std.proofs.lemmas.Option.{same_Some, slice_get_within}
+use Rattle.std.proofs.lemmas.List.Elements.{Contains-append_right}
+use Rattle.std.proofs.lemmas.Option.{same_Some, slice_get_within, get_or_from_slice_get}
 use Rattle.leg_cells.specs.Sound.{IsSound}
 use Rattle.leg_flat.specs.declared.shape.Shape.{Shape}
 use Rattle.leg_flat.specs.Flat.{FlatSaid}
@@ -17,7 +18,7 @@ use Rattle.leg_grid.proofs.Slots.{one_rest, by_division}
 use Rattle.leg_grid.proofs.StepsAt.{some_at}
 use Rattle.leg_grid.proofs.FarSlots.{IsPast, IsSlotPast}
 use Rattle.leg_grid.proofs.FarAccess.{far_access}
-use Rattle.leg_grid.proofs.GrownSlots.{tells_far}
+use Rattle.leg_grid.proofs.GrownSlots.{tells_far, tells_again}
 
 -- a number is that of one slot
 pub record IsSameSlot (k j i l r c : ℕ) : Type 0 where
@@ -213,14 +214,6 @@ all_told grid is_grid sound shape first end near before after count got flat gro
   told n k j i slot (inr (inl early)) = far_told grid shape is_grid sound k None (near.before k early) true true (all_along grid k shape.layer) before after n j i slot tt (got.others n (off n k j i slot (inl early)))
   told n k j i slot (inr (inr late)) = far_told grid shape is_grid sound k None (near.behind k late) true true (all_along grid k shape.layer) before after n j i slot tt (got.others n (off n k j i slot (inr late)))
 
--- one shape after another
-pub one_shape_more : (grid : GridSaid) (shapes : List Shape) (i : ℕ) (shape : Shape) (before after : List SlotAccess) → i < length shapes → get_or shapes i shape ≡ shape
-    → ((flat grown : FlatSaid) → HasShape shape flat grown → TellsSlots grid flat before → TellsSlots grid grown after)
-    → ((flat : FlatSaid) → flat.shapes ≡ take i shapes → TellsSlots grid flat before) → (flat : FlatSaid) → flat.shapes ≡ take (i + 1) shapes → TellsSlots grid flat after
-one_shape_more grid shapes i shape before after within is told so_far flat are =
-    let longer : take (i + 1) shapes ≡ take i shapes ++ shape ∷ [] = take_more shapes i shape within ∙ rw is refl in
-    told (record { shapes = take i shapes; pieces = [] }) flat (are ∙ longer) (so_far (record { shapes = take i shapes; pieces = [] }) refl)
-
 -- the one slot, by its place
 pub one_slot_told : (grid : GridSaid) (shape : Shape) (number k j i : ℕ) (before after : List SlotAccess) → IsSlot grid number k j i → AreTold grid shape (λ n. n ≡ number) before after → AreTold grid shape (λ n. IsSlot grid n k j i) before after
 one_slot_told grid shape number k j i before after slot got =
@@ -235,3 +228,32 @@ one_row grid k columns l m n row other = (same_slot grid n k l row.k k m other.k
 
 pub one_layer : (grid : GridSaid) (l m n : ℕ) → IsOnLayer grid l n → IsOnLayer grid m n → l ≡ m
 one_layer grid l m n on other = (same_slot grid n l on.j on.i m other.j other.i on.slot other.slot).layer
+
+module _ (grid : GridSaid) (shapes : List Shape) (i : ℕ) (shape : Shape) (at : slice_get shapes i ≡ Some shape) (before : List Shape) (flat : FlatSaid) (are : flat.shapes ≡ before ++ take (i + 1) shapes) where
+  -- the flat without the shape
+  abbrev pub without_it : FlatSaid
+  without_it = record { shapes = before ++ take i shapes; pieces = [] }
+
+  has_it : HasShape shape without_it flat
+  has_it =
+      let read : get_or shapes i shape ≡ shape = get_or_from_slice_get shapes i shape shape at in
+      let longer : take (i + 1) shapes ≡ take i shapes ++ shape ∷ [] = take_more shapes i shape (slice_get_within shapes i shape at) ∙ rw read refl in
+      are ∙ ap (λ (more : List Shape). before ++ more) longer ∙ sym (append_assoc before (take i shapes) (shape ∷ []))
+
+  -- the shape is added
+  pub told_next : (old new : List SlotAccess) → ((f g : FlatSaid) → HasShape shape f g → TellsSlots grid f old → TellsSlots grid g new) → TellsSlots grid without_it old → TellsSlots grid flat new
+  told_next old new told tells = told without_it flat has_it tells
+
+  -- it is among those before it
+  pub told_again : IsGrid grid → Contains (take i shapes) shape → (slots : List SlotAccess) → TellsSlots grid without_it slots → TellsSlots grid flat slots
+  told_again is_grid there slots tells = record {
+    count = tells.count;
+    each = λ n slot slot_at. tells_again grid is_grid n shape without_it flat has_it slot (Contains-append_right before (take i shapes) shape there) (tells.each n slot slot_at);
+  }
+
+-- a shape that is the one before it is among those before it
+pub among_before : (shapes : List Shape) (k : ℕ) (a shape : Shape) → 0 < k → k < length shapes → slice_get shapes (k - 1) ≡ Some a → a ≡ shape → Contains (take k shapes) shape
+among_before shapes k a shape some within at same =
+    let low : k - 1 < length (take k shapes) = omega (arith, some, within, length-take k shapes) in
+    let here : get_or (take k shapes) (k - 1) shape ≡ shape = get_or-take k shapes (k - 1) shape (omega (arith, some)) ∙ get_or_from_slice_get shapes (k - 1) a shape at ∙ same in
+    (k - 1, low, here)

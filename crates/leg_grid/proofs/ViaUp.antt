@@ -1,29 +1,41 @@
 -- The via of a step up or down.
-use Rattle.std.proofs.Common.{◌≡◌, ℕ, ◌<◌, ◌≤◌, ◌⊎◌, inl, inr, Option, None, Some, IsSome, refl, arith}
-use Rattle.leg_cells.specs.Records.{Contents}
+use Rattle.std.proofs.Common.{◌≡◌, ℕ, ◌<◌, ◌≤◌, ◌⊎◌, inl, inr, Option, None, Some, slice_get, refl, sym, ap, ◌∙◌, arith}
+use Rattle.std.specs.Prelude.{IsSome}
 use Rattle.leg_block.specs.Records.{DesignContents}
 use Rattle.leg_grid.specs.declared.node.Node.{Node}
-use Rattle.leg_grid.specs.Between.{IsVia}
+use Rattle.leg_grid.specs.declared.slot.Slot.{Slot}
 use Rattle.leg_grid.specs.Neighbours.{IsOver}
-use Rattle.leg_grid.specs.Grid.{IsViaIfAny}
-use Rattle.leg_grid.specs.Steps.Joining.{AreRouting}
+use Rattle.leg_grid.specs.Grid.{GridSaid, IsGrid, IsNumberOf}
+use Rattle.leg_grid.specs.Steps.SlotRanges.{IsLayerAt, IsLayerIfAny}
 use Rattle.leg_grid.proofs.Due.{via_rises}
+use Rattle.leg_grid.proofs.GridSlots.{numbered}
+use Rattle.leg_grid.proofs.OpenSteps.{via_there}
+use Rattle.leg_grid.proofs.SlotRanges.{one_layer}
 
-pub via_routes : (library : Contents) (low high k : ℕ) → IsVia library low high k → AreRouting library low high
-via_routes library low high k (inl first) = let joins = first.holds.joins.joins in record { low_routes = joins.low_routes; high_routes = joins.high_routes; less = via_rises library low high k (inl first) }
-via_routes library low high k (inr other) = let joins = other.first.holds.joins in record { low_routes = joins.low_routes; high_routes = joins.high_routes; less = via_rises library low high k (inr other) }
+module _ (grid : GridSaid) (is_grid : IsGrid grid) (via : ℕ) (a b : Node) (over : IsOver grid.design via a b) where
+  a_is : (n : ℕ) × IsNumberOf grid n a
+  a_is = numbered grid is_grid a over.a_is
 
-pub some_via : (library : Contents) (low high k : ℕ) (found : Option ℕ) → IsVia library low high k → IsViaIfAny library low high found → IsSome found
-some_via library low high k None is none = absurd (none k is)
-some_via library low high k (Some via) is found = refl
+  b_is : (n : ℕ) × IsNumberOf grid n b
+  b_is = numbered grid is_grid b over.b_is
 
-pub found_via : (library : Contents) (low high k : ℕ) (found : Option ℕ) → found ≡ Some k → IsViaIfAny library low high found → IsVia library low high k
-found_via library low high k found is any = rw is at any
+  -- the lower node lies on a routing layer
+  a_at : IsLayerAt grid.layers a.layer a_is.1.k
+  a_at = let lies = a_is.1.lies in record { layer = lies.layer; there = lies.there; is = sym lies.on }
+
+  -- the grid has the via of that layer
+  pub via_of_layer : (k : ℕ) → IsLayerAt grid.layers a.layer k → slice_get grid.vias k ≡ Some (Some via)
+  via_of_layer k at_k =
+      let number = a_is.1 in
+      let s : Slot = record { layer = number.k; row = number.j; column = number.i } in
+      let same : k ≡ number.k = one_layer grid.layers is_grid.layers_are.increasing a.layer k number.k at_k a_at in
+      ap (slice_get grid.vias) same ∙ via_there grid a_is.0 b_is.0 via s a b is_grid number.slot number b_is.1 over
+
+  pub layer_found : (found : Option ℕ) → IsLayerIfAny grid.layers a.layer found → IsSome found
+  layer_found None none = absurd (none a_is.1.k a_at)
+  layer_found (Some k) at_k = refl
 
 module _ (design : DesignContents) (a b : Node) where
-  pub over_by : (via k : ℕ) → IsOver design via a b → IsVia design.library a.layer b.layer k → IsOver design k a b
-  over_by via k over is = record { a_is = over.a_is; b_is = over.b_is; at = over.at; via_is = is }
-
   pub goes_up : (via : ℕ) → IsOver design via a b ⊎ IsOver design via b a → a.layer < b.layer → IsOver design via a b
   goes_up via (inl up) less = up
   goes_up via (inr down) less = absurd (let more = via_rises design.library b.layer a.layer via down.via_is in omega (arith, less, more))

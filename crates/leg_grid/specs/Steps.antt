@@ -9,4 +9,5 @@ pub mod FirstWire
 pub mod SlotRanges
 pub mod Boxes
 pub mod SlotsTold
+pub mod SameShape
 pub mod Reaches

@@ -1,7 +1,8 @@
 //! What is kept of the slots of a grid, as shapes are added.
 
-ghost use Rattle.std.specs.Prelude.{◌≡◌, ◌↔◌, ◌<◌, ◌≤◌, ◌-ℤ◌, ◌+ℤ◌, ◌<ℤ◌, ℕ, [], ◌∷◌, ◌++◌, AllPairs, length, IsTrue, IfOk};
+ghost use Rattle.std.specs.Prelude.{◌≡◌, ◌↔◌, ◌<◌, ◌≤◌, ◌-ℤ◌, ◌+ℤ◌, ◌<ℤ◌, ◌+◌, ℕ, List, [], ◌∷◌, ◌++◌, AllPairs, Contains, Some, length, take, slice_get, IsTrue, IfOk};
 ghost use Rattle.leg_geom.specs.Plane.{IsCoordinate};
+ghost use Rattle.leg_flat.specs.declared.shape.Shape.{Shape};
 ghost use Rattle.leg_flat.specs.Flat.{FlatSaid};
 ghost use Rattle.leg_wire.specs.Access.{Admits};
 ghost use Rattle.leg_grid.specs.declared.node.Node.{Node};
@@ -9,6 +10,7 @@ ghost use Rattle.leg_grid.specs.Grid.{IsGrid, IsNumberOf, slot_total};
 ghost use Rattle.leg_grid.specs.Told.{TellsSlot, TellsSlots};
 ghost use Rattle.leg_grid.specs.Steps.Reaches.{IsFar};
 ghost use Rattle.leg_grid.specs.Steps.SlotRanges.{IsInRow, IsInRows};
+ghost use Rattle.leg_grid.specs.Steps.SameShape.{AreSame};
 ghost use Rattle.leg_grid.specs.Steps.SlotsTold.{AreTold, ArePlacesNear, IsOnLayer, LiesOnIf};
 
 use crate::grid::{Grid, grid_is_sound};
@@ -21,6 +23,7 @@ use crate::slots_in::places_within;
 use leg_block::Design;
 use leg_cells::Direction;
 use leg_flat::Shape;
+use leg_geom::Rect;
 use leg_walk::Side;
 use leg_wire::Access;
 use std::alloc::{AllocError, Allocator};
@@ -74,10 +77,87 @@ pub fn slots_beside<A: Allocator + Copy>(
     ensures { IfOk result (λ slots. (flat : FlatSaid) → flat.shapes ≡ shapes.now → TellsSlots grid.now flat slots.items) }
 {
     let mut slots = bare_slots(alloc, grid)?;
-    for shape in shapes {
-        add_shape(grid, design, shape, &mut slots);
-    }
+    add_shapes(grid, design, shapes, &mut slots);
     Ok(slots)
+}
+
+/// The same where these shapes lie too, after the others: the slots near them are computed anew, on the layers near them. A shape
+/// that is the one before it again, as cuts of a via may be, is passed over. The grid is that of the design.
+pub fn add_shapes<A: Allocator + Copy>(
+    grid: &Grid<'_, '_, A>,
+    design: &Design<'_, A>,
+    shapes: &[Shape],
+    slots: &mut [SlotAccess],
+)
+    requires of_design { grid.now.design ≡ design.now }
+    requires count { length slots.old ≡ slot_total grid.now }
+    ensures count { length slots.new ≡ length slots.old }
+    ensures told { (before : List Shape) → ((flat : FlatSaid) → flat.shapes ≡ before → TellsSlots grid.now flat slots.old)
+        → (flat : FlatSaid) → flat.shapes ≡ before ++ shapes.now → TellsSlots grid.now flat slots.new }
+{
+    for k in 0..shapes.len() {
+        add_unless_again(grid, design, shapes, k, slots);
+    }
+}
+
+/// The same with the shape of this number alone, after those before it.
+fn add_unless_again<A: Allocator + Copy>(
+    grid: &Grid<'_, '_, A>,
+    design: &Design<'_, A>,
+    shapes: &[Shape],
+    k: usize,
+    slots: &mut [SlotAccess],
+)
+    requires of_design { grid.now.design ≡ design.now }
+    requires within { k < length shapes.now }
+    requires count { length slots.old ≡ slot_total grid.now }
+    ensures count { length slots.new ≡ length slots.old }
+    ensures told { (before : List Shape) → ((flat : FlatSaid) → flat.shapes ≡ before ++ take k shapes.now → TellsSlots grid.now flat slots.old)
+        → (flat : FlatSaid) → flat.shapes ≡ before ++ take (k + 1) shapes.now → TellsSlots grid.now flat slots.new }
+{
+    grid_is_sound(grid);
+    if is_again(shapes, k) {
+        return;
+    }
+    add_shape(grid, design, &shapes[k], slots);
+}
+
+/// Whether the shape of this number is the one before it again.
+fn is_again(shapes: &[Shape], k: usize) -> bool
+    requires { k < length shapes.now }
+    ensures { (shape : Shape) → slice_get shapes.now k ≡ Some shape → IsTrue result → Contains (take k shapes.now) shape }
+{
+    if k == 0 {
+        return false;
+    }
+    let before = k - 1;
+    is_same(&shapes[before], &shapes[k])
+}
+
+/// Whether both are the same metal, of one piece.
+fn is_same(a: &Shape, b: &Shape) -> bool
+    ensures { IsTrue result ↔ AreSame a.now b.now }
+{
+    a.layer == b.layer
+        && are_same(&a.rect, &b.rect)
+        && a.owner == b.owner
+        && are_same_numbers(a.component, b.component)
+        && are_same_numbers(a.piece, b.piece)
+}
+
+/// Whether both are one number, or none.
+fn are_same_numbers(a: Option<u32>, b: Option<u32>) -> bool
+    ensures { IsTrue result ↔ a ≡ b }
+{
+    a == b
+}
+
+/// Whether the rectangles are the same.
+#[tactic(auto, using(crate::proofs::SameShapes::sides_same))]
+fn are_same(a: &Rect, b: &Rect) -> bool
+    ensures { IsTrue result ↔ a.now ≡ b.now }
+{
+    *a == *b
 }
 
 /// The same where one more shape lies, after the others: the slots near it are computed anew, on the

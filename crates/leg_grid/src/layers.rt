@@ -1,7 +1,8 @@
 //! The routing layers of a library.
 
-ghost use Rattle.std.specs.Prelude.{◌≡◌, ◌++◌, IfOk, OnOk};
+ghost use Rattle.std.specs.Prelude.{◌≡◌, ◌<◌, ◌++◌, AllPairs, IfOk, OnOk};
 ghost use Rattle.leg_grid.specs.Steps.LayerList.{routing_at, routing_from};
+ghost use Rattle.leg_grid.specs.Steps.SlotRanges.{IsLayerIfAny};
 
 use leg_cells::{Direction, Layer, LayerKind};
 use std::alloc::{AllocError, Allocator};
@@ -51,4 +52,17 @@ pub(crate) fn routing_layers<A: Allocator>(
         add_routing(&mut found, number, layer.kind)?;
     }
     Ok(found)
+}
+
+/// Which of the routing layers, bottom up, has this number in the library, if one has.
+pub(crate) fn routing_layer_of(layers: &[RoutingLayer], number: usize) -> Option<usize>
+    requires { AllPairs (λ a b. a.number < b.number) layers.now }
+    ensures { IsLayerIfAny layers.now number result }
+{
+    let place = layers.partition_point(|own| own.number < number);
+    if place >= layers.len() {
+        return None;
+    }
+    let own = layers[place].number;
+    if own == number { Some(place) } else { None }
 }

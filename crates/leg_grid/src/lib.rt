@@ -30,7 +30,7 @@ mod through;
 mod track_marks;
 mod via_patches;
 
-pub use added::{add_shape, slots_beside};
+pub use added::{add_shape, add_shapes, slots_beside};
 pub use fault::GridFault;
 pub use grid::{Grid, grid_is_sound};
 pub use grid_walk::is_walk;

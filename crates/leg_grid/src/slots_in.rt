@@ -8,10 +8,10 @@ ghost use Rattle.leg_grid.specs.declared.slot_box.SlotBox.{SlotBox};
 ghost use Rattle.leg_grid.specs.Bound.{HasJust, AreBoxed};
 ghost use Rattle.leg_grid.specs.Steps.Boxes.{HaveGotBox};
 ghost use Rattle.leg_grid.specs.Places.{ArePlaces};
-ghost use Rattle.leg_grid.specs.Steps.SlotRanges.{IsLayerIfAny, IsInRow, IsInRows, HaveGot, HaveDropped};
+ghost use Rattle.leg_grid.specs.Steps.SlotRanges.{IsInRow, IsInRows, HaveGot, HaveDropped};
 
 use crate::grid::Grid;
-use crate::layers::RoutingLayer;
+use crate::layers::routing_layer_of;
 use crate::slot::Slot;
 use crate::slot_box::{BoxedSlots, SlotBox};
 use leg_geom::Rect;
@@ -26,18 +26,6 @@ pub fn places_within(values: &[i64], low: i64, high: i64) -> (usize, usize)
     let first = values.partition_point(|z| *z < low);
     let end = values.partition_point(|z| *z <= high);
     (first, end)
-}
-
-/// Which of the routing layers has this number in the library, if one has.
-fn routing_layer_of(layers: &[RoutingLayer], number: usize) -> Option<usize>
-    ensures { IsLayerIfAny layers.now number result }
-{
-    for k in 0..layers.len() {
-        if layers[k].number == number {
-            return Some(k);
-        }
-    }
-    None
 }
 
 /// Whether the slot of this number lies in these rows and columns of a layer.

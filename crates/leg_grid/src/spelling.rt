@@ -12,10 +12,11 @@ ghost use Rattle.leg_grid.specs.GridWalk.{IsGridWalk};
 ghost use Rattle.leg_grid.specs.Spelling.{AreWiresOf};
 ghost use Rattle.leg_grid.specs.Steps.FirstWire.{SpellsAll, BeginsWith};
 
+use crate::grid::{Grid, grid_is_sound};
+use crate::layers::routing_layer_of;
 use crate::node::Node;
 use crate::patch::{half, square};
 use crate::sides::{run_length, side_of, stays_on_layer};
-use crate::through::via_between;
 use leg_block::{Design, Wire};
 use leg_cells::{LayerKind, Library};
 use std::alloc::{AllocError, Allocator};
@@ -71,33 +72,40 @@ fn segment<A: Allocator + Copy>(design: &Design<'_, A>, from: &Node, to: &Node) 
 }
 
 /// The via from a node to the one above it.
-fn via_up<A: Allocator + Copy>(design: &Design<'_, A>, low: &Node, high: &Node) -> usize
-    requires { (via : ℕ) × IsOver design.now via low.now high.now }
-    ensures { IsOver design.now result low.now high.now }
+fn via_up<A: Allocator + Copy>(grid: &Grid<'_, '_, A>, low: &Node, high: &Node) -> usize
+    requires { (via : ℕ) × IsOver grid.now.design via low.now high.now }
+    ensures { IsOver grid.now.design result low.now high.now }
 {
-    via_between(design.library(), low.layer, high.layer).unwrap()
+    grid_is_sound(grid);
+    let place = routing_layer_of(grid.layers(), low.layer).unwrap();
+    grid.via_at(place).unwrap()
 }
 
 /// The via from a node to the one above or below it.
-fn via_step<A: Allocator + Copy>(design: &Design<'_, A>, a: &Node, b: &Node) -> Wire
-    requires { (via : ℕ) × (IsOver design.now via a.now b.now ⊎ IsOver design.now via b.now a.now) }
-    ensures { IsViaStep design.now a.now b.now result }
+fn via_step<A: Allocator + Copy>(grid: &Grid<'_, '_, A>, a: &Node, b: &Node) -> Wire
+    requires { (via : ℕ) × (IsOver grid.now.design via a.now b.now ⊎ IsOver grid.now.design via b.now a.now) }
+    ensures { IsViaStep grid.now.design a.now b.now result }
 {
     if a.layer < b.layer {
         Wire::ViaAt {
-            via: via_up(design, a, b),
+            via: via_up(grid, a, b),
             at: a.at,
         }
     } else {
         Wire::ViaAt {
-            via: via_up(design, b, a),
+            via: via_up(grid, b, a),
             at: a.at,
         }
     }
 }
 
 /// The first wire of a walk, and how many steps it takes.
-fn first_wire<A: Allocator + Copy>(design: &Design<'_, A>, nodes: &[Node]) -> (Wire, usize)
+fn first_wire<A: Allocator + Copy>(
+    grid: &Grid<'_, '_, A>,
+    design: &Design<'_, A>,
+    nodes: &[Node],
+) -> (Wire, usize)
+    requires of_design { grid.now.design ≡ design.now }
     requires many { 1 < length nodes.now }
     requires walk { IsGridWalk design.now nodes.now }
     ensures some { 0 < result.1 }
@@ -113,7 +121,7 @@ fn first_wire<A: Allocator + Copy>(design: &Design<'_, A>, nodes: &[Node]) -> (W
         let steps = run_length(nodes, side);
         (segment(design, from, &nodes[steps]), steps)
     } else {
-        (via_step(design, from, next), 1)
+        (via_step(grid, from, next), 1)
     }
 }
 
@@ -135,17 +143,19 @@ fn after(nodes: &[Node], steps: usize) -> &[Node]
 /// The wires of a walk, but for one of a single node, which has none.
 fn wires_of_steps<A: Allocator + Copy>(
     alloc: A,
+    grid: &Grid<'_, '_, A>,
     design: &Design<'_, A>,
     nodes: &[Node],
 ) -> Result<Vec<Wire, A>, AllocError>
-    requires { IsGridWalk design.now nodes.now }
+    requires of_design { grid.now.design ≡ design.now }
+    requires walk { IsGridWalk design.now nodes.now }
     ensures wires { IfOk result (λ wires. SpellsAll design.now nodes.now wires.items) }
     ensures spelled { IfOk result (λ wires. All (IsWire design.now.library design.now.vias false) wires.items) }
 {
     let mut wires = Vec::new(alloc);
     let mut rest = nodes;
     while rest.len() > 1 {
-        let (wire, steps) = first_wire(design, rest);
+        let (wire, steps) = first_wire(grid, design, rest);
         wires.push(wire)?;
         rest = after(rest, steps);
     }
@@ -172,17 +182,19 @@ fn wire_of_node<A: Allocator + Copy>(
 /// the patch of its node for a walk of no steps.
 pub fn wires_of<A: Allocator + Copy>(
     alloc: A,
+    grid: &Grid<'_, '_, A>,
     design: &Design<'_, A>,
     nodes: &[Node],
 ) -> Result<Vec<Wire, A>, AllocError>
-    requires { IsGridWalk design.now nodes.now }
+    requires of_design { grid.now.design ≡ design.now }
+    requires walk { IsGridWalk design.now nodes.now }
     ensures wires { IfOk result (λ wires. AreWiresOf design.now nodes.now wires.items) }
     ensures spelled { IfOk result (λ wires. All (IsWire design.now.library design.now.vias false) wires.items) }
 {
     if nodes.len() == 1 {
         wire_of_node(alloc, design, &nodes[0])
     } else {
-        let wires = wires_of_steps(alloc, design, nodes)?;
+        let wires = wires_of_steps(alloc, grid, design, nodes)?;
         Ok(wires)
     }
 }

@@ -1,15 +1,15 @@
 //! The vias from each routing layer to the next one above.
 
-ghost use Rattle.std.specs.Prelude.{◌≡◌, ◌↔◌, ◌<◌, ◌+◌, ℕ, IsTrue, Any, Option, Some, length, slice_get, IfOk};
+ghost use Rattle.std.specs.Prelude.{◌≡◌, ◌↔◌, ◌<◌, ◌≤◌, ℕ, IsTrue, Any, All, Some, MatchOption, length, IfOk};
+ghost use Rattle.std.specs.Option.{unwrap_or};
 ghost use Rattle.leg_cells.specs.JoinLaw.{IsUsed};
 ghost use Rattle.leg_cells.specs.GoodVia.{parts_of};
 ghost use Rattle.leg_cells.specs.References.{IsViaOf};
-ghost use Rattle.leg_grid.specs.declared.layers.RoutingLayer.{RoutingLayer};
 ghost use Rattle.leg_grid.specs.Between.{JoinsLayers};
-ghost use Rattle.leg_grid.specs.Grid.{AreRoutingLayers, AreViasFrom, IsViaIfAny};
-ghost use Rattle.leg_grid.specs.Steps.Joining.{Joins, IsFirstIfAny, AreRouting};
+ghost use Rattle.leg_grid.specs.Grid.{AreRoutingLayers, AreViasFrom};
+ghost use Rattle.leg_grid.specs.Steps.Joining.{Joins, JoinsAt, AreFirstVias, AreRouting};
 
-use crate::layers::RoutingLayer;
+use crate::layers::{RoutingLayer, routing_layer_of};
 use leg_cells::laws::good_vias_join_layers;
 use leg_cells::{Library, Shape, Via};
 use std::alloc::{AllocError, Allocator};
@@ -58,58 +58,67 @@ fn joins_as<A: Allocator + Copy>(
     (via.default_via || !only_default) && joins(library, via, low, high)
 }
 
-/// The first via that joins the layers, by its number: of the default ones alone, or of all.
-fn first_via<A: Allocator + Copy>(
-    library: &Library<'_, A>,
-    low: usize,
-    high: usize,
-    only_default: bool,
-) -> Option<usize>
-    requires { AreRouting library.now low high }
-    ensures { IsFirstIfAny library.now low high only_default result }
+/// The lowest layer on which shapes lie, if there are shapes.
+fn lowest_layer(shapes: &[Shape]) -> Option<usize>
+    ensures { MatchOption result (length shapes.now ≡ 0) (λ lowest. Any (λ shape. shape.layer ≡ lowest) shapes.now × All (λ shape. lowest ≤ shape.layer) shapes.now) }
 {
-    for (number, via) in library.vias().iter().enumerate() {
-        if joins_as(library, via, low, high, only_default) {
-            return Some(number);
-        }
-    }
-    None
+    shapes.iter().map(|shape| shape.layer).min()
 }
 
-/// The via by which wires go from one routing layer to another above it, by its number: the first default via that joins
-/// them, or where there is none the first via that does.
-pub(crate) fn via_between<A: Allocator + Copy>(
-    library: &Library<'_, A>,
-    low: usize,
-    high: usize,
-) -> Option<usize>
-    requires { AreRouting library.now low high }
-    ensures { IsViaIfAny library.now low high result }
-{
-    match first_via(library, low, high, true) {
-        Some(number) => Some(number),
-        None => first_via(library, low, high, false),
-    }
-}
-
-/// The via from layer k of the routing layers to the next one above, if there is such a layer.
-fn via_above<A: Allocator + Copy>(
+/// From which of the routing layers the via leads to the next one above, if it joins two of them, and is a default via if
+/// `only_default` is set. It is the one on which its lowest shape lies.
+fn place_joined<A: Allocator + Copy>(
     library: &Library<'_, A>,
     layers: &[RoutingLayer],
-    k: usize,
+    via: &Via<'_, A>,
+    only_default: bool,
 ) -> Option<usize>
+    requires of { IsViaOf library.now via.now }
     requires are { AreRoutingLayers library.now layers.now }
-    requires within { k < length layers.now }
-    ensures { (low high : RoutingLayer) → slice_get layers.now k ≡ Some low → slice_get layers.now (k + 1) ≡ Some high → IsViaIfAny library.now low.number high.number result }
+    ensures { (k : ℕ) → result ≡ Some k ↔ JoinsAt library.now layers.now only_default via.now k }
 {
-    if k + 1 < layers.len() {
-        via_between(library, layers[k].number, layers[k + 1].number)
+    let lowest = lowest_layer(via.shapes.as_slice())?;
+    let place = routing_layer_of(layers, lowest)?;
+    if place + 1 >= layers.len() {
+        return None;
+    }
+    let (low, high) = (layers[place].number, layers[place + 1].number);
+    if joins_as(library, via, low, high, only_default) {
+        Some(place)
     } else {
         None
     }
 }
 
-/// For each of the routing layers the via to the next one above.
+/// Notes the via of this number, if none is noted yet.
+fn note_via(first: &mut Option<usize>, number: usize)
+    ensures { first.new ≡ Some (unwrap_or first.old number) }
+{
+    *first = Some(first.unwrap_or(number));
+}
+
+/// For each of the routing layers the first via that joins it and the next one above, by its number: of the default ones alone,
+/// or of all. Each via is looked at once.
+fn first_vias<A: Allocator + Copy>(
+    alloc: A,
+    library: &Library<'_, A>,
+    layers: &[RoutingLayer],
+    only_default: bool,
+) -> Result<Vec<Option<usize>, A>, AllocError>
+    requires { AreRoutingLayers library.now layers.now }
+    ensures { IfOk result (λ firsts. AreFirstVias library.now layers.now only_default (length library.now.vias) firsts.items) }
+{
+    let mut firsts = Vec::from_elem(alloc, None, layers.len())?;
+    for (number, via) in library.vias().iter().enumerate() {
+        if let Some(place) = place_joined(library, layers, via, only_default) {
+            note_via(&mut firsts[place], number);
+        }
+    }
+    Ok(firsts)
+}
+
+/// For each of the routing layers the via to the next one above: the first default via that joins them, or where there is none
+/// the first via that does.
 pub(crate) fn vias_between<A: Allocator + Copy>(
     alloc: A,
     library: &Library<'_, A>,
@@ -118,9 +127,13 @@ pub(crate) fn vias_between<A: Allocator + Copy>(
     requires { AreRoutingLayers library.now layers.now }
     ensures { IfOk result (λ vias. AreViasFrom library.now layers.now (length layers.now) vias.items) }
 {
+    let defaults = first_vias(alloc, library, layers, true)?;
+    let others = first_vias(alloc, library, layers, false)?;
     let mut vias = Vec::with_capacity(alloc, layers.len())?;
     for k in 0..layers.len() {
-        vias.push(via_above(library, layers, k))?;
+        let default_via = defaults[k];
+        let other = others[k];
+        vias.push(default_via.or(other))?;
     }
     Ok(vias)
 }

@@ -12,8 +12,9 @@ via_step-requires g c =
     let nodes = c.args.nodes.now in
     let from : slice_get nodes 0 ≡ Some c.index-nodes-0.result = slice_get_read nodes (length nodes) 0 _ refl (omega arith) c.index-nodes-0.is in
     let next : slice_get nodes 1 ≡ Some c.index-nodes-1.result = slice_get_read nodes (length nodes) 1 _ refl c.requires.many c.index-nodes-1.is in
-    by_via c.args.design.now c.side_of-side.result c.index-nodes-0.result c.index-nodes-1.result (λ on. false≢true (c.if-stays_on_layer.ensures.1 on))
-    (first_beside c.args.design.now nodes c.requires.walk _ _ from next c.side_of-side.result c.side_of-side.ensures)
+    rw c.requires.of_design
+    (by_via c.args.design.now c.side_of-side.result c.index-nodes-0.result c.index-nodes-1.result (λ on. false≢true (c.if-stays_on_layer.ensures.1 on))
+    (first_beside c.args.design.now nodes c.requires.walk _ _ from next c.side_of-side.result c.side_of-side.ensures))
 
 pub segment-requires : goal.segment-requires
 segment-requires g c =
@@ -49,10 +50,10 @@ returns-else-stays_on_layer-clause-begins g c =
     let nodes = c.args.nodes.now in
     let from : slice_get nodes 0 ≡ Some c.index-nodes-0.result = slice_get_read nodes (length nodes) 0 _ refl (omega arith) c.index-nodes-0.is in
     let next : slice_get nodes 1 ≡ Some c.index-nodes-1.result = slice_get_read nodes (length nodes) 1 _ refl c.requires.many c.index-nodes-1.is in
-    through_step c.args.design.now nodes c.index-nodes-0.result c.index-nodes-1.result c.via_step.result from next c.via_step.ensures
+    through_step c.args.design.now nodes c.index-nodes-0.result c.index-nodes-1.result c.via_step.result from next (rw c.requires.of_design at c.via_step.ensures)
 
 pub returns-else-stays_on_layer-clause-spelled : goal.returns-else-stays_on_layer-clause-spelled
 returns-else-stays_on_layer-clause-spelled g c =
     let nodes = c.args.nodes.now in
     let from : slice_get nodes 0 ≡ Some c.index-nodes-0.result = slice_get_read nodes (length nodes) 0 _ refl (omega arith) c.index-nodes-0.is in
-    via_is_wire c.args.design.now c.index-nodes-0.result c.via_step.result (node_position c.args.design.now _ c.is_proper.ensures (c.requires.walk.each 0 _ from)) c.index-nodes-1.result c.via_step.ensures
+    via_is_wire c.args.design.now c.index-nodes-0.result c.via_step.result (node_position c.args.design.now _ c.is_proper.ensures (c.requires.walk.each 0 _ from)) c.index-nodes-1.result (rw c.requires.of_design at c.via_step.ensures)
