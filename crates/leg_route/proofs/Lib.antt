@@ -10,4 +10,6 @@ mod Onward
 mod Noted
 mod Ready
 mod NetSlots
+mod JoinedSlots
+mod JoinedParts
 mod NextWalk

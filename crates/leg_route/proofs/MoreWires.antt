@@ -28,16 +28,16 @@ use Rattle.leg_grown.proofs.Places.{contains_at}
 use Rattle.leg_grown.proofs.Places.{set_here, set_elsewhere}
 
 -- how many pieces a net has
-count_at : (flat : FlatSaid) (net : ℕ) (own : List Piece) → slice_get flat.pieces net ≡ Some own → piece_count flat net ≡ length own
+pub count_at : (flat : FlatSaid) (net : ℕ) (own : List Piece) → slice_get flat.pieces net ≡ Some own → piece_count flat net ≡ length own
 count_at flat net own there = rw there refl
 
-count_as : (f g : FlatSaid) (n : ℕ) → slice_get g.pieces n ≡ slice_get f.pieces n → piece_count g n ≡ piece_count f n
+pub count_as : (f g : FlatSaid) (n : ℕ) → slice_get g.pieces n ≡ slice_get f.pieces n → piece_count g n ≡ piece_count f n
 count_as f g n same = rw same refl
 
 count_none : (flat : FlatSaid) (net : ℕ) → slice_get flat.pieces net ≡ None → piece_count flat net ≡ 0
 count_none flat net there = rw there refl
 
-with_count : (terminals : List Terminal) (wires : ℕ) → length (pieces_with terminals wires) ≡ length terminals + wires
+pub with_count : (terminals : List Terminal) (wires : ℕ) → length (pieces_with terminals wires) ≡ length terminals + wires
 with_count terminals wires =
     length-append (map pieces.Term terminals) (map pieces.Wire (range_with_len 0 wires))
     ∙ rw (length-map terminals pieces.Term, length-map (range_with_len 0 wires) pieces.Wire, length-range_with_len 0 wires) refl
@@ -54,7 +54,7 @@ few_pieces flat net within = by (slice_get flat.pieces net) refl where
       omega (arith, count, few, shapes)
 
 module _ (design : DesignContents) (net : ℕ) where
-  one_piece : (wire : Wire) (f g : FlatSaid) → HasOneMoreWire design net wire f g → piece_count g net ≡ piece_count f net + 1
+  pub one_piece : (wire : Wire) (f g : FlatSaid) → HasOneMoreWire design net wire f g → piece_count g net ≡ piece_count f net + 1
   one_piece wire f g step =
       let here : slice_get g.pieces net ≡ Some (pieces_with step.terminals (step.wires + 1)) =
       ap (λ (ps : List (List Piece)). slice_get ps net) step.pieces ∙ set_here f.pieces net (pieces_with step.terminals step.wires) (pieces_with step.terminals (step.wires + 1)) step.there in
@@ -79,7 +79,7 @@ module _ (design : DesignContents) (net : ℕ) where
 
   -- nets that are joined stay so
   module _ (n : ℕ) (other : n ≢ net) where
-    step_pieces : (wire : Wire) (f g : FlatSaid) → HasOneMoreWire design net wire f g → slice_get g.pieces n ≡ slice_get f.pieces n
+    pub step_pieces : (wire : Wire) (f g : FlatSaid) → HasOneMoreWire design net wire f g → slice_get g.pieces n ≡ slice_get f.pieces n
     step_pieces wire f g step =
         ap (λ (ps : List (List Piece)). slice_get ps n) step.pieces ∙ set_elsewhere f.pieces net n (pieces_with step.terminals (step.wires + 1)) (λ same. other (sym same))
 

@@ -30,14 +30,3 @@ numbers_next first number next had numbers then begun is are grown =
     let more : next - first ≡ (number - first) + 1 = omega (arith, begun, is) in
     grown ∙ ap (λ ks. ks ++ number ∷ []) are ∙ append_assoc had (range_with_len first (number - first)) (number ∷ [])
     ∙ ap (λ ks. had ++ ks) (sym (range_next first (number - first) number last) ∙ ap (λ n. range_with_len first n) (sym more))
-
-module _ (grid : GridSaid) (shapes : List Shape) (i : ℕ) (low : i < length shapes) where
-  -- one shape more is told
-  pub tells_next : (slots then : List SlotAccess) (shape : Shape) → shape ≡ get_or shapes i shape
-      → ((flat grown : FlatSaid) → HasShape shape flat grown → TellsSlots grid flat slots → TellsSlots grid grown then)
-      → (before : List Shape) → TellsShapes grid (before ++ take i shapes) slots → TellsShapes grid (before ++ take (i + 1) shapes) then
-  tells_next slots then shape at added before told grown is =
-      let more : take (i + 1) shapes ≡ take i shapes ++ shape ∷ [] = take_more shapes i shape low ∙ ap (λ s. take i shapes ++ s ∷ []) (sym at) in
-      let flat : FlatSaid = record { shapes = before ++ take i shapes; pieces = [] } in
-      let has : HasShape shape flat grown = is ∙ ap (λ some. before ++ some) more ∙ sym (append_assoc before (take i shapes) (shape ∷ [])) in
-      added flat grown has (told flat refl)

@@ -21,6 +21,8 @@ use Rattle.leg_grid.specs.declared.slot_access.SlotAccess.{SlotAccess}
 use Rattle.leg_grid.specs.Grid.{GridSaid}
 use Rattle.leg_wire.specs.Open.{IsOpenNet}
 use Rattle.leg_grown.specs.Growth.{Grows, of_net}
+use Rattle.leg_route.specs.Steps.JoinedPart.{PartSaid}
+use Rattle.leg_route.proofs.JoinedParts.{part_grows}
 use Rattle.leg_route.specs.Steps.Ready.{AreNumbersByNet, TellsShapes, AreReady}
 
 -- a piece without a mark is one that isn't joined
@@ -94,12 +96,12 @@ module _ (design : DesignContents) (net : ℕ) (wire : Wire) (before after : Fla
     }
 
   -- all is ready still when the net has the wire, where what is new was told to the slots and the net's numbers got its
-  pub ready_more : OwnNumbersGrow → OtherNumbersStay → (grid : GridSaid) (slots slots_then : List SlotAccess) (lists : List (List ℕ)) (had own : List ℕ) (marks : List Mark) (touched : List ℕ)
-      (all first : List Shape) → all ≡ after.shapes → first ≡ before.shapes → net < length design.nets → AreReady design grid before slots lists marks touched
+  pub ready_more : OwnNumbersGrow → OtherNumbersStay → (grid : GridSaid) (slots slots_then : List SlotAccess) (lists : List (List ℕ)) (had own : List ℕ) (marks : List Mark) (touched : List ℕ) (part : PartSaid)
+      (all first : List Shape) → all ≡ after.shapes → first ≡ before.shapes → net < length design.nets → AreReady design grid before slots lists marks touched part
       → ((shapes : List Shape) → TellsShapes grid shapes slots → TellsShapes grid (shapes ++ take (length all - length first) (drop (length first) all)) slots_then)
       → had ≡ get_or lists net [] → own ≡ had ++ range_with_len (length first) (length all - length first)
-      → AreReady design grid after slots_then (slice_set lists net own) marks touched
-  ready_more own_law other_law grid slots slots_then lists had own marks touched all first all_is first_is low ready told had_is own_is =
+      → AreReady design grid after slots_then (slice_set lists net own) marks touched part
+  ready_more own_law other_law grid slots slots_then lists had own marks touched part all first all_is first_is low ready told had_is own_is =
       let rest = rest_are all first all_is first_is in
       let then : TellsShapes grid (before.shapes ++ more.added) slots_then = rw rest at (told before.shapes ready.told) in
       let own_then : own ≡ get_or lists net [] ++ range_with_len (length before.shapes) (length after.shapes - length before.shapes) = rw (all_is, first_is, had_is) at own_is in
@@ -111,4 +113,5 @@ module _ (design : DesignContents) (net : ℕ) (wire : Wire) (before after : Fla
         count = ready.count;
         unseen = ready.unseen;
         untouched = ready.untouched;
+        part_is = part_grows design net wire before after more grid part ready.part_is;
       }

@@ -5,3 +5,4 @@ pub mod Underway
 pub mod Stops
 pub mod Ready
 pub mod NetSlots
+pub mod JoinedPart

@@ -7,22 +7,25 @@ ghost use Rattle.leg_flat.specs.Flat.{IsWithin};
 ghost use Rattle.leg_grid.specs.Grid.{slot_total};
 ghost use Rattle.leg_rules.specs.Legal.{IsCleanIn};
 ghost use Rattle.leg_route.specs.Refusal.{ComesToRun, IsRefusal};
-ghost use Rattle.leg_route.specs.Steps.Ready.{TellsShapes, AreReady};
+ghost use Rattle.leg_route.specs.Steps.Ready.{AreReady};
 
 use crate::fault::RouteFault;
 use crate::ground::Ground;
+use crate::joined_part::{JoinedPart, joined_slots};
 use crate::next_wires::next_wires;
 use leg_block::{Design, Wire};
 use leg_cells::Items;
 use leg_flat::{Flat, FlatFault, Shape};
-use leg_grid::{Grid, SlotAccess, add_shape, slots_beside};
+use leg_grid::{Grid, SlotAccess, add_shapes, slots_beside};
 use leg_grown::laws::{other_numbers_stay, own_numbers_grow};
 use leg_walk::{Mark, unseen_marks};
 use leg_wire::{joined_among, numbers_by_net};
 use std::alloc::{AllocError, Allocator};
+use std::mem;
 
 /// The ground of a design: its grid, its flat as that grows, to which nets each slot of the grid and the steps from it are open in
-/// the flat, for each net of `NETS` the numbers of its shapes, and room for marks in the slots.
+/// the flat, for each net of `NETS` the numbers of its shapes, room for marks in the slots, and what is kept of the joined part of the
+/// net that was searched last.
 #[derive(Drop)]
 pub(crate) struct GridGround<'g, 'a, A: Allocator + Copy> {
     design: &'g Design<'a, A>,
@@ -32,6 +35,7 @@ pub(crate) struct GridGround<'g, 'a, A: Allocator + Copy> {
     numbers: Vec<Items<u32, A>, A>,
     marks: Vec<Mark, A>,
     touched: Vec<u32, A>,
+    part: JoinedPart<A>,
 }
 
 impl<'g, 'a, A: Allocator + Copy> GridGround<'g, 'a, A> {
@@ -43,7 +47,8 @@ impl<'g, 'a, A: Allocator + Copy> GridGround<'g, 'a, A> {
         flat: Flat<A>,
     ) -> Result<GridGround<'g, 'a, A>, RouteFault<A>>
         requires clean { IsCleanIn design.now flat }
-        ensures ready { IfOk result (λ ground. AreReady design.now ground.grid ground.flat ground.slots.items ground.numbers.items ground.marks.items ground.touched.items) }
+        ensures ready { IfOk result (λ ground. AreReady design.now ground.grid ground.flat ground.slots.items ground.numbers.items ground.marks.items ground.touched.items
+            (record { net = ground.part.net; joined = ground.part.joined.items; boxes = ground.part.slots.boxes.items; slots = ground.part.slots.slots.items })) }
         ensures same_design { IfOk result (λ ground. ground.design.now ≡ design.now) }
         ensures comes { IfOk result (λ ground. ComesToRun design.now ground.flat) }
         ensures within { IfOk result (λ ground. IsWithin ground.flat) }
@@ -62,6 +67,7 @@ impl<'g, 'a, A: Allocator + Copy> GridGround<'g, 'a, A> {
             numbers,
             marks,
             touched: Vec::new(alloc),
+            part: JoinedPart::new(alloc, 0),
         })
     }
 }
@@ -73,7 +79,8 @@ impl<'g, 'a, A: Allocator + Copy> Ground<A> for GridGround<'g, 'a, A> {
 
     ghost flat = { λ g. g.flat };
 
-    ghost IsReady = { λ g. AreReady g.design.now g.grid g.flat g.slots.items g.numbers.items g.marks.items g.touched.items };
+    ghost IsReady = { λ g. AreReady g.design.now g.grid g.flat g.slots.items g.numbers.items g.marks.items g.touched.items
+        (record { net = g.part.net; joined = g.part.joined.items; boxes = g.part.slots.boxes.items; slots = g.part.slots.slots.items }) };
 
     fn joined(&self, alloc: A, net: u32) -> Result<Vec<bool, A>, AllocError> {
         let numbers = self.numbers[net as usize].as_slice();
@@ -87,6 +94,10 @@ impl<'g, 'a, A: Allocator + Copy> Ground<A> for GridGround<'g, 'a, A> {
         net: u32,
         joined: &[bool],
     ) -> Result<Option<Vec<Wire, A>>, AllocError> {
+        let part = mem::replace(&mut self.part, JoinedPart::new(alloc, net));
+        let own = self.numbers[net as usize].as_slice();
+        let shapes = self.flat.shapes();
+        let slots = joined_slots(alloc, &self.grid, shapes, net, own, joined, part)?;
         let wires = next_wires(
             alloc,
             &self.grid,
@@ -94,11 +105,14 @@ impl<'g, 'a, A: Allocator + Copy> Ground<A> for GridGround<'g, 'a, A> {
             &self.flat,
             &self.slots,
             net,
-            self.numbers[net as usize].as_slice(),
+            own,
             joined,
+            &slots,
             &mut self.marks,
             &mut self.touched,
         )?;
+        let joined = Vec::from_slice(alloc, joined)?;
+        self.part = JoinedPart { net, joined, slots };
         Ok(wires)
     }
 
@@ -116,23 +130,6 @@ impl<'g, 'a, A: Allocator + Copy> Ground<A> for GridGround<'g, 'a, A> {
             &mut self.numbers[net as usize],
         )?;
         Ok(())
-    }
-}
-
-/// What is known of the slots where these shapes lie too, after the others: those near them are computed anew.
-fn add_shapes<A: Allocator + Copy>(
-    grid: &Grid<'_, '_, A>,
-    design: &Design<'_, A>,
-    shapes: &[Shape],
-    slots: &mut [SlotAccess],
-)
-    requires of_design { grid.now.design ≡ design.now }
-    requires count { length slots.old ≡ slot_total grid.now }
-    ensures count { length slots.new ≡ length slots.old }
-    ensures told { (before : List Shape) → TellsShapes grid.now before slots.old → TellsShapes grid.now (before ++ shapes.now) slots.new }
-{
-    for shape in shapes {
-        add_shape(grid, design, shape, slots);
     }
 }
 

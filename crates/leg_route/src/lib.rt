@@ -6,6 +6,7 @@ mod fault;
 mod finish;
 mod grid_ground;
 mod ground;
+mod joined_part;
 pub mod laws;
 mod net_turn;
 mod nets;

@@ -1,6 +1,6 @@
 //! The wires of a shortest open walk from the joined part of a net to the rest.
 
-ghost use Rattle.std.specs.Prelude.{◌≡◌, ◌↔◌, ◌<◌, ◌^◌, ℕ, [], IsTrue, All, Contains, length, IfOk, IfSome};
+ghost use Rattle.std.specs.Prelude.{◌≡◌, ◌↔◌, ◌<◌, ◌^◌, ℕ, [], IsTrue, true, All, Contains, length, IfOk, IfSome};
 ghost use Rattle.std.specs.Option.{option_map};
 ghost use Rattle.leg_walk.specs.Marks.{AreUnseen};
 ghost use Rattle.leg_wire.specs.NetShapes.{AreNumbersOf};
@@ -26,7 +26,7 @@ use leg_walk::{Mark, shortest};
 use std::alloc::{AllocError, Allocator};
 
 /// Whether the piece has this mark.
-fn has_mark(piece: Option<u32>, marks: &[bool], mark: bool) -> bool
+pub(crate) fn has_mark(piece: Option<u32>, marks: &[bool], mark: bool) -> bool
     ensures { IsTrue result ↔ HasMark marks.now mark piece }
 {
     match piece {
@@ -37,7 +37,7 @@ fn has_mark(piece: Option<u32>, marks: &[bool], mark: bool) -> bool
 
 /// The slots that lie in shapes whose pieces have this mark, of the shapes of these numbers, and for each shape in which some lie
 /// their box.
-fn marked_slots<A: Allocator + Copy>(
+pub(crate) fn marked_slots<A: Allocator + Copy>(
     alloc: A,
     grid: &Grid<'_, '_, A>,
     shapes: &[Shape],
@@ -115,7 +115,8 @@ fn next_walk<A: Allocator + Copy>(
 
 /// The wires of a shortest open walk from the joined part of the net to the rest, or `None` where there is no such walk. `slots`
 /// has for each slot of the grid what is open in the flat, `numbers` are those of the net's shapes, and
-/// `joined` has for each of its pieces whether it is joined to the first one. `marks` has one for each slot. `touched` is room to work in. Of several such walks one is taken as `shortest` of `leg_walk` states.
+/// `joined` has for each of its pieces whether it is joined to the first one, and `starts` the slots in those that are. `marks` has one
+/// for each slot. `touched` is room to work in. Of several such walks one is taken as `shortest` of `leg_walk` states.
 ///
 /// It fails only when out of memory.
 pub(crate) fn next_wires<A: Allocator + Copy>(
@@ -127,6 +128,7 @@ pub(crate) fn next_wires<A: Allocator + Copy>(
     net: u32,
     numbers: &[u32],
     joined: &[bool],
+    starts: &BoxedSlots<A>,
     marks: &mut [Mark],
     touched: &mut Vec<u32, A>,
 ) -> Result<Option<Vec<Wire, A>>, AllocError>
@@ -135,6 +137,7 @@ pub(crate) fn next_wires<A: Allocator + Copy>(
     requires in_range { net < length flat.now.pieces }
     requires numbers { AreNumbersOf flat.now.shapes net numbers.now }
     requires joined { AreMarks (AreJoined flat.now net 0) (piece_count flat.now net) joined.now }
+    requires starts { AreMarkedSlots grid.now flat.now.shapes joined.now true numbers.now starts.now.boxes.items starts.now.slots.items }
     requires count { length marks.old ≡ slot_total grid.now }
     requires unseen { AreUnseen marks.old }
     requires untouched { touched.old.items ≡ [] }
@@ -144,11 +147,8 @@ pub(crate) fn next_wires<A: Allocator + Copy>(
     ensures untouched { touched.new.items ≡ [] }
 {
     let shapes = flat.shapes();
-    let starts = marked_slots(alloc, grid, shapes, numbers, joined, true)?;
     let ends = marked_slots(alloc, grid, shapes, numbers, joined, false)?;
-    let found = next_walk(
-        alloc, grid, flat, slots, net, &starts, &ends, marks, touched,
-    )?;
+    let found = next_walk(alloc, grid, flat, slots, net, starts, &ends, marks, touched)?;
     grid_is_sound(grid);
     nodes_have_numbers();
     numbers_walk_as_nodes();
@@ -157,6 +157,6 @@ pub(crate) fn next_wires<A: Allocator + Copy>(
         return Ok(None);
     };
     let nodes = nodes_of(alloc, grid, &walk)?;
-    let wires = wires_of(alloc, design, &nodes)?;
+    let wires = wires_of(alloc, grid, design, &nodes)?;
     Ok(Some(wires))
 }

@@ -9,6 +9,7 @@ use Rattle.leg_walk.specs.Marks.{AreUnseen}
 use Rattle.leg_grid.specs.declared.slot_access.SlotAccess.{SlotAccess}
 use Rattle.leg_grid.specs.Grid.{GridSaid, slot_total}
 use Rattle.leg_grid.specs.Told.{TellsSlots}
+use Rattle.leg_route.specs.Steps.JoinedPart.{PartSaid, IsPart}
 
 -- for each of the first `nets` nets the numbers of its shapes
 pub record AreNumbersByNet (nets : ℕ) (flat : FlatSaid) (lists : List (List ℕ)) : Type 0 where
@@ -20,8 +21,8 @@ abbrev pub TellsShapes : GridSaid → List Shape → List SlotAccess → Type 0
 TellsShapes grid shapes slots = (flat : FlatSaid) → flat.shapes ≡ shapes → TellsSlots grid flat slots
 
 -- the grid is that of the design, each slot has what is open in the flat, each net of NETS has the numbers of its shapes,
--- and no slot is marked
-pub record AreReady (design : DesignContents) (grid : GridSaid) (flat : FlatSaid) (slots : List SlotAccess) (lists : List (List ℕ)) (marks : List Mark) (touched : List ℕ) : Type 0 where
+-- no slot is marked, and what is kept of the joined part of a net is right
+pub record AreReady (design : DesignContents) (grid : GridSaid) (flat : FlatSaid) (slots : List SlotAccess) (lists : List (List ℕ)) (marks : List Mark) (touched : List ℕ) (part : PartSaid) : Type 0 where
   pub of_design : grid.design ≡ design
   pub told : TellsShapes grid flat.shapes slots
   pub within : length design.nets ≤ length flat.pieces
@@ -29,3 +30,4 @@ pub record AreReady (design : DesignContents) (grid : GridSaid) (flat : FlatSaid
   pub count : length marks ≡ slot_total grid
   pub unseen : AreUnseen marks
   pub untouched : touched ≡ []
+  pub part_is : IsPart grid flat part

@@ -1,4 +1,4 @@
-use Rattle.std.proofs.Common.{true, false}
+use Rattle.std.proofs.Common.{false}
 use Rattle.std.specs.List.{AllZip}
 use Rattle.leg_grid.specs.Grid.{IsNumberOf}
 use Rattle.leg_grid.specs.Numbered.{IsNextWalkAt}
@@ -12,9 +12,6 @@ use Rattle.leg_route.proofs.next_wires.next_wires.Goals as goal
 pub marked_slots-requires : goal.marked_slots-requires
 marked_slots-requires g c = rw c.shapes-shapes.ensures.is (numbers_within c.args.flat.now.shapes c.args.net c.args.numbers.now c.requires.numbers)
 
-pub marked_slots-requires-2 : goal.marked_slots-requires-2
-marked_slots-requires-2 g c = rw c.shapes-shapes.ensures.is (numbers_within c.args.flat.now.shapes c.args.net c.args.numbers.now c.requires.numbers)
-
 pub next_walk-requires-clause-starts : goal.next_walk-requires-clause-starts
 next_walk-requires-clause-starts g c =
     let grid = c.args.grid.now in
@@ -22,10 +19,9 @@ next_walk-requires-clause-starts g c =
     let net = c.args.net in
     let numbers = c.args.numbers.now in
     let joined = c.args.joined.now in
-    let boxes = c.in_ok-starts.starts.boxes.items in
-    let starts = c.in_ok-starts.starts.slots.items in
-    let told : AreMarkedSlots grid flat.shapes joined true numbers boxes starts = rw c.shapes-shapes.ensures.is at c.in_ok-starts.ensures in
-    starts_are flat net numbers c.requires.numbers joined c.requires.joined grid boxes starts told
+    let boxes = c.args.starts.now.boxes.items in
+    let starts = c.args.starts.now.slots.items in
+    starts_are flat net numbers c.requires.numbers joined c.requires.joined grid boxes starts c.requires.starts
 
 pub next_walk-requires-clause-ends : goal.next_walk-requires-clause-ends
 next_walk-requires-clause-ends g c =
@@ -39,8 +35,8 @@ next_walk-requires-clause-ends g c =
     let told : AreMarkedSlots grid flat.shapes joined false numbers boxes ends = rw c.shapes-shapes.ensures.is at c.in_ok-ends.ensures in
     ends_are flat net numbers c.requires.numbers joined c.requires.joined grid boxes ends told
 
-pub wires_of-requires : goal.wires_of-requires
-wires_of-requires g c =
+pub wires_of-requires-clause-walk : goal.wires_of-requires-clause-walk
+wires_of-requires-clause-walk g c =
     let grid = c.args.grid.now in
     let design = c.args.design.now in
     let flat = c.args.flat.now in

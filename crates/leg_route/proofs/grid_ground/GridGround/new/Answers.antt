@@ -1,5 +1,6 @@
 use Rattle.std.proofs.Common.{◌≡◌, length, ap, sym, ◌∙◌, arith}
 use Rattle.leg_grown.proofs.Within.{nets_within}
+use Rattle.leg_route.proofs.JoinedParts.{part_none}
 use Rattle.leg_route.proofs.grid_ground.GridGround.new.Goals as goal
 
 pub returns-clause-ready : goal.returns-clause-ready
@@ -16,6 +17,7 @@ returns-clause-ready g c =
       count = c.in_ok-marks.ensures.count ∙ c.size.ensures.is;
       unseen = c.in_ok-marks.ensures.unseen;
       untouched = c.new-2.ensures.items;
+      part_is = part_none c.in_ok-grid.grid c.args.flat _ _ _ _ c.new-3.ensures.joined c.new-3.ensures.boxes c.new-3.ensures.slots;
     }
 
 pub returns-clause-comes : goal.returns-clause-comes

@@ -1,15 +1,83 @@
-use Rattle.std.proofs.Common.{◌≡◌, [], get_or, refl, ◌∙◌, arith}
+use Rattle.std.proofs.Common.{◌≡◌, ◌++◌, [], true, length, take, drop, get_or, refl, sym, ap, ◌∙◌, arith}
+use Rattle.std.proofs.Math.Seq.{take-append_seam}
 use Rattle.std.proofs.lemmas.List.{get_or_read}
+use Rattle.leg_wire.specs.NetShapes.{AreNumbersOf}
+use Rattle.leg_wire.specs.Touch.{piece_count, AreJoined, AreMarks}
+use Rattle.leg_grown.proofs.Within.{numbers_within}
+use Rattle.leg_route.specs.Steps.NetSlots.{AreMarkedSlots}
+use Rattle.leg_route.specs.Steps.JoinedPart.{PartSaid}
+use Rattle.leg_route.proofs.JoinedParts.{part_had, part_of, part_still}
 use Rattle.leg_route.proofs.grid_ground.GridGroundGround.next_wires.Goals as goal
+
+pub joined_slots-requires-clause-numbers : goal.joined_slots-requires-clause-numbers
+joined_slots-requires-clause-numbers g c =
+    let flat = c.args.self.now.flat in
+    let numbers = c.requires.ready.numbers in
+    let lists = c.args.self.now.numbers.items in
+    let net = c.args.net in
+    let list : c.as_slice-own.result.now ≡ get_or lists net [] =
+    c.as_slice-own.ensures ∙ get_or_read lists net c.index.result.now (omega (arith, c.requires.in_range, numbers.one_each)) c.index.ensures [] in
+    rw (list, c.shapes-shapes.ensures.is) (numbers_within flat.shapes net (get_or lists net []) (numbers.each net c.requires.in_range))
+
+pub joined_slots-requires-clause-still : goal.joined_slots-requires-clause-still
+joined_slots-requires-clause-still g c =
+    let ground = c.args.self.now in
+    let part : PartSaid = record { net = ground.part.net; joined = ground.part.joined.items; boxes = ground.part.slots.boxes.items; slots = ground.part.slots.slots.items } in
+    rw c.replace-part.ensures.value (λ same. part_still ground.grid ground.flat part c.args.net c.args.joined.now same c.requires.ready.part_is c.requires.joined)
+
+pub joined_slots-requires-clause-had : goal.joined_slots-requires-clause-had
+joined_slots-requires-clause-had g c =
+    let ground = c.args.self.now in
+    let part : PartSaid = record { net = ground.part.net; joined = ground.part.joined.items; boxes = ground.part.slots.boxes.items; slots = ground.part.slots.slots.items } in
+    let numbers = c.requires.ready.numbers in
+    let lists = ground.numbers.items in
+    let net = c.args.net in
+    let list : c.as_slice-own.result.now ≡ get_or lists net [] =
+    c.as_slice-own.ensures ∙ get_or_read lists net c.index.result.now (omega (arith, c.requires.in_range, numbers.one_each)) c.index.ensures [] in
+    rw (list, c.shapes-shapes.ensures.is, c.replace-part.ensures.value)
+    (λ same. part_had ground.grid ground.flat part net (get_or lists net []) same (numbers.each net c.requires.in_range) c.requires.ready.part_is)
 
 pub next_wires-requires-clause-numbers : goal.next_wires-requires-clause-numbers
 next_wires-requires-clause-numbers g c =
     let numbers = c.requires.ready.numbers in
     let lists = c.args.self.now.numbers.items in
     let net = c.args.net in
-    let list : c.as_slice.result.now ≡ get_or lists net [] =
-    c.as_slice.ensures ∙ get_or_read lists net c.index.result.now (omega (arith, c.requires.in_range, numbers.one_each)) c.index.ensures [] in
+    let list : c.as_slice-own.result.now ≡ get_or lists net [] =
+    c.as_slice-own.ensures ∙ get_or_read lists net c.index.result.now (omega (arith, c.requires.in_range, numbers.one_each)) c.index.ensures [] in
     rw list (numbers.each net c.requires.in_range)
 
 pub next_wires-requires-clause-told : goal.next_wires-requires-clause-told
 next_wires-requires-clause-told g c = rw c.deref.ensures.value (c.requires.ready.told c.args.self.now.flat refl)
+
+pub returns-clause-ready : goal.returns-clause-ready
+returns-clause-ready g c =
+    let ground = c.args.self.now in
+    let ready = c.requires.ready in
+    let flat = ground.flat in
+    let net = c.args.net in
+    let lists = ground.numbers.items in
+    let joined = c.in_ok-joined.joined.items in
+    let boxes = c.in_ok-slots.slots.boxes.items in
+    let slots = c.in_ok-slots.slots.slots.items in
+    let list : c.as_slice-own.result.now ≡ get_or lists net [] =
+    c.as_slice-own.ensures ∙ get_or_read lists net c.index.result.now (omega (arith, c.requires.in_range, ready.numbers.one_each)) c.index.ensures [] in
+    let numbers : AreNumbersOf flat.shapes net (get_or lists net []) = ready.numbers.each net c.requires.in_range in
+    let same : joined ≡ c.args.joined.now = c.in_ok-joined.ensures.items in
+    let marks : AreMarks (AreJoined flat net 0) (piece_count flat net) joined = rw same c.requires.joined in
+    let count = marks.count in
+    let had : AreMarkedSlots ground.grid flat.shapes joined true (get_or lists net []) boxes slots = rw same (rw (list, c.shapes-shapes.ensures.is) at c.in_ok-slots.ensures) in
+    let new = c.next_wires.new.marks in
+    let rest = drop (length new) ground.marks.items in
+    let long : length new ≡ ground.marks.len = c.next_wires.ensures.count ∙ c.deref_mut.ensures.len in
+    let kept : take ground.marks.len (new ++ rest) ≡ new = ap (λ n. take n (new ++ rest)) (sym long) ∙ take-append_seam new rest in
+    rw kept
+    (record {
+      of_design = ready.of_design;
+      told = ready.told;
+      within = ready.within;
+      numbers = ready.numbers;
+      count = c.next_wires.ensures.count ∙ ap length c.deref_mut.ensures.value ∙ ready.count;
+      unseen = c.next_wires.ensures.unseen;
+      untouched = c.next_wires.ensures.untouched;
+      part_is = part_of flat net (get_or lists net []) numbers joined (omega (arith, count)) ground.grid boxes slots marks had;
+    })
