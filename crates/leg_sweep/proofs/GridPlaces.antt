@@ -139,8 +139,8 @@ module _ {Item : Type 0} (rect_of : Item → Sides) (layer_of : Item → ℕ) (r
           | inr past ↦ absurd (omega (arith, past.0))
         ]
 
-    -- an item stands in four bands at most, on average
-    pub few_entries : sum_by (entries_at stretches) (range_with_len 0 (length items)) ≤ 4 * length items
+    -- an item stands in three bands at most, on average
+    pub few_entries : sum_by (entries_at stretches) (range_with_len 0 (length items)) ≤ 3 * length items
     few_entries =
         let stretch_of : Item → Stretch = λ (a : Item). stretch_in (bands_at grid (layer_of a)) (rect_of a) in
         let places = rw many_stretches at (sum_by_places entries_of stretches (record { first = 0; last = 0 })) in

@@ -33,3 +33,7 @@ mod Buckets
 mod NearNodes
 mod NodeGroups
 mod IndexCuts
+-- The rectangles near each one
+mod Cuts
+mod LayerNodes
+mod NearItems

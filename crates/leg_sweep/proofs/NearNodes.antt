@@ -80,7 +80,7 @@ module _ (rects : List Sides) (rect : Sides) (reach : ℕ) where
   near = is_near rects rect reach
 
   -- the test is that of the definition
-  near_is : (number : ℕ) → near number ≡ true → IsNear rects rect reach number
+  pub near_is : (number : ℕ) → near number ≡ true → IsNear rects rect reach number
   near_is number test = by (slice_get rects number) refl where
     by : (found : Option Sides) → slice_get rects number ≡ found → IsNear rects rect reach number
     by None is = absurd (true≢false (sym test ∙ rw is refl))
@@ -89,7 +89,7 @@ module _ (rects : List Sides) (rect : Sides) (reach : ℕ) where
         let parts = and_parts (leb (x_gap rect other) reach) (leb (y_gap rect other) reach) passes in
         record { other = other; there = is; x = leb-true (x_gap rect other) reach parts.0; y = leb-true (y_gap rect other) reach parts.1 }
 
-  is_near_passes : (number : ℕ) → IsNear rects rect reach number → near number ≡ true
+  pub is_near_passes : (number : ℕ) → IsNear rects rect reach number → near number ≡ true
   is_near_passes number is = rw is.there (and_from _ _ (le-leb (x_gap rect is.other) reach is.x) (le-leb (y_gap rect is.other) reach is.y))
 
   pub near_of_nodes : (nodes : List Node) → AreNodesFrom rects 0 nodes → AreNear rects rect reach (near_numbers rects rect reach nodes)

@@ -15,7 +15,7 @@ gap_symmetric a b c d long_a long_c = grind (arith, ints)
 gap_grows : (a b c d e f : ℤ) → c <ℤ d → a ≤ℤ c → c ≤ℤ e → gap_between a b c d ≤ gap_between a b e f
 gap_grows a b c d e f long first second = grind (arith, ints)
 
-x_gap_symmetric : (a b : Sides) → IsRect a → IsRect b → x_gap a b ≡ x_gap b a
+pub x_gap_symmetric : (a b : Sides) → IsRect a → IsRect b → x_gap a b ≡ x_gap b a
 x_gap_symmetric a b is_a is_b = gap_symmetric a.x1 a.x2 b.x1 b.x2 is_a.wide is_b.wide
 
 pub y_gap_symmetric : (a b : Sides) → IsRect a → IsRect b → y_gap a b ≡ y_gap b a

@@ -14,7 +14,7 @@ use Rattle.leg_sweep.specs.declared.node.Content.TheVariants.{Rect}
 use Rattle.leg_sweep.specs.declared.node.Node.{Node}
 use Rattle.leg_sweep.specs.Steps.Bounds.{IsWithin}
 use Rattle.leg_sweep.specs.NearNumbers.{number_in}
-use Rattle.leg_sweep.specs.Steps.Nodes.{members_of, HasBoundsOf, IsRight, AreNodesFrom, IsGrouped, AreGrouped}
+use Rattle.leg_sweep.specs.Steps.Nodes.{members_of, HasBoundsOf, IsRight, AreNodesFrom, AreNodesOf, IsGrouped, AreGrouped}
 use Rattle.leg_sweep.proofs.NearNodes.{forest_append}
 
 -- bounds lie within themselves
@@ -109,17 +109,25 @@ range_below first end low k d within =
     let at = get_or-range_with_len first (end - first) k d (omega (arith, count, within)) in
     omega (arith, at, count, within, low)
 
--- all numbers, in whatever order, have nodes
-pub nodes_from : (rects : List Sides) (first : ℕ) (keys sorted : List (ℕ × ℕ)) (bounds : Bounds) (nodes : List Node) → map (λ (key : ℕ × ℕ). key.1) keys ≡ range_with_len first (length rects - first) → IsPermutation keys sorted
-    → AreGrouped rects (map (λ (key : ℕ × ℕ). key.1) sorted) bounds [] nodes → AreNodesFrom rects first nodes
-nodes_from rects first keys sorted bounds nodes all moved a =
-    let moved_numbers = IsPermutation-map (λ (key : ℕ × ℕ). key.1) keys sorted moved in
+-- rectangles, in whatever order, have nodes
+pub nodes_are : (rects : List Sides) (keys sorted : List (ℕ × ℕ)) (bounds : Bounds) (nodes : List Node) → IsPermutation keys sorted
+    → AreGrouped rects (map (λ (key : ℕ × ℕ). key.1) sorted) bounds [] nodes → AreNodesOf rects (map (λ (key : ℕ × ℕ). key.1) keys) nodes
+nodes_are rects keys sorted bounds nodes moved a =
     let same : nodes ≡ a.nodes = a.are in
     record {
       forest = rw same a.forest;
       right = rw same a.right;
-      all = λ number low high. rw (same, a.named) (Contains-permutation _ _ number moved_numbers (rw all (in_range first (length rects) number low high)));
+      once = rw (same, a.named) (IsPermutation-map (λ (key : ℕ × ℕ). key.1) keys sorted moved);
     }
+
+-- all numbers from one on have nodes
+pub nodes_from : (rects : List Sides) (first : ℕ) (keys : List (ℕ × ℕ)) (nodes : List Node) → map (λ (key : ℕ × ℕ). key.1) keys ≡ range_with_len first (length rects - first)
+    → AreNodesOf rects (map (λ (key : ℕ × ℕ). key.1) keys) nodes → AreNodesFrom rects first nodes
+nodes_from rects first keys nodes all are = record {
+  forest = are.forest;
+  right = are.right;
+  all = λ number low high. Contains-permutation _ _ number are.once (rw all (in_range first (length rects) number low high));
+}
 
 -- the keys of numbers from one on speak of rectangles
 pub keys_below : (rects : List Sides) (first : ℕ) (keys : List (ℕ × ℕ)) → first ≤ length rects → map (λ (key : ℕ × ℕ). key.1) keys ≡ range_with_len first (length rects - first)

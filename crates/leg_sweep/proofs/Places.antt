@@ -1,5 +1,5 @@
 -- What the order from left to right says of places in it.
-use Rattle.std.proofs.Common.{◌≡◌, ℕ, ◌+◌, ◌<◌, ◌≤◌, ◌*◌, ◌^◌, Bool, true, List, length, get_or, map, All, IsPermutation, refl, ap, arith}
+use Rattle.std.proofs.Common.{◌≡◌, ℕ, ◌+◌, ◌-◌, ◌<◌, ◌≤◌, ◌≤ℤ◌, ◌*◌, ◌^◌, Bool, true, List, length, get_or, map, All, IsPermutation, refl, ap, arith}
 use Rattle.std.specs.List.{range_with_len}
 use Rattle.std.proofs.lemmas.List.Elements.{All-from_get_or}
 use Rattle.std.proofs.lemmas.List.FromFn.{length-range_with_len, get_or-range_with_len, fill_by_all}
@@ -11,6 +11,7 @@ use Rattle.leg_sweep.specs.Steps.Sweep.{unit_square, rect_numbered, test_at, IsL
 use Rattle.leg_sweep.proofs.Apart.{numbers_apart}
 use Rattle.leg_sweep.proofs.Counts.{count_pairs-map, count_pairs-IsPermutation}
 use Rattle.leg_sweep.proofs.Nearness.{near_between, near_along_x_symmetric, near_along_both_symmetric}
+use Rattle.leg_sweep.proofs.Progress.{place_of, numbers_contain}
 
 -- numbers up to n in another order are below n
 numbers_below : (n : ℕ) (order : List ℕ) → IsPermutation (range_with_len 0 n) order → All (λ x. x < n) order
@@ -52,5 +53,15 @@ module _ (rects : List Sides) (order : List ℕ) (sorted : IsLeftToRight rects o
   length_order = omega (arith, length_permutation (range_with_len 0 (length rects)) order sorted.numbers, length-range_with_len 0 (length rects))
 
 -- the looks at all items fit into a count
-pub looks_fit : (n entries pairs met looks : ℕ) → n < 2 ^ 32 → entries < 2 ^ 62 → pairs + pairs ≤ n * n → met ≤ n → looks ≤ entries + pairs → looks + met < 2 ^ 64
-looks_fit n entries pairs met looks few short half at_most so_far = omega (arith, half, mul-le n n 4294967295 4294967295 (omega arith) (omega arith))
+pub looks_fit : (n start entries pairs met looks : ℕ) → n < 2 ^ 32 → start ≤ n → entries < 2 ^ 62 → pairs + pairs ≤ n * n → met ≤ n → looks ≤ start + entries + pairs → looks + met < 2 ^ 64
+looks_fit n start entries pairs met looks few seen short half at_most so_far = omega (arith, half, mul-le n n 4294967295 4294967295 (omega arith) (omega arith))
+
+-- the last of the order begins furthest right
+pub last_furthest : (rects : List Sides) (order : List ℕ) → IsLeftToRight rects order → (x : ℕ) → x < length rects → (rect_numbered rects x).x1 ≤ℤ (rect_numbered rects (get_or order (length order - 1) 0)).x1
+last_furthest rects order sorted x within =
+    let place = place_of order x (numbers_contain order (length rects) x sorted.numbers within) in
+    rw place.2 at (sorted.rising place.0 (length order - 1) (omega (arith, place.1)) (omega (arith, place.1)))
+
+-- what is looked at beside the pairs of n items fits into a count
+pub pairs_fit : (n pairs looks start more : ℕ) → n < 2 ^ 32 → pairs + pairs ≤ n * n → start ≤ 2 * n → looks ≤ start + pairs → more < n → looks + more < 2 ^ 64
+pairs_fit n pairs looks start more few half seen so_far below = omega (arith, half, mul-le n n 4294967295 4294967295 (omega arith) (omega arith))

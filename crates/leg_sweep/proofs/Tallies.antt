@@ -64,8 +64,8 @@ pub not_fewer : (counted one more : ℕ) → more ≡ counted + one → counted 
 not_fewer counted one more grown = omega arith
 
 -- Each look keeps an item waiting, which is a near pair, or retires it.
-pub looks_in_bounds : (looks more_looks waiting more_waiting seen near bands entries more_entries pairs more_pairs new_pairs : ℕ) → more_looks ≡ looks + seen → more_waiting + seen ≡ waiting + near + bands → looks + waiting ≤ entries + pairs → near ≤ new_pairs → more_pairs ≡ pairs + new_pairs → more_entries ≡ entries + bands → more_looks + more_waiting ≤ more_entries + more_pairs
-looks_in_bounds looks more_looks waiting more_waiting seen near bands entries more_entries pairs more_pairs new_pairs looked left so_far few grown stands = omega arith
+pub looks_in_bounds : (start looks more_looks waiting more_waiting seen near bands entries more_entries pairs more_pairs new_pairs : ℕ) → more_looks ≡ looks + seen → more_waiting + seen ≡ waiting + near + bands → looks + waiting ≤ start + entries + pairs → near ≤ new_pairs → more_pairs ≡ pairs + new_pairs → more_entries ≡ entries + bands → more_looks + more_waiting ≤ start + more_entries + more_pairs
+looks_in_bounds start looks more_looks waiting more_waiting seen near bands entries more_entries pairs more_pairs new_pairs looked left so_far few grown stands = omega arith
 
 pub tests_in_bounds : (tests more_tests tested pairs more_pairs new_pairs : ℕ) → more_tests ≡ tests + tested → tests ≤ pairs → tested ≤ new_pairs → more_pairs ≡ pairs + new_pairs → more_tests ≤ more_pairs
 tests_in_bounds tests more_tests tested pairs more_pairs new_pairs is so_far few grown = omega arith

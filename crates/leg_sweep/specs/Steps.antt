@@ -6,3 +6,5 @@ pub mod Buckets
 pub mod Bounds
 pub mod Nodes
 pub mod Index
+pub mod Cut
+pub mod Layers

@@ -4,9 +4,11 @@ ghost use Rattle.std.specs.Prelude.{◌≡◌, ◌≤◌, ◌<◌, ◌+◌, ◌*
 ghost use Rattle.leg_sweep.specs.Pairs.{ArePairs, TookPairs};
 ghost use Rattle.leg_sweep.specs.Counts.{near_on_layer_along_x, near_on_layer, count_pairs};
 
+use crate::crowding::are_crowded;
 use crate::few::few_pairs;
 use crate::grid::stretches_and_bands;
 use crate::left_to_right::left_to_right;
+use crate::near_pairs::{are_reaches_short, near_pairs};
 use crate::pair_list::sort_pairs;
 use crate::rule::LayeredRule;
 use crate::sink::PairSink;
@@ -63,7 +65,8 @@ pub fn each_pair<R: LayeredRule, S: PairSink, A: Allocator + Copy>(
     search(alloc, items, rule, sink)
 }
 
-/// The sweep over the bands of all layers. A few items are looked at directly, which needs no memory.
+/// The sweep over the bands of all layers, or, where the bands are crowded, a search among the rectangles near each one. A few
+/// items are looked at directly, which needs no memory.
 fn search<R: LayeredRule, S: PairSink, A: Allocator + Copy>(
     alloc: A,
     items: &[R::Item],
@@ -87,6 +90,9 @@ fn search<R: LayeredRule, S: PairSink, A: Allocator + Copy>(
     }
     let order = left_to_right(alloc, items, rule)?;
     let (stretches, mut bands) = stretches_and_bands(alloc, items, rule)?;
+    if are_crowded(items, rule, &stretches) && are_reaches_short(rule) {
+        return near_pairs(alloc, items, rule, sink, &order);
+    }
     sweep(alloc, items, rule, sink, &order, &stretches, &mut bands)?;
     Ok(())
 }

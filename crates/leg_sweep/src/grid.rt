@@ -40,7 +40,7 @@ struct LayerBands {
 }
 
 /// The bands in which each item is, and all bands, in which no item waits yet. The bands of a layer are of one height,
-/// and are no other layer's. An item is in four bands at most, on average.
+/// and are no other layer's. An item is in three bands at most, on average.
 pub(crate) fn stretches_and_bands<R: LayeredRule, A: Allocator + Copy>(
     alloc: A,
     items: &[R::Item],
@@ -49,7 +49,7 @@ pub(crate) fn stretches_and_bands<R: LayeredRule, A: Allocator + Copy>(
     requires few { length items.now < 2 ^ 32 }
     ensures stretches { IfOk result (λ both. AreStretches (R.Holds (R.fixed rule.now)) (R.rect_of (R.fixed rule.now)) items.now both.0.items both.1.items) }
     ensures empty { IfOk result (λ both. AreEmpty both.1.items) }
-    ensures entries { IfOk result (λ both. sum_by (entries_at both.0.items) (range_with_len 0 (length items.now)) ≤ 4 * length items.now) }
+    ensures entries { IfOk result (λ both. sum_by (entries_at both.0.items) (range_with_len 0 (length items.now)) ≤ 3 * length items.now) }
     ensures layers { IfOk result (λ both. AreByLayer (map (R.layer_of (R.fixed rule.now)) items.now) (R.layer_reach_of (R.fixed rule.now)) both.0.items both.1.items) }
 {
     let spans = layer_spans(alloc, items, rule)?;

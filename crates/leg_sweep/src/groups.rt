@@ -3,7 +3,7 @@
 ghost use Rattle.std.specs.Prelude.{◌≡◌, ◌<◌, ◌≤◌, ◌+◌, ◌-◌, ◌++◌, ◌^◌, length, map, drop, All, IfOk};
 ghost use Rattle.std.specs.List.{range_with_len};
 ghost use Rattle.leg_sweep.specs.Steps.Bounds.{IsWithin};
-ghost use Rattle.leg_sweep.specs.Steps.Nodes.{AreGrouped, IsGrouped, AreNodesFrom};
+ghost use Rattle.leg_sweep.specs.Steps.Nodes.{AreGrouped, IsGrouped, AreNodesFrom, AreNodesOf};
 
 use crate::bounds::Bounds;
 use crate::curve::curve_key;
@@ -24,7 +24,20 @@ pub(crate) fn grouped<A: Allocator + Copy>(
     requires there { first ≤ length rects.now }
     ensures { IfOk result (λ nodes. AreNodesFrom rects.now first nodes.items) }
 {
-    let mut keys = keys_from(alloc, rects, first)?;
+    let keys = keys_from(alloc, rects, first)?;
+    nodes_of(alloc, rects, keys)
+}
+
+/// Nodes for the rectangles that have these keys.
+pub(crate) fn nodes_of<A: Allocator + Copy>(
+    alloc: A,
+    rects: &[Rect],
+    keys: Vec<(u64, u32), A>,
+) -> Result<Vec<Node, A>, AllocError>
+    requires { All (λ key. key.1 < length rects.now) keys.items }
+    ensures { IfOk result (λ nodes. AreNodesOf rects.now (map (λ key. key.1) keys.items) nodes.items) }
+{
+    let mut keys = keys;
     keys.sort_unstable();
     let groups = keys.len().div_ceil(LEAST_GROUP);
     let mut nodes = Vec::with_capacity(alloc, keys.len() + 2 * groups + 1)?;

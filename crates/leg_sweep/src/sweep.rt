@@ -30,12 +30,12 @@ pub(crate) fn sweep<R: PairRule, S: PairSink, A: Allocator + Copy>(
     requires empty { AreEmpty bands.old }
     requires entries { sum_by (entries_at stretches.now) order.now < 2 ^ 62 }
     requires untested { R.tests_of rule.old ≡ 0 }
-    requires unseen { R.looks_of rule.old ≡ 0 }
+    requires seen { R.looks_of rule.old ≤ length items.now }
     ensures pairs { OnOk result (TookPairs S.Takes (R.Holds (R.fixed rule.old)) items.now (R.tests_of rule.new) sink.old sink.new) }
     ensures looks { OnOk result (R.tests_of rule.new ≤ R.looks_of rule.new) }
     ensures few_tests { OnOk result (R.tests_of rule.new
         ≤ count_pairs (near_both_in_band (map (R.rect_of (R.fixed rule.old)) items.now) stretches.now bands.old) order.now) }
-    ensures few_looks { OnOk result (R.looks_of rule.new ≤ sum_by (entries_at stretches.now) order.now
+    ensures few_looks { OnOk result (R.looks_of rule.new ≤ R.looks_of rule.old + sum_by (entries_at stretches.now) order.now
         + count_pairs (near_in_band (map (R.rect_of (R.fixed rule.old)) items.now) stretches.now bands.old) order.now) }
     ensures same { R.fixed rule.new ≡ R.fixed rule.old }
 {

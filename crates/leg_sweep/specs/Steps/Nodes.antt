@@ -1,5 +1,5 @@
 -- Nodes of an index in a list: a group comes before its members.
-use Rattle.std.specs.Prelude.{◌≡◌, ℕ, ◌+◌, ◌-◌, ◌≤◌, ◌<◌, List, [], ◌∷◌, ◌++◌, length, take, slice_set, slice_get, Some, All, Contains}
+use Rattle.std.specs.Prelude.{◌≡◌, ℕ, ◌+◌, ◌-◌, ◌≤◌, ◌<◌, List, [], ◌∷◌, ◌++◌, length, take, slice_set, slice_get, Some, All, Contains, IsPermutation}
 use Rattle.leg_geom.specs.Plane.{Sides, IsRect}
 use Rattle.leg_sweep.specs.declared.bounds.Bounds.{Bounds}
 use Rattle.leg_sweep.specs.declared.node.Content.{Content}
@@ -63,3 +63,9 @@ pub record AreGrouped (rects : List Sides) (numbers : List ℕ) (bounds : Bounds
   pub right : All (IsRight rects) nodes
   pub within : All (λ node. IsWithin node.bounds bounds) nodes
   pub named : numbers_of nodes ≡ numbers
+
+-- nodes of the rectangles with these numbers, each of them once
+pub record AreNodesOf (rects : List Sides) (numbers : List ℕ) (nodes : List Node) : Type 0 where
+  pub forest : IsForest nodes
+  pub right : All (IsRight rects) nodes
+  pub once : IsPermutation numbers (numbers_of nodes)

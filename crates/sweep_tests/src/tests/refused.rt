@@ -1,5 +1,6 @@
 //! Searches and an index of which each growth is refused in turn.
 
+use super::crowded::of_two_classes;
 use super::rules::{Shape, Within};
 use super::scattered;
 use leg_geom::Rect;
@@ -56,7 +57,7 @@ fn pairs_counted_in_turn(alloc: Lent<'_>, shapes: &[Shape], number: u64) -> Resu
 }
 
 fn pairs_in_bands_in_turn(alloc: Lent<'_>, shapes: &[Shape], number: u64) -> Result<Turn, Fail> {
-    if shapes.len() > 100 {
+    if shapes.len() > 300 {
         return Err(Fail::new("too many shapes"));
     }
     let ample = pairs_in_bands(alloc, shapes, &mut Within::new(REACH, 0, &[]))?;
@@ -77,6 +78,8 @@ fn searches_without_memory(rt: HostRuntime) -> Result<(), Fail> {
     in_turn!(number => pairs_in_turn(alloc, &shapes, number)?);
     in_turn!(number => pairs_counted_in_turn(alloc, &shapes, number)?);
     in_turn!(number => pairs_in_bands_in_turn(alloc, &shapes, number)?);
+    let crowded = of_two_classes(&rt, rt.alloc(), 300, 1);
+    in_turn!(number => pairs_in_bands_in_turn(alloc, &crowded, number)?);
     Ok(())
 }
 

@@ -48,8 +48,9 @@ returns-clause-few_looks g c =
     let fixed = rule.fixed c.args.rule.now in
     let rects = map (rule.rect_of fixed) c.args.items.now in
     let order = c.in_ok-order.order.items in
+    let unseen = c.requires.unseen in
     let looks = rw (c.deref-2.ensures.value, c.in_ok-stretches.ensures, c.deref_mut.ensures.value, c.in_ok-bands.ensures, c.reach_of.ensures, c.deref.ensures.value) at c.in_ok-sweep.ensures.few_looks in
-    omega (arith, looks, one_entry (length c.args.items.now) order, one_near rects (length c.args.items.now) (rule.reach_of fixed) order, near_in_order rects order c.in_ok-order.ensures (rule.reach_of fixed), length_order rects order c.in_ok-order.ensures, length-map c.args.items.now (rule.rect_of fixed))
+    omega (arith, looks, unseen, one_entry (length c.args.items.now) order, one_near rects (length c.args.items.now) (rule.reach_of fixed) order, near_in_order rects order c.in_ok-order.ensures (rule.reach_of fixed), length_order rects order c.in_ok-order.ensures, length-map c.args.items.now (rule.rect_of fixed))
 
 pub returns-clause-pairs : goal.returns-clause-pairs
 returns-clause-pairs g c =

@@ -51,8 +51,8 @@ visit-requires-clause-looks g c =
     let square = mul-le (length (take i order)) (length (take i order)) n n (omega (arith, taken, short)) (omega (arith, taken, short)) in
     let is = in_order_is stretches order c.in_ok-in_order.in_order.items i c.index.result.now c.in_ok-in_order.ensures within c.index.ensures in
     rw is
-    (looks_fit n (sum_by (entries_at stretches) order) (count_pairs near (take i order)) (length (met c.loop-i.bands (first_at stretches x) (last_at stretches x - first_at stretches x))) (rule.looks_of c.loop-i.rule)
-    c.requires.few c.requires.entries (omega (arith, half, square)) (omega (arith, few, short))
+    (looks_fit n (rule.looks_of c.args.rule.now) (sum_by (entries_at stretches) order) (count_pairs near (take i order)) (length (met c.loop-i.bands (first_at stretches x) (last_at stretches x - first_at stretches x))) (rule.looks_of c.loop-i.rule)
+    c.requires.few c.requires.seen c.requires.entries (omega (arith, half, square)) (omega (arith, few, short))
     (omega (arith, so_far.looks, sum_by-take-le (entries_at stretches) order i)))
 
 pub loop-i-init : goal.loop-i-init
@@ -67,7 +67,7 @@ loop-i-init g c =
           c.args.sink.now c.requires.empty);
       reaches = λ k. refl;
       count = refl;
-      looks = omega (arith, c.requires.unseen, waiting_none bands c.requires.empty);
+      looks = omega (arith, waiting_none bands c.requires.empty);
       tests = omega (arith, c.requires.untested);
       counts = omega (arith, c.requires.untested);
       same = refl;
@@ -117,7 +117,7 @@ loop-i-preserved g c =
           i (rule.tests_of c.loop-i.rule) (count_by counts seen) within bands c.visit.new.bands c.args.sink.now c.loop-i.sink c.visit.new.sink so_far.found so_far.reaches so_far.count visited found);
       reaches = λ k. reaches_after narrow (first_at stretches n) (last_at stretches n) n bands c.visit.new.bands visited k ∙ so_far.reaches k;
       count = visited.count ∙ so_far.count;
-      looks = looks_in_bounds _ _ _ _ _ _ _ _ _ _ _ _ looks left so_far.looks few_near near_more entries_more;
+      looks = looks_in_bounds _ _ _ _ _ _ _ _ _ _ _ _ _ looks left so_far.looks few_near near_more entries_more;
       tests = tests_in_bounds _ _ _ _ _ _ tests so_far.tests few_both both_more;
       counts = tests_in_looks counts seen _ _ _ _ so_far.counts looks tests;
       same = c.visit.ensures.same ∙ so_far.same;
