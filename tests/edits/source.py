@@ -40,12 +40,13 @@ def without_angles(text):
     return ''.join(kept), ''.join(inside)[1:-1]
 
 
-def plain(text):
-    """Returns the last word of a type's or a trait's path, and after it those of its arguments that are types."""
+def plain(text, parameters=()):
+    """Returns the last word of a type's or a trait's path, and after it those of its arguments that are types, and no parameters."""
     outer, inside = without_angles(text)
     words = re.findall(r'\w+', outer)
     arguments = [] if not inside else [it.strip() for it in without_angles(inside)[0].split(',')]
-    return (words[-1] if words else ''), ''.join(re.findall(r'\w+', it)[-1] for it in arguments if re.match(r'[A-Z]', it))
+    types = [it for it in arguments if re.match(r'[A-Z]', it) and it not in parameters]
+    return (words[-1] if words else ''), ''.join(re.findall(r'\w+', it)[-1] for it in types)
 
 
 def owner_of(kind, rest):
@@ -53,18 +54,20 @@ def owner_of(kind, rest):
     rest = rest.rpartition('{')[0] if rest.rstrip().endswith('{') else rest
     if kind == 'trait':
         return re.findall(r'\w+', rest)[0]
+    parameters = []
     if rest.startswith('<'):
         depth = 0
         for at, letter in enumerate(rest):
             depth += (letter == '<') - (letter == '>' and rest[at - 1] not in '-=')
             if not depth:
+                parameters = re.findall(r'(?:^|,) *([A-Z]\w*)', rest[1:at])
                 rest = rest[at + 1:]
                 break
     rest = rest.partition(' where ')[0]
     trait, is_for, of = rest.partition(' for ')
     if not is_for:
         return plain(rest)[0]
-    name, arguments = plain(trait)
+    name, arguments = plain(trait, parameters)
     return plain(of)[0] + name + arguments
 
 
@@ -73,7 +76,8 @@ def end_of(lines, at, indent):
     body = None
     for here in range(at, len(lines)):
         line = lines[here]
-        if line == indent + '{' or here == at and line.endswith('{'):
+        closes_head = body is None and (here == at or line.startswith(indent + ')'))
+        if line == indent + '{' or closes_head and line.endswith('{'):
             body = here
         # (a declaration in a trait has no body: it ends with its last clause)
         is_declared = body is None and line.endswith(';')
