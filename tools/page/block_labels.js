@@ -194,13 +194,14 @@ Object.assign(BlockDrawing.prototype, {
     for (const mark of marks) {
       const box = block.marks[mark].box;
       const [x, y] = this.freeSpot(view.across(box[2]) + 12, view.down(box[3]) - 12, taken);
-      const half = 6 + 3.4 * String(mark + 1).length;
+      const number = String(block.numberOf(mark));
+      const half = 6 + 3.4 * number.length;
       context.fillStyle = theme.mark;
       context.beginPath();
       context.roundRect(x - half, y - 9, 2 * half, 18, 9);
       context.fill();
       context.fillStyle = '#ffffff';
-      context.fillText(mark + 1, x, y + 0.5);
+      context.fillText(number, x, y + 0.5);
     }
   },
 
