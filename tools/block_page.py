@@ -16,7 +16,7 @@ from violation_marks import KINDS, count_of, xml_text
 
 FOLDER = os.path.join(os.path.dirname(os.path.abspath(__file__)), 'page')
 SCRIPTS = (
-    'loose_grid', 'block', 'dust', 'viewport', 'block_drawing', 'block_labels', 'viewer', 'controls', 'violation_list', 'search', 'switches', 'show_block',
+    'loose_grid', 'block', 'dust', 'viewport', 'block_drawing', 'name_room', 'block_labels', 'viewer', 'controls', 'violation_list', 'search', 'switches', 'show_block',
     'start')
 STATUSES = ('UNPLACED', 'PLACED', 'FIXED', 'COVER')
 ROLES = {role: at for at, role in enumerate(('PIN', 'OBS', 'BLOCKAGE', 'WIRE'))}
