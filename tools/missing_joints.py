@@ -112,8 +112,14 @@ class Boxes:
             if far > squared or node.group == group or far == squared and (steps == 0 or steps == 1 and one.layer not in node.layers):
                 continue
             if node.halves:
-                low, high = [(squared_distance(half.box, one), half) for half in node.halves]
-                left += (high, low) if low[0] <= high[0] else (low, high)
+                near, other = node.halves
+                far, farther = squared_distance(near.box, one), squared_distance(other.box, one)
+                if farther < far:
+                    near, other, far, farther = other, near, farther, far
+                if farther <= squared:
+                    left.append((farther, other))
+                if far <= squared:
+                    left.append((far, near))
             for other in node.metal:
                 far = squared_distance(one, other)
                 if far <= squared and groups.of(other.piece) != group:
@@ -158,13 +164,13 @@ class NetGroups:
 
     def joints(self):
         """Returns the joints that are missing, each by the group from which it leads towards the first piece that has metal."""
-        metal = [[] for _ in range(self.count)]
-        for it in self.metal:
-            metal[self.group[it.piece]].append(it)
+        metal, least = [[] for _ in range(self.count)], [0] * len(self.metal)
+        for at, it in enumerate(self.metal):
+            metal[self.group[it.piece]].append(at)
         groups, found = Groups(self.count), []
         for piece, group in enumerate(self.group):
             groups.join(piece, group)
-        while (joints := self.nearest_of_all(groups, metal)):
+        while (joints := self.nearest_of_all(groups, metal, least)):
             for joint in sorted(joints):
                 if groups.join(joint.near.piece, joint.far.piece):
                     found.append(joint)
@@ -174,8 +180,9 @@ class NetGroups:
                     metal[group] = []
         return self.towards_first(found)
 
-    def nearest_of_all(self, groups, metal):
-        """Returns the least joint of each group but the largest one, or none where there is one group."""
+    def nearest_of_all(self, groups, metal, least):
+        """Returns the least joint of each group but the largest one, or none where there is one group. The metal of a group is given by its
+        numbers. What is known of a rectangle is that no other group is nearer than `least`, which holds on when groups are joined."""
         present = [group for group in range(self.count) if metal[group]]
         if len(present) < 2:
             return []
@@ -185,8 +192,10 @@ class NetGroups:
         for group in present:
             if group != largest:
                 best = None
-                for one in metal[group]:
-                    best = self.boxes.nearest(one, groups, group, best)
+                for at in metal[group]:
+                    if best is None or least[at] <= best.squared:
+                        best = self.boxes.nearest(self.metal[at], groups, group, best)
+                        least[at] = best.squared
                 joints.append(best)
         return joints
 
