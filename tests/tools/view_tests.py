@@ -530,6 +530,13 @@ class RefusalTests(ViewCase):
                 self.refused(2, f'{bad}:{line}: ', bad, STANDARD, '--svg', 'x.svg')
                 self.refused(2, why, bad, STANDARD, '--svg', 'x.svg')
 
+    def test_the_word_at_fault(self):
+        head = 'DESIGN top ; UNITS DISTANCE MICRONS 1000 ;\nDIEAREA ( 0 0 ) ( 800 2000 ) ;\n'
+        bad = self.write('bad.def', head + 'BLOCKAGES 1 ;\n- PLACEMENT\n+ SOFT RECT ( 0 0 ) ( 1 1 ) ;\n')
+        self.refused(2, f'{bad}:5: SOFT of a blockage is not supported\n', bad, STANDARD, '--svg', 'x.svg')
+        bad = self.write('bad.def', head + 'NETS 1 ;\n- n + ROUTED m1 ( 0 0 )\n( 9 9 ) ;\n')
+        self.refused(2, 'neither horizontal nor vertical, at (\n', bad, STANDARD, '--svg', 'x.svg')
+
     def test_lists_that_are_none(self):
         for text, line, why in (
                 ('OFFSITE u2\n', 1, 'the list ends without its last line'),
