@@ -17,6 +17,7 @@ CASES = os.path.join(TOP, 'tests', 'program')
 sys.path.insert(0, os.path.join(TOP, 'tools'))
 import lefdef_text  # noqa: E402
 from lefdef_text import NotRun, Refused, read_answer  # noqa: E402
+from lefdef_text import lines  # noqa: E402
 from lefdef_text.answers import answer_of  # noqa: E402
 
 to_json = script('tools/to-json')
@@ -220,6 +221,25 @@ class AnswerTests(Room):
                     self.assertEqual((answer.text or '') + ''.join(f'{line.text}\n' for line in answer.lines), text)
                     kinds.add(answer.kind)
         self.assertGreaterEqual(kinds, {'legal', 'violations', 'design', 'REFUSED', 'hpwl', 'NOTCLEAN', 'FIXEDILLEGAL', 'UNROUTABLE'})
+
+
+class FormTests(unittest.TestCase):
+    """The table of the forms of lines."""
+
+    def test_literal_words_and_several_forms_of_a_kind(self):
+        forms = {'moves': 'count:count | count:count of net:name', '# far': 'distance:length by'}
+        with unittest.mock.patch.dict(lines.FORMS, forms), unittest.mock.patch.dict(lines.LINE_FORMS, {}):
+            lines.LINE_FORMS.update({kind: lines.forms_of(kind) for kind in forms})
+            self.assertEqual(lines.line_of('moves 3', 7), lines.Line('moves', {'count': 3}, 7, 'moves 3'))
+            self.assertEqual(lines.line_of('moves 3 of a', 7).values, {'count': 3, 'net': 'a'})
+            self.assertEqual((lines.line_of('moves 3 a', 7), lines.line_of('moves 3 of', 7)), (None, None))
+            self.assertEqual((lines.line_of('# far 5 by', 1).values, lines.length_names('# far')), ({'distance': 5}, {'distance'}))
+
+    def test_lines_that_lefdef_prints_have_one_kind(self):
+        for text in ('OPEN a PIN p', 'SHORT m1 NET BLOCKAGE 1 2 3 4 BLOCKAGE 12 1 2 3 4', 'UNREACHABLE n WIRE 3', '# move u1 4', 'SCALE core TooLarge', 'MEMORY'):
+            self.assertEqual(lines.line_of(text, 1).text, text)
+        for text in ('', 'legal ', 'OPEN a p', 'OFFSITE', 'hpwl -1', '# move u1', 'violations', 'Legal', '#'):
+            self.assertIsNone(lines.line_of(text, 1))
 
 
 class WiringTests(Room):

@@ -14,7 +14,8 @@ TYPES = {
     'name': (rf'({NAME})', str), 'word': ('([A-Za-z]+)', str), 'owner': (f'({OWNER})', str), 'piece': (rf'({NAME}) ({NAME})', lambda a, b: f'{a} {b}'),
     'sides': (f'({SIDES})', lambda words: Rect(*map(int, words.split(' ')))), 'count': ('([0-9]+)', int), 'length': ('([0-9]+)', int)}
 PAIR = 'layer:name owner:owner sides:sides other_owner:owner other_sides:sides'
-# Every form of a line outside the text of a design: the words that it begins with, and what follows, each with a name and its type.
+# Every form of a line outside the text of a design: the words that it begins with, and what follows, each with a name and its type. A word
+# without a type stands for itself, and where a kind has several forms ` | ` is between them.
 FORMS = {
     'UNPLACED': 'component:name',
     'OUTSIDE': 'component:name',
@@ -64,14 +65,25 @@ class Form(NamedTuple):
         return values
 
 
-def form_of(kind):
-    fields = [field.split(':') for field in FORMS[kind].split()]
-    pattern = ' '.join([kind, *(TYPES[of][0] for _, of in fields)])
-    return Form(re.compile(pattern, re.ASCII), tuple((name, re.compile(TYPES[of][0]).groups, TYPES[of][1]) for name, of in fields))
+def form_of(kind, words):
+    fields = [word.split(':') for word in words]
+    pattern = ' '.join([kind, *(TYPES[field[1]][0] if len(field) > 1 else re.escape(field[0]) for field in fields)])
+    named = [field for field in fields if len(field) > 1]
+    return Form(re.compile(pattern, re.ASCII), tuple((name, re.compile(TYPES[of][0]).groups, TYPES[of][1]) for name, of in named))
 
 
-LINE_FORMS = {kind: form_of(kind) for kind in FORMS}
-VIOLATION_LINES = {kind: LINE_FORMS[kind].pattern for kind in VIOLATIONS}
+def forms_of(kind):
+    """Returns the forms of the lines of a kind."""
+    return [form_of(kind, form.split()) for form in FORMS[kind].split('|')]
+
+
+def length_names(kind):
+    """Returns which parts of the lines of a kind are lengths."""
+    return {name for name, _, of in (word.partition(':') for word in FORMS[kind].split()) if of == 'length'}
+
+
+LINE_FORMS = {kind: forms_of(kind) for kind in FORMS}
+VIOLATION_LINES = {kind: LINE_FORMS[kind][0].pattern for kind in VIOLATIONS}
 
 
 class Violation(NamedTuple):
@@ -96,14 +108,14 @@ class Line(NamedTuple):
         return self.kind in VIOLATIONS
 
     def violation(self):
-        return Violation(self.kind, LINE_FORMS[self.kind].pattern.fullmatch(self.text).groups(), self.number, self.text)
+        return Violation(self.kind, VIOLATION_LINES[self.kind].fullmatch(self.text).groups(), self.number, self.text)
 
 
 def line_of(text, number):
     """Returns a printed line, or None of a text that is none."""
     kind = ' '.join(text.split(' ')[:2]) if text.startswith('# ') else text.split(' ')[0]
-    matched = LINE_FORMS[kind].pattern.fullmatch(text) if kind in LINE_FORMS else None
-    return Line(kind, LINE_FORMS[kind].values(matched.groups()), number, text) if matched else None
+    found = ((form, form.pattern.fullmatch(text)) for form in LINE_FORMS.get(kind, ()))
+    return next((Line(kind, form.values(matched.groups()), number, text) for form, matched in found if matched), None)
 
 
 def answer_text(path):
