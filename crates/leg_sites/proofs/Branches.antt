@@ -50,12 +50,15 @@ module _ (design : DesignContents) (order : List RowKey) (lists : List (Option (
         let low : IsLeafBeneath order node key = rw below.here at leaf in
         let own : Bounds = get_or nodes node above.bounds in
         let there : slice_get nodes node ≡ Some own = slice_get-get_or nodes node above.bounds (let count = rows.nodes.count in omega (arith, within, count)) in
-        fit_both design (row_lists order lists) own above.bounds branch.bounds key.row (below.bounds own there)
-        (rows.nodes.fit node own key some there low)
-        (is.fits key (elim side [
-          | inl left ↦ beneath_left order above.node key (rw left at low)
-          | inr right ↦ beneath_right order above.node key (rw right at low)
-        ]));
+        let own_fits = rows.nodes.fit node own key some there low in
+        elim (below.bounds own there) [
+          | inl both ↦ fit_both design (row_lists order lists) own above.bounds branch.bounds key.row both own_fits
+              (is.fits key (elim side [
+                | inl left ↦ beneath_left order above.node key (rw left at low)
+                | inr right ↦ beneath_right order above.node key (rw right at low)
+              ]))
+          | inr same ↦ rw same own_fits
+        ];
   } where
     some : 1 ≤ node
     some = let first = is.first in elim side [ inl left ↦ omega (arith, left, first) | inr right ↦ omega (arith, right) ]

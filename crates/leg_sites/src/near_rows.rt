@@ -16,8 +16,11 @@ use crate::row_search::best_at;
 use leg_block::Design;
 use std::alloc::Allocator;
 
-/// How many rows are looked at one by one.
-const NEAR_LIMIT: usize = 6;
+/// How many rows are looked at one by one at most.
+const NEAR_LIMIT: usize = 8;
+
+/// How many rows may stand at one height where they are looked at one by one.
+const ROWS_AT_ONE_HEIGHT: usize = 4;
 
 /// The best free position of a component in the rows nearest to its start, and whether it is known to be the best one of all.
 #[derive(Clone, Copy)]
@@ -44,7 +47,7 @@ pub(crate) fn best_nearby<A: Allocator + Copy>(
     let mut low = first_at(order, wanted);
     let mut high = low;
     let mut best = None;
-    for _ in 0..NEAR_LIMIT {
+    for _ in 0..rows_to_look_at(order, low) {
         let Some(place) = next_place(order, low, high, wanted, &best) else {
             return Nearby {
                 best,
@@ -70,6 +73,18 @@ fn first_at(order: &[RowKey], wanted: &Wanted) -> usize
     ensures { IsSplitAt order.now wanted.now result result }
 {
     order.partition_point(|key| key.is_lower(wanted))
+}
+
+/// How many rows are looked at one by one: none where more than a few stand at one height from this place on.
+fn rows_to_look_at(order: &[RowKey], place: usize) -> usize
+    requires { place ≤ length order.now }
+{
+    let end = place + ROWS_AT_ONE_HEIGHT;
+    if end < order.len() && order[place].y == order[end].y {
+        0
+    } else {
+        NEAR_LIMIT
+    }
 }
 
 /// The nearer one of the places before `low` and from `high` on whose rows may have a better position than the best one so far.

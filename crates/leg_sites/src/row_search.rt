@@ -25,7 +25,8 @@ use crate::shared_lists::owner_of;
 use leg_block::{Design, Row};
 use std::alloc::Allocator;
 
-/// The better of a position and of the best free one in the rows whose leaves lie beneath a node of the tree, or at it.
+/// The better of a position and of the best free one in the rows whose leaves lie beneath a node of the tree, or at it. (That the
+/// rows are of sites that there are is known once they are asked for.)
 pub(crate) fn best_beneath<A: Allocator + Copy>(
     design: &Design<'_, A>,
     lists: &[Option<RowParts<A>>],
