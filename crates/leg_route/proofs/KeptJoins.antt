@@ -10,8 +10,7 @@ use Rattle.leg_flat.specs.Flat.{FlatSaid}
 use Rattle.leg_flat.specs.MoreWires.{HasOneMoreWire}
 use Rattle.leg_wire.specs.declared.piece_shape.PieceShape.{PieceShape}
 use Rattle.leg_wire.specs.Touch.{piece_count}
-use Rattle.leg_wire.specs.Joins.{JoinsSaid, IsWholeNet, AreJoinsOf, metal_of_piece, HasOnePieceMore}
-use Rattle.leg_wire.specs.Steps.PieceMetal.{IsPieceShape}
+use Rattle.leg_wire.specs.Joins.{JoinsSaid, IsWholeNet, AreJoinsOf, metal_of_piece, HasOnePieceMore, IsPieceShape}
 use Rattle.leg_grown.proofs.Places.{comes_from}
 use Rattle.leg_route.specs.Steps.Ready.{IsWithWire}
 use Rattle.leg_route.proofs.JoinedParts.{own, own_is, IsNew, new_shape}

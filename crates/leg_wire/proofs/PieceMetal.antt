@@ -10,8 +10,8 @@ use Rattle.leg_flat.specs.Flat.{FlatSaid}
 use Rattle.leg_wire.specs.declared.piece_shape.PieceShape.{PieceShape}
 use Rattle.leg_wire.specs.Touch.{piece_count}
 use Rattle.leg_wire.specs.NetShapes.{IsOfNet, AreNumbersOf}
-use Rattle.leg_wire.specs.Joins.{IsWholeNet}
-use Rattle.leg_wire.specs.Steps.PieceMetal.{SaysShape, IsPieceShape, ArePieceShapes}
+use Rattle.leg_wire.specs.Joins.{IsWholeNet, IsPieceShape, ArePieceShapes}
+use Rattle.leg_wire.specs.Steps.PieceMetal.{SaysShape}
 
 module _ (flat : FlatSaid) (net : ℕ) where
   -- the shape of this number is metal of a piece

@@ -13,10 +13,10 @@ use Rattle.leg_flat.specs.Flat.{FlatSaid}
 use Rattle.leg_wire.specs.declared.corner.Beside.{Beside}
 use Rattle.leg_wire.specs.declared.piece_shape.PieceShape.{PieceShape}
 use Rattle.leg_wire.specs.Steps.NumberSets.{AreTogether}
-use Rattle.leg_wire.specs.Steps.PieceMetal.{ArePieceShapes, LiesAmong, TouchAmong}
+use Rattle.leg_wire.specs.Steps.PieceMetal.{LiesAmong, TouchAmong}
 use Rattle.leg_wire.specs.Steps.SharedPoints.{first_seen}
 use Rattle.leg_wire.specs.Steps.JoinSteps.{AreSomeJoined, AreSetsOf, AreJoinedSets}
-use Rattle.leg_wire.specs.Joins.{JoinsSaid, AreJoinsOf}
+use Rattle.leg_wire.specs.Joins.{JoinsSaid, AreJoinsOf, ArePieceShapes}
 use Rattle.leg_wire.specs.Touch.{piece_count, IsOfPiece, LiesIn, Touch, Joined, AreJoined, AreMarks, AreFirsts}
 use Rattle.leg_wire.specs.Touch.Joined.{itself, through}
 use Rattle.leg_wire.proofs.PiecesTouch.{AreSoFar}

@@ -4,8 +4,18 @@ use Rattle.leg_flat.specs.declared.owner.Owner.TheVariants.{Net}
 use Rattle.leg_flat.specs.declared.shape.Shape.{Shape}
 use Rattle.leg_flat.specs.Flat.{FlatSaid}
 use Rattle.leg_wire.specs.declared.piece_shape.PieceShape.{PieceShape}
-use Rattle.leg_wire.specs.Touch.{piece_count}
-use Rattle.leg_wire.specs.Steps.PieceMetal.{ArePieceShapes}
+use Rattle.leg_wire.specs.Touch.{piece_count, IsOfPiece}
+
+-- the metal of a piece of the net is that of the flat's shape
+pub record IsPieceShape (flat : FlatSaid) (net : ℕ) (shape : Shape) (piece : PieceShape) : Type 0 where
+  pub of_piece : IsOfPiece flat net piece.piece shape
+  pub layer : piece.layer ≡ shape.layer
+  pub rect : piece.rect ≡ shape.rect
+
+-- the metal of the net's pieces
+pub record ArePieceShapes (flat : FlatSaid) (net : ℕ) (pieces : List PieceShape) : Type 0 where
+  pub each : (piece : PieceShape) → Contains pieces piece → (shape : Shape) × Contains flat.shapes shape × IsPieceShape flat net shape piece
+  pub all : (shape : Shape) (piece : PieceShape) → Contains flat.shapes shape → IsPieceShape flat net shape piece → Contains pieces piece
 
 -- the metal of a net's pieces, the sets of those that are joined, and whether all metal of the net is that of its pieces
 pub record JoinsSaid : Type 0 where

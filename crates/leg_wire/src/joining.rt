@@ -1,7 +1,7 @@
 //! Pieces of a net as sets, which are united while a search finds metal that meets.
 
 ghost use Rattle.std.specs.Prelude.{◌≡◌, ◌<◌, ◌^◌, IsTrue, length, All, Contains, IfOk, OnOk};
-ghost use Rattle.leg_wire.specs.Steps.PieceMetal.{ArePieceShapes};
+ghost use Rattle.leg_wire.specs.Joins.{ArePieceShapes};
 ghost use Rattle.leg_wire.specs.Steps.JoinSteps.{HavePlaces, TellsTouch, IsJoinStep, TakesPair, IsTouchStep, AreSomeJoined, AreSetsOf, AreJoinedSets, AreKept, AreTogetherAlike};
 
 use crate::corner::Corners;

@@ -2,8 +2,8 @@
 
 ghost use Rattle.std.specs.Prelude.{◌≡◌, ◌↔◌, ◌<◌, ◌^◌, Some, length, IfOk};
 ghost use Rattle.leg_wire.specs.NetShapes.{AreNumbersOf};
-ghost use Rattle.leg_wire.specs.Joins.{IsWholeNet};
-ghost use Rattle.leg_wire.specs.Steps.PieceMetal.{SaysShape, ArePieceShapes};
+ghost use Rattle.leg_wire.specs.Joins.{IsWholeNet, ArePieceShapes};
+ghost use Rattle.leg_wire.specs.Steps.PieceMetal.{SaysShape};
 
 use leg_flat::{Flat, Shape};
 use leg_geom::Rect;

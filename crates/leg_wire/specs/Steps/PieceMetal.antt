@@ -2,9 +2,7 @@
 use Rattle.std.specs.Prelude.{◌≡◌, ◌≢◌, ◌<◌, ℕ, List, Contains, Some}
 use Rattle.leg_geom.specs.Plane.{Spot, HasPoint}
 use Rattle.leg_flat.specs.declared.shape.Shape.{Shape}
-use Rattle.leg_flat.specs.Flat.{FlatSaid}
 use Rattle.leg_wire.specs.declared.piece_shape.PieceShape.{PieceShape}
-use Rattle.leg_wire.specs.Touch.{IsOfPiece}
 
 -- the metal is that of a shape of one of this many pieces
 pub record SaysShape (count : ℕ) (shape : Shape) (piece : PieceShape) : Type 0 where
@@ -12,17 +10,6 @@ pub record SaysShape (count : ℕ) (shape : Shape) (piece : PieceShape) : Type 0
   pub piece_is : shape.piece ≡ Some piece.piece
   pub layer : piece.layer ≡ shape.layer
   pub rect : piece.rect ≡ shape.rect
-
--- the metal of a piece of the net is that of the flat's shape
-pub record IsPieceShape (flat : FlatSaid) (net : ℕ) (shape : Shape) (piece : PieceShape) : Type 0 where
-  pub of_piece : IsOfPiece flat net piece.piece shape
-  pub layer : piece.layer ≡ shape.layer
-  pub rect : piece.rect ≡ shape.rect
-
--- the metal of the net's pieces
-pub record ArePieceShapes (flat : FlatSaid) (net : ℕ) (pieces : List PieceShape) : Type 0 where
-  pub each : (piece : PieceShape) → Contains pieces piece → (shape : Shape) × Contains flat.shapes shape × IsPieceShape flat net shape piece
-  pub all : (shape : Shape) (piece : PieceShape) → Contains flat.shapes shape → IsPieceShape flat net shape piece → Contains pieces piece
 
 -- the point lies in a piece's metal, on this layer
 pub record LiesAmong (pieces : List PieceShape) (piece layer : ℕ) (p : Spot) : Type 0 where
