@@ -135,12 +135,24 @@ impl<A: Allocator + Copy> FreeSites<A> {
 fn are_in_shorter(stretches: &[Stretch], longest: u64, from: u64, end: u64) -> bool
     requires { AreStretches stretches.now }
 {
-    let first = stretches.partition_point(|stretch| stretch.end <= from);
+    let first = place_of(stretches, from);
     if first >= stretches.len() {
         return false;
     }
     let stretch = stretches[first];
     stretch.from <= from && end <= stretch.end && stretch.end.saturating_sub(stretch.from) < longest
+}
+
+/// The number of the first stretch that ends beyond this site; that of the last one, which is looked at first, if that begins by it.
+fn place_of(stretches: &[Stretch], from: u64) -> usize
+    requires { AreStretches stretches.now }
+{
+    if let Some(last) = stretches.last() {
+        if last.from <= from {
+            return stretches.len() - 1;
+        }
+    }
+    stretches.partition_point(|stretch| stretch.end <= from)
 }
 
 /// A number of sites that no stretch has more of.
