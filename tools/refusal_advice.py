@@ -8,6 +8,9 @@ MORE_UNITS = 'Have the program that wrote the DEF write more units a micron, suc
 RULE = 'The wires would have the widths and spacings of a nondefault rule, which is not read.'
 MASKS = 'The masks of a layer that is made with several are not told apart.'
 RECTANGLES = 'Metal is read as rectangles alone.'
+PATHS = 'Metal of a special net is read as paths alone.'
+PLAIN_RULE = 'tools/plain-def writes them as rectangles and vias of the widths of the rule; its spacings are not judged.'
+PLAIN_LENGTH = 'tools/plain-lef writes it if it lies at a database unit.'
 FROM_QFLOW = 'tools/from-qflow writes it whole.'
 SYNTAX = 'The word is out of place, or what belongs before it is missing.'
 
@@ -33,9 +36,9 @@ ADVICE = {
     'MASK of a blockage is not supported': (MASKS, NO_BLOCKAGE),
     'POLYGON of a blockage is not supported': ('A blockage is read as rectangles alone.', NO_BLOCKAGE),
     'MUSTJOIN is not supported': ('The entry is of pins of one component that have to be joined, and of no net with a name.', NO_TOOL),
-    'NONDEFAULTRULE of a net is not supported': (RULE, NO_TOOL),
+    'NONDEFAULTRULE of a net is not supported': (RULE, PLAIN_RULE),
     'TAPERRULE of a net is not supported': (RULE, NO_TOOL),
-    'TAPERRULE in wiring is not supported': (RULE, NO_TOOL),
+    'TAPERRULE in wiring is not supported': (RULE, PLAIN_RULE),
     'SUBNET of a net is not supported': ('A part of the net has pins and wiring of its own.', NO_TOOL),
     'VPIN of a net is not supported': ('A virtual pin is no pin of a component or of the block.', NO_TOOL),
     'STYLE of a net is not supported': ('A style gives wires ends of another form.', NO_TOOL),
@@ -44,11 +47,11 @@ ADVICE = {
     'VIRTUAL in wiring is not supported': ('A virtual connection joins two points without metal.', NO_TOOL),
     'MASK of a net is not supported': (MASKS, NO_TOOL),
     'MASK in wiring is not supported': (MASKS, NO_TOOL),
-    'RECT of a net is not supported': ('Metal of a special net is read as paths alone.', NO_TOOL),
-    'POLYGON of a net is not supported': ('Metal of a special net is read as paths alone.', NO_TOOL),
-    'VIA of a net is not supported': ('Metal of a special net is read as paths alone.', NO_TOOL),
-    'DO in wiring is not supported': ('A via is repeated in columns and rows.', NO_TOOL),
-    'the orientation of a via in wiring is not supported': ('The via is turned or mirrored.', NO_TOOL),
+    'RECT of a net is not supported': (PATHS, 'tools/plain-def writes it as wires.'),
+    'POLYGON of a net is not supported': (PATHS, 'tools/plain-def writes it as wires, if it is rectilinear.'),
+    'VIA of a net is not supported': (PATHS, 'tools/plain-def writes it as wires.'),
+    'DO in wiring is not supported': ('A via is repeated in columns and rows.', 'tools/plain-def writes each via, in SPECIALNETS.'),
+    'the orientation of a via in wiring is not supported': ('The via is turned or mirrored.', 'tools/plain-def writes it as a via of its own.'),
     'a die area that is no rectangle is not supported': ('The die is read as one rectangle.', NO_TOOL),
     'a die area of other than two or four points is not supported': ('The die is read as one rectangle.', NO_TOOL),
     'a row is turned': ('A row is N, S, FN or FS.', NO_ROW),
@@ -56,19 +59,19 @@ ADVICE = {
     'the step of a row is not the width of its site': ('Sites of a row abut.', NO_ROW),
     'the direction DIAG45 is not supported': ('Wires are horizontal or vertical.', NO_TOOL),
     'the direction DIAG135 is not supported': ('Wires are horizontal or vertical.', NO_TOOL),
-    'POLYGON in a geometry is not supported': (RECTANGLES, NO_TOOL),
+    'POLYGON in a geometry is not supported': (RECTANGLES, 'tools/plain-lef writes its rectangles, if it is rectilinear.'),
     'PATH in a geometry is not supported': (RECTANGLES, NO_TOOL),
     'VIA in a geometry is not supported': (RECTANGLES, NO_TOOL),
     'RECT MASK is not supported': (MASKS, NO_TOOL),
-    'RECT ITERATE is not supported': ('A rectangle is repeated in columns and rows.', NO_TOOL),
+    'RECT ITERATE is not supported': ('A rectangle is repeated in columns and rows.', 'tools/plain-lef writes each rectangle.'),
     'EXCEPTPGNET is not supported': ('The obstruction does not keep out power and ground nets.', NO_TOOL),
     'SITE appears twice': ('A macro has one site.', NO_TOOL),
     'SITE of a macro with more than a name': ('A macro has one site, and no pattern of sites.', NO_TOOL),
     'a number with zeros after a point': ('A number of a DEF is a whole number of database units.', FROM_QFLOW),
     'a number with digits after a point': ('A number of a DEF is a whole number of database units.', MORE_UNITS),
-    'a number with an exponent': ('A number of a DEF is a sign and digits.', NO_TOOL),
-    'a length with an exponent': ('A length of a LEF is a sign, digits and maybe a point.', NO_TOOL),
-    'a length of more than six decimals': ('It is finer than a millionth of a micron.', 'No tool rewrites it: have the program that wrote the LEF round it.'),
+    'a number with an exponent': ('A number of a DEF is a sign and digits.', 'tools/plain-def writes it, if it lies at a whole number.'),
+    'a length with an exponent': ('A length of a LEF is a sign, digits and maybe a point.', PLAIN_LENGTH),
+    'a length of more than six decimals': ('It is finer than a millionth of a micron.', PLAIN_LENGTH),
     'NotOnUnit': ('No length is rounded.', MORE_UNITS),
     'OddWidth': ('The middle line of a wire is on a database unit, so the width is even.', MORE_UNITS),
     'the width of a wire is odd': ('The middle line of a wire is on a database unit, so the width is even.', MORE_UNITS),

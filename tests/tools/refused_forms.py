@@ -79,6 +79,8 @@ MASKS = 'The masks of a layer that is made with several are not told apart.'
 RULE = 'The wires would have the widths and spacings of a nondefault rule, which is not read.'
 RECTANGLES = 'Metal is read as rectangles alone.'
 PATHS = 'Metal of a special net is read as paths alone.'
+PLAIN_RULE = 'tools/plain-def writes them as rectangles and vias of the widths of the rule; its spacings are not judged.'
+PLAIN_LENGTH = 'tools/plain-lef writes it if it lies at a database unit.'
 UNITS = 'Have the program that wrote the DEF write more units a micron, such as UNITS DISTANCE MICRONS 2000.'
 NO_LEF = 'None of the LEFs that are given defines it: check its spelling and its capitals, and which LEFs are given.'
 OUT_OF_PLACE = 'The word is out of place, or what belongs before it is missing.'
@@ -105,7 +107,7 @@ DEF_FORMS = (
     (TRACKS, 'STEP 200.0 LAYER m2', 6, 'BadNumber',
      'a whole number was expected, not 200.0. A number of a DEF is a whole number of database units. tools/from-qflow writes it whole.'),
     (TRACKS, 'STEP 200.5 LAYER m2', 6, 'BadNumber', f'a whole number was expected, not 200.5. A number of a DEF is a whole number of database units. {UNITS}'),
-    (TRACKS, 'STEP 2e2 LAYER m2', 6, 'BadNumber', f'a whole number was expected, not 2e2. A number of a DEF is a sign and digits. {NO_TOOL}'),
+    (TRACKS, 'STEP 2e2 LAYER m2', 6, 'BadNumber', 'a whole number was expected, not 2e2. A number of a DEF is a sign and digits. tools/plain-def writes it, if it lies at a whole number.'),
     ('VIAS 1 ;', 'COMPONENTMASKSHIFT m1 ;\nVIAS 1 ;', 7, 'Unexpected',
      f'COMPONENTMASKSHIFT is no form of a DEF. lefdef reads no statement and no section with this word. {NO_TOOL}'),
     (VIA, '- big + VIARULE r + CUTSIZE 20 20 + RECT m1', 8, 'Unsupported',
@@ -139,18 +141,18 @@ DEF_FORMS = (
     (BLOCKED, '- LAYER m2 + MASK 1 RECT', 19, 'Unsupported', f'MASK of a blockage is not supported. {MASKS} {NO_BLOCKAGE}'),
     (BLOCKED, '- LAYER m2 + FOO RECT', 19, 'Unsupported', f'FOO of a blockage is not supported. No blockage of LEF/DEF 5.8 has this word. {NO_BLOCKAGE}'),
     (BLOCKED, '- LAYER m2 POLYGON ( 1 1 ) RECT', 19, 'Unsupported', f'POLYGON of a blockage is not supported. A blockage is read as rectangles alone. {NO_BLOCKAGE}'),
-    (STRAP, '+ RECT m1 ( 0 0 ) ( 9 9 ) ' + STRAP, 23, 'Unsupported', f'RECT of a net is not supported. {PATHS} {NO_TOOL}'),
-    (STRAP, '+ POLYGON m1 ( 0 0 ) ( 9 0 ) ( 9 9 ) ' + STRAP, 23, 'Unsupported', f'POLYGON of a net is not supported. {PATHS} {NO_TOOL}'),
-    (STRAP, '+ VIA V12 ( 0 0 ) ' + STRAP, 23, 'Unsupported', f'VIA of a net is not supported. {PATHS} {NO_TOOL}'),
+    (STRAP, '+ RECT m1 ( 0 0 ) ( 9 9 ) ' + STRAP, 23, 'Unsupported', f'RECT of a net is not supported. {PATHS} tools/plain-def writes it as wires.'),
+    (STRAP, '+ POLYGON m1 ( 0 0 ) ( 9 0 ) ( 9 9 ) ' + STRAP, 23, 'Unsupported', f'POLYGON of a net is not supported. {PATHS} tools/plain-def writes it as wires, if it is rectilinear.'),
+    (STRAP, '+ VIA V12 ( 0 0 ) ' + STRAP, 23, 'Unsupported', f'VIA of a net is not supported. {PATHS} tools/plain-def writes it as wires.'),
     (STRAP, STRAP.replace('100', '101'), 23, 'OddWidth', f'the width 101 is odd. The middle line of a wire is on a database unit, so the width is even. {UNITS}'),
     (STRAP, STRAP.replace('100', '-2'), 23, 'TooLarge', 'a width is negative.'),
     (STRAP, STRAP.replace('100', '0'), 23, 'EmptyRect', f'a wire has the width 0, at (. A path of the width 0 has vias alone. {NO_TOOL}'),
     (STRAP, STRAP.replace('100', '100 + STYLE 1 + SHAPE RING'), 23, 'Unsupported', f'STYLE in wiring is not supported. A style gives wires ends of another form. {NO_TOOL}'),
-    (STRAP, STRAP + ' V12 DO 2 BY 2 STEP 100 100', 23, 'Unsupported', f'DO in wiring is not supported. A via is repeated in columns and rows. {NO_TOOL}'),
-    (WIRE, 'm1 TAPERRULE wide ( 100 150 ) ( 300 150 )', 27, 'Unsupported', f'TAPERRULE in wiring is not supported. {RULE} {NO_TOOL}'),
+    (STRAP, STRAP + ' V12 DO 2 BY 2 STEP 100 100', 23, 'Unsupported', 'DO in wiring is not supported. A via is repeated in columns and rows. tools/plain-def writes each via, in SPECIALNETS.'),
+    (WIRE, 'm1 TAPERRULE wide ( 100 150 ) ( 300 150 )', 27, 'Unsupported', f'TAPERRULE in wiring is not supported. {RULE} {PLAIN_RULE}'),
     (WIRE, 'm1 ( 100 150 ) MASK 1 ( 300 150 )', 27, 'Unsupported', f'MASK in wiring is not supported. {MASKS} {NO_TOOL}'),
     (WIRE, 'm1 ( 100 150 ) VIRTUAL ( 300 250 )', 27, 'Unsupported', f'VIRTUAL in wiring is not supported. A virtual connection joins two points without metal. {NO_TOOL}'),
-    (WIRE, WIRE + ' V12 FN', 27, 'Unsupported', f'the orientation of a via in wiring is not supported. The via is turned or mirrored. {NO_TOOL}'),
+    (WIRE, WIRE + ' V12 FN', 27, 'Unsupported', 'the orientation of a via in wiring is not supported. The via is turned or mirrored. tools/plain-def writes it as a via of its own.'),
     (WIRE, 'm1 ( 100 150 ) ( 300 250 )', 27, 'Diagonal', f'a wire is neither horizontal nor vertical. Wires at an angle are not read. {NO_TOOL}'),
     (WIRE, 'm1 ( 100 150 ) ( 300 150 -1 )', 27, 'TooLarge', 'an extension is negative.'),
     (WIRE, 'm1 ( 100 150 ) RECT ( 0 0 0 9 )', 27, 'EmptyRect', 'a rectangle has no area, at (.'),
@@ -167,7 +169,7 @@ DEF_FORMS = (
     (NET, '- n2 ( u1 A ) ;', 28, 'PinTwice', f'u1 A is in two nets, n1 and n2. A pin is in one net. {NO_TOOL}'),
     (NET, '- n1 ( u1 Y ) ;', 28, 'DuplicateName',
      'net n1 appears twice. A net has one entry in a section. tools/from-qflow joins the second entry to the first if it has nothing but wiring.'),
-    (NET, '- n2 ( u1 Y ) + NONDEFAULTRULE wide ;', 28, 'Unsupported', f'NONDEFAULTRULE of a net is not supported. {RULE} {NO_TOOL}'),
+    (NET, '- n2 ( u1 Y ) + NONDEFAULTRULE wide ;', 28, 'Unsupported', f'NONDEFAULTRULE of a net is not supported. {RULE} {PLAIN_RULE}'),
     (NET, '- n2 ( u1 Y ) + TAPERRULE wide ;', 28, 'Unsupported', f'TAPERRULE of a net is not supported. {RULE} {NO_TOOL}'),
     (NET, '- n2 ( u1 Y ) + SUBNET s ( u1 Y ) ROUTED m1 ( 0 0 ) ;', 28, 'Unsupported', f'SUBNET of a net is not supported. A part of the net has pins and wiring of its own. {NO_TOOL}'),
     (NET, '- n2 ( u1 Y ) + VPIN v ( 0 0 ) ( 1 1 ) ;', 28, 'Unsupported', f'VPIN of a net is not supported. A virtual pin is no pin of a component or of the block. {NO_TOOL}'),
@@ -209,16 +211,15 @@ LEF_FORMS = (
     ('SITE core ;', 'SITE core ; SITE core ;', 21, 'Unsupported', f'SITE appears twice. A macro has one site. {NO_TOOL}'),
     ('SITE core ;', 'SITE core 0 0 N DO 1 BY 1 STEP 1 1 ;', 21, 'Unsupported', f'SITE of a macro with more than a name. A macro has one site, and no pattern of sites. {NO_TOOL}'),
     ('SITE core ;', 'SITE other ;', 21, 'UnknownName', f'there is no site other. {NO_LEF}'),
-    (PIN_RECT, 'POLYGON 0 0 1 0 1 1 ;', 26, 'Unsupported', f'POLYGON in a geometry is not supported. {RECTANGLES} {NO_TOOL}'),
+    (PIN_RECT, 'POLYGON 0 0 1 0 1 1 ;', 26, 'Unsupported', f'POLYGON in a geometry is not supported. {RECTANGLES} tools/plain-lef writes its rectangles, if it is rectilinear.'),
     (PIN_RECT, 'PATH 0 0 1 0 ;', 26, 'Unsupported', f'PATH in a geometry is not supported. {RECTANGLES} {NO_TOOL}'),
     (PIN_RECT, 'VIA 0 0 V12 ;', 26, 'Unsupported', f'VIA in a geometry is not supported. {RECTANGLES} {NO_TOOL}'),
     (PIN_RECT, 'RECT MASK 1 0 0 1 1 ;', 26, 'Unsupported', f'RECT MASK is not supported. {MASKS} {NO_TOOL}'),
-    (PIN_RECT, 'RECT ITERATE 0 0 1 1 DO 2 BY 1 STEP 2 0 ;', 26, 'Unsupported', f'RECT ITERATE is not supported. A rectangle is repeated in columns and rows. {NO_TOOL}'),
+    (PIN_RECT, 'RECT ITERATE 0 0 1 1 DO 2 BY 1 STEP 2 0 ;', 26, 'Unsupported', 'RECT ITERATE is not supported. A rectangle is repeated in columns and rows. tools/plain-lef writes each rectangle.'),
     (PIN_RECT, 'RECT 0.1000000001 0.1 0.2 0.2 ;', 26, 'BadNumber',
-     'a length of at most six decimals was expected, not 0.1000000001. It is finer than a millionth of a micron. No tool rewrites it: have the program that wrote '
-     'the LEF round it.'),
+     f'a length of at most six decimals was expected, not 0.1000000001. It is finer than a millionth of a micron. {PLAIN_LENGTH}'),
     (PIN_RECT, 'RECT 1e-1 0.1 0.2 0.2 ;', 26, 'BadNumber',
-     f'a length of at most six decimals was expected, not 1e-1. A length of a LEF is a sign, digits and maybe a point. {NO_TOOL}'),
+     f'a length of at most six decimals was expected, not 1e-1. A length of a LEF is a sign, digits and maybe a point. {PLAIN_LENGTH}'),
     (OBS_RECT, 'LAYER m1 EXCEPTPGNET ;', 37, 'Unsupported', f'EXCEPTPGNET is not supported. The obstruction does not keep out power and ground nets. {NO_TOOL}'),
     (OBS_RECT, 'LAYER m9 ; POLYGON 0 0 ;', 37, 'UnknownName', f'there is no layer m9. {NO_LEF}'),
     (OBS_RECT, 'FOO 1 ;', 37, 'Unexpected', 'a form of a geometry was expected, not FOO. ' + OUT_OF_PLACE),

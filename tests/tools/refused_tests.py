@@ -259,7 +259,7 @@ class SyntaxTests(Room):
         lines = self.with_texts(TECHNOLOGY.replace('USE SIGNAL ;', 'USE ( SIGNAL ;').replace(OBS_RECT, 'POLYGON 0 0 ;'), BLOCK)
         self.assertEqual(lines, [
             f'tech.lef:23: Unexpected, 1 place: a use was expected, not (. {OUT_OF_PLACE}',
-            f'tech.lef:37: Unsupported, 1 place: POLYGON in a geometry is not supported. {RECTANGLES} {NO_TOOL}',
+            f'tech.lef:37: Unsupported, 1 place: POLYGON in a geometry is not supported. {RECTANGLES} tools/plain-lef writes its rectangles, if it is rectilinear.',
             'tech.lef:23: not looked at, 1 place: what follows the word at fault in its statement or entry, here',
             'refused forms 2, places 2'])
 

@@ -210,6 +210,10 @@ class DefReader(EntryReader):
                 self.skip_clause('VIAS')
 
         self.clauses(clause)
+        self.keep_via(name, shapes)
+
+    def keep_via(self, name, shapes):
+        """Keeps a via of these rectangles, good or not."""
         why = why_not_joined(self.library.layers, name, shapes)
         lower, upper = joined_layers(self.library.layers, shapes) if why is None else (None, None)
         self.design.vias[name] = Via(name, False, lower, upper, shapes)
