@@ -1,4 +1,4 @@
-"""Generated vias of a DEF, and the rectangles that their numbers stand for (LEF/DEF 5.8, "VIAS")."""
+"""Generated vias, and the rectangles that their numbers stand for (LEF/DEF 5.8, "VIAS" of a DEF, "Via" of a LEF)."""
 from flow_text import counted
 
 COUNTS = {'CUTSIZE': 2, 'CUTSPACING': 2, 'ENCLOSURE': 4, 'ROWCOL': 2, 'ORIGIN': 2, 'OFFSET': 4}
@@ -33,10 +33,15 @@ def parameters(text, via):
         return None
     if 'PATTERN' in found:
         text.refuse('a via with + PATTERN cannot be written out', found['PATTERN'])
-    for word in NEEDED:
-        if word not in found:
-            text.refuse(f'via {text.words[via.begin + 1]} has no + {word}', via.begin)
+    check_needed(text, via, found, '+ ')
     return found
+
+
+def check_needed(text, via, given, mark=''):
+    """Refuses a generated via that lacks numbers; `mark` stands before the words of its clauses."""
+    for word in NEEDED:
+        if word not in given:
+            text.refuse(f'via {text.words[via.begin + 1]} has no {mark}{word}', via.begin)
 
 
 def halves(text, via, length):
@@ -46,7 +51,8 @@ def halves(text, via, length):
 
 
 def rectangles(text, via, given):
-    """Returns the layers and rectangles of a generated via: lower metal, upper metal, and cuts row by row."""
+    """Returns the layers and rectangles of a generated via, whose name is the word behind `via.begin`: lower metal, upper metal, and cuts row
+    by row."""
     lower, cut, upper = given['LAYERS']
     (width, height), (gap_x, gap_y) = given['CUTSIZE'], given['CUTSPACING']
     rows, columns = given.get('ROWCOL', (1, 1))

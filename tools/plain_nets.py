@@ -271,15 +271,15 @@ class PlainNetReader(FigureReader):
         super().no_width(layer, at)
 
     def path_via(self, layer, wires, x, y, is_special):
-        if self.rule:
-            self.define_via(self.text.words[self.text.at])
+        for rule in filter(None, () if is_special else (self.rule, self.net_rule)):
+            self.define_via(rule, self.text.words[self.text.at])
         return super().path_via(layer, wires, x, y, is_special)
 
-    def define_via(self, name):
-        """Defines a via of the rule that holds, for the block."""
-        via, known = self.rule.vias.get(name), self.design.vias.get(name)
+    def define_via(self, rule, name):
+        """Defines a via of a rule for the block."""
+        via, known = rule.vias.get(name), self.design.vias.get(name)
         if via and known and known.shapes != via.shapes:
-            self.text.refuse(f'via {name} of rule {self.rule.name} has other metal than another via of this name', self.text.at, 'DuplicateName')
+            self.text.refuse(f'via {name} of rule {rule.name} has other metal than another via of this name', self.text.at, 'DuplicateName')
         if via and not known:
             self.design.vias[name] = self.new_vias[name] = via
-            self.design.why_not_good.update(self.rule.why_not_good)
+            self.design.why_not_good.update(rule.why_not_good)

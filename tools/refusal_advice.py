@@ -127,6 +127,8 @@ class Advice:
             reason = SYNTAX
         if refused.form.startswith('VIARULE of a via') and self.has_pattern(refused):
             reason, helps = 'The via is generated, and a pattern leaves cuts of it out.', NO_TOOL
+        if refused.kind == 'BadVia' and self.design.why_not_good[refused.word].endswith(' VIARULE'):
+            helps = 'tools/plain-lef writes the rectangles of a generated via.'
         return ''.join(f' {sentence}' for sentence in (reason, helps) if sentence)
 
     def has_pattern(self, refused):

@@ -6,6 +6,7 @@ import unittest
 sys.path.insert(0, os.path.dirname(os.path.abspath(__file__)))
 
 from flow_tests import TOP, FlowCase
+from lefdef_text import read_library
 from plain_texts import CELLS, EVERY_FORM, GENERATED, PLAIN_CELLS, RULES, TECHNOLOGY, block
 
 sys.path.insert(0, os.path.join(TOP, 'tools'))
@@ -60,7 +61,7 @@ class PlainLefTests(FlowCase):
         self.assertEqual(out, PLAIN_CELLS)
         self.assertEqual(err, 'plain-lef: 2 POLYGON, 1 RECT ITERATE written as 9 rectangles\n'
                               'plain-lef: 2 numbers written as the unit that each lies at, the first in line 4\n')
-        self.assertEqual(self.edited('plain-lef', out, technology), (out, 'plain-lef: no polygon and no repeated rectangle to write\n'))
+        self.assertEqual(self.edited('plain-lef', out, technology), (out, 'plain-lef: nothing to write as rectangles\n'))
 
     def test_a_polygon_is_metal_on_a_layer_that_no_text_defines(self):
         self.assertEqual(self.refused('plain-lef', CELLS.replace('0.4000000000000001', '0.4').replace('20e-1', '2')),
@@ -70,6 +71,32 @@ class PlainLefTests(FlowCase):
         out, _ = self.edited('plain-lef', CELLS.replace('POLYGON 0 0.8', 'POLYGON ITERATE 0 0.8').replace('0 1.1 ;', '0 1.1 DO 1 BY 2 STEP 0 -0.4 ;'),
                              self.file('tech.lef', TECHNOLOGY))
         self.assertIn('        RECT 0 0.8 0.2 0.9 ;\n        RECT 0 0.9 0.1 1.1 ;\n        RECT 0 0.4 0.2 0.5 ;\n        RECT 0 0.5 0.1 0.7 ;\n', out)
+
+    VIA = ('VIA made\n  VIARULE rule ;\n  CUTSIZE 0.02 0.04 ; LAYERS m1 v1 m2 ; CUTSPACING 0.01 0.03 ;\n  ENCLOSURE 0.005 0.006 0.007 0.008 ; ROWCOL 2 3 ;\n'
+           '  ORIGIN 0.01 0 ; OFFSET 0.001 0.002 0.003 0.004 ;\nEND made\n')
+
+    def test_generated_vias(self):
+        out, err = self.edited('plain-lef', TECHNOLOGY.replace('END LIBRARY\n', f'{self.VIA}END LIBRARY\n'))
+        self.assertEqual(err, 'plain-lef: 1 generated VIA written as 8 rectangles\n')
+        via = read_library([self.file('out.lef', out)]).at(1000).vias['made']
+        # The via of the same numbers that the tests of plain-vias have.
+        self.assertEqual([(layer, tuple(rect)) for layer, rect in via.shapes], [
+            ('m1', (-34, -59, 56, 63)), ('m2', (-34, -59, 60, 67)),
+            ('v1', (-30, -55, -10, -15)), ('v1', (0, -55, 20, -15)), ('v1', (30, -55, 50, -15)),
+            ('v1', (-30, 15, -10, 55)), ('v1', (0, 15, 20, 55)), ('v1', (30, 15, 50, 55))])
+        self.assertTrue(via.is_good())
+        self.assertIn('VIA made\n  LAYER m1 ; RECT -0.034 -0.059 0.056 0.063 ;\n  LAYER m2', out)
+        self.assertEqual(self.edited('plain-lef', self.VIA)[0].count('RECT'), 8)
+        for old, new in (('ROWCOL 2 3', 'PATTERN 2_1'), ('OFFSET 0.001 0.002 0.003 0.004', 'LAYER m1 ; RECT 0 0 1 1')):
+            self.assertEqual(self.edited('plain-lef', self.VIA.replace(old, new))[0], self.VIA.replace(old, new))
+        for old, new, why in (('ROWCOL 2 3', 'RESISTANCE 2', '4: RESISTANCE of a generated via, or a second one, cannot be written out'),
+                              ('LAYERS m1 v1 m2 ;', '', '1: via made has no LAYERS'), ('ROWCOL 2', 'ROWCOL 0', '1: via made: its cuts are none, without area, or too many'),
+                              ('CUTSIZE 0.02', 'CUTSIZE', '3: a length of at most six decimals was expected, not ;')):
+            with self.subTest(new=new):
+                self.assertEqual(self.refused('plain-lef', self.VIA.replace(old, new)), f'in.def:{why}')
+
+    def test_a_layer_that_is_used_before_it_is_defined(self):
+        self.assertEqual(self.refused('plain-lef', self.VIA + TECHNOLOGY), 'in.def:9: layer m1 is used before it is defined')
 
     def test_what_is_refused(self):
         technology = self.file('tech.lef', TECHNOLOGY)
@@ -217,6 +244,11 @@ class RuleTests(PlainDefCase):
         out, _, design = self.plain('', f'- n ( u1 A )\n  + NONDEFAULTRULE wide\n  + ROUTED {path} NEW m1 TAPERRULE double ( 0 0 ) ( 5 0 ) RECT ( 1 1 2 2 ) NEW m2 ( 5 5 ) ;\n')
         self.assertIn(f'- n ( u1 A )\n  + ROUTED {path} NEW m1 ( 0 0 ) RECT', out)
         self.assertEqual(self.metal(design, design.nets['n'])[2:], [[('m1', -100, -100, 105, 100)], [('m1', 6, 1, 7, 2)]])
+
+    def test_a_via_of_the_rule_in_a_path_with_taper(self):
+        out, _, _ = self.plain('', '- n ( u1 A ) + NONDEFAULTRULE wide + ROUTED m1 TAPER ( 0 0 ) VW ;\n')
+        self.assertIn('VIAS 1 ;\n- VW + RECT', out)
+        self.assertIn('- n ( u1 A )  + ROUTED m1 TAPER ( 0 0 ) VW ;', out)
 
     def test_a_clause_behind_the_wires(self):
         _, _, design = self.plain('', '- n ( u1 A ) + ROUTED m1 ( 0 0 ) ( 5 0 ) + NONDEFAULTRULE double ;\n')

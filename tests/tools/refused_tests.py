@@ -158,10 +158,11 @@ class FormTests(Room):
     def test_vias_that_are_not_good_are_refused_where_a_wire_names_them(self):
         for old, new, why in BAD_VIAS:
             technology = self.changed(TECHNOLOGY, old, new)
+            helps = 'tools/plain-lef writes the rectangles of a generated via.' if why.endswith('VIARULE') else NO_TOOL
             with self.subTest(why=why):
                 self.assertEqual(self.with_texts(technology, BLOCK), ['no form is refused'])
                 self.assertEqual(self.with_texts(technology, BLOCK.replace(WIRE, f'{WIRE} V12')), [
-                    f'block.def:27: BadVia, 1 place: via V12 does not join two routing layers: {why}. A wire names it. {NO_TOOL}', 'refused forms 1, places 1'])
+                    f'block.def:27: BadVia, 1 place: via V12 does not join two routing layers: {why}. A wire names it. {helps}', 'refused forms 1, places 1'])
 
     BAD_VIA = BLOCK.replace('+ RECT m1 ( -50 -50 ) ( 50 50 )', '+ RECT m1 ( 0 -50 ) ( 50 50 )').replace(WIRE, f'{WIRE} big NEW {WIRE} big')
 
