@@ -4,7 +4,7 @@ import collections
 
 from lefdef_text import ORIENTATIONS, Patch, Segment, ViaAt, moved, turned
 from lefdef_text.net_reader import NetReader
-from polygons import NotRectilinear, rectangles_of
+from polygons import take_polygon
 
 STATUSES = ('ROUTED', 'FIXED', 'COVER')
 FIGURES = ('RECT', 'POLYGON', 'VIA')
@@ -78,26 +78,13 @@ class FigureReader(NetReader):
         if not layer.is_routing():
             self.no_routing_layer(layer)
         at = text.at
-        for rect in [text.corners(self.point)] if word == 'RECT' else self.polygon():
+        for rect in [text.corners(self.point)] if word == 'RECT' else take_polygon(text, self.point, lambda: text.words[text.at] == '('):
             own = paths_of(rect)
             if not own:
                 text.refuse(f'a square of one unit of this {word} is no path of an even width', at, 'Unsupported')
             net.wires += [Segment(layer.name, *points, width, 0, 0) for width, *points in own]
             paths += [f'{layer.name} {width} {self.shape}( {xa} {ya} ) ( {xb} {yb} )' for width, xa, ya, xb, yb in own]
         return paths
-
-    def polygon(self):
-        """Takes the corners of a polygon, and returns its rectangles."""
-        text, places, corners = self.text, [], []
-        while text.words[text.at] == '(':
-            places.append(text.at)
-            corners.append(self.point())
-        try:
-            return rectangles_of(corners)
-        except NotRectilinear as why:
-            at = text.at - 1 if why.corner is None else places[why.corner]
-            where = '' if why.corner is None else ', to {} {}'.format(*corners[why.corner])
-            return text.refuse(f'a POLYGON {why}{where}: it is no union of rectangles', at, 'Unsupported')
 
     def via_figure(self, net):
         """Takes a via, its orientation and its points, and returns a path for each point."""

@@ -58,3 +58,18 @@ def rectangles_of(corners):
     if not found:
         raise NotRectilinear('has no area')
     return sorted(found, key=lambda rect: (rect.y1, rect.x1))
+
+
+def take_polygon(text, point, more, shown=str):
+    """Takes the corners of a polygon of a text, each by `point` while `more` returns that another one comes, and returns rectangles that are
+    together its area, or refuses it; `shown` writes a coordinate."""
+    begin, places, corners = text.at - 1, [], []
+    while more():
+        places.append(text.at)
+        corners.append(point())
+    try:
+        return rectangles_of(corners)
+    except NotRectilinear as why:
+        at = begin if why.corner is None else places[why.corner]
+        where = '' if why.corner is None else f', to {" ".join(map(shown, corners[why.corner]))}'
+        return text.refuse(f'a POLYGON {why}{where}: it is no union of rectangles', at, 'Unsupported')

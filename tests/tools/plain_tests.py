@@ -7,7 +7,7 @@ sys.path.insert(0, os.path.dirname(os.path.abspath(__file__)))
 
 from flow_tests import TOP, FlowCase
 from lefdef_text import read_library
-from plain_texts import CELLS, EVERY_FORM, GENERATED, PLAIN_CELLS, RULES, TECHNOLOGY, block
+from plain_texts import BLOCKAGES, CELLS, EVERY_FORM, GENERATED, PINS, PLAIN_CELLS, RULES, TECHNOLOGY, block
 
 sys.path.insert(0, os.path.join(TOP, 'tools'))
 
@@ -226,6 +226,39 @@ class SpecialNetTests(PlainDefCase):
         text = block('', '', GENERATED)
         self.assertEqual(self.edited('plain-def', text, *self.lefs)[0], self.edited('plain-vias', text)[0])
         self.assert_refused('6: there is no layer v9', '', '', GENERATED.replace('m1 v1 m2', 'm1 v9 m2'))
+
+
+class PinTests(PlainDefCase):
+    """Pins of the block and blockages."""
+
+    def edited_block(self, **sections):
+        out, err = self.edited('plain-def', block(**sections), *self.lefs)
+        return out, err, self.design(out, *self.lefs)
+
+    def test_figures_of_pins(self):
+        out, err, design = self.edited_block(PINS=PINS)
+        self.assertIn('- p + NET p + LAYER m1 ( 0 0 ) ( 10 20 )\n  + LAYER m2 SPACING 50 ( 0 0 ) ( 100 40 )\n  + LAYER m2 SPACING 50 ( 0 40 ) ( 30 90 )\n'
+                      '  + LAYER m1 ( 140 -150 ) ( 300 -50 )\n  + LAYER v1 ( 150 -150 ) ( 250 -50 )\n  + LAYER m2 ( 150 -150 ) ( 250 -50 ) + PLACED ( 15000 15000 ) FW ;\n', out)
+        self.assertEqual(len(design.pins['p'].ports[0].shapes), 6)
+        self.assertEqual(err, 'plain-def: 1 + POLYGON of PINS, 1 + VIA of PINS written as rectangles\n')
+
+    def test_polygons_of_blockages(self):
+        out, err, design = self.edited_block(BLOCKAGES=BLOCKAGES)
+        self.assertIn('- LAYER m1 + PUSHDOWN RECT ( 0 0 ) ( 9 4 ) RECT ( 0 4 ) ( 5 9 ) RECT ( 20 0 ) ( 30 5 ) ;\n', out)
+        self.assertEqual(design.blockages[0].rects, [(0, 0, 9, 4), (0, 4, 5, 9), (20, 0, 30, 5)])
+        self.assertEqual(err, 'plain-def: 1 POLYGON of BLOCKAGES written as rectangles\n')
+
+    def test_what_is_refused(self):
+        for old, new, why in (('m2 SPACING', 'm2 MASK 1 SPACING', '15: MASK of a pin is not supported'), ('+ VIA V12 (', '+ VIA V12 MASK 1 (', '16: MASK of a pin is not supported'),
+                              ('+ VIA V12', '+ VIA V9', '16: there is no via V9'), ('( 30 40 )', '( 30 50 )', '15: a POLYGON has a side that is neither horizontal nor vertical, '
+                               'to 30 50: it is no union of rectangles')):
+            with self.subTest(new=new):
+                self.assertEqual(self.refused('plain-def', block(PINS=PINS.replace(old, new)), *self.lefs), f'in.def:{why}')
+        far = self.file('far.lef', 'VIA far LAYER m1 ; RECT 0 0 1 1 ; END far\n')
+        self.assertEqual(self.refused('plain-def', block(PINS=PINS.replace('V12', 'far')), *self.lefs, far),
+                         'in.def:16: the metal of via far is not known: its rectangles are not on two routing layers and one cut layer between them')
+        self.assertEqual(self.refused('plain-def', block(BLOCKAGES=BLOCKAGES.replace('( 5 9 )', '( 5 8 )')), *self.lefs),
+                         'in.def:14: a POLYGON has a side that is neither horizontal nor vertical, to 5 8: it is no union of rectangles')
 
 
 class RuleTests(PlainDefCase):

@@ -80,9 +80,16 @@ END NONDEFAULTRULES
 '''
 
 
-def block(special='', nets='', vias='', rules=RULES):
-    """Returns a block with these entries of SPECIALNETS, NETS and VIAS."""
-    sections = [(name, entries) for name, entries in (('SPECIALNETS', special), ('NETS', nets)) if entries]
+PINS = '''- p + NET p + LAYER m1 ( 0 0 ) ( 10 20 )
+  + POLYGON m2 SPACING 50 ( 0 0 ) ( 100 0 ) ( 100 40 ) ( 30 40 ) ( 30 90 ) ( 0 90 )
+  + VIA V12 ( 200 -100 ) + PLACED ( 15000 15000 ) FW ;
+'''
+BLOCKAGES = '- LAYER m1 + PUSHDOWN POLYGON ( 0 0 ) ( 0 9 ) ( 5 9 ) ( 5 4 ) ( 9 4 ) ( 9 0 ) RECT ( 20 0 ) ( 30 5 ) ;\n'
+
+
+def block(special='', nets='', vias='', rules=RULES, **others):
+    """Returns a block with these entries of SPECIALNETS, NETS, VIAS, and of `others`, PINS and BLOCKAGES."""
+    sections = [(name, entries) for name, entries in (*others.items(), ('SPECIALNETS', special), ('NETS', nets)) if entries]
     text = HEAD + (f'VIAS {vias.count(" ;")} ;\n{vias}END VIAS\n' if vias else '') + rules + COMPONENTS
     return text + ''.join(f'{name} {entries.count(" ;")} ;\n{entries}END {name}\n' for name, entries in sections) + 'END DESIGN\n'
 
@@ -90,7 +97,8 @@ def block(special='', nets='', vias='', rules=RULES):
 GENERATED = '''- made + VIARULE rule + CUTSIZE 20 40 + LAYERS m1 v1 m2 + CUTSPACING 10 30
   + ENCLOSURE 5 6 7 8 + ROWCOL 2 3 ;
 '''
-# All forms at once, each in the way that KLayout 0.28 reads, too: it takes one point behind + VIA, and no via behind RECT.
+# All forms of vias and nets at once, each as KLayout 0.28 reads it, too: it takes one point behind + VIA, no via behind RECT, and no polygon or
+# via of a pin.
 EVERY_FORM = block('''- VDD
   + RECT m1 ( 5000 5000 ) ( 5101 5201 )
   + ROUTED + SHAPE RING + RECT m2 ( 6000 5000 ) ( 6101 5200 )
