@@ -57,7 +57,8 @@ class Rules:
         if name not in self.read:
             blocks = self.found.get(name, [])
             if len(blocks) != 1:
-                self.text.refuse(f'there is no nondefault rule {name}' if not blocks else f'there are {len(blocks)} nondefault rules {name}', at, 'UnknownName')
+                why = f'there are {len(blocks)} nondefault rules {name}' if blocks else f'there is no nondefault rule {name}'
+                self.text.refuse(why, at, 'UnknownName')
             place, rule = self.text.at, Rule(name, {}, {}, {})
             (self.read_entry if blocks[0].text is self.text else self.read_block)(blocks[0], rule)
             self.read[name], self.text.at = rule, place
@@ -102,7 +103,8 @@ class Rules:
         while (word := text.keyword()) != 'END':
             if word in ('WIDTH', 'WIREEXTENSION'):
                 lengths[word] = self.in_units(text, text.length())
-            text.skip_statement()
+            if word != ';':
+                text.skip_statement()
         if text.take() != layer:
             text.unexpected(f'END {layer}')
         self.keep(text, begin, rule, layer, lengths.get('WIDTH'), lengths.get('WIREEXTENSION'))

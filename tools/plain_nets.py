@@ -221,7 +221,8 @@ class PlainNetReader(FigureReader):
             widths = [rule.widths.get(layer) if rule else self.library.layers[layer].width for rule in (self.rule, of_net)]
             if widths[0] != widths[1]:
                 word = self.text.words[begin + 1]
-                self.text.refuse(f'whether {word} still holds on {layer}, behind a via, is not certain: begin a path of its own there', begin + 1, 'Unsupported')
+                why = f'whether {word} still holds on {layer}, behind a via, is not certain: begin a path of its own there'
+                self.text.refuse(why, begin + 1, 'Unsupported')
 
     def write_path(self, begin, wires, first):
         """Writes the wires of a path from the number `first` on as rectangles and vias."""
