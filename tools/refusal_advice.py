@@ -124,6 +124,8 @@ class Advice:
             reason = self.where_defined(refused)
         elif refused.kind == 'DuplicateName' and not reason:
             reason = self.first_definition(refused)
+        elif self.is_before_figure(refused):
+            reason, helps = 'A status in front of a figure of a special net is not read.', 'tools/plain-def writes the figure as wires.'
         elif refused.form.endswith('was expected'):
             reason = SYNTAX
         if refused.form.startswith('VIARULE of a via') and self.has_pattern(refused):
@@ -131,6 +133,12 @@ class Advice:
         if refused.kind == 'BadVia' and self.design.why_not_good[refused.word].endswith(' VIARULE'):
             helps = 'tools/plain-lef writes the rectangles of a generated via.'
         return ''.join(f' {sentence}' for sentence in (reason, helps) if sentence)
+
+    def is_before_figure(self, refused):
+        """Returns whether a `+` behind a status, in place of a layer, is that of a figure of a special net, or of its shape."""
+        words = self.texts[refused.path].words
+        return (refused.form == 'the name of a layer was expected' and refused.word == '+'
+                and words[refused.at + 1].upper() in ('SHAPE', 'RECT', 'POLYGON', 'VIA'))
 
     def has_pattern(self, refused):
         """Returns whether the entry of a generated via has + PATTERN."""

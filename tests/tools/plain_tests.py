@@ -283,6 +283,15 @@ class RuleTests(PlainDefCase):
         self.assertIn('VIAS 1 ;\n- VW + RECT', out)
         self.assertIn('- n ( u1 A )  + ROUTED m1 TAPER ( 0 0 ) VW ;', out)
 
+    def test_a_via_behind_a_rectangle_and_a_via_of_a_rule_that_a_path_alone_names(self):
+        _, _, design = self.plain('', '- n ( u1 A ) + ROUTED m1 TAPERRULE wide ( 0 0 ) RECT ( 0 0 9 9 ) VW ;\n')
+        self.assertEqual(self.metal(design, design.nets['n']), [
+            [('m1', 0, 0, 9, 9)], [('m1', -100, -100, 100, 100), ('v1', -50, -50, 50, 50), ('m2', -120, -100, 120, 100)]])
+
+    def test_a_point_that_is_repeated_is_no_wire_and_its_extension_counts(self):
+        _, _, design = self.plain('', '- n ( u1 A ) + NONDEFAULTRULE double + ROUTED m1 ( 0 0 ) ( * 0 60 ) NEW m1 ( 0 500 ) ( * * 60 ) ( 50 500 ) ( * * 0 ) ;\n')
+        self.assertEqual(self.metal(design, design.nets['n']), [[('m1', -60, 400, 50, 600)]])
+
     def test_a_clause_behind_the_wires(self):
         _, _, design = self.plain('', '- n ( u1 A ) + ROUTED m1 ( 0 0 ) ( 5 0 ) + NONDEFAULTRULE double ;\n')
         self.assertEqual(self.metal(design, design.nets['n']), [[('m1', -100, -100, 105, 100)]])

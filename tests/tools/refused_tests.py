@@ -10,7 +10,7 @@ from unittest import mock
 sys.path.insert(0, os.path.dirname(os.path.abspath(__file__)))
 
 from doctored import TOP, expressions, script
-from refused_forms import BAD_VIAS, BLOCK, DEF_FORMS, LEF_FORMS, NO_LEF, NO_TOOL, OBS_RECT, OUT_OF_PLACE, PIN_RECT, RECTANGLES, TECHNOLOGY, WIRE
+from refused_forms import BAD_VIAS, BLOCK, DEF_FORMS, LEF_FORMS, NO_LEF, NO_TOOL, OBS_RECT, OUT_OF_PLACE, PIN_RECT, RECTANGLES, STRAP, TECHNOLOGY, WIRE
 
 refused = script('tools/refused')
 
@@ -170,6 +170,14 @@ class FormTests(Room):
         why = 'a rectangle of it on m1 does not have the point 0 0 inside'
         self.assertEqual(self.with_texts(TECHNOLOGY, self.BAD_VIA), [
             f'block.def:27: BadVia, 2 places: via big does not join two routing layers: {why}. A wire names it. {NO_TOOL}', 'refused forms 1, places 2'])
+
+    def test_a_figure_of_a_special_net_behind_a_status(self):
+        lines = self.with_texts(TECHNOLOGY, self.changed(BLOCK, STRAP, f'+ ROUTED + SHAPE RING + RECT m1 ( 0 0 ) ( 9 9 ) {STRAP}'))
+        self.assertEqual([it for it in lines if ': not looked at, ' not in it], [
+            'block.def:23: Unexpected, 1 place: the name of a layer was expected, not +. A status in front of a figure of a special net is not read. '
+            'tools/plain-def writes the figure as wires.',
+            'block.def:23: Unsupported, 1 place: RECT of a net is not supported. Metal of a special net is read as paths alone. tools/plain-def writes it as wires.',
+            'refused forms 2, places 2'])
 
     def test_each_form_that_advice_is_kept_for_is_met(self):
         texts = [(TECHNOLOGY, self.changed(BLOCK, old, new)) for old, new, *_ in DEF_FORMS]
