@@ -12,11 +12,11 @@ from itertools import chain
 
 from block_picture import colours_of
 from lefdef_text import ORIENTATIONS, Words
-from violation_marks import KINDS, xml_text
+from violation_marks import KINDS, count_of, xml_text
 
 FOLDER = os.path.join(os.path.dirname(os.path.abspath(__file__)), 'page')
 SCRIPTS = (
-    'loose_grid', 'block', 'dust', 'viewport', 'block_drawing', 'block_labels', 'viewer', 'controls', 'violation_list', 'search', 'switches', 'show_block',
+    'loose_grid', 'block', 'dust', 'viewport', 'block_drawing', 'name_room', 'block_labels', 'viewer', 'controls', 'violation_list', 'search', 'switches', 'show_block',
     'start')
 STATUSES = ('UNPLACED', 'PLACED', 'FIXED', 'COVER')
 ROLES = {role: at for at, role in enumerate(('PIN', 'OBS', 'BLOCKAGE', 'WIRE'))}
@@ -142,8 +142,8 @@ class PageData:
     def violations(self):
         if self.marks is None:
             return None
-        return [{'kind': mark.violation.kind, 'text': mark.violation.text, 'note': mark.note, 'box': mark.box, 'outlines': mark.outlines,
-                 'gap': [*mark.gap[0], *mark.gap[1]] if mark.gap else None} for mark in self.marks]
+        return [{'numbers': mark.numbers, 'kind': mark.violation.kind, 'text': mark.violation.text, 'note': mark.note, 'box': mark.box,
+                 'outlines': mark.outlines, 'gap': [*mark.gap[0], *mark.gap[1]] if mark.gap else None} for mark in self.marks]
 
     def kinds(self):
         present = {mark.violation.kind for mark in self.marks or ()}
@@ -177,7 +177,8 @@ def json_text(data):
 
 def page_text(design, marks, title, changes=None, has_tracks=False):
     """Returns the text of a page; `marks` is None where no list of violations was given."""
-    count = '' if marks is None else f': {len(marks)} violation{"" if len(marks) == 1 else "s"}'
+    number = None if marks is None else count_of(marks)
+    count = '' if number is None else f': {number} violation{"" if number == 1 else "s"}'
     parts = {
         'title': xml_text(f'{title}{count}'), 'style': page_part('view.css').rstrip('\n'),
         'data': json_text(PageData(design, marks, title, changes, has_tracks).data()),

@@ -3,9 +3,8 @@
 Metal is drawn in database units, with y upwards, in one group for each layer from the bottom up; that group of groups is moved
 and scaled to the page. Names, axes and the key are drawn on the page.
 """
-from typing import NamedTuple
-
 from lefdef_text import Rect, TURNS, grown, least_box, meets
+from picture_names import HALO, LEFT, LONG, TOP, MarkNumbers, Names, View, number
 from violation_marks import xml_text
 
 # The usual colours of routing layers, from the lowest one up: blue, red, green, yellow, orange, purple, cyan, brown.
@@ -15,42 +14,17 @@ MARK_COLOUR = '#e6007e'
 PLACEMENT_COLOUR = '#8a6d3b'
 MOVABLE_COLOUR, FIXED_COLOUR, ROW_COLOUR, SITE_COLOUR = '#fbf7e6', '#e4e4e4', '#eaf0f6', '#b8c6d4'
 WIDEST, HIGHEST = 900, 640
-LEFT, TOP, BOTTOM = 64, 40, 44
+BOTTOM = 44
 LINE, KEY_LINE = 18, 21
 # How opaque the metal of each role is, in the order in which it is drawn; obstructions are hatched, and blockages the other way.
 ROLES = {'OBS': 1, 'BLOCKAGE': 1, 'PIN': 0.6, 'WIRE': 0.42}
 MOST_DETAILED = 20_000
-MOST_LISTED = 12
-MOST_NUMBERED = 60
+MOST_LISTED = 40
+# Above the first number of marks they are thin lines; above the second, squares of the page are numbered in place of each mark.
+MOST_DETAILED_MARKS, MOST_NUMBERED = 60, 200
+# (readers of XML refuse a path of some megabytes)
+MOST_IN_PATH = 1_000
 FONT = 'font-family="Helvetica, Arial, sans-serif"'
-HALO = 'stroke="#ffffff" stroke-width="2.5" stroke-linejoin="round" paint-order="stroke"'
-
-
-class View(NamedTuple):
-    """What is drawn: a window of the block in database units, and how many pixels a unit takes."""
-    window: Rect
-    scale: float
-
-    def x(self, x):
-        return LEFT + (x - self.window.x1) * self.scale
-
-    def y(self, y):
-        return TOP + (self.window.y2 - y) * self.scale
-
-    def width(self):
-        return (self.window.x2 - self.window.x1) * self.scale
-
-    def height(self):
-        return (self.window.y2 - self.window.y1) * self.scale
-
-    def pixels(self, pixels):
-        """Returns how many database units so many pixels are, as it is written."""
-        return f'{pixels / self.scale:.4g}'
-
-
-def number(value):
-    """Returns a number of pixels, or of database units with fractions, as it is written."""
-    return f'{value:.3f}'.rstrip('0').rstrip('.')
 
 
 def whole_window(design):
@@ -84,9 +58,16 @@ def rect_element(rect, attributes, title=None):
     return f'<rect x="{rect.x1}" y="{rect.y1}" width="{rect.x2 - rect.x1}" height="{rect.y2 - rect.y1}"{attributes}{inside}'
 
 
-def path_of(rects):
-    """Returns the path round many rectangles."""
-    return ''.join(f'M{r[0]} {r[1]}h{r[2] - r[0]}v{r[3] - r[1]}H{r[0]}z' for r in rects)
+def paths(attributes, lines):
+    """Yields paths of many lines, each of a limited length."""
+    lines = list(lines)
+    for at in range(0, len(lines), MOST_IN_PATH):
+        yield f'<path{attributes} d="{"".join(lines[at:at + MOST_IN_PATH])}"/>'
+
+
+def outline(r):
+    """Returns the line round a rectangle."""
+    return f'M{r[0]} {r[1]}h{r[2] - r[0]}v{r[3] - r[1]}H{r[0]}z'
 
 
 class Picture:
@@ -151,7 +132,7 @@ class Picture:
             for component in self.components:
                 yield from self.component(component)
         else:
-            yield f'<path fill="{MOVABLE_COLOUR}" d="{path_of(design.box(component) for component in self.components)}"/>'
+            yield from paths(f' fill="{MOVABLE_COLOUR}"', (outline(design.box(component)) for component in self.components))
         yield '</g>'
         if self.placement_rects:
             yield f'<g id="placement-blockages" fill="url(#hatch-placement)" stroke="{PLACEMENT_COLOUR}" stroke-width="{view.pixels(1)}">'
@@ -172,8 +153,7 @@ class Picture:
         if self.is_detailed and site.width * self.view.scale >= 6:
             first = max((self.view.window.x1 - row.x) // site.width, 1)
             last = min((self.view.window.x2 - row.x) // site.width, row.count - 1)
-            lines = ''.join(f'M{row.x + k * site.width} {row.y}v{site.height}' for k in range(first, last + 1))
-            yield f'<path d="{lines}"/>'
+            yield from paths('', (f'M{row.x + k * site.width} {row.y}v{site.height}' for k in range(first, last + 1)))
 
     def track_lines(self, tracks):
         """Yields the lines of tracks for each layer whose direction they have."""
@@ -187,8 +167,8 @@ class Picture:
         places = [tracks.start + k * tracks.step for k in range(first, last + 1)]
         for layer in self.design.library.routing():
             if layer.direction == direction and (layer.name in tracks.layers or not tracks.layers):
-                lines = ''.join(f'M{at} {die.y1}V{die.y2}' if tracks.axis == 'X' else f'M{die.x1} {at}H{die.x2}' for at in places)
-                yield f'<path stroke="{self.colours[layer.name]}" d="{lines}"/>'
+                lines = (f'M{at} {die.y1}V{die.y2}' if tracks.axis == 'X' else f'M{die.x1} {at}H{die.x2}' for at in places)
+                yield from paths(f' stroke="{self.colours[layer.name]}"', lines)
 
     def component(self, component):
         """Yields the box of a component, and a corner that shows where its macro's origin lies."""
@@ -207,7 +187,7 @@ class Picture:
             for of, rect in self.placement_rects:
                 yield rect_element(rect, '', f'placement blockage {of}: {rect.x1} {rect.y1} {rect.x2} {rect.y2}')
         else:
-            yield f'<path d="{path_of(rect for _, rect in self.placement_rects)}"/>'
+            yield from paths('', (outline(rect) for _, rect in self.placement_rects))
 
     def metal(self):
         """Yields a group for each layer: obstructions, blockages, pins, wires."""
@@ -229,15 +209,14 @@ class Picture:
                     yield from (rect_element(shape.rect, '', self.shape_title(shape)) for shape in shapes)
                     yield '</g>'
                 else:
-                    yield f'<path class="{role.lower()}"{fill} stroke="none" d="{path_of(shape.rect for shape in shapes)}"/>'
+                    yield from paths(f' class="{role.lower()}"{fill} stroke="none"', (outline(shape.rect) for shape in shapes))
             if is_cut and self.is_detailed:
-                yield self.crosses([shape.rect for role in ('PIN', 'WIRE') for shape in groups[name][role]])
+                yield from self.crosses([shape.rect for role in ('PIN', 'WIRE') for shape in groups[name][role]])
             yield '</g>'
 
     def crosses(self, rects):
-        """Returns a white cross over each cut."""
-        lines = ''.join(f'M{r.x1} {r.y1}L{r.x2} {r.y2}M{r.x1} {r.y2}L{r.x2} {r.y1}' for r in rects)
-        return f'<path fill="none" stroke="#ffffff" d="{lines}"/>'
+        """Yields a white cross over each cut."""
+        yield from paths(' fill="none" stroke="#ffffff"', (f'M{r.x1} {r.y1}L{r.x2} {r.y2}M{r.x1} {r.y2}L{r.x2} {r.y1}' for r in rects))
 
     @staticmethod
     def shape_title(shape):
@@ -246,25 +225,47 @@ class Picture:
         return f'{what}{owner}: {shape.layer} {shape.rect.x1} {shape.rect.y1} {shape.rect.x2} {shape.rect.y2}'
 
     def mark_shapes(self):
-        """Yields the marks: what a violation is between in dashed lines, and where it lies."""
-        view = self.view
-        yield f'<g id="marks" fill="none" stroke="{MARK_COLOUR}" stroke-width="{view.pixels(2)}">'
-        for mark in self.seen:
-            if mark.box is None:
-                continue
-            yield f'<g class="mark" data-number="{mark.number}" data-kind="{mark.violation.kind}">'
-            title = f'{mark.number}: {mark.violation.text} ({mark.note})'
-            fill = ' fill="url(#hatch-mark)"' if self.chosen in (None, mark.number) else ''
-            yield rect_element(mark.box, f' class="place"{fill}', title)
-            for rect in mark.outlines:
-                yield rect_element(rect, f' class="outline" stroke-dasharray="{view.pixels(5)} {view.pixels(3)}"')
-            if mark.gap:
-                (xa, ya), (xb, yb) = mark.gap
-                width = 3 if max(abs(xa - xb), abs(ya - yb)) * view.scale < 80 else 1.5
-                yield f'<path class="gap" stroke-width="{view.pixels(width)}" d="M{xa} {ya}L{xb} {yb}"/>'
-            if min(mark.box.x2 - mark.box.x1, mark.box.y2 - mark.box.y1) * view.scale < 6:
-                yield self.ring(mark.box)
-            yield '</g>'
+        """Yields the marks; where there are many, thin lines and spots for all but the chosen one."""
+        placed = [mark for mark in self.seen if mark.box]
+        yield f'<g id="marks" fill="none" stroke="{MARK_COLOUR}" stroke-width="{self.view.pixels(2)}">'
+        if len(placed) > MOST_DETAILED_MARKS:
+            yield from self.thin_marks(placed)
+            placed = [mark for mark in placed if mark.number == self.chosen]
+        for mark in placed:
+            yield from self.mark(mark)
+        yield '</g>'
+
+    def thin_marks(self, marks):
+        """Yields the gaps of marks, the places of those that have none, and spots on those that are too small to be seen."""
+        # (many paths over one another let through what is beneath them)
+        opacity = min(0.8, 1.6 * MOST_IN_PATH / len(marks))
+        width, reach = (1.4, 2.5) if opacity == 0.8 else (0.8, 0.8)
+        thin = f' stroke-width="{self.view.pixels(width)}" stroke-opacity="{opacity:.3f}"'
+        yield from paths(f' class="gaps"{thin}', (f'M{xa} {ya}L{xb} {yb}' for (xa, ya), (xb, yb) in (mark.gap for mark in marks if mark.gap)))
+        yield from paths(f' class="places"{thin}', (outline(mark.box) for mark in marks if not mark.gap))
+        reach /= self.view.scale
+        middles = [((box.x1 + box.x2) / 2, (box.y1 + box.y2) / 2) for box in (mark.box for mark in marks) if self.side(box) < 6]
+        spots = (f'M{number(x - reach)} {number(y - reach)}h{number(2 * reach)}v{number(2 * reach)}h{number(-2 * reach)}z' for x, y in middles)
+        yield from paths(f' class="spots" fill="{MARK_COLOUR}" stroke="none"', spots)
+
+    def side(self, box):
+        """Returns the longer side of a rectangle, in pixels."""
+        return max(box.x2 - box.x1, box.y2 - box.y1) * self.view.scale
+
+    def mark(self, mark):
+        """Yields one mark: what it is between in dashed lines, and where it lies."""
+        view, is_wide = self.view, mark.gap and self.side(mark.box) >= LONG
+        yield f'<g class="mark" data-number="{mark.number}" data-kind="{mark.violation.kind}">'
+        title = f'{mark.number}: {mark.violation.text} ({mark.note})'
+        fill = ' fill="url(#hatch-mark)"' if self.chosen in (None, mark.number) and not is_wide else ''
+        yield rect_element(mark.box, f' class="place"{fill}', title)
+        for rect in mark.outlines:
+            yield rect_element(rect, f' class="outline" stroke-dasharray="{view.pixels(5)} {view.pixels(3)}"')
+        if mark.gap:
+            (xa, ya), (xb, yb) = mark.gap
+            yield f'<path class="gap" stroke-width="{view.pixels(1.5 if is_wide else 3)}" d="M{xa} {ya}L{xb} {yb}"/>'
+        if min(mark.box.x2 - mark.box.x1, mark.box.y2 - mark.box.y1) * view.scale < 6 and not is_wide:
+            yield self.ring(mark.box)
         yield '</g>'
 
     def ring(self, box):
@@ -276,45 +277,31 @@ class Picture:
 
     # What stands on the page
 
-    def label(self, rect, text, size, colour, is_bold=False, least=7):
-        """Returns a name in the middle of what is seen of a rectangle, upright where it fits so alone, if there is room for it."""
-        view = self.view
-        x1, x2 = max(rect.x1, view.window.x1), min(rect.x2, view.window.x2)
-        y1, y2 = max(rect.y1, view.window.y1), min(rect.y2, view.window.y2)
-        width, height = (x2 - x1) * view.scale, (y2 - y1) * view.scale
-        across, along = min(size, width / (0.62 * len(text) + 0.3), height), min(size, height / (0.62 * len(text) + 0.3), width)
-        if max(across, along) < least:
-            return None
-        x, y = (view.x(x1) + view.x(x2)) / 2, (view.y(y1) + view.y(y2)) / 2
-        size, turn = (along, f' transform="rotate(-90 {number(x)} {number(y)})"') if across < min(size, 9) and along > across else (across, '')
-        weight = ' font-weight="bold"' if is_bold else ''
-        return (f'<text x="{number(x)}" y="{number(y)}" dy="0.35em" text-anchor="middle" font-size="{number(size)}"{weight} fill="{colour}" {HALO}{turn}>'
-                f'{xml_text(text)}</text>')
-
     def names(self):
         """Yields the names of components, pins, nets and rows that there is room for."""
         if not self.is_detailed:
             return
         yield '<g id="names">'
-        labels = [self.component_label(component) for component in self.components]
+        names = Names(self.view)
+        labels = [self.component_label(names, component) for component in self.components]
         largest = {}
         for shape in self.shapes:
             room = (shape.rect.x2 - shape.rect.x1) * (shape.rect.y2 - shape.rect.y1)
             key = shape.role, shape.of, shape.name if shape.role == 'PIN' else ''
             if shape.role in ('PIN', 'WIRE') and room > largest.get(key, (0, None))[0]:
                 largest[key] = room, shape
-        labels += [self.label(shape.rect, shape.name if shape.role == 'PIN' else shape.of, 12, '#111111') for _, shape in largest.values()]
+        labels += [names.name(shape.rect, shape.name if shape.role == 'PIN' else shape.of, 12, '#111111') for _, shape in largest.values()]
         yield from filter(None, labels)
         yield from filter(None, map(self.row_name, self.design.rows))
         yield '</g>'
 
-    def component_label(self, component):
+    def component_label(self, names, component):
         """Returns the name of a component and of its macro, in the upper part of its box, where pins are rare."""
         box = self.design.box(component)
         quarter = (box.y2 - box.y1) // 4
         text = f'{component.name} {component.macro.name}'
         upper = Rect(box.x1, box.y1 + 2 * quarter, box.x2, box.y2 - quarter // 2)
-        return self.label(upper, text, 14, '#333333', is_bold=True, least=10) or self.label(upper, component.name, 12, '#333333', is_bold=True)
+        return names.name(upper, text, 14, '#333333', is_bold=True, least=10) or names.name(upper, component.name, 12, '#333333', is_bold=True)
 
     def row_name(self, row):
         view, site = self.view, self.design.library.sites[row.site]
@@ -324,33 +311,14 @@ class Picture:
                 f'font-style="italic" fill="#55708c">{xml_text(row.name)}</text>')
 
     def mark_numbers(self):
-        """Yields the number of each mark beside it, and how wide its gap is."""
-        placed = [mark for mark in self.seen if mark.box]
-        if len(placed) > MOST_NUMBERED:
-            return
-        view, taken = self.view, []
+        """Yields the numbers of the marks."""
+        placed, numbers = [mark for mark in self.seen if mark.box], MarkNumbers(self.view, MARK_COLOUR)
         yield '<g id="mark-numbers" font-size="11" font-weight="bold">'
-        for mark in placed:
-            x, y = self.free_spot(view.x(mark.box.x2) + 11, view.y(mark.box.y2) - 11, taken)
-            half = 5 + 3.5 * len(str(mark.number))
-            yield (f'<rect x="{number(x - half)}" y="{number(y - 8.5)}" width="{number(2 * half)}" height="17" rx="8.5" fill="{MARK_COLOUR}" '
-                   f'stroke="#ffffff"/>')
-            yield f'<text x="{number(x)}" y="{number(y)}" dy="0.36em" text-anchor="middle" fill="#ffffff">{mark.number}</text>'
-            if mark.gap:
-                (xa, ya), (xb, yb) = mark.gap
-                x, y = view.x((xa + xb) / 2), view.y((ya + yb) / 2)
-                where = f'x="{number(x)}" y="{number(y - 6)}" text-anchor="middle"' if ya == yb else f'x="{number(x + 8)}" y="{number(y)}" dy="0.35em"'
-                yield f'<text {where} fill="{MARK_COLOUR}" {HALO}>{xml_text(mark.note.split(" ")[0])}</text>'
+        if len(placed) > MOST_NUMBERED:
+            yield from numbers.of_squares(placed)
+        else:
+            yield from numbers.of_each(placed, has_gaps=len(placed) <= MOST_DETAILED_MARKS)
         yield '</g>'
-
-    def free_spot(self, x, y, taken):
-        """Returns the nearest spot to the right of one, in the window, that is not taken, and takes it."""
-        right = LEFT + self.view.width() - 16
-        x, y = min(max(x, LEFT + 10), right), min(max(y, TOP + 10), TOP + self.view.height() - 10)
-        while any(abs(x - other_x) < 18 and abs(y - other_y) < 18 for other_x, other_y in taken):
-            x, y = (x + 18, y) if x + 18 <= right else (LEFT + 10, y + 18)
-        taken.append((x, y))
-        return x, y
 
     def axes(self):
         """Yields the frame, and ticks with round numbers of database units."""

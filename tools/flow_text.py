@@ -136,8 +136,9 @@ class Parser(argparse.ArgumentParser):
 
 
 class Arguments(Parser):
-    """Words of a command line: a DEF, LEFs where the tool needs them, and where the answer goes."""
-    order = 'the DEF is named first'
+    """Words of a command line: a DEF, LEFs where the tool needs them, and where the answer goes. `has_word` says whether a refusal names the
+    word at fault where its reason does not, and `order` what is said of the order of the files."""
+    has_word, order = False, 'the DEF is named first'
 
     def __init__(self, prog, doc, libraries=None):
         super().__init__(prog, doc, STATUSES)
@@ -157,7 +158,7 @@ class Arguments(Parser):
 
 class LefArguments(Arguments):
     """Words of a command line: a LEF, those before it, and where the answer goes."""
-    order = 'this tool is given LEFs alone'
+    has_word, order = True, 'this tool is given LEFs alone'
 
     def add_inputs(self, libraries):
         self.add_argument('library', metavar='LEF', help='the LEF that is rewritten')
@@ -203,7 +204,7 @@ def run(parser, words, edit):
             write(asked.output, edit(asked, notes.append))
             status = 0
         except Refused as refused:
-            print(message_of(refused, design, libraries, parser.order), file=sys.stderr)
+            print(message_of(refused, design, libraries, parser.has_word, parser.order), file=sys.stderr)
             return REFUSED
         except UsageFault as fault:
             notes, status = [fault], USAGE

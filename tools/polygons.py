@@ -70,6 +70,6 @@ def take_polygon(text, point, more, shown=str):
     try:
         return rectangles_of(corners)
     except NotRectilinear as why:
-        at = begin if why.corner is None else places[why.corner]
+        at = begin if why.corner is None else places[why.corner] + (text.words[places[why.corner]] == '(')
         where = '' if why.corner is None else f', to {" ".join(map(shown, corners[why.corner]))}'
         return text.refuse(f'a POLYGON {why}{where}: it is no union of rectangles', at, 'Unsupported')

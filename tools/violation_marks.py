@@ -1,12 +1,15 @@
 """Where violations lie in a block, and the marker database that KLayout shows with the layout.
 
 A violation of placement lies at the component's box, or at what it shares with another one or with placement blockages; a short
-or two shapes too near where the two meet, which is what they share or the gap between them; an open piece of a net at the piece.
+or two shapes too near where the two meet, which is what they share or the gap between them. The open pieces of a net that are joined
+to one another have one mark, which lies at the gap over which they are to be joined to the rest of the net.
 """
 import math
 from typing import List, NamedTuple, Optional, Tuple
 
-from lefdef_text import Rect, Refused, Violation, least_box, meets
+from lefdef_text import Rect, Refused, Violation, least_box
+from missing_joints import NetGroups, between, squared_distance
+from off_sites import Sites
 
 KINDS = {
     'UNPLACED': 'a component has no place',
@@ -18,38 +21,29 @@ KINDS = {
     'TOONEAR': 'metal of two owners on one layer is nearer than the spacing of the layer',
     'OPEN': 'a piece of a net is not joined to its first piece',
 }
-MOST_PAIRS = 1_000_000
 
 Point = Tuple[int, int]
 
 
 class Mark(NamedTuple):
-    """A violation with its number (from 1) and where it lies: a box, or None where it has no place; what it is between; a line
-    over the gap, where there is one; and a few words."""
-    number: int
+    """Violations that lie at one place, by their numbers (from 1), with the first of them; the box where they lie, or None where they have
+    no place; what they are between; a line over the gap, where there is one; and a few words. Only open pieces that are joined to one
+    another have a mark together."""
+    numbers: List[int]
     violation: Violation
     box: Optional[Rect]
     outlines: List[Rect]
     gap: Optional[Tuple[Point, Point]]
     note: str
 
-
-def between(a, b):
-    """Returns where two rectangles meet: what they share, or the rectangle between their nearest points, which may be flat."""
-    x1, x2 = sorted((max(a[0], b[0]), min(a[2], b[2])))
-    y1, y2 = sorted((max(a[1], b[1]), min(a[3], b[3])))
-    return Rect(x1, y1, x2, y2)
+    @property
+    def number(self):
+        return self.numbers[0]
 
 
 def do_overlap(a, b):
     """Returns whether two rectangles share a unit square."""
     return a[0] < b[2] and b[0] < a[2] and a[1] < b[3] and b[1] < a[3]
-
-
-def squared_distance(a, b):
-    dx = max(b[0] - a[2], a[0] - b[2], 0)
-    dy = max(b[1] - a[3], a[1] - b[3], 0)
-    return dx * dx + dy * dy
 
 
 def nearest_points(a, b):
@@ -77,13 +71,22 @@ class Finder:
 
     def __init__(self, design, path, violations):
         self.design, self.path, self.violations = design, path, violations
-        self.known = {}
+        self.layers = {layer.name: number for number, layer in enumerate(layer for layer in design.library.layers.values() if layer.has_metal())}
+        self.sites = Sites(design)
 
     def marks(self):
+        """Returns the marks, by the first numbers of their violations."""
         self.check_shapes()
-        find = {'OVERLAP': self.overlap, 'BLOCKED': self.blocked, 'SHORT': self.pair, 'TOONEAR': self.pair, 'OPEN': self.open_piece}
-        return [Mark(number, violation, *find.get(violation.kind, self.component)(violation))
-                for number, violation in enumerate(self.violations, 1)]
+        find = {'OVERLAP': self.overlap, 'BLOCKED': self.blocked, 'SHORT': self.pair, 'TOONEAR': self.pair}
+        marks, nets = [], {}
+        for number, violation in enumerate(self.violations, 1):
+            if violation.kind == 'OPEN':
+                nets.setdefault(violation.names[0], []).append((number, violation))
+            else:
+                marks.append(Mark([number], violation, *find.get(violation.kind, self.component)(violation)))
+        for net, numbered in nets.items():
+            marks += self.open_marks(net, numbered)
+        return sorted(marks)
 
     def refuse(self, violation, why):
         raise Refused(self.path, violation.line, f'{why}: is the list that of another block?')
@@ -100,8 +103,10 @@ class Finder:
             self.named_component(violation, name, is_placed=False)
             return None, [], None, f'{name} has no place'
         component = self.named_component(violation, name)
-        where = 'partly outside the die' if violation.kind == 'OUTSIDE' else 'on no sites of a row that it fits'
-        return self.design.box(component), [], None, f'{name} is {where}'
+        if violation.kind == 'OUTSIDE':
+            return self.design.box(component), [], None, f'{name} is partly outside the die'
+        where = self.sites.words(component) or self.refuse(violation, f'{name} is on its sites')
+        return self.design.box(component), [], None, where
 
     def overlap(self, violation):
         a, b = [self.design.box(self.named_component(violation, name)) for name in violation.names]
@@ -156,70 +161,55 @@ class Finder:
         return box, [a, b], nearest_points(a, b), f'{distance_words(squared)} apart, {spacing} wanted'
 
     def pieces(self, net):
-        """Returns the pieces of a net in order, each with its name and its metal."""
-        if net not in self.known:
-            design = self.design
-            entries = [entries[net] for entries in (design.nets, design.special) if net in entries]
-            terminals = {terminal: None for entry in entries for terminal in entry.terminals}
-            pieces = [(' '.join(terminal), [(shape.layer, shape.rect) for shape in design.terminal_shapes(terminal)]) for terminal in terminals]
-            pieces += [(f'WIRE {number}', design.wire_rects(wire)) for number, wire in enumerate(design.wires(net), 1)]
-            self.known[net] = pieces, parts(pieces)
-        return self.known[net]
+        """Returns the names of the pieces of a net in order, and their metal."""
+        design = self.design
+        entries = [entries[net] for entries in (design.nets, design.special) if net in entries]
+        terminals = {terminal: None for entry in entries for terminal in entry.terminals}
+        metal = [[(self.layers[shape.layer], shape.rect) for shape in design.terminal_shapes(terminal)] for terminal in terminals]
+        wires = design.wires(net)
+        metal += [[(self.layers[layer], rect) for layer, rect in design.wire_rects(wire)] for wire in wires]
+        return [*map(' '.join, terminals), *(f'WIRE {number}' for number, _ in enumerate(wires, 1))], metal
 
-    def open_piece(self, violation):
-        net, piece = violation.names[0], ' '.join(violation.names[1:])
+    def open_marks(self, net, numbered):
+        """Returns the marks of the open pieces of a net: one for those that are joined to one another, and one for each without metal."""
         if net not in self.design.nets:
-            self.refuse(violation, f'there is no net {net} in NETS')
-        pieces, part = self.pieces(net)
-        places = [at for at, (name, _) in enumerate(pieces) if name == piece]
-        if not places:
-            self.refuse(violation, f'net {net} has no piece {piece}')
-        at = places[-1]
-        if part[at] == part[0]:
-            self.refuse(violation, f'{piece} is joined to {pieces[0][0]}')
-        box = least_box(rect for _, rect in pieces[at][1])
-        if not box:
-            return least_box(rect for _, metal in pieces for _, rect in metal), [], None, f'{piece} has no metal'
-        return (box, [], *nearest(pieces, part, at))
+            self.refuse(numbered[0][1], f'there is no net {net} in NETS')
+        names, metal = self.pieces(net)
+        # (a component may be named WIRE: then it is the wire that is meant)
+        places, groups = {name: at for at, name in enumerate(names)}, NetGroups(metal)
+        marks = {}
+        for number, violation in numbered:
+            name = ' '.join(violation.names[1:])
+            at = places[name] if name in places else self.refuse(violation, f'net {net} has no piece {name}')
+            if groups.group[at] == groups.group[0]:
+                self.refuse(violation, f'{name} is joined to {names[0]}')
+            marks.setdefault(groups.group[at], []).append((number, violation))
+        joints, whole = groups.joints(), least_box(rect for shapes in metal for _, rect in shapes)
+        return [Mark([number for number, _ in found], found[0][1], *joint_parts(joints.get(group), names, groups, group, whole))
+                for group, found in marks.items()]
 
 
-def parts(pieces):
-    """Returns for each piece of a net the least number of those that are joined to it."""
-    part = list(range(len(pieces)))
-
-    def root(at):
-        while part[at] != at:
-            part[at] = at = part[part[at]]
-        return at
-
-    shared = {}
-    metal = sorted((rect, layer, at) for at, (_, shapes) in enumerate(pieces) for layer, rect in shapes)
-    for place, (a, layer, at) in enumerate(metal):
-        for b, other_layer, other in metal[place + 1:]:
-            if b[0] > a[2]:
-                break
-            if layer == other_layer and at != other and meets(a, b):
-                box = between(a, b)
-                points = shared.setdefault((min(at, other), max(at, other), layer), set())
-                points.update((box[:2], box[2:]))
-                if len(points) > 1:
-                    low, high = sorted((root(at), root(other)))
-                    part[high] = low
-    return [root(at) for at in range(len(pieces))]
+def joint_parts(joint, names, groups, group, whole):
+    """Returns what a mark has of the joint that a group of pieces needs, or of a group that has no joint."""
+    if joint is None:
+        alone = names[group if not groups.has_metal(group) else 0]
+        return whole, [], None, f'{alone} has no metal'
+    (a, b), near, far = (joint.near.rect(), joint.far.rect()), names[joint.near.piece], names[joint.far.piece]
+    where = ' on another layer' if joint.steps else ''
+    sides = f'{counted(groups.size(joint.near.piece))} here, {groups.size(joint.far.piece)} there'
+    if joint.squared:
+        return between(a, b), [a, b], nearest_points(a, b), f'{distance_words(joint.squared)} from {near} to {far}{where}; {sides}'
+    meet = f'{near} over {far}{where}' if joint.steps else f'{near} shares one point alone with {far}'
+    return between(a, b), [a, b], None, f'{meet}; {sides}'
 
 
-def nearest(pieces, part, at):
-    """Returns the gap between a piece, with what is joined to it, and the nearest piece that isn't; and how wide it is."""
-    ours = [(layer, rect) for one, (_, metal) in enumerate(pieces) if part[one] == part[at] for layer, rect in metal]
-    others = [(one, layer, rect) for one, (_, metal) in enumerate(pieces) if part[one] != part[at] for layer, rect in metal]
-    if not others or len(ours) * len(others) > MOST_PAIRS:
-        return None, f'not joined to {pieces[0][0]}'
-    squared, is_across, other, a, b = min(
-        (squared_distance(a, b), layer_a != layer_b, other, a, b) for layer_a, a in ours for other, layer_b, b in others)
-    where = ' on another layer' if is_across else ''
-    if not squared:
-        return None, f'over {pieces[other][0]}{where}' if is_across else f'shares one point alone with {pieces[other][0]}'
-    return nearest_points(a, b), f'{distance_words(squared)} from {pieces[other][0]}{where}'
+def counted(pieces):
+    return f'{pieces} piece{"" if pieces == 1 else "s"}'
+
+
+def count_of(marks):
+    """Returns how many violations marks have."""
+    return sum(len(mark.numbers) for mark in marks)
 
 
 # The marker database

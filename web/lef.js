@@ -160,7 +160,7 @@ class LefReader {
 
   macro() {
     const { words, library } = this;
-    const macro = { name: words.take(), width: 0, height: 0, hasSite: false, pins: new Map(), obstructions: [] };
+    const macro = { name: words.take(), width: 0, height: 0, site: null, hasYSymmetry: false, pins: new Map(), obstructions: [] };
     let origin = [0, 0];
     this.block({
       SIZE: () => Object.assign(macro, this.size()),
@@ -169,8 +169,12 @@ class LefReader {
         words.at++;
       },
       SITE: () => {
-        macro.hasSite = true;
+        macro.site = words.take();
         words.skipStatement();
+      },
+      SYMMETRY: () => {
+        while (!words.isAt(';')) macro.hasYSymmetry = words.keyword() === 'Y' || macro.hasYSymmetry;
+        words.at++;
       },
       PIN: () => this.pin(macro.pins), OBS: () => macro.obstructions.push(...this.geometry()), DENSITY: () => words.skipTo('END'), TIMING: () => words.skipBlock('TIMING'),
     });

@@ -1,6 +1,6 @@
 // Where the violations that lefdef listed lie in a block. A violation of placement lies at the component's box, or at what it shares with
 // another one or with placement blockages; a short or two shapes too near where the two meet, which is what they share or the gap between
-// them; an open piece of a net at the piece.
+// them; the open pieces of a net that are joined to one another have one mark, at the gap over which they are to be joined to the rest of it.
 
 const MARK_KINDS = {
   UNPLACED: 'a component has no place',
@@ -37,20 +37,24 @@ class MarkFinder {
     this.open = new OpenPieces(design, data);
   }
 
-  // Returns a mark for each line: { kind, text, note, box, outlines, gap }.
+  // Returns a mark for each line, and one for open pieces that are joined to one another: { numbers, kind, text, note, box, outlines, gap }.
   marks(lines) {
     const find = {
       UNPLACED: ([name]) => ({ box: null, note: `${name} has no place` }),
       OUTSIDE: ([name]) => ({ box: this.boxOf(name), note: `${name} is partly outside the die` }),
-      OFFSITE: ([name]) => ({ box: this.boxOf(name), note: `${name} is on no sites of a row that it fits` }),
+      OFFSITE: ([name]) => ({ box: this.boxOf(name), note: offSiteWords(this.design, this.design.components.get(name)) }),
       OVERLAP: (names) => this.overlap(names), BLOCKED: ([name]) => this.blocked(name), SHORT: (words) => this.short(words), TOONEAR: (words) => this.near(words),
-      OPEN: ([net, ...piece]) => this.open.mark(net, piece.join(' ')),
     };
-    this.open.take(lines.filter((line) => line.startsWith('OPEN ')).map((line) => line.split(' ')[1]));
-    return lines.map((text) => {
+    const marks = [];
+    const nets = new Map();
+    lines.forEach((text, at) => {
       const [kind, ...words] = text.split(' ');
-      return { kind, text, outlines: [], gap: null, ...find[kind](words) };
+      if (kind !== 'OPEN') marks.push({ numbers: [at + 1], kind, text, outlines: [], gap: null, ...find[kind](words) });
+      else nets.set(words[0], [...(nets.get(words[0]) || []), { number: at + 1, text }]);
     });
+    this.open.take(nets.keys());
+    for (const [net, found] of nets) marks.push(...this.open.marks(net, found));
+    return marks.sort((a, b) => a.numbers[0] - b.numbers[0]);
   }
 
   boxOf(name) {

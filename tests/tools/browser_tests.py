@@ -60,9 +60,23 @@ class BrowserTests(BrowserCase):
             }
         """, example('unfinished.def'), STANDARD, '--violations', '-', stdin=UNFINISHED_LINES)
         middles = {number: ((left + right) / 2, (lower + upper) / 2) for number, (left, lower, right, upper) in answers['windows']}
-        for number, middle in ((1, (675, 1095)), (2, (500, 950))):
+        for number, middle in ((1, (675, 1095)), (2, (440, 900))):
             self.assertLess(max(abs(middles[number][0] - middle[0]), abs(middles[number][1] - middle[1])), 2)
         self.assertTrue(all(right - left < 3000 for _, (left, _, right, _) in answers['windows']))
+
+    def test_lines_that_have_one_mark(self):
+        block = self.write('block.def', HEAD + 'NETS 1 ; - n + ROUTED m1 ( 100 100 ) ( 200 100 ) NEW m1 ( 100 500 ) ( 200 500 ) NEW m1 ( 200 500 ) ( 300 500 ) '
+                           'NEW m1 ( 100 900 ) ( 200 900 ) ; END NETS END DESIGN')
+        answers = self.drive("""
+            answers.numbers = all('.violation').map((one) => one.dataset.number);
+            for (const number of [2, 3]) {
+              location.hash = `#violation=${number}`;
+              await new Promise((done) => setTimeout(done, 50));
+              await settled();
+              answers[`at${number}`] = canvas.dataset.mark;
+            }
+        """, block, STANDARD, '--violations', '-', stdin='OPEN n WIRE 2\nOPEN n WIRE 3\nOPEN n WIRE 4\nviolations 3\n')
+        self.assertEqual((answers['numbers'], answers['at2'], answers['at3']), (['1', '3'], '1', '3'))
 
     def test_kinds_and_layers_are_switched_off_and_on(self):
         answers = self.drive("""

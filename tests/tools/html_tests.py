@@ -54,9 +54,19 @@ class PageTests(PageCase):
         data = self.page(example('unfinished.def'), STANDARD, '--violations', '-', stdin=UNFINISHED_LINES).data
         self.assertEqual([kind['name'] for kind in data['kinds']], ['TOONEAR', 'OPEN'])
         self.assertEqual(data['violations'], [
-            {'kind': 'TOONEAR', 'text': UNFINISHED_LINES.split('\n', 1)[0], 'note': '90 apart, 100 wanted', 'box': [650, 1050, 700, 1140],
+            {'numbers': [1], 'kind': 'TOONEAR', 'text': UNFINISHED_LINES.split('\n', 1)[0], 'note': '90 apart, 100 wanted', 'box': [650, 1050, 700, 1140],
              'outlines': [[650, 850, 750, 1050], [600, 1140, 700, 1240]], 'gap': [675, 1050, 675, 1140]},
-            {'kind': 'OPEN', 'text': 'OPEN n1 u2 A', 'note': '20 from WIRE 1', 'box': [450, 850, 550, 1050], 'outlines': [], 'gap': [450, 900, 430, 900]}])
+            {'numbers': [2], 'kind': 'OPEN', 'text': 'OPEN n1 u2 A', 'note': '20 from u2 A to WIRE 1; 1 piece here, 2 there', 'box': [430, 850, 450, 950],
+             'outlines': [[450, 850, 550, 1050], [250, 850, 430, 950]], 'gap': [450, 900, 430, 900]}])
+
+    def test_open_pieces_that_are_joined_to_one_another(self):
+        block = self.write('block.def', HEAD + 'NETS 1 ; - n + ROUTED m1 ( 100 100 ) ( 200 100 ) NEW m1 ( 100 500 ) ( 200 500 ) NEW m1 ( 200 500 ) ( 300 500 ) '
+                           'NEW m1 ( 100 900 ) ( 200 900 ) ; END NETS END DESIGN')
+        page = self.page(block, STANDARD, '--violations', '-', stdin='OPEN n WIRE 2\nOPEN n WIRE 3\nOPEN n WIRE 4\nviolations 3\n')
+        self.assertEqual([(mark['numbers'], mark['text'], mark['note']) for mark in page.data['violations']], [
+            ([1, 2], 'OPEN n WIRE 2', '300 from WIRE 2 to WIRE 1; 2 pieces here, 1 there'),
+            ([3], 'OPEN n WIRE 4', '300 from WIRE 4 to WIRE 2; 1 piece here, 2 there')])
+        self.assertEqual(page.texts['title'], 'top: 3 violations')
 
     def test_a_list_without_violations_and_no_list(self):
         page = self.page(example('wired.def'), STANDARD, '--violations', '-', stdin='legal\n')

@@ -90,7 +90,7 @@ class PlainLefTests(FlowCase):
         for old, new in (('ROWCOL 2 3', 'PATTERN 2_1'), ('OFFSET 0.001 0.002 0.003 0.004', 'LAYER m1 ; RECT 0 0 1 1')):
             self.assertEqual(self.edited('plain-lef', self.VIA.replace(old, new))[0], self.VIA.replace(old, new))
         for old, new, why in (('ROWCOL 2 3', 'RESISTANCE 2', '4: RESISTANCE of a generated via, or a second one, cannot be written out'),
-                              ('LAYERS m1 v1 m2 ;', '', '1: via made has no LAYERS'), ('ROWCOL 2', 'ROWCOL 0', '1: via made: its cuts are none, without area, or too many'),
+                              ('LAYERS m1 v1 m2 ;', '', '1: via made has no LAYERS, at VIA'), ('ROWCOL 2', 'ROWCOL 0', '1: via made: its cuts are none, without area, or too many, at VIA'),
                               ('CUTSIZE 0.02', 'CUTSIZE', '3: a length of at most six decimals was expected, not ;')):
             with self.subTest(new=new):
                 self.assertEqual(self.refused('plain-lef', self.VIA.replace(old, new)), f'in.def:{why}')
@@ -111,7 +111,7 @@ class PlainLefTests(FlowCase):
                 ('20e-1', '2e9', '4: 2e9 is beyond 2000000000 database units'),
                 ('20e-1', 'two', '4: a length of at most six decimals was expected, not two'),
                 ('RECT 0.3', 'PATH 0.3', '14: PATH in a geometry is not supported'),
-                ('END INV', '"', '18: a quoted word is not closed')):
+                ('END INV', '"', '18: a quoted word is not closed, at "')):
             with self.subTest(new=new):
                 self.assertEqual(self.refused('plain-lef', CELLS.replace(old, new, 1), technology), f'in.def:{why}')
 
@@ -207,14 +207,14 @@ class SpecialNetTests(PlainDefCase):
 
     def test_what_is_refused(self):
         for entry, why in (
-                ('+ RECT m1 ( 0 0 ) ( 1 1 )', 'a square of one unit of this RECT is no path of an even width'),
-                ('+ RECT m1 ( 0 0 ) ( 1 0 )', 'a rectangle has no area'), ('+ RECT v1 ( 0 0 ) ( 1 1 )', 'v1 is no routing layer'),
+                ('+ RECT m1 ( 0 0 ) ( 1 1 )', 'a square of one unit of this RECT is no path of an even width, at ('),
+                ('+ RECT m1 ( 0 0 ) ( 1 0 )', 'a rectangle has no area, at ('), ('+ RECT v1 ( 0 0 ) ( 1 1 )', 'v1 is no routing layer'),
                 ('+ RECT m9 ( 0 0 ) ( 1 1 )', 'there is no layer m9'), ('+ MASK 1 + RECT m1 ( 0 0 ) ( 2 2 )', 'MASK of a net is not supported'),
                 ('+ POLYGON m1 ( 0 0 ) ( 9 0 ) ( 9 9 )', 'a POLYGON has a side that is neither horizontal nor vertical, to 0 0: it is no union of rectangles'),
                 ('+ VIA V9 ( 0 0 )', 'there is no via V9'), ('+ VIA V12', '( was expected, not ;'),
-                ('+ ROUTED m1 0 ( 0 0 ) V12 DO 0 BY 1 STEP 5 5', '0 columns and 1 rows of a via are none, or too many'),
+                ('+ ROUTED m1 0 ( 0 0 ) V12 DO 0 BY 1 STEP 5 5', '0 columns and 1 rows of a via are none, or too many, at DO'),
                 ('+ ROUTED m1 0 ( 0 0 ) V12 DO 2 BY 1 5 5', 'STEP was expected, not 5'), ('+ ROUTED m1 0 ( 0 0 ) V12 S FN', 'FN in wiring is not supported'),
-                ('+ ROUTED + USE POWER', 'the name of a layer was expected, not +'), ('+ ROUTED m1 0 ( 0 0 ) ( 9 0 )', 'a wire has the width 0')):
+                ('+ ROUTED + USE POWER', 'the name of a layer was expected, not +'), ('+ ROUTED m1 0 ( 0 0 ) ( 9 0 )', 'a wire has the width 0, at (')):
             with self.subTest(entry=entry):
                 self.assert_refused(f'14: {why}', f'- s {entry} ;\n')
 
@@ -301,11 +301,11 @@ class RuleTests(PlainDefCase):
         for rule, path, rules, why in (
                 ('none', 'm1 ( 0 0 )', RULES, '14: there is no nondefault rule none'),
                 ('wide', 'm1 ( 0 0 )', RULES.replace('double', 'wide'), '14: there are 2 nondefault rules wide'),
-                ('double', 'm2 ( 0 0 ) ( 0 9 )', RULES.replace('LAYER m2', 'LAYER m1'), '14: rule double has no WIDTH for m2'),
-                ('double', 'm2 ( 0 0 ) ( 0 9 )', RULES.replace('220', '221'), '7: the width 221 of m2 in rule double is odd or not above 0: a wire has its sides between two units'),
+                ('double', 'm2 ( 0 0 ) ( 0 9 )', RULES.replace('LAYER m2', 'LAYER m1'), '14: rule double has no WIDTH for m2, at ('),
+                ('double', 'm2 ( 0 0 ) ( 0 9 )', RULES.replace('220', '221'), '7: the width 221 of m2 in rule double is odd or not above 0: a wire has its sides between two units, at WIDTH'),
                 ('double', 'm1 ( 0 0 ) ( 9 0 )', RULES.replace('WIREEXT 100', 'WIREEXT 150'),
-                 '6: wires on m1 in rule double have an extension of their own, 150 and not half their width'),
-                ('double', 'm1 ( 0 0 ) ( 9 9 )', RULES, '14: a wire is neither horizontal nor vertical'),
+                 '6: wires on m1 in rule double have an extension of their own, 150 and not half their width, at WIDTH'),
+                ('double', 'm1 ( 0 0 ) ( 9 9 )', RULES, '14: a wire is neither horizontal nor vertical, at ('),
                 ('double', 'm1 TAPER ( 0 0 ) ( 9 0 ) V12 ( 9 90 )', RULES, '14: whether TAPER still holds on m2, behind a via, is not certain: begin a path of its own there'),
                 ('double', 'm1 ( 0 0 ) TAPERRULE wide ( 9 0 )', RULES, '14: TAPERRULE in wiring is not supported'),
                 ('double', 'm1 ( 0 0 ) VW', RULES, '14: there is no via VW')):

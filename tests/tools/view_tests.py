@@ -10,6 +10,11 @@ import xml.etree.ElementTree as ElementTree
 
 TOP = os.path.normpath(os.path.join(os.path.dirname(os.path.abspath(__file__)), '..', '..'))
 VIEW = os.path.join(TOP, 'tools', 'view')
+sys.path.insert(0, os.path.join(TOP, 'tools'))
+from block_picture import MOST_IN_PATH  # noqa: E402
+from lefdef_text import read_design, read_library, read_violations  # noqa: E402
+from violation_marks import Finder  # noqa: E402
+
 STANDARD = os.path.join(TOP, 'examples', 'standard.lef')
 SVG = '{http://www.w3.org/2000/svg}'
 UNFINISHED_LINES = 'TOONEAR m1 TERM u2 Y 650 850 750 1050 NET n2 600 1140 700 1240\nOPEN n1 u2 A\nviolations 2\n'
@@ -218,10 +223,10 @@ class PictureTests(ViewCase):
         self.assertEqual([text.text for text in picture.group('key').findall(f'{SVG}text')], ['m1', 'component', 'row', 'violation'])
         self.assertEqual(picture.marks(), [
             (1, 'TOONEAR', [(650, 1050, 700, 1140)], [(650, 850, 750, 1050), (600, 1140, 700, 1240)], 'M675 1050L675 1140'),
-            (2, 'OPEN', [(450, 850, 550, 1050)], [], 'M450 900L430 900')])
+            (2, 'OPEN', [(430, 850, 450, 950)], [(450, 850, 550, 1050), (250, 850, 430, 950)], 'M450 900L430 900')])
         self.assertEqual(picture.listed(), [
             '1: TOONEAR m1 TERM u2 Y 650 850 750 1050 NET n2 600 1140 700 1240 (90 apart, 100 wanted)',
-            '2: OPEN n1 u2 A (20 from WIRE 1)'])
+            '2: OPEN n1 u2 A (20 from u2 A to WIRE 1; 1 piece here, 2 there)'])
         self.assertEqual([text.text for text in picture.group('mark-numbers').findall(f'{SVG}text')], ['1', '90', '2', '20'])
 
     def test_the_surroundings_of_a_violation(self):
@@ -308,6 +313,7 @@ class PictureTests(ViewCase):
         whole = self.picture(block, self.path('cells.lef'), '--violations', lines, '--force')
         drawn = sum(path.get('d').count('M') for path in whole.root.iter(f'{SVG}path') if path.get('class') in ('pin', 'wire', 'obs'))
         self.assertEqual(drawn, 277000)
+        self.assertLessEqual(max(path.get('d').count('M') for path in whole.root.iter(f'{SVG}path')), MOST_IN_PATH)
 
 
 class MarkerTests(ViewCase):
@@ -320,7 +326,8 @@ class MarkerTests(ViewCase):
         self.assertEqual(markers.items, [
             ('TOONEAR', 'top', ['box: (0.65,1.05;0.7,1.14)', 'edge: (0.675,1.05;0.675,1.14)',
                                 "text: 'TOONEAR m1 TERM u2 Y 650 850 750 1050 NET n2 600 1140 700 1240'", "text: '90 apart, 100 wanted'"]),
-            ('OPEN', 'top', ['box: (0.45,0.85;0.55,1.05)', 'edge: (0.45,0.9;0.43,0.9)', "text: 'OPEN n1 u2 A'", "text: '20 from WIRE 1'"])])
+            ('OPEN', 'top', ['box: (0.43,0.85;0.45,0.95)', 'edge: (0.45,0.9;0.43,0.9)', "text: 'OPEN n1 u2 A'",
+                             "text: '20 from u2 A to WIRE 1; 1 piece here, 2 there'"])])
 
     def test_where_components_stand(self):
         self.assertEqual(self.markers_of('kinds_stand_in_order').places(), [
@@ -357,40 +364,74 @@ class MarkerTests(ViewCase):
         self.assertEqual(self.markers_of('check_a_layer_blockage_too_near').places(), [
             ('TOONEAR', ['box: (0.35,0.85;0.38,1)', 'edge: (0.35,0.925;0.38,0.925)']),
             ('TOONEAR', ['box: (0.42,0.85;0.45,1)', 'edge: (0.45,0.925;0.42,0.925)']),
-            ('OPEN', ['box: (0.45,0.85;0.55,1.05)', 'edge: (0.45,0.95;0.35,0.95)'])])
+            ('OPEN', ['box: (0.35,0.85;0.45,1.05)', 'edge: (0.45,0.95;0.35,0.95)'])])
 
     def test_an_open_pin_of_a_component(self):
-        self.assertEqual(self.markers_of('check_an_open_net').places(), [('OPEN', ['box: (0.45,0.85;0.55,1.05)', 'edge: (0.45,0.95;0.35,0.95)'])])
+        self.assertEqual(self.markers_of('check_an_open_net').places(), [('OPEN', ['box: (0.35,0.85;0.45,1.05)', 'edge: (0.45,0.95;0.35,0.95)'])])
 
     def test_an_open_pin_of_the_design(self):
         self.assertEqual(self.markers_of('check_pins_of_the_design').places(), [
-            ('TOONEAR', ['box: (0.1,0.4;0.15,0.5)', 'edge: (0.1,0.45;0.15,0.45)']), ('OPEN', ['box: (0,0.4;0.1,0.5)', 'edge: (0.075,0.5;0.075,0.85)'])])
+            ('TOONEAR', ['box: (0.1,0.4;0.15,0.5)', 'edge: (0.1,0.45;0.15,0.45)']), ('OPEN', ['box: (0.05,0.5;0.1,0.85)', 'edge: (0.075,0.5;0.075,0.85)'])])
 
     def test_open_wires_that_share_one_corner(self):
-        for name, box in (('check_a_bare_corner', 'box: (0.25,0.45;0.45,0.55)'), ('check_one_bare_corner_of_two_rectangles', 'box: (0.1,0.1;0.3,0.2)')):
+        for name, box in (('check_a_bare_corner', 'box: (0.25,0.45;0.25,0.45)'), ('check_one_bare_corner_of_two_rectangles', 'box: (0.1,0.1;0.1,0.1)')):
             markers = self.markers_of(name)
             self.assertEqual(markers.places(), [('OPEN', [box])])
             self.assertIn('shares one point alone with', markers.items[0][2][-1])
             os.remove(self.path('markers.lyrdb'))
 
-    def test_a_piece_is_told_beside_what_is_joined_to_it(self):
-        # The wires 2 and 3 are joined, and 200 from u1 Y; the nearest metal of the other part is looked for from both.
+    def test_pieces_that_are_joined_to_one_another_have_one_mark(self):
+        # The wires 2 and 3 are joined, and the nearest metal of the other part is 200 from them.
         block = self.write('block.def', 'DESIGN top ; UNITS DISTANCE MICRONS 1000 ; DIEAREA ( 0 0 ) ( 2000 2000 ) ; COMPONENTS 1 ; '
                            '- u1 INV + PLACED ( 0 0 ) N ; END COMPONENTS NETS 1 ; - n ( u1 Y ) + ROUTED m1 ( 300 1000 ) ( 400 1000 ) '
                            'NEW m1 ( 700 1000 ) ( 1000 1000 ) ( 1000 1500 ) ; END NETS END DESIGN')
         lines = self.write('lines', 'OPEN n WIRE 2\nOPEN n WIRE 3\nviolations 2\n')
         markers = self.markers(block, STANDARD, '--violations', lines)
-        self.assertEqual(markers.places(), [('OPEN', ['box: (0.65,0.95;1.05,1.05)', 'edge: (0.65,1;0.45,1)']),
-                                            ('OPEN', ['box: (0.95,0.95;1.05,1.55)', 'edge: (0.65,1;0.45,1)'])])
-        self.assertEqual([item[2][-1] for item in markers.items], ["text: '200 from WIRE 1'", "text: '200 from WIRE 1'"])
+        self.assertEqual(markers.places(), [('OPEN', ['box: (0.45,0.95;0.65,1.05)', 'edge: (0.65,1;0.45,1)'])])
+        self.assertEqual(markers.items[0][2][-2:], ["text: 'OPEN n WIRE 2'", "text: '200 from WIRE 2 to WIRE 1; 2 pieces here, 2 there'"])
+        # (each of the two lines leads to the gap)
+        windows = [self.picture(block, STANDARD, '--violations', lines, '--around', number, '--force').window() for number in ('1', '2')]
+        self.assertEqual(windows, [(450 - 500, 950 - 500 - 16, 650 + 500, 1050 + 500 + 16)] * 2)
+
+    def test_a_mark_for_each_joint_that_a_net_needs(self):
+        # Four wires one above the other, 100, 300 and 200 apart, and one on m2 over the highest one.
+        wires = ' NEW '.join(f'm1 ( 500 {y} ) ( 900 {y} )' for y in (100, 300, 700, 1000)) + ' NEW m2 ( 700 1000 ) ( 700 1300 )'
+        block = self.write('block.def', 'DESIGN top ; UNITS DISTANCE MICRONS 1000 ; DIEAREA ( 0 0 ) ( 2000 2000 ) ; '
+                           f'NETS 1 ; - n + ROUTED {wires} ; END NETS END DESIGN')
+        lines = self.write('lines', ''.join(f'OPEN n WIRE {wire}\n' for wire in range(2, 6)) + 'violations 4\n')
+        markers = self.markers(block, STANDARD, '--violations', lines)
+        self.assertEqual([item[2][-1] for item in markers.items], [
+            "text: '100 from WIRE 2 to WIRE 1; 1 piece here, 1 there'", "text: '300 from WIRE 3 to WIRE 2; 1 piece here, 1 there'",
+            "text: '200 from WIRE 4 to WIRE 3; 1 piece here, 1 there'", "text: 'WIRE 5 over WIRE 4 on another layer; 1 piece here, 1 there'"])
+        self.assertEqual(markers.places()[-1], ('OPEN', ['box: (0.65,0.95;0.75,1.05)']))
+
+    def test_a_component_is_so_far_off_its_sites(self):
+        # A row of six sites of 200, where an INV takes two, and one above it, in which no cell is N.
+        def words(place, rows='ROW r0 core 1000 0 N DO 6 BY 1 STEP 200 0 ; ROW r1 core 1000 2000 FS DO 6 BY 1 STEP 200 0 ;'):
+            block = self.write('block.def', f'DESIGN top ; UNITS DISTANCE MICRONS 1000 ; DIEAREA ( 0 0 ) ( 9000 9000 ) ; {rows} COMPONENTS 1 ; '
+                               f'- u1 INV + PLACED {place} ; END COMPONENTS END DESIGN')
+            lines = self.write('lines', 'OFFSITE u1\nviolations 1\n')
+            return self.markers(block, STANDARD, '--violations', lines, '--force').items[0][2][-1][len("text: '"):-1]
+
+        self.assertEqual(words('( 1430 70 ) N'), '30 right of a site of r0, 70 above it')
+        self.assertEqual(words('( 1350 -5 ) N'), '50 left of a site of r0, 5 below it')
+        self.assertEqual(words('( 1400 70 ) FN'), '70 above r0')
+        self.assertEqual(words('( 1430 0 ) N'), '30 right of a site of r0')
+        self.assertEqual(words('( 2100 0 ) N'), '300 right of the end of r0')
+        self.assertEqual(words('( 700 10 ) N'), '300 left of the end of r0, 10 above it')
+        self.assertEqual(words('( 1400 2000 ) N'), 'r1 is FS, which N does not fit')
+        self.assertEqual(words('( 1410 1990 ) N'), '10 right of a site of r1, 10 below it; r1 is FS, which N does not fit')
+        self.assertEqual(words('( 1400 0 ) W'), 'it is 400 high, and the site core is 2000')
+        self.assertEqual(words('( 0 0 ) N', ''), 'no row has the site core')
+        self.assertEqual(words('( 0 0 ) N', 'ROW r core 0 0 N DO 1 BY 1 STEP 200 0 ;'), 'it is 400 wide, and no row of its site is as long')
 
     def test_metal_over_metal_on_another_layer(self):
         block = self.write('block.def', 'DESIGN top ; UNITS DISTANCE MICRONS 1000 ; DIEAREA ( 0 0 ) ( 2000 2000 ) ; NETS 1 ; '
                            '- n + ROUTED m1 ( 300 1000 ) ( 400 1000 ) NEW m2 ( 400 1000 ) ( 400 1500 ) ; END NETS END DESIGN')
         lines = self.write('lines', 'OPEN n WIRE 2\nviolations 1\n')
         markers = self.markers(block, STANDARD, '--violations', lines)
-        self.assertEqual(markers.places(), [('OPEN', ['box: (0.35,0.95;0.45,1.55)'])])
-        self.assertEqual(markers.items[0][2][-1], "text: 'over WIRE 1 on another layer'")
+        self.assertEqual(markers.places(), [('OPEN', ['box: (0.35,0.95;0.45,1.05)'])])
+        self.assertEqual(markers.items[0][2][-1], "text: 'WIRE 2 over WIRE 1 on another layer; 1 piece here, 1 there'")
 
     def test_a_distance_is_rounded_down(self):
         # The corners are 14 and 99 apart, 99.98 in all.
@@ -413,11 +454,16 @@ class MarkerTests(ViewCase):
         lines = self.write('lines', 'OPEN n WIRE 3\nviolations 1\n')
         markers = self.markers(block, STANDARD, '--violations', lines)
         # The nearest points are (5000, 4950) and (2100, 2100) in database units: widths are 100 and 200, ends reach past by 0 and 100.
-        self.assertEqual(markers.places(), [('OPEN', ['box: (2.5,2.475;3,2.525)', 'edge: (2.5,2.475;1.05,1.05)'])])
+        self.assertEqual(markers.places(), [('OPEN', ['box: (1.05,1.05;2.5,2.475)', 'edge: (2.5,2.475;1.05,1.05)'])])
 
     def test_a_list_without_violations_gives_a_database_without_items(self):
         markers = self.markers(example('wired.def'), STANDARD, '--violations', '-', stdin='legal\n')
         self.assertEqual((markers.top, markers.categories, markers.items), ('top', [], []))
+
+    @staticmethod
+    def marks_of(name):
+        design = read_design(case(name, 'block.def'), read_library([case(name, 'cells.lef')]))
+        return Finder(design, case(name, 'stdout'), read_violations(case(name, 'stdout'))).marks()
 
     def test_each_list_of_the_cases_of_the_program(self):
         tried = 0
@@ -431,8 +477,14 @@ class MarkerTests(ViewCase):
                 with self.subTest(case=name):
                     markers = self.markers_of(name)
                     os.remove(self.path('markers.lyrdb'))
-                    self.assertEqual([category for category, _, _ in markers.items], [line.split(' ')[0] for line in lines[:-1]])
-                    self.assertEqual(markers.categories, list(dict.fromkeys(category for category, _, _ in markers.items)))
+                    kinds, found = [line.split(' ')[0] for line in lines[:-1]], [category for category, _, _ in markers.items]
+                    self.assertEqual([kind for kind in found if kind != 'OPEN'], [kind for kind in kinds if kind != 'OPEN'])
+                    self.assertEqual(markers.categories, list(dict.fromkeys(kinds)))
+                    # (each line is that of one item, and the items of OPEN are as many as the pieces that are not joined to one another)
+                    marks = self.marks_of(name)
+                    self.assertEqual(sorted(number for mark in marks for number in mark.numbers), list(range(1, len(kinds) + 1)))
+                    self.assertEqual([mark.violation.kind for mark in marks], found)
+                    self.assertEqual([mark.violation.text for mark in marks], [lines[mark.number - 1] for mark in marks])
         self.assertGreater(tried, 15)
 
 
@@ -478,6 +530,13 @@ class RefusalTests(ViewCase):
                 self.refused(2, f'{bad}:{line}: ', bad, STANDARD, '--svg', 'x.svg')
                 self.refused(2, why, bad, STANDARD, '--svg', 'x.svg')
 
+    def test_the_word_at_fault(self):
+        head = 'DESIGN top ; UNITS DISTANCE MICRONS 1000 ;\nDIEAREA ( 0 0 ) ( 800 2000 ) ;\n'
+        bad = self.write('bad.def', head + 'BLOCKAGES 1 ;\n- PLACEMENT\n+ SOFT RECT ( 0 0 ) ( 1 1 ) ;\n')
+        self.refused(2, f'{bad}:5: SOFT of a blockage is not supported\n', bad, STANDARD, '--svg', 'x.svg')
+        bad = self.write('bad.def', head + 'NETS 1 ;\n- n + ROUTED m1 ( 0 0 )\n( 9 9 ) ;\n')
+        self.refused(2, 'neither horizontal nor vertical, at (\n', bad, STANDARD, '--svg', 'x.svg')
+
     def test_lists_that_are_none(self):
         for text, line, why in (
                 ('OFFSITE u2\n', 1, 'the list ends without its last line'),
@@ -500,6 +559,7 @@ class RefusalTests(ViewCase):
                 ('TOONEAR m2 TERM u2 Y 650 850 750 1050 NET n2 600 1140 700 1240', 'on m2'),
                 ('SHORT m1 TERM u2 Y 650 850 750 1050 NET n2 600 1140 700 1240', 'the two shapes share no point'),
                 ('TOONEAR m1 TERM u1 A 50 850 150 1050 TERM u2 Y 650 850 750 1050', 'the two shapes are 500 apart, and the spacing of m1 is 100'),
+                ('OFFSITE u1', 'u1 is on its sites'),
                 ('OPEN n2 WIRE 1', 'there is no net n2 in NETS'),
                 ('OPEN n1 WIRE 2', 'net n1 has no piece WIRE 2'),
                 ('OPEN n1 u2 Y', 'net n1 has no piece u2 Y'),

@@ -313,7 +313,7 @@ class BrowserTests(unittest.TestCase):
     def test_what_a_command_has_stopped_at_is_shown(self):
         self.run_case('route_a_net_without_a_way')
         self.assertEqual((self.words('status'), self.words('chosen')), ('not solved (status 3)', 'net n1'))
-        self.assertTrue(self.words('message').startswith('block.def: no way is left for this net'))
+        self.assertTrue(self.words('message').startswith('block.def: net n1: nothing leads from u1 Y to the rest of it'))
         self.page.open(f'file://{PAGE}')
         self.run_case('legalise_without_room')
         self.assertTrue(self.words('chosen').startswith('component u2 '), self.words('chosen'))

@@ -6,6 +6,10 @@
     design = read_design(path, library)      the block that a DEF denotes, in its database units
     design.shapes()                          where its metal lies, and whose it is
     read_violations(path)                    the violations that `lefdef check` or `place-check` listed
+    read_answer(path)                        whatever lefdef printed: its lines, violations, or the text of a design
+    check(path, paths)                       the answer of `lefdef check`, which it runs on a DEF and its LEFs; also place_check, measure,
+                                             legalise, route, flow and finish
+    wiring_of(design.nets.values())          how long wires are, by layer, and how many vias there are
     tolerant.read_faults(path, paths)        everything in a DEF and its LEFs for which they are refused
 
 The texts are those that lefdef reads, and they mean what docs/FORMATS.md and docs/RULES.md say. A text that they give no
@@ -13,16 +17,20 @@ meaning is refused (`Refused`), with its file, the line of the word at fault, an
 the number of its entries are not judged. Keywords are compared without regard to the case of their letters, names as they
 are written.
 """
+from .answers import Answer, NotRun, Refusal, check, finish, flow, legalise, measure, place_check, read_answer, route, run
 from .def_reader import read_design
 from .design import Blockage, Component, Design, Net, Patch, Pin, Place, Port, Row, Segment, Shape, Tracks, ViaAt
 from .lef_reader import read_library
 from .library import Layer, Library, Macro, MacroPin, Site, Via
-from .lines import VIOLATION_LINES, Violation, read_violations
+from .lines import FORMS, VIOLATION_LINES, Line, Violation, read_violations
 from .notes import message_of
 from .rects import ORIENTATIONS, TURNS, Rect, grown, least_box, meets, moved, ordered, turned
+from .wiring import Wiring, wiring_of
 from .words import Refused, Words, read_text
 
 __all__ = [
-    'Blockage', 'Component', 'Design', 'Layer', 'Library', 'Macro', 'MacroPin', 'Net', 'ORIENTATIONS', 'Patch', 'Pin', 'Place', 'Port', 'Rect',
-    'Refused', 'Row', 'Segment', 'Shape', 'Site', 'TURNS', 'Tracks', 'VIOLATION_LINES', 'Via', 'ViaAt', 'Violation', 'Words', 'grown', 'least_box', 'meets',
-    'message_of', 'moved', 'ordered', 'read_design', 'read_library', 'read_text', 'read_violations', 'turned']
+    'Answer', 'Blockage', 'Component', 'Design', 'FORMS', 'Layer', 'Library', 'Line', 'Macro', 'MacroPin', 'Net', 'NotRun', 'ORIENTATIONS',
+    'Patch', 'Pin', 'Place', 'Port', 'Rect', 'Refusal', 'Refused', 'Row', 'Segment', 'Shape', 'Site', 'TURNS', 'Tracks', 'VIOLATION_LINES',
+    'Via', 'ViaAt', 'Violation', 'Wiring', 'Words', 'check', 'finish', 'flow', 'grown', 'least_box', 'legalise', 'measure', 'meets',
+    'message_of', 'moved', 'ordered', 'place_check', 'read_answer', 'read_design', 'read_library', 'read_text', 'read_violations', 'route',
+    'run', 'turned', 'wiring_of']

@@ -38,8 +38,9 @@ def note_of(path, needed, order=DEF_FIRST):
     return None if found == needed else f'this seems to be a {found}, where a {needed} is needed: {order}'
 
 
-def message_of(refused, design, libraries, order=DEF_FIRST):
-    """Returns the message on a refusal, with a line `note: ..` if the text seems to be none of its format."""
+def message_of(refused, design, libraries, has_word=False, order=DEF_FIRST):
+    """Returns the message on a refusal, maybe with the word at fault, and with a line `note: ..` if the text seems to be none of its format."""
+    word = f', at {refused.word[:40]}' if has_word and refused.word and refused.word not in refused.why else ''
     needed = 'DEF' if refused.path == design else 'LEF' if refused.path in libraries else None
     note = note_of(refused.path, needed, order) if needed else None
-    return f'{refused}\nnote: {note}' if note else str(refused)
+    return f'{refused}{word}\nnote: {note}' if note else f'{refused}{word}'

@@ -16,8 +16,9 @@
 //   shapes          { sides, layer, role, owner, net, component, name, isAdded }: for each rectangle of metal its sides; its layer; its
 //                   place in ROLES and in OWNERS; its net and its component, or -1; for a pin the number of the pin's name, and
 //                   otherwise that of the wire in its net or of the blockage; and 1 for a wire that the text before did not have
-//   violations      { kind, text, note, box, outlines, gap }: the printed line, where it lies or null, what it is between, a line over the
-//                   gap as [x, y, x, y] or null, and a few words; null in place of the list where none was given
+//   violations      { numbers, kind, text, note, box, outlines, gap }: the numbers of the printed lines that are shown here, from 1, and the
+//                   first of these lines; a few words; where it lies or null, what it is between, and a line over the gap as [x, y, x, y] or
+//                   null; null in place of the list where none was given
 //   kinds           { name, meaning } for each kind of violation
 //   moves           { component, box, orientation }: components that moved, with their box before, or null where they had no place; null
 //                   in place of the list where no text before was given
@@ -89,6 +90,11 @@ class Block {
     const boxes = [this.die, ...this.groups.map((group) => group.grid.box), ...this.placements.map((placement) => placement.box)];
     boxes.push(...this.places.filter(({ grid }) => grid.items.length).map(({ grid }) => grid.box));
     return boxes.reduce((a, b) => [Math.min(a[0], b[0]), Math.min(a[1], b[1]), Math.max(a[2], b[2]), Math.max(a[3], b[3])]);
+  }
+
+  // Returns the number of a mark: that of its first line.
+  numberOf(mark) {
+    return this.marks[mark].numbers[0];
   }
 
   boxOfComponent(component) {

@@ -10,7 +10,8 @@ const SPOT = 3;
 const LETTER = 0.68;
 
 Object.assign(BlockDrawing.prototype, {
-  // Writes a name in the middle of what is seen of a box, upright where it fits so alone, if there is room for it.
+  // Writes a name on what is seen of a box, upright where it fits so alone: in its middle, or where that is taken beside it. Returns whether there
+  // was room for it.
   label(box, text, largest, colour, weight) {
     const { context, view } = this;
     const left = view.across(Math.max(box[0], this.sides[0]));
@@ -24,8 +25,11 @@ Object.assign(BlockDrawing.prototype, {
     const isUpright = isNarrow && along > across && across < 9;
     const size = isUpright ? along : across;
     if (size < 7.5) return false;
+    const reach = [size * (LETTER * text.length + 0.4) / 2, size / 2];
+    const place = this.room.take([left, upper, right, lower], ...(isUpright ? reach.reverse() : reach), isUpright);
+    if (!place) return false;
     context.save();
-    context.translate((left + right) / 2, (upper + lower) / 2);
+    context.translate(...place);
     if (isUpright) context.rotate(-Math.PI / 2);
     context.font = `${weight} ${size.toFixed(1)}px ${FONT}`;
     context.textAlign = 'center';
@@ -48,6 +52,7 @@ Object.assign(BlockDrawing.prototype, {
 
   drawNames(groups) {
     const { block, theme, shown } = this;
+    this.room = new NameRoom();
     const count = block.places.reduce((sum, { grid }) => sum + grid.count(this.sides), 0);
     if (shown.has('components') && count <= MOST_NAMED) block.componentsWithin(this.sides).forEach((component) => this.nameComponent(component));
     if (!this.isDetailed) return;
@@ -194,13 +199,14 @@ Object.assign(BlockDrawing.prototype, {
     for (const mark of marks) {
       const box = block.marks[mark].box;
       const [x, y] = this.freeSpot(view.across(box[2]) + 12, view.down(box[3]) - 12, taken);
-      const half = 6 + 3.4 * String(mark + 1).length;
+      const number = String(block.numberOf(mark));
+      const half = 6 + 3.4 * number.length;
       context.fillStyle = theme.mark;
       context.beginPath();
       context.roundRect(x - half, y - 9, 2 * half, 18, 9);
       context.fill();
       context.fillStyle = '#ffffff';
-      context.fillText(mark + 1, x, y + 0.5);
+      context.fillText(number, x, y + 0.5);
     }
   },
 

@@ -17,7 +17,8 @@ function decodedAll(arrays) {
 // Shows the violation that the address names, as in `#violation=3`.
 function showFromAddress(viewer) {
   const found = /^#violation=([0-9]+)$/.exec(location.hash);
-  if (found && viewer.block.marks[Number(found[1]) - 1]) viewer.chooseMark(Number(found[1]) - 1);
+  const mark = found ? viewer.block.marks.findIndex(({ numbers }) => numbers.includes(Number(found[1]))) : -1;
+  if (mark >= 0) viewer.chooseMark(mark);
 }
 
 function start() {

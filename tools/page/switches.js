@@ -60,6 +60,6 @@ class Switches {
     const { chosen, mark, block } = this.viewer;
     const isNowhere = chosen && chosen.component !== null ? !block.boxOfComponent(chosen.component) : chosen && !chosen.shapes.length;
     const words = chosen ? chosen.words + (isNowhere ? ': no metal and no place' : '') : '';
-    this.chosen.textContent = mark === null ? words : `violation ${mark + 1}: ${block.marks[mark].text} (${block.marks[mark].note})`;
+    this.chosen.textContent = mark === null ? words : `violation ${block.numberOf(mark)}: ${block.marks[mark].text} (${block.marks[mark].note})`;
   }
 }

@@ -99,7 +99,7 @@ class Viewer {
     drawing.drawMarks((mark) => this.kinds.has(mark.kind), this.mark);
     drawing.drawScale();
     this.canvas.dataset.window = view.sides().map(Math.round).join(' ');
-    this.canvas.dataset.mark = this.mark === null ? '' : this.mark + 1;
+    this.canvas.dataset.mark = this.mark === null ? '' : block.numberOf(this.mark);
     this.canvas.dataset.chosen = this.chosen ? this.chosen.words : '';
     this.canvas.dataset.shapes = block.count;
   }
@@ -179,7 +179,7 @@ class Viewer {
     const lines = [`${Math.round(x)} ${Math.round(y)}`, ...metal];
     if (shapes.length > MOST_TOLD) lines.push(`and ${shapes.length - MOST_TOLD} more shapes`);
     const marks = block.marked.within(window).filter((mark) => this.kinds.has(block.marks[mark].kind)).sort((a, b) => a - b);
-    lines.push(...marks.slice(0, 3).map((mark) => `violation ${mark + 1}: ${block.marks[mark].text}`));
+    lines.push(...marks.slice(0, 3).map((mark) => `violation ${block.numberOf(mark)}: ${block.marks[mark].text}`));
     if (this.shown.has('components')) lines.push(...block.componentsWithin(window).slice(0, 3).map((component) => block.componentWords(component)));
     if (this.shown.has('placements')) lines.push(...this.placementsAt(window));
     return lines;

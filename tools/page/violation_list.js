@@ -103,14 +103,15 @@ class ViolationList {
     return element;
   }
 
-  item(number) {
+  item(place) {
     const { page, viewer } = this;
-    const mark = viewer.block.marks[number];
+    const mark = viewer.block.marks[place];
+    const number = viewer.block.numberOf(place);
     const element = Object.assign(page.createElement('button'), { type: 'button', className: 'violation', title: `${mark.text}\n${mark.note}` });
-    element.dataset.number = number + 1;
+    element.dataset.number = number;
     const make = (name, text) => Object.assign(page.createElement('span'), { className: name, textContent: text });
-    element.append(make('number', number + 1), make('text', mark.text.slice(mark.kind.length + 1)), make('note', mark.note));
-    element.addEventListener('click', () => viewer.chooseMark(number));
+    element.append(make('number', number), make('text', mark.text.slice(mark.kind.length + 1)), make('note', mark.note));
+    element.addEventListener('click', () => viewer.chooseMark(place));
     return element;
   }
 }

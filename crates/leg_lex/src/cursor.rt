@@ -189,6 +189,7 @@ impl<'t, 'a> Cursor<'t, 'a> {
 
     /// Reads a name: a plain word that is no mark. Another word is `Unexpected`.
     #[tactic(auto, unfolding(crate::specs::Words::name_at))]
+    #[inline(always)]
     pub fn name(&mut self) -> Result<&'a [u8], ReadFault>
         ensures reads { Reads (λ name. name.now) result self.new (name_at self.old) }
         ensures no_memory { IfErr result (λ fault. fault.kind ≢ FaultKind.Memory) }
@@ -221,6 +222,7 @@ impl<'t, 'a> Cursor<'t, 'a> {
 
     /// Reads a whole number. Another word is `BadNumber`, or `TooLarge` beyond the limit.
     #[tactic(auto, unfolding(crate::specs::Words::whole_at))]
+    #[inline(always)]
     pub fn whole(&mut self) -> Result<i64, ReadFault>
         ensures reads { Reads (λ z. z) result self.new (whole_at self.old) }
         ensures no_memory { IfErr result (λ fault. fault.kind ≢ FaultKind.Memory) }

@@ -180,7 +180,7 @@ fn first_text(need: Need) -> &'static [u8]
         Need::Nothing => b": the statement has to end before it (is a `;` missing?)",
         Need::Form => b": no statement or section that is read here begins with it",
         Need::Statement(_) => b": `",
-        Need::NoSecond => b": it may stand here only once",
+        Need::NoSecond => b": it may stand here only once; is a `;` missing before it?",
         Need::Direction => b": HORIZONTAL or VERTICAL is needed",
         Need::Orient => b": N, S, W, E, FN, FS, FW or FE is needed",
         Need::RoutingLayer => b": a layer of TYPE ROUTING is needed",

@@ -51,10 +51,10 @@ same_net m n same = cc
 
 -- a net got a wire
 module _ (design : DesignContents) (net : ℕ) (wire : records.Wire) (before after : FlatSaid) (more : HasOneMoreWire design net wire before after) where
-  abbrev own : ℕ
+  abbrev pub own : ℕ
   own = length more.terminals + more.wires
 
-  own_is : piece_count before net ≡ own
+  pub own_is : piece_count before net ≡ own
   own_is = count_at before net _ more.there ∙ with_count more.terminals more.wires
 
   -- nets have as many pieces at least
@@ -65,14 +65,14 @@ module _ (design : DesignContents) (net : ℕ) (wire : records.Wire) (before aft
   ]
 
   -- a new shape is metal of a piece that the net didn't have
-  record IsNew (shape : Shape) : Type 0 where
+  pub record IsNew (shape : Shape) : Type 0 where
     pub owner : shape.owner ≡ Net net
     pub piece : shape.piece ≡ Some own
 
   abbrev belongs : Belonging
   belongs = record { owner = Net net; component = None; piece = Some own }
 
-  new_shape : (shape : Shape) → Contains more.added shape → IsNew shape
+  pub new_shape : (shape : Shape) → Contains more.added shape → IsNew shape
   new_shape shape there =
       let like = is_like IsShapeOf (wire_metal design net own wire) more.added shape more.each there in
       let from = comes_from (λ (m : OnLayer). record { metal = m; belongs = belongs }) (wire_outlines design wire) like.x like.there in

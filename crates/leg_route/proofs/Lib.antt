@@ -12,4 +12,5 @@ mod Ready
 mod NetSlots
 mod JoinedSlots
 mod JoinedParts
+mod KeptJoins
 mod NextWalk

@@ -1,14 +1,7 @@
 -- What is noted of shapes, one after another: what slots tell of them, and the numbers that they get.
-use Rattle.std.proofs.Common.{◌≡◌, ◌+◌, ◌-◌, ◌<◌, ◌≤◌, ℕ, zero, suc, List, [], ◌∷◌, ◌++◌, length, take, get_or, refl, sym, ap, ◌∙◌, arith}
+use Rattle.std.proofs.Common.{◌≡◌, ◌+◌, ◌-◌, ◌≤◌, ℕ, zero, suc, List, [], ◌∷◌, ◌++◌, sym, ap, ◌∙◌, arith}
 use Rattle.std.specs.List.{range_with_len}
-use Rattle.std.proofs.lemmas.List.{append_assoc, append-nil, take_more}
-use Rattle.leg_flat.specs.declared.shape.Shape.{Shape}
-use Rattle.leg_flat.specs.Flat.{FlatSaid}
-use Rattle.leg_grid.specs.declared.slot_access.SlotAccess.{SlotAccess}
-use Rattle.leg_grid.specs.Grid.{GridSaid}
-use Rattle.leg_grid.specs.Told.{TellsSlots}
-use Rattle.leg_grid.specs.Steps.SlotsTold.{HasShape}
-use Rattle.leg_route.specs.Steps.Ready.{TellsShapes}
+use Rattle.std.proofs.lemmas.List.{append_assoc, append-nil}
 
 -- one number more of a row of numbers
 range_last : (a n b : ℕ) → b ≡ a + n → range_with_len a (suc n) ≡ range_with_len a n ++ b ∷ []

@@ -1,5 +1,5 @@
 -- What is kept beside a flat, at first and when a net has got a wire.
-use Rattle.std.proofs.Common.{◌≡◌, ◌≢◌, ◌==◌, ◌+◌, ◌-◌, ◌<◌, ℕ, Bool, true, false, List, [], ◌∷◌, ◌++◌, length, take, drop, get_or, Contains, Some, slice_get, slice_set, IsTrue, ◌↔◌, refl, sym, ap, ◌∙◌, arith}
+use Rattle.std.proofs.Common.{◌≡◌, ◌≢◌, ◌==◌, ◌+◌, ◌-◌, ◌<◌, ℕ, Bool, true, false, List, [], ◌∷◌, ◌++◌, length, take, drop, get_or, Contains, Option, Some, IfSome, slice_get, slice_set, IsTrue, ◌↔◌, refl, sym, ap, ◌∙◌, arith}
 use Rattle.std.specs.List.{range_with_len, IsAnyAnswer}
 use Rattle.std.specs.Cmp.{booleans_Decides}
 use Rattle.std.specs.Bool.{beq}
@@ -15,6 +15,7 @@ use Rattle.leg_flat.specs.declared.shape.Shape.{Shape}
 use Rattle.leg_flat.specs.Flat.{FlatSaid, pieces_with}
 use Rattle.leg_flat.specs.MoreWires.{HasOneMoreWire}
 use Rattle.leg_wire.specs.NetShapes.{AreNumbersOf}
+use Rattle.leg_wire.specs.Joins.{JoinsSaid}
 use Rattle.leg_wire.specs.Touch.{piece_count, AreJoined, AreMarks}
 use Rattle.leg_walk.specs.declared.mark.Mark.{Mark}
 use Rattle.leg_grid.specs.declared.slot_access.SlotAccess.{SlotAccess}
@@ -23,7 +24,8 @@ use Rattle.leg_wire.specs.Open.{IsOpenNet}
 use Rattle.leg_grown.specs.Growth.{Grows, of_net}
 use Rattle.leg_route.specs.Steps.JoinedPart.{PartSaid}
 use Rattle.leg_route.proofs.JoinedParts.{part_grows}
-use Rattle.leg_route.specs.Steps.Ready.{AreNumbersByNet, TellsShapes, AreReady}
+use Rattle.leg_route.proofs.KeptJoins.{kept_with}
+use Rattle.leg_route.specs.Steps.Ready.{AreNumbersByNet, TellsShapes, AreReady, IsWithWire}
 
 -- a piece without a mark is one that isn't joined
 pub unmarked_is_open : (design : DesignContents) (flat : FlatSaid) (net : ℕ) (marks : List Bool) → net < length design.nets
@@ -96,12 +98,13 @@ module _ (design : DesignContents) (net : ℕ) (wire : Wire) (before after : Fla
     }
 
   -- all is ready still when the net has the wire, where what is new was told to the slots and the net's numbers got its
-  pub ready_more : OwnNumbersGrow → OtherNumbersStay → (grid : GridSaid) (slots slots_then : List SlotAccess) (lists : List (List ℕ)) (had own : List ℕ) (marks : List Mark) (touched : List ℕ) (part : PartSaid)
-      (all first : List Shape) → all ≡ after.shapes → first ≡ before.shapes → net < length design.nets → AreReady design grid before slots lists marks touched part
+  pub ready_more : OwnNumbersGrow → OtherNumbersStay → (grid : GridSaid) (slots slots_then : List SlotAccess) (lists : List (List ℕ)) (had own : List ℕ) (marks : List Mark) (touched : List ℕ) (part : PartSaid) (joins joins_then : Option JoinsSaid)
+      (all first : List Shape) → all ≡ after.shapes → first ≡ before.shapes → net < length design.nets → AreReady design grid before slots lists marks touched part joins
       → ((shapes : List Shape) → TellsShapes grid shapes slots → TellsShapes grid (shapes ++ take (length all - length first) (drop (length first) all)) slots_then)
       → had ≡ get_or lists net [] → own ≡ had ++ range_with_len (length first) (length all - length first)
-      → AreReady design grid after slots_then (slice_set lists net own) marks touched part
-  ready_more own_law other_law grid slots slots_then lists had own marks touched part all first all_is first_is low ready told had_is own_is =
+      → IfSome joins_then (IsWithWire joins net (take (length all - length first) (drop (length first) all)))
+      → AreReady design grid after slots_then (slice_set lists net own) marks touched part joins_then
+  ready_more own_law other_law grid slots slots_then lists had own marks touched part joins joins_then all first all_is first_is low ready told had_is own_is kept =
       let rest = rest_are all first all_is first_is in
       let then : TellsShapes grid (before.shapes ++ more.added) slots_then = rw rest at (told before.shapes ready.told) in
       let own_then : own ≡ get_or lists net [] ++ range_with_len (length before.shapes) (length after.shapes - length before.shapes) = rw (all_is, first_is, had_is) at own_is in
@@ -114,4 +117,5 @@ module _ (design : DesignContents) (net : ℕ) (wire : Wire) (before after : Fla
         unseen = ready.unseen;
         untouched = ready.untouched;
         part_is = part_grows design net wire before after more grid part ready.part_is;
+        joins_are = kept_with design net wire before after more joins joins_then ready.joins_are (rw rest at kept);
       }

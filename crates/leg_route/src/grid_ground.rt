@@ -12,6 +12,7 @@ ghost use Rattle.leg_route.specs.Steps.Ready.{AreReady};
 use crate::fault::RouteFault;
 use crate::ground::Ground;
 use crate::joined_part::{JoinedPart, joined_slots};
+use crate::kept_joins::{joins_of, with_wire};
 use crate::next_wires::next_wires;
 use leg_block::{Design, Wire};
 use leg_cells::Items;
@@ -19,13 +20,13 @@ use leg_flat::{Flat, FlatFault, Shape};
 use leg_grid::{Grid, SlotAccess, add_shapes, slots_beside};
 use leg_grown::laws::{other_numbers_stay, own_numbers_grow};
 use leg_walk::{Mark, unseen_marks};
-use leg_wire::{joined_among, numbers_by_net};
+use leg_wire::{NetJoins, numbers_by_net};
 use std::alloc::{AllocError, Allocator};
 use std::mem;
 
 /// The ground of a design: its grid, its flat as that grows, to which nets each slot of the grid and the steps from it are open in
-/// the flat, for each net of `NETS` the numbers of its shapes, room for marks in the slots, and what is kept of the joined part of the
-/// net that was searched last.
+/// the flat, for each net of `NETS` the numbers of its shapes, room for marks in the slots, what is kept of the joined part of the
+/// net that was searched last, and which pieces of the last net are joined.
 #[derive(Drop)]
 pub(crate) struct GridGround<'g, 'a, A: Allocator + Copy> {
     design: &'g Design<'a, A>,
@@ -36,6 +37,7 @@ pub(crate) struct GridGround<'g, 'a, A: Allocator + Copy> {
     marks: Vec<Mark, A>,
     touched: Vec<u32, A>,
     part: JoinedPart<A>,
+    joins: Option<NetJoins<A>>,
 }
 
 impl<'g, 'a, A: Allocator + Copy> GridGround<'g, 'a, A> {
@@ -48,7 +50,7 @@ impl<'g, 'a, A: Allocator + Copy> GridGround<'g, 'a, A> {
     ) -> Result<GridGround<'g, 'a, A>, RouteFault<A>>
         requires clean { IsCleanIn design.now flat }
         ensures ready { IfOk result (λ ground. AreReady design.now ground.grid ground.flat ground.slots.items ground.numbers.items ground.marks.items ground.touched.items
-            (record { net = ground.part.net; joined = ground.part.joined.items; boxes = ground.part.slots.boxes.items; slots = ground.part.slots.slots.items })) }
+            (record { net = ground.part.net; joined = ground.part.joined.items; boxes = ground.part.slots.boxes.items; slots = ground.part.slots.slots.items }) ground.joins) }
         ensures same_design { IfOk result (λ ground. ground.design.now ≡ design.now) }
         ensures comes { IfOk result (λ ground. ComesToRun design.now ground.flat) }
         ensures within { IfOk result (λ ground. IsWithin ground.flat) }
@@ -68,6 +70,7 @@ impl<'g, 'a, A: Allocator + Copy> GridGround<'g, 'a, A> {
             marks,
             touched: Vec::new(alloc),
             part: JoinedPart::new(alloc, 0),
+            joins: None,
         })
     }
 }
@@ -80,12 +83,15 @@ impl<'g, 'a, A: Allocator + Copy> Ground<A> for GridGround<'g, 'a, A> {
     ghost flat = { λ g. g.flat };
 
     ghost IsReady = { λ g. AreReady g.design.now g.grid g.flat g.slots.items g.numbers.items g.marks.items g.touched.items
-        (record { net = g.part.net; joined = g.part.joined.items; boxes = g.part.slots.boxes.items; slots = g.part.slots.slots.items }) };
+        (record { net = g.part.net; joined = g.part.joined.items; boxes = g.part.slots.boxes.items; slots = g.part.slots.slots.items }) g.joins };
 
-    fn joined(&self, alloc: A, net: u32) -> Result<Vec<bool, A>, AllocError> {
+    fn joined(&mut self, alloc: A, net: u32) -> Result<Vec<bool, A>, AllocError> {
+        let kept = self.joins.take();
         let numbers = self.numbers[net as usize].as_slice();
-        let joined = joined_among(alloc, &self.flat, net, numbers)?;
-        Ok(joined)
+        let joins = joins_of(alloc, kept, &self.flat, net, numbers)?;
+        let marks = joins.marks(alloc)?;
+        self.joins = Some(joins);
+        Ok(marks)
     }
 
     fn next_wires(
@@ -129,6 +135,8 @@ impl<'g, 'a, A: Allocator + Copy> Ground<A> for GridGround<'g, 'a, A> {
             shapes.len() as u32,
             &mut self.numbers[net as usize],
         )?;
+        let kept = self.joins.take();
+        self.joins = with_wire(kept, net, &shapes[before..])?;
         Ok(())
     }
 }

@@ -27,10 +27,13 @@ pub(crate) trait Ground<A: Allocator + Copy> {
     ghost IsReady: { Self → Type 0 };
 
     /// For each piece of the net whether it is joined to its first one. It fails only when out of memory.
-    fn joined(&self, alloc: A, net: u32) -> Result<Vec<bool, A>, AllocError>
-        requires ready { IsReady self.now }
-        requires in_range { net < length (design self.now).nets }
-        ensures { IfOk result (λ marks. AreMarks (AreJoined (flat self.now) net 0) (piece_count (flat self.now) net) marks.items) };
+    fn joined(&mut self, alloc: A, net: u32) -> Result<Vec<bool, A>, AllocError>
+        requires ready { IsReady self.old }
+        requires in_range { net < length (design self.old).nets }
+        ensures marks { IfOk result (λ marks. AreMarks (AreJoined (flat self.old) net 0) (piece_count (flat self.old) net) marks.items) }
+        ensures ready { OnOk result (IsReady self.new) }
+        ensures same_design { design self.new ≡ design self.old }
+        ensures same_flat { flat self.new ≡ flat self.old };
 
     /// The wires of a shortest open walk from the joined part of the net to the rest, or `None` where there is no such walk.
     /// `joined` has for each piece of the net whether it is joined to its first one. It fails only when out of memory.

@@ -7,6 +7,7 @@ mod finish;
 mod grid_ground;
 mod ground;
 mod joined_part;
+mod kept_joins;
 pub mod laws;
 mod net_turn;
 mod nets;

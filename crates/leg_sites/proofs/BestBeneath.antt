@@ -2,7 +2,7 @@
 use Rattle.std.proofs.Common.{◌≡◌, ◌⊎◌, ℕ, ◌+◌, ◌*◌, ◌<◌, ◌≤◌, pos, ◌+ℤ◌, ◌*ℤ◌, ◌≤ℤ◌, List, length, Option, None, Some, slice_get, All, inl, inr, refl, sym, ap, ◌∙◌, arith}
 use Rattle.std.proofs.lemmas.Bool.{false≢true}
 use Rattle.std.proofs.lemmas.Int.{ints}
-use Rattle.std.proofs.lemmas.Option.{same_Some, slice_get-get_or, none-some}
+use Rattle.std.proofs.lemmas.Option.{same_Some, none-some}
 use Rattle.leg_cells.specs.declared.records.Site.{Site}
 use Rattle.leg_block.specs.Records.{DesignContents}
 use Rattle.leg_block.specs.WellFormedParts.{IsRow}
@@ -23,7 +23,7 @@ use Rattle.leg_sites.specs.Steps.RowsSeen.{IsCandidateOf, IsCandidateBeneath, Is
 use Rattle.leg_sites.proofs.BestSoFar.{no_worse_itself, no_worse_than_worse, best_of_both, best_of_same}
 use Rattle.leg_sites.proofs.ListPlaces.{of_all}
 use Rattle.leg_sites.proofs.RowBounds.{edges_rise}
-use Rattle.leg_sites.proofs.RowTree.{leaf_beneath_first, leaf_alone, beneath_either, beneath_left, beneath_right}
+use Rattle.leg_sites.proofs.RowTree.{leaf_alone, beneath_either, beneath_left, beneath_right}
 
 -- the best one of those before is the best of itself
 best_alone : (best : Option Candidate) → IsBestOf (λ d. best ≡ Some d) best
@@ -229,21 +229,6 @@ module _ (design : DesignContents) (proper : All (IsRow design.library) design.r
       r (best_through (Beneath near) (Beneath far) best mid r first then)
 
 module _ (design : DesignContents) (free : List (List Stretch)) (order : List RowKey) (wanted : Wanted) (is_order : IsRowOrder design.rows order) where
-  -- beneath the first node lie all rows
-  pub best_of_all : (r : Option Candidate) → IsBestOf (IsBestOrBeneath design.rows order free wanted 1 None) r → IsBestOf (IsCandidate design.rows free wanted) r
-  best_of_all r is =
-      best_of_same (IsBestOrBeneath design.rows order free wanted 1 None) (IsCandidate design.rows free wanted)
-      (λ d either. elim either [
-        | inl beneath ↦ beneath.candidate
-        | inr same ↦ absurd (none-some d same)
-      ])
-      (λ d candidate.
-      let key : RowKey = record { site = candidate.row.site; y = candidate.row.at.y; x = candidate.row.at.x; row = d.row } in
-      let found = (is_order.keys key).1 (record { row = candidate.row; there = candidate.there; site = refl; bottom = refl; left = refl }) in
-      let there : slice_get order found.0 ≡ Some key = slice_get-get_or order found.0 key found.1 ∙ ap Some found.2 in
-      inl (record { candidate = candidate; key = key; leaf = leaf_beneath_first order found.0 key there; row = refl }))
-      r is
-
   -- without rows there are no positions
   pub none_without_rows : length order ≡ 0 → IsBestOf (IsCandidate design.rows free wanted) None
   none_without_rows none d candidate =

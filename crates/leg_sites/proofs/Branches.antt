@@ -4,12 +4,12 @@ use Rattle.std.specs.Prelude.{unwrap_or, IsSome}
 use Rattle.std.specs.Option.{option_or}
 use Rattle.std.proofs.lemmas.Option.{slice_get-get_or, slice_get_within}
 use Rattle.leg_block.specs.Records.{DesignContents}
-use Rattle.leg_block.specs.declared.records.Row.{Row}
 use Rattle.leg_sites.specs.declared.stretch.Stretch.{Stretch}
 use Rattle.leg_sites.specs.declared.bounds.Bounds.{Bounds}
 use Rattle.leg_sites.specs.declared.branch.Branch.{Branch}
 use Rattle.leg_sites.specs.declared.row_keys.RowKey.{RowKey}
 use Rattle.leg_sites.specs.FreeRows.{AreRowsOf}
+use Rattle.leg_sites.specs.RowOrder.{IsRowOrder}
 use Rattle.leg_sites.specs.RowTree.{IsLeafBeneath}
 use Rattle.leg_sites.specs.SharedLists.{list_at, row_list, row_lists}
 use Rattle.leg_sites.specs.Steps.Branches.{IsBranch, IsBelow}
@@ -50,12 +50,15 @@ module _ (design : DesignContents) (order : List RowKey) (lists : List (Option (
         let low : IsLeafBeneath order node key = rw below.here at leaf in
         let own : Bounds = get_or nodes node above.bounds in
         let there : slice_get nodes node ≡ Some own = slice_get-get_or nodes node above.bounds (let count = rows.nodes.count in omega (arith, within, count)) in
-        fit_both design (row_lists order lists) own above.bounds branch.bounds key.row (below.bounds own there)
-        (rows.nodes.fit node own key some there low)
-        (is.fits key (elim side [
-          | inl left ↦ beneath_left order above.node key (rw left at low)
-          | inr right ↦ beneath_right order above.node key (rw right at low)
-        ]));
+        let own_fits = rows.nodes.fit node own key some there low in
+        elim (below.bounds own there) [
+          | inl both ↦ fit_both design (row_lists order lists) own above.bounds branch.bounds key.row both own_fits
+              (is.fits key (elim side [
+                | inl left ↦ beneath_left order above.node key (rw left at low)
+                | inr right ↦ beneath_right order above.node key (rw right at low)
+              ]))
+          | inr same ↦ rw same own_fits
+        ];
   } where
     some : 1 ≤ node
     some = let first = is.first in elim side [ inl left ↦ omega (arith, left, first) | inr right ↦ omega (arith, right) ]
@@ -69,15 +72,13 @@ module _ (design : DesignContents) (order : List RowKey) (lists : List (Option (
     here_is : list_at lists branch.node ≡ option_or (get_or lists above.owner None) (get_or lists node None)
     here_is = ap (list_at lists) below.here ∙ below_is lists above.node node some half ∙ ap (λ o. option_or o (get_or lists node None)) (sym is.owner)
 
-  -- the row of a leaf has its owner's list
-  pub branch_list : (place : ℕ) (key : RowKey) → above.node ≡ length order + place → slice_get order place ≡ Some key → slice_get (row_lists order lists) key.row ≡ Some (unwrap_or (get_or lists above.owner None) [])
-  branch_list place key here there =
-      let of = key_there design.rows order rows.order place key there in
-      let below = within_rows key.row of.row of.there in
-      let at = row_list_there order lists key.row (let long = row_lists_long order lists in let count = rows.lists in omega (arith, below, long, count)) in
-      at ∙ ap Some (list_of_key design.rows order rows.order lists place key (row_list order lists key.row) there at ∙ ap (λ (n : ℕ). unwrap_or (list_at lists n) []) (sym here) ∙ ap (λ o. unwrap_or o []) (sym is.owner)) where
-        within_rows : (number : ℕ) (row : Row) → slice_get design.rows number ≡ Some row → number < length design.rows
-        within_rows number row there = slice_get_within design.rows number row there
+-- the row of a leaf has the list of its node
+pub leaf_list : (design : DesignContents) (order : List RowKey) (lists : List (Option (List Stretch))) → IsRowOrder design.rows order → length (row_lists order lists) ≡ length design.rows → (place : ℕ) (key : RowKey) → slice_get order place ≡ Some key → slice_get (row_lists order lists) key.row ≡ Some (unwrap_or (list_at lists (length order + place)) [])
+leaf_list design order lists is_order count place key there =
+    let of = key_there design.rows order is_order place key there in
+    let below = slice_get_within design.rows key.row of.row of.there in
+    let at = row_list_there order lists key.row (let long = row_lists_long order lists in omega (arith, below, long, count)) in
+    at ∙ ap Some (list_of_key design.rows order is_order lists place key (row_list order lists key.row) there at)
 
 -- the two branches that go on, whichever comes first
 abbrev pub AreBothBelow : List (Option (List Stretch)) → List Bounds → Branch → Branch → Branch → Type 0

@@ -21,6 +21,7 @@ mod SharedLists
 mod ListMoves
 mod BoxAtNode
 mod BestBeneath
+mod RowsAround
 mod RowCandidates
 -- Sites by their edges
 mod SiteEdges
@@ -32,6 +33,7 @@ pub mod BestSoFar
 pub mod MetSites
 pub mod KnownSites
 mod RowsTaken
+mod OnlyRow
 mod RowsInside
 mod LeafLists
 mod Branches

@@ -6,7 +6,7 @@ use Rattle.std.proofs.lemmas.Bool.{cases_lt, cases_eq, cases_order}
 use Rattle.std.proofs.lemmas.List.Elements.{Contains-append_left, Contains-append_right, Contains-append_cases}
 use Rattle.std.proofs.lemmas.Option.{same_Some, none-some, slice_get_within, slice_get-get_or, get_or_from_slice_get, slice_get_read}
 use Rattle.leg_sites.specs.declared.stretch.Stretch.{Stretch}
-use Rattle.leg_sites.specs.Stretches.{IsFreeSite, AreFreeSites, AreStretches}
+use Rattle.leg_sites.specs.Stretches.{IsWithout, IsFreeSite, AreFreeSites, AreStretches}
 use Rattle.leg_sites.specs.Steps.Parts.{all_of, AreInRow, AreNoMoreThan, AreMeasured, IsSpan, HasSpan, LosesSites, AreFewer, AreLostUpTo, AreAllFewer, AreJoinedEnds, IsFreeBefore, HasSpanUpTo, NoneFitsBefore, NoneFitsFrom}
 use Rattle.leg_sites.specs.declared.ends.Ends.{Ends}
 use Rattle.leg_sites.specs.Steps.Nearest.{FitsFrom, FitsUpTo, IsFirst, IsLast}
@@ -542,3 +542,10 @@ only_part p k = (
   λ site. elim (free_either p [] k site) [ inl here ↦ here | inr none ↦ absurd (none-some none.stretch none.there) ],
   λ site. free_left p [] k site,
 )
+
+-- what is left of stretches is no longer than they were
+pub measured_less : (most from end : ℕ) (old new : List Stretch) → AreMeasured most old → IsWithout old from end new → AreMeasured most new
+measured_less most from end old new was without = record {
+  are = without.are;
+  longest = λ many first sites. was.longest many first (λ k above below. ((without.sites k).0 (sites k above below)).0);
+}

@@ -1,8 +1,8 @@
 -- Which list a row has, of those at the nodes of the tree.
-use Rattle.std.proofs.Common.{◌≡◌, ◌≢◌, ◌⊎◌, ℕ, zero, suc, ◌+◌, ◌*◌, ◌/◌, ◌<◌, ◌≤◌, Bool, List, [], ◌∷◌, length, get_or, Option, None, Some, slice_get, inl, inr, refl, sym, ap, ◌∙◌, arith}
+use Rattle.std.proofs.Common.{◌≡◌, ◌≢◌, ◌⊎◌, ℕ, zero, suc, ◌+◌, ◌*◌, ◌/◌, ◌<◌, ◌≤◌, Bool, true, false, List, [], ◌∷◌, length, get_or, Option, None, Some, slice_get, inl, inr, refl, sym, ap, ◌∙◌, arith}
 use Rattle.std.specs.Prelude.{unwrap_or, is_some}
 use Rattle.std.specs.Option.{option_or}
-use Rattle.std.proofs.lemmas.Bool.{cases_eq}
+use Rattle.std.proofs.lemmas.Bool.{cases_eq, false≢true}
 use Rattle.std.proofs.lemmas.List.{get_or_default}
 use Rattle.leg_sites.specs.declared.stretch.Stretch.{Stretch}
 use Rattle.leg_sites.specs.declared.row_keys.RowKey.{RowKey}
@@ -179,3 +179,68 @@ module _ (lists : List (Option (List Stretch))) (node : ℕ) (within : node < le
 
   pub node_read : (r : Option (List Stretch)) → r ≡ get_or lists node r → get_or lists node None ≡ r
   node_read r is = get_or_default lists node None r within ∙ sym is
+
+-- what the nodes above have, or else the owner so far, is what a node has
+pub record IsOwnerSoFar (lists : List (Option (List Stretch))) (node owner above : ℕ) : Type 0 where
+  pub within : owner < length lists
+  pub before : above < length lists
+  pub is : option_or (list_at lists above) (get_or lists owner None) ≡ list_at lists node
+
+pub owner_begins : (lists : List (Option (List Stretch))) (node : ℕ) → 1 ≤ node → node < length lists → IsOwnerSoFar lists node node (node / 2)
+owner_begins lists node some there = record { within = there; before = omega (arith, there); is = sym (at_step lists node some) }
+
+or_of_some : (a b c : Option (List Stretch)) → is_some b ≡ true → option_or (option_or a b) c ≡ option_or a b
+or_of_some None None c is = absurd (false≢true is)
+or_of_some None (Some y) c is = refl
+or_of_some (Some x) b c is = refl
+
+or_of_none : (a b c : Option (List Stretch)) → is_some b ≡ false → option_or (option_or a b) c ≡ option_or a c
+or_of_none None None c is = refl
+or_of_none None (Some y) c is = absurd (false≢true (sym is))
+or_of_none (Some x) b c is = refl
+
+-- one more node above has a list, or none
+pub owner_higher : (lists : List (Option (List Stretch))) (node owner above : ℕ) → 1 ≤ above → is_some (get_or lists above None) ≡ true → IsOwnerSoFar lists node owner above → IsOwnerSoFar lists node above (above / 2)
+owner_higher lists node owner above some has so_far = let before = so_far.before in record {
+  within = before;
+  before = omega (arith, before);
+  is =
+      sym (or_of_some (list_at lists (above / 2)) (get_or lists above None) (get_or lists owner None) has)
+      ∙ ap (λ o. option_or o (get_or lists owner None)) (sym (at_step lists above some))
+      ∙ so_far.is;
+}
+
+pub owner_stays : (lists : List (Option (List Stretch))) (node owner above : ℕ) → 1 ≤ above → is_some (get_or lists above None) ≡ false → IsOwnerSoFar lists node owner above → IsOwnerSoFar lists node owner (above / 2)
+owner_stays lists node owner above some none so_far = let before = so_far.before in record {
+  within = so_far.within;
+  before = omega (arith, before);
+  is =
+      sym (or_of_none (list_at lists (above / 2)) (get_or lists above None) (get_or lists owner None) none)
+      ∙ ap (λ o. option_or o (get_or lists owner None)) (sym (at_step lists above some))
+      ∙ so_far.is;
+}
+
+pub owner_found : (lists : List (Option (List Stretch))) (node owner above : ℕ) → above ≡ 0 → IsOwnerSoFar lists node owner above → get_or lists owner None ≡ list_at lists node
+owner_found lists node owner above none so_far = ap (λ o. option_or o (get_or lists owner None)) (sym (at_none lists above none)) ∙ so_far.is
+
+-- where a node has no list of those above it, another one has none
+pub record IsAloneUpTo (lists : List (Option (List Stretch))) (node above : ℕ) : Type 0 where
+  pub before : above < length lists
+  pub alone : list_at lists above ≡ None → list_at lists (node / 2) ≡ None
+
+pub alone_begins : (lists : List (Option (List Stretch))) (node : ℕ) → node < length lists → IsAloneUpTo lists node (node / 2)
+alone_begins lists node there = record { before = omega (arith, there); alone = λ none. none }
+
+or_of_nones : (a b : Option (List Stretch)) → is_some b ≡ false → a ≡ None → option_or a b ≡ None
+or_of_nones None None is none = refl
+or_of_nones None (Some y) is none = absurd (false≢true (sym is))
+or_of_nones (Some x) b is none = none
+
+pub alone_higher : (lists : List (Option (List Stretch))) (node above : ℕ) → 1 ≤ above → is_some (get_or lists above None) ≡ false → IsAloneUpTo lists node above → IsAloneUpTo lists node (above / 2)
+alone_higher lists node above some none so_far = let before = so_far.before in record {
+  before = omega (arith, before);
+  alone = λ higher. so_far.alone (at_step lists above some ∙ or_of_nones (list_at lists (above / 2)) (get_or lists above None) none higher);
+}
+
+pub alone_found : (lists : List (Option (List Stretch))) (node above : ℕ) → above ≡ 0 → IsAloneUpTo lists node above → list_at lists (node / 2) ≡ None
+alone_found lists node above none so_far = so_far.alone (at_none lists above none)

@@ -10,3 +10,4 @@ pub mod RowTree
 pub mod Parts
 pub mod SharedLists
 pub mod Branches
+pub mod OnlyRow

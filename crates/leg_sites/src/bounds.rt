@@ -14,7 +14,7 @@ use leg_cells::Extent;
 use std::alloc::Allocator;
 
 /// Numbers that bound the free sites of some rows, in database units where they are coordinates.
-#[derive(Clone, Copy)]
+#[derive(Clone, Copy, PartialEq, Eq)]
 pub(crate) struct Bounds {
     /// The lowest number of a row.
     pub least_row: usize,

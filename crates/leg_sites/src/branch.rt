@@ -51,10 +51,16 @@ fn below<A: Allocator + Copy>(
     requires owner { branch.now.owner < length lists.now }
     ensures { IsBelow lists.now nodes.now branch.now node result }
 {
-    let is_owned = lists[branch.owner].is_some();
+    if lists[branch.owner].is_some() {
+        return Branch {
+            node,
+            owner: branch.owner,
+            bounds: nodes[node].within(&branch.bounds),
+        };
+    }
     Branch {
         node,
-        owner: if is_owned { branch.owner } else { node },
-        bounds: nodes[node].within(&branch.bounds),
+        owner: node,
+        bounds: nodes[node],
     }
 }

@@ -8,12 +8,13 @@ ghost use Rattle.leg_sites.specs.FreeRows.{AreRowsOf, AreKnown, IsOfItsSite};
 use crate::bounds::Bounds;
 use crate::branch::Branch;
 use crate::candidate::{Candidate, Wanted};
+use crate::near_rows::best_nearby;
+use crate::only_row::take_from_rows;
 use crate::row_keys::{RowKey, row_order};
 use crate::row_parts::RowParts;
 use crate::row_search::best_beneath;
 use crate::row_tree::nodes_of;
 use crate::rows_inside::rows_inside;
-use crate::rows_taken::take_beneath;
 use crate::shared_lists::share_upward;
 use leg_block::Design;
 use leg_geom::Rect;
@@ -70,21 +71,18 @@ impl<A: Allocator + Copy> FreeRows<A> {
         if order.is_empty() {
             return None;
         }
+        let lists = self.lists.as_slice();
         let nodes = self.nodes.as_slice();
+        let near = best_nearby(design, lists, order, nodes, wanted);
+        if near.is_best {
+            return near.best;
+        }
         let first = Branch {
             node: 1,
             owner: 1,
             bounds: nodes[1],
         };
-        best_beneath(
-            design,
-            self.lists.as_slice(),
-            order,
-            nodes,
-            wanted,
-            &first,
-            None,
-        )
+        best_beneath(design, lists, order, nodes, wanted, &first, near.best)
     }
 
     /// Takes the sites that share a unit square with the rectangle away from those of each row. It fails only when out of
@@ -97,13 +95,12 @@ impl<A: Allocator + Copy> FreeRows<A> {
         if order.is_empty() {
             return Ok(());
         }
-        take_beneath(
+        take_from_rows(
             self.lists.as_mut_slice(),
             self.nodes.as_mut_slice(),
             order,
             design,
             rect,
-            1,
         )
     }
 }

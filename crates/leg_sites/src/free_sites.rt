@@ -60,7 +60,11 @@ impl<A: Allocator> FreeSites<A> {
         ensures ok { OnOk result (IsWithout self.old from end self.new) }
         ensures err { OnErr result (self.new ≡ self.old) }
     {
+        let is_kept = are_in_shorter(self.stretches.as_slice(), self.longest, from, end);
         take_sites(&mut self.stretches, from, end)?;
+        if is_kept {
+            return Ok(());
+        }
         self.longest = longest_of(self.stretches.as_slice());
         Ok(())
     }
@@ -125,6 +129,18 @@ impl<A: Allocator + Copy> FreeSites<A> {
         let longest = longest_of(stretches.as_slice());
         Ok(FreeSites { stretches, longest })
     }
+}
+
+/// Whether the sites from the one of the first number up to the one of the second lie in one stretch, which is shorter than this.
+fn are_in_shorter(stretches: &[Stretch], longest: u64, from: u64, end: u64) -> bool
+    requires { AreStretches stretches.now }
+{
+    let first = stretches.partition_point(|stretch| stretch.end <= from);
+    if first >= stretches.len() {
+        return false;
+    }
+    let stretch = stretches[first];
+    stretch.from <= from && end <= stretch.end && stretch.end.saturating_sub(stretch.from) < longest
 }
 
 /// A number of sites that no stretch has more of.

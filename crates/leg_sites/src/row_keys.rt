@@ -3,7 +3,9 @@
 ghost use Rattle.std.specs.Prelude.{◌≡◌, length, IfOk};
 ghost use Rattle.leg_sites.specs.RowOrder.{IsRowOrder};
 ghost use Rattle.leg_sites.specs.Steps.RowKeys.{AreKeysBelow};
+ghost use Rattle.leg_sites.specs.Steps.RowsSeen.{is_lower};
 
+use crate::candidate::Wanted;
 use leg_block::Row;
 use std::alloc::{AllocError, Allocator};
 
@@ -19,6 +21,15 @@ pub struct RowKey {
     pub x: i64,
     /// The number of the row.
     pub row: usize,
+}
+
+impl RowKey {
+    /// Whether the row is of a site of a lower number than the component's, or of its site and lies below its start.
+    pub(crate) fn is_lower(&self, wanted: &Wanted) -> bool
+        ensures { result ≡ is_lower self.now wanted.now }
+    {
+        self.site < wanted.site || self.site == wanted.site && self.y < wanted.start.y()
+    }
 }
 
 /// The keys of all rows, in increasing order. It fails only when out of memory.

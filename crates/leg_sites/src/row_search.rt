@@ -1,6 +1,6 @@
 //! The best free position of a component.
 
-ghost use Rattle.std.specs.Prelude.{◌≡◌, ◌⊎◌, ◌+◌, ◌*◌, ◌<◌, ◌≤◌, ◌≤ℤ◌, pos, List, [], Some, length, slice_get, unwrap_or};
+ghost use Rattle.std.specs.Prelude.{◌≡◌, ◌⊎◌, ◌+◌, ◌*◌, ◌<◌, ◌≤◌, ◌≤ℤ◌, pos, List, [], None, Some, length, get_or, slice_get, unwrap_or};
 ghost use Rattle.leg_geom.specs.Gap.{apart};
 ghost use Rattle.leg_geom.specs.declared.limits.TheConstants.{COORDINATE_LIMIT};
 ghost use Rattle.leg_geom.specs.Plane.{IsCoordinate};
@@ -8,7 +8,8 @@ ghost use Rattle.leg_block.specs.declared.records.Row.{Row};
 ghost use Rattle.leg_sites.specs.declared.stretch.Stretch.{Stretch};
 ghost use Rattle.leg_sites.specs.BestPosition.{AreReady, IsBestOf};
 ghost use Rattle.leg_sites.specs.FreeRows.{AreRowsOf, IsOfItsSite};
-ghost use Rattle.leg_sites.specs.SharedLists.{row_lists};
+ghost use Rattle.leg_sites.specs.RowOrder.{IsRowOrder};
+ghost use Rattle.leg_sites.specs.SharedLists.{list_at, row_lists};
 ghost use Rattle.leg_sites.specs.Steps.Nearest.{BeginWithin};
 ghost use Rattle.leg_sites.specs.Steps.RowsSeen.{IsCandidateOf, IsBestOrBeneath};
 ghost use Rattle.leg_sites.specs.Steps.Branches.{IsBranch};
@@ -20,10 +21,12 @@ use crate::nearest::{Pitch, nearest, x_away};
 use crate::reach::are_no_better;
 use crate::row_keys::RowKey;
 use crate::row_parts::RowParts;
+use crate::shared_lists::owner_of;
 use leg_block::{Design, Row};
 use std::alloc::Allocator;
 
-/// The better of a position and of the best free one in the rows whose leaves lie beneath a node of the tree, or at it.
+/// The better of a position and of the best free one in the rows whose leaves lie beneath a node of the tree, or at it. (That the
+/// rows are of sites that there are is known once they are asked for.)
 pub(crate) fn best_beneath<A: Allocator + Copy>(
     design: &Design<'_, A>,
     lists: &[Option<RowParts<A>>],
@@ -40,18 +43,66 @@ pub(crate) fn best_beneath<A: Allocator + Copy>(
     requires branch { IsBranch design.now order.now lists.now branch.now }
     ensures { IsBestOf (IsBestOrBeneath design.now.rows order.now (row_lists order.now lists.now) wanted.now branch.now.node best) result }
 {
-    let rows = design.rows();
+    let _rows = design.rows();
     if are_no_better(&branch.bounds, wanted, &best) {
         return best;
     }
     if branch.node >= order.len() {
-        let number = order[branch.node - order.len()].row;
-        let found = best_of_row(&rows[number], &lists[branch.owner], wanted, number);
-        return better(best, found);
+        let place = branch.node - order.len();
+        return best_at_leaf(design, lists, order, wanted, place, branch.owner, best);
     }
     let (near, far) = nearer_first(lists, nodes, branch, &wanted.start);
     let best = best_beneath(design, lists, order, nodes, wanted, &near, best);
     best_beneath(design, lists, order, nodes, wanted, &far, best)
+}
+
+/// The better of a position and of the best free one in the row at this place of the order.
+pub(crate) fn best_at<A: Allocator + Copy>(
+    design: &Design<'_, A>,
+    lists: &[Option<RowParts<A>>],
+    order: &[RowKey],
+    nodes: &[Bounds],
+    wanted: &Wanted,
+    place: usize,
+    best: Option<Candidate>,
+) -> Option<Candidate>
+    requires rows { AreRowsOf design.now (record { lists = row_lists order.now lists.now; order = order.now; nodes = nodes.now }) }
+    requires ready { AreReady design.now.rows (row_lists order.now lists.now) wanted.now }
+    requires sized { IsOfItsSite design.now wanted.now }
+    requires count { length lists.now ≡ 2 * length order.now }
+    requires there { place < length order.now }
+    ensures { IsBestOf (IsBestOrBeneath design.now.rows order.now (row_lists order.now lists.now) wanted.now (length order.now + place) best) result }
+{
+    let _rows = design.rows();
+    let leaf = order.len() + place;
+    if are_no_better(&nodes[leaf], wanted, &best) {
+        return best;
+    }
+    let owner = owner_of(lists, leaf);
+    best_at_leaf(design, lists, order, wanted, place, owner, best)
+}
+
+/// The same, where the row has the list of this node.
+fn best_at_leaf<A: Allocator + Copy>(
+    design: &Design<'_, A>,
+    lists: &[Option<RowParts<A>>],
+    order: &[RowKey],
+    wanted: &Wanted,
+    place: usize,
+    owner: usize,
+    best: Option<Candidate>,
+) -> Option<Candidate>
+    requires order { IsRowOrder design.now.rows order.now }
+    requires ready { AreReady design.now.rows (row_lists order.now lists.now) wanted.now }
+    requires sized { IsOfItsSite design.now wanted.now }
+    requires there { place < length order.now }
+    requires within { owner < length lists.now }
+    requires owner { get_or lists.now owner None ≡ list_at lists.now (length order.now + place) }
+    ensures { IsBestOf (IsBestOrBeneath design.now.rows order.now (row_lists order.now lists.now) wanted.now (length order.now + place) best) result }
+{
+    let number = order[place].row;
+    let found = best_of_row(&design.rows()[number], &lists[owner], wanted, number);
+    better(best, found)
 }
 
 /// The best free position in the row of this number, which has this list of free sites, or none.

@@ -106,7 +106,7 @@ fn row_beneath<A: Allocator + Copy>(design: &Design<'_, A>, order: &[RowKey], no
 }
 
 /// Takes the sites away from the list of a node, and bounds what is left of it.
-fn take_at<A: Allocator + Copy>(
+pub(crate) fn take_at<A: Allocator + Copy>(
     lists: &mut [Option<RowParts<A>>],
     nodes: &mut [Bounds],
     order: &[RowKey],

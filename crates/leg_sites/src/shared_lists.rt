@@ -26,6 +26,39 @@ pub(crate) fn key_beneath(order: &[RowKey], node: usize) -> RowKey
     order[leaf - order.len()]
 }
 
+/// The node whose list a node has: the highest one of those above it that has one, or it itself where none has.
+pub(crate) fn owner_of<A: Allocator + Copy>(lists: &[Option<RowParts<A>>], node: usize) -> usize
+    requires first { 1 ≤ node }
+    requires there { node < length lists.now }
+    ensures within { result < length lists.now }
+    ensures owner { get_or lists.now result None ≡ list_at lists.now node }
+{
+    let mut owner = node;
+    let mut above = node / 2;
+    while above > 0 {
+        if lists[above].is_some() {
+            owner = above;
+        }
+        above /= 2;
+    }
+    owner
+}
+
+/// Whether no node above this one has a list.
+pub(crate) fn is_alone<A: Allocator + Copy>(lists: &[Option<RowParts<A>>], node: usize) -> bool
+    requires { node < length lists.now }
+    ensures { IsTrue result → list_at lists.now (node / 2) ≡ None }
+{
+    let mut above = node / 2;
+    while above > 0 {
+        if lists[above].is_some() {
+            return false;
+        }
+        above /= 2;
+    }
+    true
+}
+
 /// Puts the lists of leaves together, where rows beneath one node have the same free sites.
 pub(crate) fn share_upward<A: Allocator + Copy>(lists: &mut [Option<RowParts<A>>], order: &[RowKey])
     requires shared { AreShared order.now lists.old }

@@ -1,6 +1,7 @@
 -- Marks and how they spread
 mod Marks
 mod Spread
+mod Least
 mod Sides
 -- What the marks say of walks
 mod Walks

@@ -19,63 +19,6 @@ pub(crate) struct Level {
     pub(crate) limit: u64,
 }
 
-/// Marks the starts that are open and within the limit, and puts them into `next`.
-pub(crate) fn seed<G: Graph, A: Allocator>(
-    graph: &G,
-    starts: &[u32],
-    limit: u64,
-    marks: &mut [Mark],
-    next: &mut Vec<u32, A>,
-    touched: &mut Vec<u32, A>,
-    left_out: &mut bool,
-) -> Result<(), AllocError>
-    requires count { length marks.old ≡ G.size_of graph.now }
-    requires within { All (λ a. a < G.size_of graph.now) starts.now }
-    requires noted { IsNoted marks.old touched.old.items }
-    ensures spread { OnOk result (IsSpread (G.OpenNode graph.now) (λ _ b. Contains starts.now b) (G.bound_of graph.now) limit 0
-        marks.old next.old.items left_out.old marks.new next.new.items left_out.new) }
-    ensures noted { IsNoted marks.new touched.new.items }
-{
-    let level = Level { number: 0, limit };
-    for start in starts {
-        seed_one(graph, *start, level, marks, next, touched, left_out)?;
-    }
-    Ok(())
-}
-
-/// Tries one start.
-fn seed_one<G: Graph, A: Allocator>(
-    graph: &G,
-    start: u32,
-    level: Level,
-    marks: &mut [Mark],
-    next: &mut Vec<u32, A>,
-    touched: &mut Vec<u32, A>,
-    left_out: &mut bool,
-) -> Result<(), AllocError>
-    requires count { length marks.old ≡ G.size_of graph.now }
-    requires within { start < G.size_of graph.now }
-    requires noted { IsNoted marks.old touched.old.items }
-    ensures spread { OnOk result (IsSpread (G.OpenNode graph.now) (λ _ b. b ≡ start) (G.bound_of graph.now) level.limit level.number
-        marks.old next.old.items left_out.old marks.new next.new.items left_out.new) }
-    ensures noted { IsNoted marks.new touched.new.items }
-{
-    if !is_unseen(marks, start) {
-        return Ok(());
-    }
-    if is_too_far(graph, start, level) {
-        *left_out = true;
-        return Ok(());
-    }
-    let mark = Mark::Reached {
-        level: level.number,
-        from: start,
-    };
-    let is_open = graph.is_open_node(start);
-    enter(start, is_open, mark, marks, next, touched)?;
-    Ok(())
-}
-
 /// Tries each step from a node of the current level, and puts the nodes that it reaches into `next`. All steps to one side come
 /// before those to the next one, so that a node is entered from the west where it can be, and else from the east, the south,
 /// the north, below and above, in this order.
@@ -173,7 +116,7 @@ fn follow_one<G: Graph, A: Allocator>(
 }
 
 /// Whether the search has not seen the node.
-fn is_unseen(marks: &[Mark], node: u32) -> bool
+pub(crate) fn is_unseen(marks: &[Mark], node: u32) -> bool
     requires { node < length marks.now }
     ensures unseen { result ≡ true → slice_get marks.now node ≡ Some Mark.Unseen }
     ensures seen { result ≡ false → IsSeen marks.now node }
@@ -198,7 +141,7 @@ fn is_too_far<G: Graph>(graph: &G, node: u32, level: Level) -> bool
 }
 
 /// Where the node is open, gives it the mark and puts it into `next`, and else shuts it.
-fn enter<A: Allocator>(
+pub(crate) fn enter<A: Allocator>(
     to: u32,
     is_open: bool,
     mark: Mark,

@@ -12,6 +12,7 @@ mod reset;
 mod rounds;
 mod search;
 mod side;
+mod starts;
 
 pub use graph::Graph;
 pub use mark::Mark;

@@ -7,6 +7,7 @@ ghost use Rattle.leg_walk.specs.Marks.{AreUnseen};
 ghost use Rattle.leg_walk.specs.Steps.Marks.{IsNoted};
 ghost use Rattle.leg_walk.specs.Steps.Dive.{IsOrigin};
 ghost use Rattle.leg_walk.specs.Steps.Search.{IsRound};
+ghost use Rattle.leg_walk.specs.Steps.Starts.{AreLeast};
 
 use crate::back::way_to;
 use crate::dives::walk_by_dives;
@@ -63,6 +64,7 @@ pub fn shortest<G: Graph, A: Allocator + Copy>(
     if !left_out {
         return Ok(None);
     }
+    let mut least = Vec::from_elem(alloc, 0, starts.len())?;
     let mut growth = FIRST_GROWTH;
     'rounds: loop {
         let mut left_out = false;
@@ -70,6 +72,7 @@ pub fn shortest<G: Graph, A: Allocator + Copy>(
             alloc,
             graph,
             starts,
+            &mut least,
             ends,
             limit,
             marks,
@@ -117,6 +120,7 @@ fn one_round<G: Graph, A: Allocator + Copy>(
     alloc: A,
     graph: &G,
     starts: &[u32],
+    least: &mut [u32],
     ends: &[u32],
     limit: u64,
     marks: &mut [Mark],
@@ -130,14 +134,18 @@ fn one_round<G: Graph, A: Allocator + Copy>(
     requires starts { All (λ a. a < G.size_of graph.now) starts.now }
     requires ends { All (λ a. a < G.size_of graph.now) ends.now }
     requires at_end { All (λ a. G.bound_of graph.now a ≡ 0) ends.now }
+    requires least { AreLeast (G.bound_of graph.now) starts.now least.old }
     requires not_left { left_out.old ≡ false }
     ensures found { IfOk result (λ walk. IsRound (G.OpenNode graph.now) (IsStep (G.IsBeside graph.now) (G.OpenStep graph.now))
         (Contains starts.now) (Contains ends.now) left_out.new (option_map (λ nodes. nodes.items) walk)) }
+    ensures least { OnOk result (AreLeast (G.bound_of graph.now) starts.now least.new) }
     ensures low { OnOk result (left_out.new ≡ true → limit < 2 ^ 33) }
     ensures unseen { AreUnseen marks.new }
     ensures untouched { touched.new.items ≡ [] }
 {
-    let walk = walk_within(alloc, graph, starts, ends, limit, marks, touched, left_out);
+    let walk = walk_within(
+        alloc, graph, starts, least, ends, limit, marks, touched, left_out,
+    );
     reset(marks, touched);
     walk
 }
@@ -147,6 +155,7 @@ fn walk_within<G: Graph, A: Allocator + Copy>(
     alloc: A,
     graph: &G,
     starts: &[u32],
+    least: &mut [u32],
     ends: &[u32],
     limit: u64,
     marks: &mut [Mark],
@@ -160,13 +169,18 @@ fn walk_within<G: Graph, A: Allocator + Copy>(
     requires starts { All (λ a. a < G.size_of graph.now) starts.now }
     requires ends { All (λ a. a < G.size_of graph.now) ends.now }
     requires at_end { All (λ a. G.bound_of graph.now a ≡ 0) ends.now }
+    requires least { AreLeast (G.bound_of graph.now) starts.now least.old }
     requires not_left { left_out.old ≡ false }
     ensures found { IfOk result (λ walk. IsRound (G.OpenNode graph.now) (IsStep (G.IsBeside graph.now) (G.OpenStep graph.now))
         (Contains starts.now) (Contains ends.now) left_out.new (option_map (λ nodes. nodes.items) walk)) }
+    ensures least { OnOk result (AreLeast (G.bound_of graph.now) starts.now least.new) }
     ensures low { OnOk result (left_out.new ≡ true → limit < 2 ^ 33) }
     ensures noted { IsNoted marks.new touched.new.items }
 {
-    let Some(end) = nearest_end(alloc, graph, starts, ends, limit, marks, touched, left_out)? else {
+    let Some(end) = nearest_end(
+        alloc, graph, starts, least, ends, limit, marks, touched, left_out,
+    )?
+    else {
         return Ok(None);
     };
     let nodes = way_to(alloc, marks, end)?;

@@ -5,11 +5,13 @@ ghost use Rattle.leg_walk.specs.Walk.{IsStep};
 ghost use Rattle.leg_walk.specs.Marks.{AreUnseen};
 ghost use Rattle.leg_walk.specs.Steps.Marks.{IsNoted};
 ghost use Rattle.leg_walk.specs.Steps.Search.{IsFound};
+ghost use Rattle.leg_walk.specs.Steps.Starts.{AreLeast};
 
 use crate::ends::least_end;
 use crate::graph::Graph;
-use crate::level::{Level, one_level, seed};
+use crate::level::{Level, one_level};
 use crate::mark::Mark;
+use crate::starts::seed;
 use std::alloc::{AllocError, Allocator};
 
 /// The least end at the least level at which there is one. A node is marked only where its level and the steps that are left
@@ -18,6 +20,7 @@ pub(crate) fn nearest_end<G: Graph, A: Allocator + Copy>(
     alloc: A,
     graph: &G,
     starts: &[u32],
+    least: &mut [u32],
     ends: &[u32],
     limit: u64,
     marks: &mut [Mark],
@@ -31,14 +34,18 @@ pub(crate) fn nearest_end<G: Graph, A: Allocator + Copy>(
     requires starts { All (λ a. a < G.size_of graph.now) starts.now }
     requires ends { All (λ a. a < G.size_of graph.now) ends.now }
     requires at_end { All (λ a. G.bound_of graph.now a ≡ 0) ends.now }
+    requires least { AreLeast (G.bound_of graph.now) starts.now least.old }
     requires not_left { left_out.old ≡ false }
     ensures found { IfOk result (λ end. IsFound (G.OpenNode graph.now) (IsStep (G.IsBeside graph.now) (G.OpenStep graph.now))
         (Contains starts.now) (Contains ends.now) marks.new left_out.new end) }
     ensures low { OnOk result (left_out.new ≡ true → limit < 2 ^ 33) }
+    ensures least { OnOk result (AreLeast (G.bound_of graph.now) starts.now least.new) }
     ensures noted { IsNoted marks.new touched.new.items }
 {
     let mut front = Vec::new(alloc);
-    seed(graph, starts, limit, marks, &mut front, touched, left_out)?;
+    seed(
+        graph, starts, least, limit, marks, &mut front, touched, left_out,
+    )?;
     let mut level = Level { number: 0, limit };
     'levels: while !front.is_empty() {
         if let Some(end) = least_end(ends, marks, level.number) {

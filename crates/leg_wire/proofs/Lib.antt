@@ -24,4 +24,6 @@ mod Touches
 mod SetsTaken
 mod SomeJoined
 mod StandIns
+mod NewPairs
+mod OnePieceMore
 mod OpenPieces

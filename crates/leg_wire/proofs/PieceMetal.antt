@@ -1,7 +1,7 @@
 -- The metal of a net's pieces, shape by shape.
-use Rattle.std.proofs.Common.{◌≡◌, ◌↔◌, ℕ, ◌≤◌, List, [], ◌∷◌, ◌++◌, length, Option, Some, None, Contains, slice_get, inl, inr, refl, sym, ap, ◌∙◌, arith}
+use Rattle.std.proofs.Common.{◌≡◌, ◌↔◌, ℕ, ◌≤◌, All, List, [], ◌∷◌, ◌++◌, length, Option, Some, None, Contains, slice_get, inl, inr, refl, sym, ap, ◌∙◌, arith}
 use Rattle.std.proofs.lemmas.List.{length_push}
-use Rattle.std.proofs.lemmas.List.Elements.{Contains-append_left, Contains-push, Contains-push_cases}
+use Rattle.std.proofs.lemmas.List.Elements.{All-nil, All-push, All-contains, Contains-append_left, Contains-push, Contains-push_cases}
 use Rattle.std.proofs.lemmas.Option.{same_Some, none-some, slice_get_within, slice_get_read, get_or_from_slice_get}
 use Rattle.leg_sweep.proofs.Lists.{Contains-nil}
 use Rattle.leg_flat.specs.declared.owner.Owner.TheVariants.{Net}
@@ -10,14 +10,23 @@ use Rattle.leg_flat.specs.Flat.{FlatSaid}
 use Rattle.leg_wire.specs.declared.piece_shape.PieceShape.{PieceShape}
 use Rattle.leg_wire.specs.Touch.{piece_count}
 use Rattle.leg_wire.specs.NetShapes.{IsOfNet, AreNumbersOf}
+use Rattle.leg_wire.specs.Joins.{IsWholeNet}
 use Rattle.leg_wire.specs.Steps.PieceMetal.{SaysShape, IsPieceShape, ArePieceShapes}
 
 module _ (flat : FlatSaid) (net : ℕ) where
-  -- the metal of pieces that the shapes of these numbers are
+  -- the shape of this number is metal of a piece
+  pub record HasPiece (k : ℕ) : Type 0 where
+    pub shape : Shape
+    pub piece : PieceShape
+    pub at : slice_get flat.shapes k ≡ Some shape
+    pub is : IsPieceShape flat net shape piece
+
+  -- the metal of pieces that the shapes of these numbers are, of which each is one where the lists are equally long
   pub record AreAmong (numbers : List ℕ) (pieces : List PieceShape) : Type 0 where
     pub each : (piece : PieceShape) → Contains pieces piece → (shape : Shape) × Contains flat.shapes shape × IsPieceShape flat net shape piece
     pub all : (k : ℕ) (shape : Shape) (piece : PieceShape) → Contains numbers k → slice_get flat.shapes k ≡ Some shape → IsPieceShape flat net shape piece → Contains pieces piece
     pub few : length pieces ≤ length numbers
+    pub whole : length pieces ≡ length numbers → All HasPiece numbers
 
   -- no shape was looked at
   pub among_none : AreAmong [] []
@@ -25,6 +34,7 @@ module _ (flat : FlatSaid) (net : ℕ) where
     each = λ piece has. absurd (Contains-nil piece has);
     all = λ k shape piece has at is. absurd (Contains-nil k has);
     few = omega arith;
+    whole = λ same. All-nil HasPiece;
   }
 
   -- what a shape of the net says is what metal of a piece of it does
@@ -71,6 +81,9 @@ module _ (flat : FlatSaid) (net : ℕ) where
             rw same (Contains-push pieces piece)
       ];
       few = omega (arith, done.few, length_push pieces piece, length_push numbers k);
+      whole = λ same.
+          All-push HasPiece numbers k (done.whole (omega (arith, same, length_push pieces piece, length_push numbers k)))
+          (record { shape = shape; piece = piece; at = at; is = from_said count counted shape owned piece ((told piece).0 is) });
     }
 
     -- it is not
@@ -82,6 +95,7 @@ module _ (flat : FlatSaid) (net : ℕ) where
         | inr here ↦ absurd (none-some p (sym is ∙ found_of s p (rw (← here) at s_at) says))
       ];
       few = omega (arith, done.few, length_push numbers k);
+      whole = λ same. absurd (omega (arith, same, done.few, length_push numbers k));
     }
 
   -- the metal that all shapes of the net are
@@ -92,3 +106,12 @@ module _ (flat : FlatSaid) (net : ℕ) where
         let at : slice_get flat.shapes has.0 ≡ Some shape = slice_get_read flat.shapes _ has.0 shape refl has.1 (sym has.2) in
         done.all has.0 shape piece (are.all has.0 (record { shape = shape; at = at; owner = is.of_piece.owner })) at is;
   }
+
+  -- each shape of the net is metal of one of its pieces, where no number was passed over
+  pub whole_net : (numbers : List ℕ) (pieces : List PieceShape) → AreNumbersOf flat.shapes net numbers → AreAmong numbers pieces → length pieces ≡ length numbers → IsWholeNet flat net
+  whole_net numbers pieces are done same shape piece has owner of_piece =
+      let at : slice_get flat.shapes has.0 ≡ Some shape = slice_get_read flat.shapes _ has.0 shape refl has.1 (sym has.2) in
+      let one : HasPiece has.0 = All-contains HasPiece numbers has.0 (done.whole same) (are.all has.0 (record { shape = shape; at = at; owner = owner })) in
+      let shape_is : one.shape ≡ shape = same_Some one.shape shape (sym one.at ∙ at) in
+      let piece_is : one.piece.piece ≡ piece = same_Some one.piece.piece piece (sym one.is.of_piece.piece ∙ ap (λ (s : Shape). s.piece) shape_is ∙ of_piece) in
+      rw piece_is at one.is.of_piece.there

@@ -37,7 +37,7 @@ beside-back a b layer =
     rw (low, high) refl
 
 -- what is done is done in either order
-IsDone-back : (sets : List ℕ) (seen : List (Beside × (ℤ × ℤ))) (s t : PieceShape) → s.layer ≡ t.layer → IsDone sets seen s t → IsDone sets seen t s
+pub IsDone-back : (sets : List ℕ) (seen : List (Beside × (ℤ × ℤ))) (s t : PieceShape) → s.layer ≡ t.layer → IsDone sets seen s t → IsDone sets seen t s
 IsDone-back sets seen s t layer done p shared = elim (done p (record { in_a = shared.in_b; in_b = shared.in_a })) [
   | inl together ↦ inl (AreTogether-back sets s.piece t.piece together)
   | inr there ↦
@@ -176,6 +176,40 @@ pub record AreSoFar (shapes : List PieceShape) (count : ℕ) (meetings : List (�
   pub points : (pieces : Beside) (point : ℤ × ℤ) → first_seen seen pieces ≡ Some point → LiesInBoth shapes pieces point
   pub done : (p : ℕ × ℕ) (s t : PieceShape) → Contains meetings p → slice_get shapes p.0 ≡ Some s → slice_get shapes p.1 ≡ Some t → IsDone sets seen s t
 
+module _ (shapes : List PieceShape) (sets : List ℕ) (seen : List (Beside × (ℤ × ℤ))) where
+  -- metal of two pieces is done wherever it meets
+  abbrev pub AreDone : ℕ → ℕ → Type 0
+  AreDone a b = (s t : PieceShape) → Contains shapes s → Contains shapes t → s.piece ≡ a → t.piece ≡ b → DoMeet s t → IsDone sets seen s t
+
+  -- a point of two such pieces is the first one that was seen for them, or they are together
+  together_or_first : (a b layer : ℕ) (p : Spot) → a ≢ b → AreDone a b → LiesAmong shapes a layer p → LiesAmong shapes b layer p
+      → AreTogether sets a b ⊎ (first_seen seen (beside a b layer) ≡ Some (p.x, p.y))
+  together_or_first a b layer p others are in_a in_b =
+      let s = in_a.shape in
+      let t = in_b.shape in
+      let meet : DoMeet s t = record {
+        layer = in_a.on_layer ∙ sym in_b.on_layer;
+        others = λ same. others (sym in_a.of_piece ∙ same ∙ in_b.of_piece);
+        shared = record { point = p; in_a = in_a.inside; in_b = in_b.inside };
+      } in
+      elim (are s t in_a.has in_b.has in_a.of_piece in_b.of_piece meet p (record { in_a = in_a.inside; in_b = in_b.inside })) [
+        | inl together ↦ inl (rw (in_a.of_piece, in_b.of_piece) at together)
+        | inr there ↦ inr (rw (in_a.of_piece, in_b.of_piece, in_a.on_layer) at there)
+      ]
+
+  -- and together they are where they touch
+  pub touch_together : (a b : ℕ) → AreDone a b → TouchAmong shapes a b → AreTogether sets a b
+  touch_together a b are h =
+      elim (together_or_first a b h.layer h.p h.others are h.p_in_a h.p_in_b) [
+        | inl together ↦ together
+        | inr first_p ↦ elim (together_or_first a b h.layer h.q h.others are h.q_in_a h.q_in_b) [
+          | inl together ↦ together
+          | inr first_q ↦
+              let same : (h.p.x, h.p.y) ≡ (h.q.x, h.q.y) = same_Some (h.p.x, h.p.y) (h.q.x, h.q.y) (sym first_p ∙ first_q) in
+              absurd (h.differ (ap spot_of same))
+        ]
+      ]
+
 module _ (shapes : List PieceShape) (count : ℕ) where
   -- one more meeting
   module _ (meetings : List (ℕ × ℕ)) (sets : List ℕ) (before : List (Beside × (ℤ × ℤ))) (done : AreSoFar shapes count meetings sets before)
@@ -285,37 +319,12 @@ module _ (shapes : List PieceShape) (count : ℕ) where
           ]
         ]
 
-    -- a point of two pieces is the first one that was seen for them, or they are together
-    together_or_first : (a b layer : ℕ) (p : Spot) → a ≢ b → LiesAmong shapes a layer p → LiesAmong shapes b layer p
-        → AreTogether sets a b ⊎ (first_seen seen (beside a b layer) ≡ Some (p.x, p.y))
-    together_or_first a b layer p others in_a in_b =
-        let s = in_a.shape in
-        let t = in_b.shape in
-        let meet : DoMeet s t = record {
-          layer = in_a.on_layer ∙ sym in_b.on_layer;
-          others = λ same. others (sym in_a.of_piece ∙ same ∙ in_b.of_piece);
-          shared = record { point = p; in_a = in_a.inside; in_b = in_b.inside };
-        } in
-        elim (all_done s t in_a.has in_b.has meet p (record { in_a = in_a.inside; in_b = in_b.inside })) [
-          | inl together ↦ inl (rw (in_a.of_piece, in_b.of_piece) at together)
-          | inr there ↦ inr (rw (in_a.of_piece, in_b.of_piece, in_a.on_layer) at there)
-        ]
-
     -- pieces that touch are together
-    touch_together : (a b : ℕ) → TouchAmong shapes a b → AreTogether sets a b
-    touch_together a b h =
-        elim (together_or_first a b h.layer h.p h.others h.p_in_a h.p_in_b) [
-          | inl together ↦ together
-          | inr first_p ↦ elim (together_or_first a b h.layer h.q h.others h.q_in_a h.q_in_b) [
-            | inl together ↦ together
-            | inr first_q ↦
-                let same : (h.p.x, h.p.y) ≡ (h.q.x, h.q.y) = same_Some (h.p.x, h.p.y) (h.q.x, h.q.y) (sym first_p ∙ first_q) in
-                absurd (h.differ (ap spot_of same))
-          ]
-        ]
+    touch_done : (a b : ℕ) → TouchAmong shapes a b → AreTogether sets a b
+    touch_done a b = touch_together shapes sets seen a b (λ s t s_in t_in s_of t_of meet. all_done s t s_in t_in meet)
 
     -- and so are those that are joined
     pub joined_together : (a b : ℕ) → a < length sets → Joined (TouchAmong shapes) a b → AreTogether sets a b
     joined_together a b within itself = AreTogether-itself sets a within
     joined_together a b within (through {b = c} joined touch) =
-        AreTogether-onward sets a c b (joined_together a c within joined) (touch_together c b touch)
+        AreTogether-onward sets a c b (joined_together a c within joined) (touch_done c b touch)

@@ -1,7 +1,7 @@
 -- The root of each number's tree: how it is known, and what a change of one parent makes of it.
 use Rattle.std.proofs.Common.{◌≡◌, ◌≢◌, ℕ, zero, suc, ◌+◌, ◌<◌, ◌≤◌, List, [], ◌∷◌, ◌++◌, length, drop, map, get_or, set, cond, nat_eq, inl, inr, refl, sym, ap, ◌∙◌, add-one, arith}
 use Rattle.std.proofs.Math.Seq.{drop-cons}
-use Rattle.std.proofs.lemmas.Bool.{cases_eq}
+use Rattle.std.proofs.lemmas.Bool.{cases_eq, cases_lt}
 use Rattle.std.proofs.lemmas.Bool.Decides.{nat_tests}
 use Rattle.std.proofs.lemmas.List.{length_push, length-map, length-set, drop_all, get_or_append_left, get_or_at, get_or_past, get_or_default, get_or-map, get_or-set_same, get_or-set_other, ext_get_or}
 use Rattle.std.proofs.lemmas.List.FromFn.{length-range_with_len, get_or-range_with_len}
@@ -304,3 +304,28 @@ roots_alone count =
         let many : length (range_with_len 0 count) ≡ count = length-range_with_len 0 count in
         let is : get_or (range_with_len 0 count) k 0 ≡ 0 + k = get_or-range_with_len 0 count k 0 (omega (arith, many, within)) in
         record { own = λ own. own; below = λ low. absurd (omega (arith, is, low)) }
+
+-- one number more, which is its own parent
+roots_after_push : (roots ps : List ℕ) (q : ℕ) → roots_after roots (ps ++ q ∷ []) ≡ roots_after roots ps ++ get_or (roots_after roots ps) q q ∷ []
+roots_after_push roots [] q = refl
+roots_after_push roots (p ∷ ps) q = roots_after_push (roots ++ get_or roots p p ∷ []) ps q
+
+pub roots_push : (parents : List ℕ) → roots_of (parents ++ length parents ∷ []) ≡ roots_of parents ++ length parents ∷ []
+unfolding roots_of
+roots_push parents =
+    let many = length-roots_after [] parents in
+    roots_after_push [] parents (length parents)
+    ∙ ap (λ root. roots_after [] parents ++ root ∷ []) (get_or_past (roots_after [] parents) (length parents) (length parents) (omega (arith, many)))
+
+pub forest_push : (parents : List ℕ) → IsForest parents → IsForest (parents ++ length parents ∷ [])
+forest_push parents forest k within = elim (cases_lt k (length parents)) [
+  | inl before ↦
+      let old : get_or parents k 0 ≤ k = forest k before in
+      let same : get_or (parents ++ length parents ∷ []) k 0 ≡ get_or parents k 0 = get_or_append_left parents (length parents ∷ []) 0 k before in
+      omega (arith, old, same)
+  | inr last ↦
+      let many = length_push parents (length parents) in
+      let here : k ≡ length parents = omega (arith, many, last, within) in
+      let own : get_or (parents ++ length parents ∷ []) k 0 ≡ length parents = get_or_at parents (length parents) [] 0 k (sym here) in
+      omega (arith, own, here)
+]

@@ -1,5 +1,5 @@
 -- What a sink of pairs is after it took them all.
-use Rattle.std.proofs.Common.{◌≡◌, ℕ, ◌<◌, ℤ, List, [], ◌∷◌, ◌++◌, length, get_or, None, Contains, refl, sym, ◌∙◌, arith}
+use Rattle.std.proofs.Common.{◌≡◌, ℕ, ◌<◌, ℤ, List, [], ◌∷◌, ◌++◌, length, get_or, None, All, Contains, refl, sym, ◌∙◌, arith}
 use Rattle.std.specs.List.{range_with_len}
 use Rattle.std.proofs.lemmas.List.Elements.{All-contains, Contains-append_left, Contains-push}
 use Rattle.std.proofs.lemmas.Option.{same_Some, slice_get_read}
@@ -9,7 +9,8 @@ use Rattle.leg_wire.specs.declared.corner.Beside.{Beside}
 use Rattle.leg_wire.specs.declared.piece_shape.PieceShape.{PieceShape}
 use Rattle.leg_wire.specs.Steps.MeetingRule.{DoMeet}
 use Rattle.leg_wire.specs.Steps.SharedPoints.{first_seen}
-use Rattle.leg_wire.specs.Steps.JoinSteps.{JoinState, IsJoinStep, TakesPair, AreSetsOf}
+use Rattle.leg_wire.specs.Steps.JoinSteps.{JoinState, IsJoinStep, TakesPair, AreSetsOf, AreKept}
+use Rattle.leg_wire.specs.Steps.JoinSteps.IsJoinStep.{were_together, are_united, stay_apart}
 use Rattle.leg_wire.proofs.PiecesTouch.{AreSoFar, so_far_more, joined_together}
 use Rattle.leg_wire.proofs.Touches.{so_far_none}
 
@@ -49,6 +50,41 @@ module _ (shapes : List PieceShape) (count : ℕ) where
         (rw done.same_shapes at takes.step)
         (done.so_far (λ q has. meet q (Contains-append_left found (p ∷ []) q has)));
   }
+
+-- Some pairs of metal that meets were taken.
+pub taken_so_far : (shapes : List PieceShape) (count : ℕ) (before after : JoinState) (found : List (ℕ × ℕ)) → before.shapes ≡ shapes → AreSoFar shapes count [] before.sets before.seen
+    → All (IsPair DoMeet shapes) found → TakesAll TakesPair before found after → AreSoFar shapes count found after.sets after.seen
+taken_so_far shapes count before after found same begun each taken =
+    (takes_along TakesPair before (IsUnderway shapes count) (record { same_shapes = same; so_far = λ meet. begun }) (underway_more shapes count) found after taken).so_far
+    (λ p has. All-contains (IsPair DoMeet shapes) found p each has)
+
+-- what is together stays so when two rectangles are taken
+step_keeps : (a b : PieceShape) (sets sets_after : List ℕ) (seen seen_after : List (Beside × (ℤ × ℤ))) → IsJoinStep a b sets sets_after seen seen_after → AreKept sets sets_after
+step_keeps a b sets sets_after seen seen_after (were_together together same seen_same) x y is = rw same is
+step_keeps a b sets sets_after seen seen_after (are_united told united) x y is = united.kept x y is
+step_keeps a b sets sets_after seen seen_after (stay_apart told same) x y is = rw same is
+
+module _ (shapes : List PieceShape) (begun : List ℕ) where
+  record IsKeptSoFar (found : List (ℕ × ℕ)) (state : JoinState) : Type 0 where
+    same_shapes : state.shapes ≡ shapes
+    kept : ((p : ℕ × ℕ) → Contains found p → IsPair DoMeet shapes p) → AreKept begun state.sets
+
+  kept_more : (found : List (ℕ × ℕ)) (p : ℕ × ℕ) (between after : JoinState) → IsKeptSoFar found between → TakesPair between p after → IsKeptSoFar (found ++ p ∷ []) after
+  kept_more found p between after done takes = record {
+    same_shapes = takes.shapes ∙ done.same_shapes;
+    kept = λ meet x y is.
+        let pair : IsPair DoMeet shapes p = meet p (Contains-push found p) in
+        let step = rw done.same_shapes at takes.step in
+        step_keeps pair.a pair.b between.sets after.sets between.seen after.seen (step pair.a pair.b pair.a_at pair.b_at) x y
+        (done.kept (λ q has. meet q (Contains-append_left found (p ∷ []) q has)) x y is);
+  }
+
+-- and so when many are
+pub taken_keeps : (shapes : List PieceShape) (before after : JoinState) (found : List (ℕ × ℕ)) → before.shapes ≡ shapes → All (IsPair DoMeet shapes) found → TakesAll TakesPair before found after
+    → AreKept before.sets after.sets
+taken_keeps shapes before after found same each taken =
+    (takes_along TakesPair before (IsKeptSoFar shapes before.sets) (record { same_shapes = same; kept = λ meet x y is. is }) (kept_more shapes before.sets) found after taken).kept
+    (λ p has. All-contains (IsPair DoMeet shapes) found p each has)
 
 -- All pairs of metal that meets were taken, where at first each piece was alone and no point was seen: then the sets are those
 -- of the pieces that are joined.

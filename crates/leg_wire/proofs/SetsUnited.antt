@@ -3,8 +3,9 @@ use Rattle.std.proofs.Common.{◌≡◌, ℕ, ◌+◌, ◌<◌, ◌≤◌, min, 
 use Rattle.std.proofs.lemmas.Bool.{cases_eq, cases_lt}
 use Rattle.std.proofs.lemmas.Bool.Decides.{nat_tests}
 use Rattle.std.proofs.lemmas.List.{length-map, length_push, get_or_append_left, get_or_at}
-use Rattle.std.proofs.lemmas.Option.{none-some, same_Some, slice_get-map, slice_get-get_or, slice_get_within, get_or_from_slice_get}
+use Rattle.std.proofs.lemmas.Option.{none-some, same_Some, slice_get-map, slice_get-get_or, slice_get_within, slice_get_read, get_or_from_slice_get}
 use Rattle.leg_wire.specs.Steps.NumberSets.{AreTogether, AreUnited, IsForest, roots_of}
+use Rattle.leg_wire.specs.Steps.Joins.{HasOneNumberMore}
 use Rattle.leg_wire.specs.Touch.{AreMarks, AreFirsts}
 use Rattle.leg_wire.proofs.SetRoots.{length-roots_of, rooted, root_within, root_own, merged, merged-high, merged-other, forest_linked, roots_linked}
 
@@ -211,3 +212,51 @@ module _ (parents : List ℕ) (forest : IsForest parents) where
           let low : get_or parents 0 0 ≤ 0 = forest 0 some in
           let root : get_or (roots_of parents) 0 0 ≡ 0 = (rooted parents 0 some).own (omega (arith, low)) in
           slice_get-get_or (roots_of parents) 0 0 (omega (arith, some, many)) ∙ ap Some root
+
+-- a number more, the next one, is with itself alone
+pub one_number_more : (parents : List ℕ) → IsForest parents → HasOneNumberMore (roots_of parents) (roots_of parents ++ length parents ∷ [])
+one_number_more parents forest =
+    let roots = roots_of parents in
+    let n = length parents in
+    let all : length roots ≡ n = length-roots_of parents in
+    let more : length (roots ++ n ∷ []) ≡ length roots + 1 = length_push roots n in
+    let left : (k least : ℕ) → slice_get roots k ≡ Some least → slice_get (roots ++ n ∷ []) k ≡ Some least =
+    λ k least at.
+    let k_in = slice_get_within roots k least at in
+    slice_get_read (roots ++ n ∷ []) _ k least refl (omega (arith, more, k_in))
+    (sym (get_or_append_left roots (n ∷ []) least k k_in ∙ get_or_from_slice_get roots k least least at)) in
+    let back : (k least : ℕ) → k < n → slice_get (roots ++ n ∷ []) k ≡ Some least → slice_get roots k ≡ Some least =
+    λ k least k_in at.
+    slice_get_read roots _ k least refl (omega (arith, all, k_in))
+    (sym (sym (get_or_append_left roots (n ∷ []) least k (omega (arith, all, k_in))) ∙ get_or_from_slice_get (roots ++ n ∷ []) k least least at)) in
+    let low : (k least : ℕ) → k < n → slice_get (roots ++ n ∷ []) k ≡ Some least → least < n =
+    λ k least k_in at.
+    let is : get_or roots k 0 ≡ least = get_or_from_slice_get roots k least 0 (back k least k_in at) in
+    let root : get_or roots k 0 ≤ k = root_within parents forest k k_in in
+    omega (arith, is, root, k_in) in
+    let last : (k least : ℕ) → n ≤ k → slice_get (roots ++ n ∷ []) k ≡ Some least → (k ≡ n) × (least ≡ n) =
+    λ k least past at.
+    let k_in = slice_get_within (roots ++ n ∷ []) k least at in
+    let here : k ≡ n = omega (arith, all, more, k_in, past) in
+    let is : get_or (roots ++ n ∷ []) k least ≡ least = get_or_from_slice_get (roots ++ n ∷ []) k least least at in
+    (here, sym is ∙ get_or_at roots n [] least k (all ∙ sym here)) in
+    record {
+      count = more;
+      kept = λ a b h. record { least = h.least; of_a = left a h.least h.of_a; of_b = left b h.least h.of_b };
+      no_more = λ a b h. elim (cases_lt a n) [
+        | inl a_in ↦ elim (cases_lt b n) [
+          | inl b_in ↦ inl (record { least = h.least; of_a = back a h.least a_in h.of_a; of_b = back b h.least b_in h.of_b })
+          | inr b_past ↦
+              let under = low a h.least a_in h.of_a in
+              let own = (last b h.least b_past h.of_b).1 in
+              absurd (omega (arith, under, own))
+        ]
+        | inr a_past ↦ elim (cases_lt b n) [
+          | inl b_in ↦
+              let under = low b h.least b_in h.of_b in
+              let own = (last a h.least a_past h.of_a).1 in
+              absurd (omega (arith, under, own))
+          | inr b_past ↦ inr ((last a h.least a_past h.of_a).0 ∙ sym (last b h.least b_past h.of_b).0)
+        ]
+      ];
+    }

@@ -39,7 +39,7 @@ module _ (kinds metal : List PieceShape) (among : All (Contains metal) kinds) wh
     q_in_b = lies_more b t.layer t.q t.q_in_b;
   }
 
-  joined_more : (a b : ℕ) → Joined (TouchAmong kinds) a b → Joined (TouchAmong metal) a b
+  pub joined_more : (a b : ℕ) → Joined (TouchAmong kinds) a b → Joined (TouchAmong metal) a b
   joined_more a b itself = itself
   joined_more a b (through {b = c} joined touches) = through (joined_more a c joined) (touch_more c b touches)
 

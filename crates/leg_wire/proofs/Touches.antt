@@ -16,6 +16,7 @@ use Rattle.leg_wire.specs.Steps.NumberSets.{AreTogether}
 use Rattle.leg_wire.specs.Steps.PieceMetal.{ArePieceShapes, LiesAmong, TouchAmong}
 use Rattle.leg_wire.specs.Steps.SharedPoints.{first_seen}
 use Rattle.leg_wire.specs.Steps.JoinSteps.{AreSomeJoined, AreSetsOf, AreJoinedSets}
+use Rattle.leg_wire.specs.Joins.{JoinsSaid, AreJoinsOf}
 use Rattle.leg_wire.specs.Touch.{piece_count, IsOfPiece, LiesIn, Touch, Joined, AreJoined, AreMarks, AreFirsts}
 use Rattle.leg_wire.specs.Touch.Joined.{itself, through}
 use Rattle.leg_wire.proofs.PiecesTouch.{AreSoFar}
@@ -118,6 +119,18 @@ module _ (flat : FlatSaid) (n : ℕ) (pieces : List PieceShape) (are : ArePieceS
     each = λ a b a_in. (λ together. joined_in a b (are_sets.some.joined a b together), λ joined. are_sets.all a b a_in (joined_among a b joined));
   }
 
+  -- and back
+  pub sets_of_metal : (sets : List ℕ) → AreJoinedSets flat n sets → AreSetsOf pieces (length sets) sets
+  sets_of_metal sets joined = record {
+    some = record {
+      size = refl;
+      joined = λ a b together.
+          let low : a < length sets = slice_get_within sets a together.least together.of_a in
+          joined_among a b ((joined.each a b (omega (arith, low, joined.count))).0 together);
+    };
+    all = λ a b low is. (joined.each a b (omega (arith, low, joined.count))).1 (joined_in a b is);
+  }
+
   -- what is joined to a piece is one
   joined_within : (a b : ℕ) → a < piece_count flat n → AreJoined flat n a b → b < piece_count flat n
   joined_within a b a_in itself = a_in
@@ -132,6 +145,10 @@ module _ (flat : FlatSaid) (n : ℕ) (pieces : List PieceShape) (are : ArePieceS
       λ joined. AreTogether-onward sets a 0 b (AreTogether-back sets 0 a (one a a_in)) (one b (joined_within a b a_in joined)),
     );
   }
+
+-- the sets that are kept of a net are those of its pieces
+pub sets_of_joins : (flat : FlatSaid) (joins : JoinsSaid) → AreJoinsOf flat joins → AreSetsOf joins.metal (length joins.sets) joins.sets → AreJoinedSets flat joins.net joins.sets
+sets_of_joins flat joins are sets = sets_of_net flat joins.net joins.metal are.metal joins.sets (rw are.count at sets)
 
 -- numbers that are each in a set of its own are together with themselves alone
 alone : (count a b : ℕ) → AreTogether (range_with_len 0 count) a b → a ≡ b

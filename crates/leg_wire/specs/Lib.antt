@@ -4,5 +4,6 @@ pub mod Clean
 pub mod Access
 pub mod NetShapes
 pub mod Touch
+pub mod Joins
 pub mod Open
 pub mod Steps

@@ -9,4 +9,5 @@ pub mod Kinds
 pub mod SharedPoints
 pub mod NumberSets
 pub mod JoinSteps
+pub mod Joins
 pub mod OpenViolations

@@ -47,7 +47,7 @@ impl<A: Allocator + Copy> PairSink for Joining<'_, A> {
 
 /// Makes one set of the pieces of two rectangles, where these make them touch. Nothing is asked where the pieces are
 /// together already.
-fn join<A: Allocator + Copy>(
+pub(crate) fn join<A: Allocator + Copy>(
     sets: &mut Sets<A>,
     corners: &mut Corners<A>,
     a: &PieceShape,

@@ -1,11 +1,18 @@
 //! Metal of a net's pieces that shares a point.
 
-ghost use Rattle.std.specs.Prelude.{◌≡◌, ◌+◌, min};
+ghost use Rattle.std.specs.Prelude.{◌≡◌, ◌↔◌, ◌+◌, min, IsTrue};
 ghost use Rattle.std.proofs.Common.{ap};
 ghost use Rattle.leg_wire.specs.Steps.MeetingRule.{DoMeet, DoMeet-symmetric, DoMeet-near};
 
 use crate::piece_shape::PieceShape;
 use leg_sweep::{LayeredRule, PairRule};
+
+/// Whether they are metal of two pieces that shares a point on one layer.
+pub(crate) fn do_meet(a: &PieceShape, b: &PieceShape) -> bool
+    ensures { IsTrue result ↔ DoMeet a.now b.now }
+{
+    a.layer == b.layer && a.piece != b.piece && a.rect.shares_point(&b.rect)
+}
 
 /// Holds of metal of two pieces of a net that shares a point on one layer.
 #[derive(Drop)]
@@ -66,7 +73,7 @@ impl PairRule for Meeting {
 
     fn meets(&mut self, a: &PieceShape, b: &PieceShape) -> bool {
         self.tests += 1;
-        a.layer == b.layer && a.piece != b.piece && a.rect.shares_point(&b.rect)
+        do_meet(a, b)
     }
 
     fn tests(&self) -> u64 {

@@ -2,6 +2,7 @@
 
 ghost use Rattle.std.specs.Prelude.{◌≡◌, ◌↔◌, ◌<◌, ◌^◌, Some, length, IfOk};
 ghost use Rattle.leg_wire.specs.NetShapes.{AreNumbersOf};
+ghost use Rattle.leg_wire.specs.Joins.{IsWholeNet};
 ghost use Rattle.leg_wire.specs.Steps.PieceMetal.{SaysShape, ArePieceShapes};
 
 use leg_flat::{Flat, Shape};
@@ -28,6 +29,8 @@ pub(crate) fn metal_of_net<A: Allocator + Copy>(
     requires numbers { AreNumbersOf flat.now.shapes net numbers.now }
     ensures shapes { IfOk result (λ pieces. ArePieceShapes flat.now net pieces.items) }
     ensures few { IfOk result (λ pieces. length pieces.items < 2 ^ 32) }
+    // They are as many as the shapes only where each of these is metal of a piece.
+    ensures whole { IfOk result (λ pieces. length pieces.items ≡ length numbers.now → IsWholeNet flat.now net) }
 {
     let shapes = flat.shapes();
     let count = flat.pieces_of_net(net);

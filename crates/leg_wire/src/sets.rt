@@ -1,8 +1,9 @@
 //! Disjoint sets of numbers, of which two at a time are made one.
 
-ghost use Rattle.std.specs.Prelude.{◌≡◌, ◌↔◌, ◌<◌, IsTrue, length, Some, IfOk, slice_get};
+ghost use Rattle.std.specs.Prelude.{◌≡◌, ◌↔◌, ◌<◌, ◌^◌, IsTrue, length, Some, IfOk, OnOk, slice_get};
 ghost use Rattle.std.specs.List.{range_with_len};
 ghost use Rattle.leg_wire.specs.Touch.{AreMarks, AreFirsts};
+ghost use Rattle.leg_wire.specs.Steps.Joins.{HasOneNumberMore};
 ghost use Rattle.leg_wire.specs.Steps.NumberSets.{AreTogether, AreUnited, IsForest, roots_of};
 
 use std::alloc::{AllocError, Allocator};
@@ -18,6 +19,7 @@ pub(crate) struct Sets<A: Allocator> {
 
 impl<A: Allocator> Model for Sets<A> {
     ghost use Rattle.std.specs.Prelude.{ℕ, List};
+    ghost use Rattle.leg_wire.specs.Steps.Joins.{HasOneNumberMore};
     ghost use Rattle.leg_wire.specs.Steps.NumberSets.{IsForest, roots_of};
 
     ghost Value = { List ℕ };
@@ -35,6 +37,24 @@ impl<A: Allocator> Sets<A> {
         Ok(Sets {
             parents: numbers_below(alloc, count)?,
         })
+    }
+
+    /// How many numbers there are.
+    pub(crate) fn len(&self) -> usize
+        ensures { result ≡ length self.now }
+    {
+        self.parents.len()
+    }
+
+    /// Adds a number, which is in a set of its own, and answers it.
+    pub(crate) fn add(&mut self) -> Result<u32, AllocError>
+        requires { length self.old < 2 ^ 32 }
+        ensures number { IfOk result (λ number. number ≡ length self.old) }
+        ensures added { OnOk result (HasOneNumberMore self.old self.new) }
+    {
+        let number = self.parents.len() as u32;
+        self.parents.push(number)?;
+        Ok(number)
     }
 
     /// Whether the numbers are in one set.

@@ -102,6 +102,8 @@ pub struct Maze<A: Allocator> {
     plan: Plan,
     /// How often it was asked of each place whether the step to each side is open, and whether it is itself.
     asked: Vec<Cell<u32>, A>,
+    /// How often it was asked of each place how many steps are left from it.
+    looks: Vec<Cell<u32>, A>,
 }
 
 impl<A: Allocator + Copy> Maze<A> {
@@ -118,10 +120,15 @@ impl<A: Allocator + Copy> Maze<A> {
         for _ in 0..places.len().wrapping_mul(QUESTIONS) {
             asked.push(Cell::new(0))?;
         }
+        let mut looks = Vec::new(alloc);
+        for _ in 0..places.len() {
+            looks.push(Cell::new(0))?;
+        }
         Ok(Maze {
             places,
             plan: *plan,
             asked,
+            looks,
         })
     }
 
@@ -190,6 +197,11 @@ impl<A: Allocator + Copy> Maze<A> {
             told.most = told.most.max(times);
         }
         told
+    }
+
+    /// How often it was asked how many steps are left from this place.
+    pub fn looks_at(&self, node: usize) -> u32 {
+        self.looks.get(node).map_or(0, Cell::get)
     }
 
     /// Counts a question.
@@ -334,6 +346,9 @@ impl<A: Allocator + Copy> Graph for Maze<A> {
     }
 
     fn bound(&self, node: u32, most: u32) -> u32 {
+        if let Some(times) = self.looks.get(node as usize) {
+            times.set(times.get().wrapping_add(1));
+        }
         most.min(self.places[node as usize].left)
     }
 

@@ -361,6 +361,31 @@ fn keeps_near_a_shortest_walk_in_the_open(rt: HostRuntime) {
     assert!(rt; asked.nodes < 250 && asked.steps < 400 && asked.most == 2);
 }
 
+#[test]
+fn looks_seldom_at_a_start_that_is_far(rt: HostRuntime) {
+    static PLAN: Plan = Plan {
+        width: 300,
+        height: 40,
+        layers: 1,
+        one_way: false,
+        goal: (19, 0, 0),
+        known: Known::Goal,
+    };
+    static SEARCHES: [Search; 1] = [Search {
+        walls: &[],
+        starts: &[0, 299],
+        ends: &[19],
+        found: Found::Long(98),
+    }];
+    let mut maze = open_maze(&rt, rt.alloc(), &PLAN);
+    for row in 0..39 {
+        maze.close(Wall::At(300 * row + 10));
+    }
+    check_searches(&rt, rt.alloc(), &mut maze, &SEARCHES);
+    let looks = (maze.looks_at(0), maze.looks_at(299));
+    assert!(rt; looks.0 > 4 && looks.1 < 3, "looked {looks:?} times");
+}
+
 /// The walk through walls that look random.
 fn walk_by_seed(rt: &impl Abort, alloc: Global, seed: u32, known: Known) -> Option<Vec<u32>> {
     let plan = Plan {

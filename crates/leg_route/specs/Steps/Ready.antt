@@ -1,9 +1,10 @@
 -- What is kept in addition to a flat that grows, so that nets can be searched in it.
-use Rattle.std.specs.Prelude.{◌≡◌, ◌<◌, ◌≤◌, ℕ, List, [], length, get_or}
+use Rattle.std.specs.Prelude.{◌≡◌, ◌<◌, ◌≤◌, ℕ, true, List, [], length, get_or, Option, Some, IfSome}
 use Rattle.leg_block.specs.Records.{DesignContents}
 use Rattle.leg_flat.specs.declared.shape.Shape.{Shape}
 use Rattle.leg_flat.specs.Flat.{FlatSaid}
 use Rattle.leg_wire.specs.NetShapes.{AreNumbersOf}
+use Rattle.leg_wire.specs.Joins.{JoinsSaid, AreJoinsOf, HasOnePieceMore}
 use Rattle.leg_walk.specs.declared.mark.Mark.{Mark}
 use Rattle.leg_walk.specs.Marks.{AreUnseen}
 use Rattle.leg_grid.specs.declared.slot_access.SlotAccess.{SlotAccess}
@@ -21,8 +22,9 @@ abbrev pub TellsShapes : GridSaid → List Shape → List SlotAccess → Type 0
 TellsShapes grid shapes slots = (flat : FlatSaid) → flat.shapes ≡ shapes → TellsSlots grid flat slots
 
 -- the grid is that of the design, each slot has what is open in the flat, each net of NETS has the numbers of its shapes,
--- no slot is marked, and what is kept of the joined part of a net is right
-pub record AreReady (design : DesignContents) (grid : GridSaid) (flat : FlatSaid) (slots : List SlotAccess) (lists : List (List ℕ)) (marks : List Mark) (touched : List ℕ) (part : PartSaid) : Type 0 where
+-- no slot is marked, and what is kept of the joined part of a net, and of which of its pieces are joined, is right
+pub record AreReady (design : DesignContents) (grid : GridSaid) (flat : FlatSaid) (slots : List SlotAccess) (lists : List (List ℕ)) (marks : List Mark) (touched : List ℕ) (part : PartSaid)
+    (joins : Option JoinsSaid) : Type 0 where
   pub of_design : grid.design ≡ design
   pub told : TellsShapes grid flat.shapes slots
   pub within : length design.nets ≤ length flat.pieces
@@ -31,3 +33,12 @@ pub record AreReady (design : DesignContents) (grid : GridSaid) (flat : FlatSaid
   pub unseen : AreUnseen marks
   pub untouched : touched ≡ []
   pub part_is : IsPart grid flat part
+  pub joins_are : IfSome joins (AreJoinsOf flat)
+
+-- what was kept is of this net, and has the piece of these shapes more
+pub record IsWithWire (joins : Option JoinsSaid) (net : ℕ) (shapes : List Shape) (after : JoinsSaid) : Type 0 where
+  pub before : JoinsSaid
+  pub is : joins ≡ Some before
+  pub of_net : before.net ≡ net
+  pub is_whole : before.is_whole ≡ true
+  pub more : HasOnePieceMore before shapes after

@@ -18,8 +18,8 @@ pub record IsBranch (design : DesignContents) (order : List RowKey) (lists : Lis
   pub owner : get_or lists branch.owner None ≡ list_at lists branch.node
   pub fits : (key : RowKey) → IsLeafBeneath order branch.node key → DoFit design (row_lists order lists) branch.bounds key.row
 
--- a branch goes on to the node of this number: with the same owner, if that has a list, and with bounds that both had
+-- a branch goes on to the node of this number: with the same owner, if that has a list, and with the node's own bounds, or those that both had
 pub record IsBelow (lists : List (Option (List Stretch))) (nodes : List Bounds) (above : Branch) (node : ℕ) (branch : Branch) : Type 0 where
   pub here : branch.node ≡ node
   pub owner : (IsSome (get_or lists above.owner None) × (branch.owner ≡ above.owner)) ⊎ ((get_or lists above.owner None ≡ None) × (branch.owner ≡ node))
-  pub bounds : (own : Bounds) → slice_get nodes node ≡ Some own → AreOfBoth own above.bounds branch.bounds
+  pub bounds : (own : Bounds) → slice_get nodes node ≡ Some own → AreOfBoth own above.bounds branch.bounds ⊎ (branch.bounds ≡ own)

@@ -1,12 +1,14 @@
 -- Between the rounds all nodes are unseen, and the limit grows by more each time.
 use Rattle.std.proofs.Common.{◌≡◌, ◌+◌, ◌-◌, ◌^◌, ◌<◌, ◌≤◌, []}
 use Rattle.leg_walk.specs.Marks.{AreUnseen}
+use Rattle.leg_walk.specs.Steps.Starts.{AreLeast}
 use Rattle.leg_walk.proofs.rounds.shortest.Given as goal
 
 abbrev pub invariant-rounds : goal.invariant-rounds
 invariant-rounds g l = record {
   unseen : AreUnseen l.marks;
   untouched : l.touched.items ≡ [];
+  least : AreLeast (g.G.Graph.bound_of l.graph) l.starts l.least.items;
   grows : 0 < l.growth;
   slowly : l.growth ≤ l.limit + 2;
 }

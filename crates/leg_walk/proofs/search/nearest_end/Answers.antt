@@ -15,6 +15,7 @@ levels-init g c =
     let here = c.args.graph.now in
     let spread = rw (c.new-front.ensures.items, c.requires.not_left) at c.in_ok-seed.ensures.spread in record {
       noted = c.in_ok-seed.ensures.noted;
+      least = c.in_ok-seed.ensures.least;
       underway = underway_begun (graph.OpenNode here) (IsStep (graph.IsBeside here) (graph.OpenStep here)) (Contains c.args.starts.now) (Contains c.args.ends.now) (graph.bound_of here) c.args.limit
           _ _ _ _ c.requires.unseen spread;
       low = λ was. elim (spread.left_low was) [ inl earlier ↦ absurd (false≢true earlier) | inr low ↦ low ];
@@ -47,6 +48,7 @@ levels-preserved g c =
     let spread = rw (c.deref.ensures.value, c.new-next.ensures.items, so_far.same_limit) at c.in_ok-one_level.ensures.spread in
     let some : 0 < length c.levels.front.items = grind (arith, nat_tests, c.is_empty.ensures, c.levels-test.true, c.levels.front.ok.0) in record {
       noted = c.in_ok-one_level.ensures.noted;
+      least = so_far.least;
       underway = underway_more (graph.OpenNode here) (IsStep (graph.IsBeside here) (graph.OpenStep here)) (Contains c.args.starts.now) (Contains ends) (graph.bound_of here) c.args.limit
           c.levels.level.number _ _ _ _ _ _ some (λ a is_end is. c.in_default.ensures a is_end is) so_far.underway spread;
       low = λ was. elim (spread.left_low was) [ inl earlier ↦ so_far.low earlier | inr low ↦ low ];

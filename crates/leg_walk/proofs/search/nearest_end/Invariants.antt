@@ -3,12 +3,14 @@ use Rattle.std.proofs.Common.{◌≡◌, ◌+◌, ◌<◌, ◌^◌, true, length
 use Rattle.leg_walk.specs.Walk.{IsStep}
 use Rattle.leg_walk.specs.Steps.Marks.{is_unseen, IsNoted}
 use Rattle.leg_walk.specs.Steps.Search.{IsUnderway}
+use Rattle.leg_walk.specs.Steps.Starts.{AreLeast}
 use Rattle.leg_walk.proofs.search.nearest_end.Given as goal
 
 abbrev pub invariant-levels : goal.invariant-levels
 invariant-levels g l =
     let graph = g.G.Graph in record {
       noted : IsNoted l.marks l.touched.items;
+      least : AreLeast (graph.bound_of l.graph) l.starts l.least;
       underway : IsUnderway (graph.OpenNode l.graph) (IsStep (graph.IsBeside l.graph) (graph.OpenStep l.graph)) (Contains l.starts) (Contains l.ends)
           (graph.bound_of l.graph) l.limit l.level.number l.marks l.front.items l.left_out;
       low : l.left_out ≡ true → l.limit < 2 ^ 33;

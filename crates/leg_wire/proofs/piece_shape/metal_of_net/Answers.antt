@@ -7,7 +7,7 @@ use Rattle.leg_wire.specs.Touch.{piece_count}
 use Rattle.leg_wire.specs.NetShapes.{IsOfNet}
 use Rattle.leg_wire.proofs.NetNumbers.{few_numbers}
 use Rattle.leg_wire.proofs.Touches.{piece_count-is}
-use Rattle.leg_wire.proofs.PieceMetal.{among_more, among_skip, ArePieceShapes-among}
+use Rattle.leg_wire.proofs.PieceMetal.{among_more, among_skip, ArePieceShapes-among, whole_net}
 use Rattle.leg_wire.proofs.piece_shape.metal_of_net.Goals as goal
 use Rattle.leg_wire.proofs.piece_shape.metal_of_net.Goals.{in-Some+in_ok-push, in_default}
 
@@ -55,3 +55,9 @@ returns-clause-few g c =
     let few = few_numbers flat.shapes c.args.net numbers c.requires.numbers in
     let done = rw (take_all c.loop-number.number-index numbers (omega arith)) at c.loop-number.invariant in
     omega (arith, few, done.few, c.shapes-shapes.ensures.proper.shapes)
+
+pub returns-clause-whole : goal.returns-clause-whole
+returns-clause-whole g c same =
+    let numbers = c.args.numbers.now in
+    whole_net c.args.flat.now c.args.net numbers c.loop-number.pieces.items c.requires.numbers
+    (rw (take_all c.loop-number.number-index numbers (omega arith)) at c.loop-number.invariant) same

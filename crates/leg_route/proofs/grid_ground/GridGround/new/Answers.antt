@@ -18,6 +18,7 @@ returns-clause-ready g c =
       unseen = c.in_ok-marks.ensures.unseen;
       untouched = c.new-2.ensures.items;
       part_is = part_none c.in_ok-grid.grid c.args.flat _ _ _ _ c.new-3.ensures.joined c.new-3.ensures.boxes c.new-3.ensures.slots;
+      joins_are = tt;
     }
 
 pub returns-clause-comes : goal.returns-clause-comes

@@ -2,8 +2,8 @@ use Rattle.std.proofs.Common.{◌≡◌, [], get_or, ◌∙◌, arith}
 use Rattle.std.proofs.lemmas.List.{get_or_read}
 use Rattle.leg_route.proofs.grid_ground.GridGroundGround.joined.Goals as goal
 
-pub joined_among-requires-clause-numbers : goal.joined_among-requires-clause-numbers
-joined_among-requires-clause-numbers g c =
+pub joins_of-requires-clause-numbers : goal.joins_of-requires-clause-numbers
+joins_of-requires-clause-numbers g c =
     let numbers = c.requires.ready.numbers in
     let lists = c.args.self.now.numbers.items in
     let net = c.args.net in

@@ -80,4 +80,5 @@ returns-clause-ready g c =
       unseen = c.next_wires.ensures.unseen;
       untouched = c.next_wires.ensures.untouched;
       part_is = part_of flat net (get_or lists net []) numbers joined (omega (arith, count)) ground.grid boxes slots marks had;
+      joins_are = ready.joins_are;
     })

@@ -18,17 +18,17 @@ returns g c =
     let design = c.args.design.now in
     let rect = c.args.rect.now in
     let order = c.self.inside.order.items in
-    let lists = c.take_beneath.new.lists in
-    let nodes = c.take_beneath.new.nodes in
+    let lists = c.take_from_rows.new.lists in
+    let nodes = c.take_from_rows.new.nodes in
     let free : RowLists = record { lists = row_lists order c.self.inside.lists.items; order = order; nodes = c.self.inside.nodes.items } in
     let long_lists = c.as_mut_slice.ensures.len in
-    let kept_lists = c.take_beneath.auto.lists in
+    let kept_lists = c.take_from_rows.auto.lists in
     let count_lists : length lists ≡ c.self.inside.lists.len = omega (arith, long_lists, kept_lists) in
     let long_nodes = c.as_mut_slice-2.ensures.len in
-    let kept_nodes = c.take_beneath.auto.nodes in
+    let kept_nodes = c.take_from_rows.auto.nodes in
     let count_nodes : length nodes ≡ c.self.inside.nodes.len = omega (arith, long_nodes, kept_nodes) in
     let all_lists = take_at lists (drop (length lists) c.self.inside.lists.items) c.self.inside.lists.len count_lists in
     let all_nodes = take_at nodes (drop (length nodes) c.self.inside.nodes.items) c.self.inside.nodes.len count_nodes in
-    rw (all_lists, all_nodes) (box_taken c.take_beneath.result design rect c.args.self.now free (record { lists = row_lists order lists; order = order; nodes = nodes }) c.self.view_is
-    (rw c.as_slice-order.ensures.value at c.take_beneath.ensures.rows)
-    (rw (c.as_slice-order.ensures.value, c.as_mut_slice.ensures.value) at c.take_beneath.ensures.taken))
+    rw (all_lists, all_nodes) (box_taken c.take_from_rows.result design rect c.args.self.now free (record { lists = row_lists order lists; order = order; nodes = nodes }) c.self.view_is
+    (rw c.as_slice-order.ensures.value at c.take_from_rows.ensures.rows)
+    (rw (c.as_slice-order.ensures.value, c.as_mut_slice.ensures.value) at c.take_from_rows.ensures.taken))

@@ -1,0 +1,114 @@
+-- What is kept of a net that is joined, when the net gets a wire.
+use Rattle.std.proofs.Common.{◌≡◌, ◌+◌, ◌<◌, ℕ, true, List, ◌++◌, length, Contains, Option, None, Some, IfSome, ◌⊎◌, inl, inr, refl, sym, ap, ◌∙◌, subst, arith}
+use Rattle.std.proofs.lemmas.List.Elements.{Contains-append_left, Contains-append_right, Contains-append_cases}
+use Rattle.std.proofs.lemmas.Option.{same_Some}
+use Rattle.leg_sweep.proofs.Lists.{Contains-map}
+use Rattle.leg_block.specs.declared.records.Wire as records
+use Rattle.leg_block.specs.Records.{DesignContents}
+use Rattle.leg_flat.specs.declared.shape.Shape.{Shape}
+use Rattle.leg_flat.specs.Flat.{FlatSaid}
+use Rattle.leg_flat.specs.MoreWires.{HasOneMoreWire}
+use Rattle.leg_wire.specs.declared.piece_shape.PieceShape.{PieceShape}
+use Rattle.leg_wire.specs.Touch.{piece_count}
+use Rattle.leg_wire.specs.Joins.{JoinsSaid, IsWholeNet, AreJoinsOf, metal_of_piece, HasOnePieceMore}
+use Rattle.leg_wire.specs.Steps.PieceMetal.{IsPieceShape}
+use Rattle.leg_grown.proofs.Places.{comes_from}
+use Rattle.leg_route.specs.Steps.Ready.{IsWithWire}
+use Rattle.leg_route.proofs.JoinedParts.{own, own_is, IsNew, new_shape}
+use Rattle.leg_route.proofs.MoreWires.{one_piece}
+
+module _ (design : DesignContents) (net : ℕ) (wire : records.Wire) (before after : FlatSaid) (more : HasOneMoreWire design net wire before after) where
+  abbrev last : ℕ
+  last = own design net wire before after more
+
+  had : piece_count before net ≡ last
+  had = own_is design net wire before after more
+
+  has : piece_count after net ≡ piece_count before net + 1
+  has = one_piece design net wire before after more
+
+  is_new : (shape : Shape) → Contains more.added shape → IsNew design net wire before after more shape
+  is_new = new_shape design net wire before after more
+
+  -- a shape is an old one or a new one
+  old_or_new : (shape : Shape) → Contains after.shapes shape → Contains before.shapes shape ⊎ Contains more.added shape
+  old_or_new shape there = Contains-append_cases before.shapes more.added shape (subst (λ (shapes : List Shape). Contains shapes shape) more.shapes there)
+
+  there_still : (shape : Shape) → Contains before.shapes shape → Contains after.shapes shape
+  there_still shape there = subst (λ (shapes : List Shape). Contains shapes shape) (sym more.shapes) (Contains-append_left before.shapes more.added shape there)
+
+  there_now : (shape : Shape) → Contains more.added shape → Contains after.shapes shape
+  there_now shape there = subst (λ (shapes : List Shape). Contains shapes shape) (sym more.shapes) (Contains-append_right before.shapes more.added shape there)
+
+  -- each shape of the net is metal of one of its pieces still
+  whole_still : IsWholeNet before net → IsWholeNet after net
+  whole_still whole shape piece there owner of_piece = elim (old_or_new shape there) [
+    | inl old ↦
+        let low = whole shape piece old owner of_piece in
+        omega (arith, low, has)
+    | inr new ↦
+        let is : piece ≡ last = same_Some piece last (sym of_piece ∙ (is_new shape new).piece) in
+        omega (arith, is, had, has)
+  ]
+
+  -- what is kept is right with the new piece
+  module _ (joins new : JoinsSaid) (of_net : joins.net ≡ net) (is_whole : joins.is_whole ≡ true) (are : AreJoinsOf before joins) (with_piece : HasOnePieceMore joins more.added new) where
+    last_is : length joins.sets ≡ last
+    last_is = are.count ∙ rw of_net had
+
+    old_metal : (shape : Shape) (piece : PieceShape) → IsPieceShape before joins.net shape piece → IsPieceShape after net shape piece
+    old_metal shape piece is =
+        let low : piece.piece < piece_count before net = rw of_net at is.of_piece.there in
+        record {
+          of_piece = record { there = omega (arith, low, has); owner = rw of_net at is.of_piece.owner; piece = is.of_piece.piece };
+          layer = is.layer;
+          rect = is.rect;
+        }
+
+    metal_each : (piece : PieceShape) → Contains (joins.metal ++ metal_of_piece (length joins.sets) more.added) piece → (shape : Shape) × Contains after.shapes shape × IsPieceShape after net shape piece
+    metal_each piece there = elim (Contains-append_cases joins.metal (metal_of_piece (length joins.sets) more.added) piece there) [
+      | inl old ↦
+          let from = are.metal.each piece old in
+          (from.0, there_still from.0 from.1, old_metal from.0 piece from.2)
+      | inr new ↦
+          let from = comes_from (λ (shape : Shape). record { piece = length joins.sets; layer = shape.layer; rect = shape.rect }) more.added piece new in
+          let is = is_new from.0 from.1 in
+          rw (← from.2) (
+            from.0,
+            there_now from.0 from.1,
+            record {
+              of_piece = record { there = omega (arith, last_is, had, has); owner = is.owner; piece = is.piece ∙ ap Some (sym last_is) };
+              layer = refl;
+              rect = refl;
+            },
+          )
+    ]
+
+    metal_all : (shape : Shape) (piece : PieceShape) → Contains after.shapes shape → IsPieceShape after net shape piece → Contains (joins.metal ++ metal_of_piece (length joins.sets) more.added) piece
+    metal_all shape piece there is = elim (old_or_new shape there) [
+      | inl old ↦
+          let whole : IsWholeNet before net = rw of_net at (are.whole is_whole) in
+          let low : piece.piece < piece_count before net = whole shape piece.piece old is.of_piece.owner is.of_piece.piece in
+          Contains-append_left joins.metal (metal_of_piece (length joins.sets) more.added) piece
+          (are.metal.all shape piece old
+          (rw of_net (record { of_piece = record { there = low; owner = is.of_piece.owner; piece = is.of_piece.piece }; layer = is.layer; rect = is.rect })))
+      | inr new ↦
+          let same : piece.piece ≡ length joins.sets = same_Some piece.piece (length joins.sets) (sym is.of_piece.piece ∙ (is_new shape new).piece ∙ ap Some (sym last_is)) in
+          let piece_is : piece ≡ record { piece = length joins.sets; layer = shape.layer; rect = shape.rect } = rw (← same, ← is.layer, ← is.rect) refl in
+          rw piece_is
+          (Contains-append_right joins.metal (metal_of_piece (length joins.sets) more.added) (record { piece = length joins.sets; layer = shape.layer; rect = shape.rect })
+          (Contains-map (λ (s : Shape). record { piece = length joins.sets; layer = s.layer; rect = s.rect }) more.added shape new))
+    ]
+
+    joins_with : AreJoinsOf after new
+    joins_with = record {
+      count = rw (with_piece.net, of_net) (omega (arith, with_piece.count, last_is, had, has));
+      metal = rw (with_piece.net, of_net, with_piece.metal) (record { each = metal_each; all = metal_all });
+      whole = λ told. rw (with_piece.net, of_net) (whole_still (rw of_net at (are.whole is_whole)));
+    }
+
+  -- and so where something is kept
+  pub kept_with : (joins after_joins : Option JoinsSaid) → IfSome joins (AreJoinsOf before) → IfSome after_joins (IsWithWire joins net more.added) → IfSome after_joins (AreJoinsOf after)
+  kept_with joins None had_are with_wire = with_wire
+  kept_with joins (Some new) had_are with_wire =
+      joins_with with_wire.before new with_wire.of_net with_wire.is_whole (rw with_wire.is at had_are) with_wire.more
