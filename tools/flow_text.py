@@ -1,8 +1,9 @@
-"""What the tools for flows share: a DEF text that is edited at its words, and where the edited text goes.
+"""What the tools for flows share: a text that is edited at its words, the statements of a DEF, and where the edited text goes.
 
-    text = DefText(path)                     its words, and its statements with their sections
-    text.replace(at, word), text.put_before(at, words), text.take_out(begin, end)
+    text = EditedText(path)                  its words
+    text.replace(at, word), text.put_before(at, words), text.put_in_place(begin, end, words), text.take_out(begin, end)
     text.edited()                            the text with these edits; all else stays byte for byte
+    text = DefText(path)                     such a text of a DEF, and its statements with their sections
 """
 import argparse
 import os
@@ -34,13 +35,53 @@ class Statement(NamedTuple):
     end: int
 
 
-class DefText(Words):
-    """A DEF text, its statements, and edits of it."""
+class EditedText(Words):
+    """A text and edits of it."""
 
     def __init__(self, path, text=None):
         super().__init__(path, text)
         self.spans = [found.span(1) for found in WORD.finditer(self.text) if found[1]]
         self.edits = []
+
+    def replace(self, at, word):
+        self.edits.append((*self.spans[at], word))
+
+    def put_before(self, at, words):
+        start = self.spans[at][0]
+        self.edits.append((start, start, words))
+
+    def put_in_place(self, begin, end, words):
+        """Puts other words in the place of the words `begin` to `end`."""
+        self.edits.append((self.spans[begin][0], self.spans[end][1], words))
+
+    def take_out(self, begin, end):
+        """Takes out the words `begin` to `end` with the rest of their line, where nothing else is on it."""
+        start, stop = self.spans[begin][0], self.spans[end][1]
+        line_start = self.text.rfind('\n', 0, start) + 1
+        line_stop = self.text.find('\n', stop)
+        line_stop = len(self.text) if line_stop < 0 else line_stop + 1
+        if not self.text[line_start:start].strip() and not self.text[stop:line_stop].strip():
+            start, stop = line_start, line_stop
+        self.edits.append((start, stop, ''))
+
+    def blank(self, begin, end):
+        """Takes out the words `begin` to `end` and keeps their line feeds, so that all that follows keeps its line."""
+        start, stop = self.spans[begin][0], self.spans[end][1]
+        self.edits.append((start, stop, '\n' * self.text.count('\n', start, stop)))
+
+    def edited(self):
+        parts, done = [], 0
+        for start, stop, words in sorted(self.edits, key=lambda edit: edit[:2]):
+            parts += self.text[done:start], words
+            done = stop
+        return ''.join(parts) + self.text[done:]
+
+
+class DefText(EditedText):
+    """A DEF text, its statements, and edits of it."""
+
+    def __init__(self, path, text=None):
+        super().__init__(path, text)
         self.section_at, self.end_at = {}, {}
         self.statements = list(self.split())
 
@@ -82,35 +123,6 @@ class DefText(Words):
                 at += 1
             at += 1
 
-    def replace(self, at, word):
-        self.edits.append((*self.spans[at], word))
-
-    def put_before(self, at, words):
-        start = self.spans[at][0]
-        self.edits.append((start, start, words))
-
-    def take_out(self, begin, end):
-        """Takes out the words `begin` to `end` with the rest of their line, where nothing else is on it."""
-        start, stop = self.spans[begin][0], self.spans[end][1]
-        line_start = self.text.rfind('\n', 0, start) + 1
-        line_stop = self.text.find('\n', stop)
-        line_stop = len(self.text) if line_stop < 0 else line_stop + 1
-        if not self.text[line_start:start].strip() and not self.text[stop:line_stop].strip():
-            start, stop = line_start, line_stop
-        self.edits.append((start, stop, ''))
-
-    def blank(self, begin, end):
-        """Takes out the words `begin` to `end` and keeps their line feeds, so that all that follows keeps its line."""
-        start, stop = self.spans[begin][0], self.spans[end][1]
-        self.edits.append((start, stop, '\n' * self.text.count('\n', start, stop)))
-
-    def edited(self):
-        parts, done = [], 0
-        for start, stop, words in sorted(self.edits, key=lambda edit: edit[:2]):
-            parts += self.text[done:start], words
-            done = stop
-        return ''.join(parts) + self.text[done:]
-
 
 class Parser(argparse.ArgumentParser):
     """Words of a command line; a usage error ends with its own status."""
@@ -124,23 +136,43 @@ class Parser(argparse.ArgumentParser):
 
 
 class Arguments(Parser):
-    """Words of a command line: a DEF, LEFs where the tool needs them, and where the answer goes."""
+    """Words of a command line: a DEF, LEFs where the tool needs them, and where the answer goes. `has_word` says whether a refusal names the
+    word at fault where its reason does not, and `order` what is said of the order of the files."""
+    has_word, order = False, 'the DEF is named first'
 
     def __init__(self, prog, doc, libraries=None):
         super().__init__(prog, doc, STATUSES)
+        self.add_inputs(libraries)
+        self.add_argument('-o', '--output', metavar='FILE', help='write the text there, in place of standard output')
+        self.add_argument('--force', action='store_true', help='overwrite FILE if it exists')
+
+    def add_inputs(self, libraries):
         self.add_argument('design', metavar='DEF', help='the block')
         if libraries:
             self.add_argument('libraries', metavar='LEF', nargs=libraries, help='its libraries, in the order in which lefdef is given them')
-        self.add_argument('-o', '--output', metavar='FILE', help='write the block there, in place of standard output')
-        self.add_argument('--force', action='store_true', help='overwrite FILE if it exists')
+
+    def inputs(self, asked):
+        """Returns the path of the DEF, or None, and those of the LEFs."""
+        return asked.design, getattr(asked, 'libraries', ())
 
 
-def check_output(asked):
+class LefArguments(Arguments):
+    """Words of a command line: a LEF, those before it, and where the answer goes."""
+    has_word, order = True, 'this tool is given LEFs alone'
+
+    def add_inputs(self, libraries):
+        self.add_argument('library', metavar='LEF', help='the LEF that is rewritten')
+        self.add_argument('libraries', metavar='BEFORE', nargs=libraries, help='the LEFs that lefdef is given before it, if it uses layers of theirs')
+
+    def inputs(self, asked):
+        return None, [asked.library, *asked.libraries]
+
+
+def check_output(asked, design, libraries):
     """Returns why the output cannot be written, or None: a text that is read is never overwritten, another file only with --force."""
     if asked.output is None or not os.path.exists(asked.output):
         return None
-    inputs = [asked.design, *getattr(asked, 'libraries', ())]
-    if any(os.path.exists(path) and os.path.samefile(path, asked.output) for path in inputs):
+    if any(path and os.path.exists(path) and os.path.samefile(path, asked.output) for path in (design, *libraries)):
         return f'{asked.output} is read: it is not overwritten'
     return None if asked.force else f'{asked.output} exists already; with --force it is overwritten'
 
@@ -162,7 +194,8 @@ def run(parser, words, edit):
     """Runs a tool: `edit` takes the arguments and a function that notes a line, and returns the edited text. What it noted is printed once
     the text is written: of a text that is refused only the reason is printed."""
     asked, notes = parser.parse_args(words), []
-    why = check_output(asked)
+    design, libraries = parser.inputs(asked)
+    why = check_output(asked, design, libraries)
     status = NO_FILE
     if why:
         notes = [why]
@@ -171,7 +204,7 @@ def run(parser, words, edit):
             write(asked.output, edit(asked, notes.append))
             status = 0
         except Refused as refused:
-            print(message_of(refused, asked.design, getattr(asked, 'libraries', ())), file=sys.stderr)
+            print(message_of(refused, design, libraries, parser.has_word, parser.order), file=sys.stderr)
             return REFUSED
         except UsageFault as fault:
             notes, status = [fault], USAGE

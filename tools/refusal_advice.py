@@ -8,6 +8,9 @@ MORE_UNITS = 'Have the program that wrote the DEF write more units a micron, suc
 RULE = 'The wires would have the widths and spacings of a nondefault rule, which is not read.'
 MASKS = 'The masks of a layer that is made with several are not told apart.'
 RECTANGLES = 'Metal is read as rectangles alone.'
+PATHS = 'Metal of a special net is read as paths alone.'
+PLAIN_RULE = 'tools/plain-def writes them as rectangles and vias of the widths of the rule; its spacings are not judged.'
+PLAIN_LENGTH = 'tools/plain-lef writes it if it lies at a database unit.'
 FROM_QFLOW = 'tools/from-qflow writes it whole.'
 SYNTAX = 'The word is out of place, or what belongs before it is missing.'
 
@@ -18,8 +21,8 @@ ADVICE = {
     'PATTERNNAME of a via is not supported': ('Its cuts are those of a pattern, which is not read.', NO_TOOL),
     'POLYGON of a via is not supported': (RECTANGLES, NO_TOOL),
     'MASK of a via is not supported': (MASKS, NO_TOOL),
-    'POLYGON of a pin is not supported': (RECTANGLES, NO_TOOL),
-    'VIA of a pin is not supported': ('The metal of a pin of the block is read as rectangles alone.', NO_TOOL),
+    'POLYGON of a pin is not supported': (RECTANGLES, 'tools/plain-def writes its rectangles, if it is rectilinear.'),
+    'VIA of a pin is not supported': ('The metal of a pin of the block is read as rectangles alone.', 'tools/plain-def writes its rectangles.'),
     'MASK of a pin is not supported': (MASKS, NO_TOOL),
     'MASK of tracks is not supported': (MASKS, NO_TOOL),
     'SOFT of a blockage is not supported': ('A soft blockage keeps only some components out, at some steps of placing.', NO_BLOCKAGE),
@@ -31,11 +34,12 @@ ADVICE = {
     'SPACING of a blockage is not supported': ('The blockage has a spacing of its own.', NO_BLOCKAGE),
     'DESIGNRULEWIDTH of a blockage is not supported': ('The blockage has a width of its own, from which its spacing follows.', NO_BLOCKAGE),
     'MASK of a blockage is not supported': (MASKS, NO_BLOCKAGE),
-    'POLYGON of a blockage is not supported': ('A blockage is read as rectangles alone.', NO_BLOCKAGE),
+    'POLYGON of a blockage is not supported': ('A blockage is read as rectangles alone.',
+                                               'tools/plain-def writes its rectangles, if it is rectilinear.'),
     'MUSTJOIN is not supported': ('The entry is of pins of one component that have to be joined, and of no net with a name.', NO_TOOL),
-    'NONDEFAULTRULE of a net is not supported': (RULE, NO_TOOL),
+    'NONDEFAULTRULE of a net is not supported': (RULE, PLAIN_RULE),
     'TAPERRULE of a net is not supported': (RULE, NO_TOOL),
-    'TAPERRULE in wiring is not supported': (RULE, NO_TOOL),
+    'TAPERRULE in wiring is not supported': (RULE, PLAIN_RULE),
     'SUBNET of a net is not supported': ('A part of the net has pins and wiring of its own.', NO_TOOL),
     'VPIN of a net is not supported': ('A virtual pin is no pin of a component or of the block.', NO_TOOL),
     'STYLE of a net is not supported': ('A style gives wires ends of another form.', NO_TOOL),
@@ -44,11 +48,11 @@ ADVICE = {
     'VIRTUAL in wiring is not supported': ('A virtual connection joins two points without metal.', NO_TOOL),
     'MASK of a net is not supported': (MASKS, NO_TOOL),
     'MASK in wiring is not supported': (MASKS, NO_TOOL),
-    'RECT of a net is not supported': ('Metal of a special net is read as paths alone.', NO_TOOL),
-    'POLYGON of a net is not supported': ('Metal of a special net is read as paths alone.', NO_TOOL),
-    'VIA of a net is not supported': ('Metal of a special net is read as paths alone.', NO_TOOL),
-    'DO in wiring is not supported': ('A via is repeated in columns and rows.', NO_TOOL),
-    'the orientation of a via in wiring is not supported': ('The via is turned or mirrored.', NO_TOOL),
+    'RECT of a net is not supported': (PATHS, 'tools/plain-def writes it as wires.'),
+    'POLYGON of a net is not supported': (PATHS, 'tools/plain-def writes it as wires, if it is rectilinear.'),
+    'VIA of a net is not supported': (PATHS, 'tools/plain-def writes it as wires.'),
+    'DO in wiring is not supported': ('A via is repeated in columns and rows.', 'tools/plain-def writes each via, in SPECIALNETS.'),
+    'the orientation of a via in wiring is not supported': ('The via is turned or mirrored.', 'tools/plain-def writes it as a via of its own.'),
     'a die area that is no rectangle is not supported': ('The die is read as one rectangle.', NO_TOOL),
     'a die area of other than two or four points is not supported': ('The die is read as one rectangle.', NO_TOOL),
     'a row is turned': ('A row is N, S, FN or FS.', NO_ROW),
@@ -56,19 +60,19 @@ ADVICE = {
     'the step of a row is not the width of its site': ('Sites of a row abut.', NO_ROW),
     'the direction DIAG45 is not supported': ('Wires are horizontal or vertical.', NO_TOOL),
     'the direction DIAG135 is not supported': ('Wires are horizontal or vertical.', NO_TOOL),
-    'POLYGON in a geometry is not supported': (RECTANGLES, NO_TOOL),
+    'POLYGON in a geometry is not supported': (RECTANGLES, 'tools/plain-lef writes its rectangles, if it is rectilinear.'),
     'PATH in a geometry is not supported': (RECTANGLES, NO_TOOL),
     'VIA in a geometry is not supported': (RECTANGLES, NO_TOOL),
     'RECT MASK is not supported': (MASKS, NO_TOOL),
-    'RECT ITERATE is not supported': ('A rectangle is repeated in columns and rows.', NO_TOOL),
+    'RECT ITERATE is not supported': ('A rectangle is repeated in columns and rows.', 'tools/plain-lef writes each rectangle.'),
     'EXCEPTPGNET is not supported': ('The obstruction does not keep out power and ground nets.', NO_TOOL),
     'SITE appears twice': ('A macro has one site.', NO_TOOL),
     'SITE of a macro with more than a name': ('A macro has one site, and no pattern of sites.', NO_TOOL),
     'a number with zeros after a point': ('A number of a DEF is a whole number of database units.', FROM_QFLOW),
     'a number with digits after a point': ('A number of a DEF is a whole number of database units.', MORE_UNITS),
-    'a number with an exponent': ('A number of a DEF is a sign and digits.', NO_TOOL),
-    'a length with an exponent': ('A length of a LEF is a sign, digits and maybe a point.', NO_TOOL),
-    'a length of more than six decimals': ('It is finer than a millionth of a micron.', 'No tool rewrites it: have the program that wrote the LEF round it.'),
+    'a number with an exponent': ('A number of a DEF is a sign and digits.', 'tools/plain-def writes it, if it lies at a whole number.'),
+    'a length with an exponent': ('A length of a LEF is a sign, digits and maybe a point.', PLAIN_LENGTH),
+    'a length of more than six decimals': ('It is finer than a millionth of a micron.', PLAIN_LENGTH),
     'NotOnUnit': ('No length is rounded.', MORE_UNITS),
     'OddWidth': ('The middle line of a wire is on a database unit, so the width is even.', MORE_UNITS),
     'the width of a wire is odd': ('The middle line of a wire is on a database unit, so the width is even.', MORE_UNITS),
@@ -120,11 +124,21 @@ class Advice:
             reason = self.where_defined(refused)
         elif refused.kind == 'DuplicateName' and not reason:
             reason = self.first_definition(refused)
+        elif self.is_before_figure(refused):
+            reason, helps = 'A status in front of a figure of a special net is not read.', 'tools/plain-def writes the figure as wires.'
         elif refused.form.endswith('was expected'):
             reason = SYNTAX
         if refused.form.startswith('VIARULE of a via') and self.has_pattern(refused):
             reason, helps = 'The via is generated, and a pattern leaves cuts of it out.', NO_TOOL
+        if refused.kind == 'BadVia' and self.design.why_not_good[refused.word].endswith(' VIARULE'):
+            helps = 'tools/plain-lef writes the rectangles of a generated via.'
         return ''.join(f' {sentence}' for sentence in (reason, helps) if sentence)
+
+    def is_before_figure(self, refused):
+        """Returns whether a `+` behind a status, in place of a layer, is that of a figure of a special net, or of its shape."""
+        words = self.texts[refused.path].words
+        return (refused.form == 'the name of a layer was expected' and refused.word == '+'
+                and words[refused.at + 1].upper() in ('SHAPE', 'RECT', 'POLYGON', 'VIA'))
 
     def has_pattern(self, refused):
         """Returns whether the entry of a generated via has + PATTERN."""

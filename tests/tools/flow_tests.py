@@ -1,4 +1,5 @@
-"""Tests of tools/from-qflow, ease-routing, plain-vias and drop-fillers, and of examples/from-verilog/run as far as it needs no other program."""
+"""Tests of tools/from-qflow, ease-routing, plain-vias and drop-fillers; of what holds of these and of plain-def; and of examples/from-verilog/run as far
+as it needs no other program."""
 import gzip
 import os
 import shutil
@@ -339,8 +340,8 @@ class DropFillersTests(FlowCase):
 
 
 class OutputTests(FlowCase):
-    """What holds of all four tools."""
-    TOOLS = (('from-qflow', [STANDARD]), ('ease-routing', [STANDARD]), ('plain-vias', []), ('drop-fillers', [STANDARD]))
+    """What holds of all tools that edit a DEF."""
+    TOOLS = (('from-qflow', [STANDARD]), ('ease-routing', [STANDARD]), ('plain-vias', []), ('drop-fillers', [STANDARD]), ('plain-def', [STANDARD]))
 
     def test_nothing_is_overwritten_unasked(self):
         for tool, libraries in self.TOOLS:

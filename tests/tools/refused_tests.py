@@ -10,7 +10,7 @@ from unittest import mock
 sys.path.insert(0, os.path.dirname(os.path.abspath(__file__)))
 
 from doctored import TOP, expressions, script
-from refused_forms import BAD_VIAS, BLOCK, DEF_FORMS, LEF_FORMS, NO_LEF, NO_TOOL, OBS_RECT, OUT_OF_PLACE, PIN_RECT, RECTANGLES, TECHNOLOGY, WIRE
+from refused_forms import BAD_VIAS, BLOCK, DEF_FORMS, LEF_FORMS, NO_LEF, NO_TOOL, OBS_RECT, OUT_OF_PLACE, PIN_RECT, RECTANGLES, STRAP, TECHNOLOGY, WIRE
 
 refused = script('tools/refused')
 
@@ -158,10 +158,11 @@ class FormTests(Room):
     def test_vias_that_are_not_good_are_refused_where_a_wire_names_them(self):
         for old, new, why in BAD_VIAS:
             technology = self.changed(TECHNOLOGY, old, new)
+            helps = 'tools/plain-lef writes the rectangles of a generated via.' if why.endswith('VIARULE') else NO_TOOL
             with self.subTest(why=why):
                 self.assertEqual(self.with_texts(technology, BLOCK), ['no form is refused'])
                 self.assertEqual(self.with_texts(technology, BLOCK.replace(WIRE, f'{WIRE} V12')), [
-                    f'block.def:27: BadVia, 1 place: via V12 does not join two routing layers: {why}. A wire names it. {NO_TOOL}', 'refused forms 1, places 1'])
+                    f'block.def:27: BadVia, 1 place: via V12 does not join two routing layers: {why}. A wire names it. {helps}', 'refused forms 1, places 1'])
 
     BAD_VIA = BLOCK.replace('+ RECT m1 ( -50 -50 ) ( 50 50 )', '+ RECT m1 ( 0 -50 ) ( 50 50 )').replace(WIRE, f'{WIRE} big NEW {WIRE} big')
 
@@ -169,6 +170,14 @@ class FormTests(Room):
         why = 'a rectangle of it on m1 does not have the point 0 0 inside'
         self.assertEqual(self.with_texts(TECHNOLOGY, self.BAD_VIA), [
             f'block.def:27: BadVia, 2 places: via big does not join two routing layers: {why}. A wire names it. {NO_TOOL}', 'refused forms 1, places 2'])
+
+    def test_a_figure_of_a_special_net_behind_a_status(self):
+        lines = self.with_texts(TECHNOLOGY, self.changed(BLOCK, STRAP, f'+ ROUTED + SHAPE RING + RECT m1 ( 0 0 ) ( 9 9 ) {STRAP}'))
+        self.assertEqual([it for it in lines if ': not looked at, ' not in it], [
+            'block.def:23: Unexpected, 1 place: the name of a layer was expected, not +. A status in front of a figure of a special net is not read. '
+            'tools/plain-def writes the figure as wires.',
+            'block.def:23: Unsupported, 1 place: RECT of a net is not supported. Metal of a special net is read as paths alone. tools/plain-def writes it as wires.',
+            'refused forms 2, places 2'])
 
     def test_each_form_that_advice_is_kept_for_is_met(self):
         texts = [(TECHNOLOGY, self.changed(BLOCK, old, new)) for old, new, *_ in DEF_FORMS]
@@ -259,7 +268,7 @@ class SyntaxTests(Room):
         lines = self.with_texts(TECHNOLOGY.replace('USE SIGNAL ;', 'USE ( SIGNAL ;').replace(OBS_RECT, 'POLYGON 0 0 ;'), BLOCK)
         self.assertEqual(lines, [
             f'tech.lef:23: Unexpected, 1 place: a use was expected, not (. {OUT_OF_PLACE}',
-            f'tech.lef:37: Unsupported, 1 place: POLYGON in a geometry is not supported. {RECTANGLES} {NO_TOOL}',
+            f'tech.lef:37: Unsupported, 1 place: POLYGON in a geometry is not supported. {RECTANGLES} tools/plain-lef writes its rectangles, if it is rectilinear.',
             'tech.lef:23: not looked at, 1 place: what follows the word at fault in its statement or entry, here',
             'refused forms 2, places 2'])
 

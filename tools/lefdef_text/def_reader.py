@@ -210,6 +210,10 @@ class DefReader(EntryReader):
                 self.skip_clause('VIAS')
 
         self.clauses(clause)
+        self.keep_via(name, shapes)
+
+    def keep_via(self, name, shapes):
+        """Keeps a via of these rectangles, good or not."""
         why = why_not_joined(self.library.layers, name, shapes)
         lower, upper = joined_layers(self.library.layers, shapes) if why is None else (None, None)
         self.design.vias[name] = Via(name, False, lower, upper, shapes)
@@ -267,12 +271,16 @@ class DefReader(EntryReader):
                 self.twice(word, port().place)
                 ports[-1] = ports[-1]._replace(status=word, place=self.place())
             elif word in ('POLYGON', 'VIA', 'MASK'):
-                text.refuse(f'{word} of a pin is not supported', kind='Unsupported')
+                self.unread_pin_clause(word, port)
             else:
                 self.skip_clause('PINS')
 
         self.clauses(clause)
         self.design.pins[name] = Pin(name, words.get('NET'), words.get('DIRECTION'), words.get('USE'), ports)
+
+    def unread_pin_clause(self, word, port):
+        """Refuses a clause of a pin whose word was taken: its metal is not read. A call of `port` returns the port that has it."""
+        self.text.refuse(f'{word} of a pin is not supported', kind='Unsupported')
 
     def blockage(self):
         """Takes an entry of BLOCKAGES, and keeps it unless its layer has no metal."""
@@ -285,7 +293,8 @@ class DefReader(EntryReader):
             self.blockage_clause()
         while not rects or text.peek() != ';':
             if text.peek() == 'POLYGON':
-                text.refuse('POLYGON of a blockage is not supported', text.at, 'Unsupported')
+                rects += self.blockage_polygon()
+                continue
             text.expect('RECT')
             rects.append(text.corners(self.point))
         text.expect(';')
@@ -293,6 +302,10 @@ class DefReader(EntryReader):
             self.design.blockages.append(Blockage(layer and layer.name, rects))
         else:
             text.past('BLOCKAGES LAYER without metal', begin)
+
+    def blockage_polygon(self):
+        """Refuses a polygon of a blockage, which comes next."""
+        self.text.refuse('POLYGON of a blockage is not supported', self.text.at, 'Unsupported')
 
     def blockage_clause(self):
         text, begin = self.text, self.text.at

@@ -36,11 +36,15 @@ class NetReader(EntryReader):
                 self.twice(word, net.use)
                 net.use = text.word('a use')
             elif word in UNREAD_NET_CLAUSES or is_special and word in ('RECT', 'POLYGON', 'VIA'):
-                text.refuse(f'{word} of a net is not supported', kind='Unsupported')
+                self.unread_clause(word, net, is_special)
             else:
                 self.skip_clause(self.section_of(is_special))
 
         self.clauses(clause)
+
+    def unread_clause(self, word, net, is_special):
+        """Refuses a clause of a net whose word was taken: it would change metal or pins."""
+        self.text.refuse(f'{word} of a net is not supported', kind='Unsupported')
 
     @staticmethod
     def section_of(is_special):
@@ -114,7 +118,7 @@ class NetReader(EntryReader):
                 if to_x != x and to_y != y:
                     text.fault('a wire is neither horizontal nor vertical', begin, 'Diagonal')
                 if width == 0:
-                    text.fault('a wire has the width 0', begin, 'EmptyRect')
+                    self.no_width(layer, begin)
                 self.settle(wires, ends_here, extension)
                 half = 0 if is_special else width // 2
                 ends_here = len(wires)
@@ -126,6 +130,10 @@ class NetReader(EntryReader):
                 layer = self.path_via(layer, wires, x, y, is_special)
                 width = width if is_special else layer.width
         self.settle(wires, ends_here, extension)
+
+    def no_width(self, layer, at):
+        """Refuses a segment of the width 0 on a layer, whose second point begins with the word number `at`."""
+        self.text.fault('a wire has the width 0', at, 'EmptyRect')
 
     def no_routing_layer(self, layer):
         """Refuses the word that was taken last, the name of a layer on which no wires run."""

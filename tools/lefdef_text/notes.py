@@ -16,8 +16,12 @@ def format_of(data):
     return next((FIRST_WORDS[word] for word in words if word in FIRST_WORDS), None)
 
 
-def note_of(path, needed):
-    """Returns what the file seems to be, where a `needed` text, 'LEF' or 'DEF', is expected; None if it may be one."""
+DEF_FIRST = 'the DEF is named first'
+
+
+def note_of(path, needed, order=DEF_FIRST):
+    """Returns what the file seems to be, where a `needed` text, 'LEF' or 'DEF', is expected, with what is said of the order of files; None
+    if it may be one."""
     if not os.path.isfile(path):  # a pipe is read once
         return None
     with open(path, 'rb') as file:
@@ -31,12 +35,12 @@ def note_of(path, needed):
     if b'\0' in data:
         return 'this is no text: it has a byte 0'
     found = format_of(data) or needed
-    return None if found == needed else f'this seems to be a {found}, where a {needed} is needed: the DEF is named first'
+    return None if found == needed else f'this seems to be a {found}, where a {needed} is needed: {order}'
 
 
-def message_of(refused, design, libraries, has_word=False):
+def message_of(refused, design, libraries, has_word=False, order=DEF_FIRST):
     """Returns the message on a refusal, maybe with the word at fault, and with a line `note: ..` if the text seems to be none of its format."""
     word = f', at {refused.word[:40]}' if has_word and refused.word and refused.word not in refused.why else ''
     needed = 'DEF' if refused.path == design else 'LEF' if refused.path in libraries else None
-    note = note_of(refused.path, needed) if needed else None
+    note = note_of(refused.path, needed, order) if needed else None
     return f'{refused}{word}\nnote: {note}' if note else f'{refused}{word}'
