@@ -5,7 +5,7 @@ ghost use Rattle.std.specs.Option.{option_map};
 ghost use Rattle.leg_walk.specs.Walk.{IsStep};
 ghost use Rattle.leg_walk.specs.Marks.{AreUnseen};
 ghost use Rattle.leg_walk.specs.Steps.Marks.{IsNoted};
-ghost use Rattle.leg_walk.specs.Steps.Dive.{IsOrigin, IsFar, AreKnown, IsWalkBack};
+ghost use Rattle.leg_walk.specs.Steps.Dive.{IsOrigin, IsFar, AreFar, AreKnown, IsWalkBack};
 ghost use Rattle.leg_walk.specs.Steps.Search.{IsRound};
 
 use crate::dive::{dive, is_open, one_more, steps_left};
@@ -45,55 +45,74 @@ pub(crate) fn walk_by_dives<G: Graph, A: Allocator + Copy>(
         (IsOrigin (G.size_of graph.now) (G.back_bound_of graph.now)) (Contains ends.now) left_out.new (option_map (λ nodes. nodes.items) walk)) }
     ensures noted { IsNoted marks.new touched.new.items }
 {
-    let mut left = least_left(graph, ends, marks);
+    let mut known = Vec::from_elem(alloc, 0, ends.len())?;
+    let mut left = least_left(graph, ends, &mut known, marks);
     let most = left as usize * NOTED_FOR_EACH_STEP;
     'rounds: for _ in 0..ROUNDS {
         if left > DEEPEST || touched.len() >= most {
             break;
         }
-        let near = near_ends(alloc, graph, ends, left, marks)?;
+        let near = near_ends(alloc, ends, &known, left)?;
         let walk = dive_from_ends(alloc, graph, &near, left, most, marks, touched)?;
         if let Some(nodes) = walk {
             return Ok(Some(nodes));
         }
-        left = least_left(graph, ends, marks);
+        left = least_left(graph, ends, &mut known, marks);
     }
     *limit = u64::from(left);
     *left_out = is_one_open(graph, ends);
     Ok(None)
 }
 
-/// How many steps a walk from a start to an end has at least, as far as is known.
-fn least_left<G: Graph>(graph: &G, ends: &[u32], marks: &[Mark]) -> u32
+/// How many steps a walk from a start to an end has at least, as far as is known. `known` has for each end how many a walk to it has at
+/// least by what was asked before: an end that is further by that than the nearest is not asked about again. Of the others it then
+/// has how many are known now, where those are no more than to the nearest.
+fn least_left<G: Graph>(graph: &G, ends: &[u32], known: &mut [u32], marks: &[Mark]) -> u32
     requires count { length marks.now ≡ G.size_of graph.now }
     requires within { All (λ a. a < G.size_of graph.now) ends.now }
     requires known { AreKnown (G.OpenNode graph.now) (IsStep (G.IsBeside graph.now) (G.OpenStep graph.now)) (IsOrigin (G.size_of graph.now) (G.back_bound_of graph.now)) marks.now }
-    ensures { All (IsFar (G.OpenNode graph.now) (IsStep (G.IsBeside graph.now) (G.OpenStep graph.now)) (IsOrigin (G.size_of graph.now) (G.back_bound_of graph.now)) result) ends.now }
+    requires far { AreFar (G.OpenNode graph.now) (IsStep (G.IsBeside graph.now) (G.OpenStep graph.now)) (IsOrigin (G.size_of graph.now) (G.back_bound_of graph.now)) ends.now known.old }
+    ensures least { All (IsFar (G.OpenNode graph.now) (IsStep (G.IsBeside graph.now) (G.OpenStep graph.now)) (IsOrigin (G.size_of graph.now) (G.back_bound_of graph.now)) result) ends.now }
+    ensures far { AreFar (G.OpenNode graph.now) (IsStep (G.IsBeside graph.now) (G.OpenStep graph.now)) (IsOrigin (G.size_of graph.now) (G.back_bound_of graph.now)) ends.now known.new }
 {
     let mut least = u32::MAX;
-    for end in ends {
-        least = least.min(steps_left(graph, *end, least, marks));
+    for k in 0..ends.len() {
+        let steps = look_again(graph, ends[k], known[k], least, marks);
+        known[k] = steps;
+        least = least.min(steps);
     }
     least
 }
 
-/// The ends to which a walk may have at most `left` steps, as far as is known, in increasing order.
-fn near_ends<G: Graph, A: Allocator>(
-    alloc: A,
-    graph: &G,
-    ends: &[u32],
-    left: u32,
-    marks: &[Mark],
-) -> Result<Vec<u32, A>, AllocError>
+/// How many steps a walk from a start to the end has at least: as many as are known, where those are more than `least`, and else as far
+/// as is known now, or one more than `least` where those are more.
+fn look_again<G: Graph>(graph: &G, end: u32, known: u32, least: u32, marks: &[Mark]) -> u32
     requires count { length marks.now ≡ G.size_of graph.now }
-    requires within { All (λ a. a < G.size_of graph.now) ends.now }
+    requires within { end < G.size_of graph.now }
     requires known { AreKnown (G.OpenNode graph.now) (IsStep (G.IsBeside graph.now) (G.OpenStep graph.now)) (IsOrigin (G.size_of graph.now) (G.back_bound_of graph.now)) marks.now }
+    requires far { IsFar (G.OpenNode graph.now) (IsStep (G.IsBeside graph.now) (G.OpenStep graph.now)) (IsOrigin (G.size_of graph.now) (G.back_bound_of graph.now)) known end }
+    ensures { IsFar (G.OpenNode graph.now) (IsStep (G.IsBeside graph.now) (G.OpenStep graph.now)) (IsOrigin (G.size_of graph.now) (G.back_bound_of graph.now)) result end }
+{
+    if known > least {
+        return known;
+    }
+    steps_left(graph, end, one_more(least), marks)
+}
+
+/// The ends to which a walk has at most `left` steps by what is known, in increasing order.
+fn near_ends<A: Allocator>(
+    alloc: A,
+    ends: &[u32],
+    known: &[u32],
+    left: u32,
+) -> Result<Vec<u32, A>, AllocError>
+    requires { length known.now ≡ length ends.now }
     ensures { IfOk result (λ near. (a : ℕ) → Contains near.items a → Contains ends.now a) }
 {
     let mut near = Vec::new(alloc);
-    for end in ends {
-        if steps_left(graph, *end, one_more(left), marks) <= left {
-            near.push(*end)?;
+    for k in 0..ends.len() {
+        if known[k] <= left {
+            near.push(ends[k])?;
         }
     }
     near.sort_unstable();

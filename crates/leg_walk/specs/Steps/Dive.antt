@@ -1,5 +1,5 @@
 -- What a dive knows: a search depth first, from a node back to a start.
-use Rattle.std.specs.Prelude.{◌≡◌, ℕ, ◌+◌, ◌<◌, ◌≤◌, List, length}
+use Rattle.std.specs.Prelude.{◌≡◌, ℕ, ◌+◌, ◌<◌, ◌≤◌, List, length, get_or}
 use Rattle.leg_walk.specs.declared.mark.Mark.{Mark}
 use Rattle.leg_walk.specs.declared.mark.Mark.TheVariants.{Shut, Far}
 use Rattle.leg_walk.specs.declared.side.Side.{Side}
@@ -14,6 +14,11 @@ IsOrigin size bound a = (a < size) × (bound a ≡ 0)
 -- each walk from a start to the node has at least this many steps
 abbrev pub IsFar : (ℕ → Type 0) → (ℕ → ℕ → Type 0) → (ℕ → Type 0) → ℕ → ℕ → Type 0
 IsFar Open Step Start steps node = (from : ℕ) (nodes : List ℕ) → Start from → Walk Open Step from nodes node → steps + 1 ≤ length nodes
+
+-- for each end a number of steps, of which a walk from a start to it has no fewer
+pub record AreFar (Open : ℕ → Type 0) (Step : ℕ → ℕ → Type 0) (Start : ℕ → Type 0) (ends known : List ℕ) : Type 0 where
+  pub one_each : length known ≡ length ends
+  pub each : (k : ℕ) → k < length ends → IsFar Open Step Start (get_or known k 0) (get_or ends k 0)
 
 -- and so has each that comes to the node from this side
 abbrev pub IsFarFrom : (Side → ℕ → ℕ → Type 0) → (Side → ℕ → Type 0) → (ℕ → Type 0) → (ℕ → Type 0) → ℕ → ℕ → Side → Type 0

@@ -1,17 +1,26 @@
 use Rattle.std.proofs.Common.{arith}
-use Rattle.std.proofs.lemmas.List.{take_all}
-use Rattle.std.proofs.lemmas.List.Elements.{All-more}
+use Rattle.std.proofs.lemmas.List.Elements.{All-from_get_or}
 use Rattle.leg_walk.specs.Walk.{IsStep}
 use Rattle.leg_walk.specs.Steps.Dive.{IsOrigin, IsFar}
+use Rattle.leg_walk.proofs.Least.{far_set, low_set}
+use Rattle.leg_walk.proofs.WalksBack.{far_fewer}
 use Rattle.leg_walk.proofs.dives.least_left.Goals as goal
 
-pub loop-end-preserved : goal.loop-end-preserved
-loop-end-preserved g c =
+pub loop-k-preserved : goal.loop-k-preserved
+loop-k-preserved g c =
     let graph = g.G.Graph in
     let here = c.args.graph.now in
-    All-more (IsFar (graph.OpenNode here) (IsStep (graph.IsBeside here) (graph.OpenStep here)) (IsOrigin (graph.size_of here) (graph.back_bound_of here)) c.min-least.result) c.args.ends.now c.loop-end.end-index 0 (omega arith)
-    (λ k d below from nodes start walk. omega (arith, c.min-least.ensures, c.loop-end.invariant k d below from nodes start walk))
-    (λ from nodes start walk. omega (arith, c.min-least.ensures, c.steps_left.ensures from nodes start walk))
+    let so_far = c.loop-k.invariant in record {
+      far = far_set (graph.OpenNode here) (IsStep (graph.IsBeside here) (graph.OpenStep here)) (IsOrigin (graph.size_of here) (graph.back_bound_of here)) c.args.ends.now c.loop-k.known c.loop-k.k c.look_again-steps.result
+          (omega arith) c.look_again-steps.ensures so_far.far;
+      low = low_set c.loop-k.known c.loop-k.k c.look_again-steps.result c.loop-k.least c.min-least.result (omega (arith, so_far.far.one_each)) (omega (arith, c.min-least.ensures)) (omega (arith, c.min-least.ensures)) so_far.low;
+    }
 
-pub returns : goal.returns
-returns g c = rw (take_all c.loop-end.end-index c.args.ends.now (omega arith)) at c.loop-end.invariant
+pub returns-clause-least : goal.returns-clause-least
+returns-clause-least g c =
+    let graph = g.G.Graph in
+    let here = c.args.graph.now in
+    let ends = c.args.ends.now in
+    let so_far = c.loop-k.invariant in
+    All-from_get_or (IsFar (graph.OpenNode here) (IsStep (graph.IsBeside here) (graph.OpenStep here)) (IsOrigin (graph.size_of here) (graph.back_bound_of here)) c.loop-k.least) ends 0
+    (λ k within. far_fewer _ c.loop-k.least _ (so_far.low k (omega (arith, within))) (so_far.far.each k within))

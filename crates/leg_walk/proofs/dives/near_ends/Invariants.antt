@@ -2,5 +2,5 @@
 use Rattle.std.proofs.Common.{ℕ, Contains}
 use Rattle.leg_walk.proofs.dives.near_ends.Given as goal
 
-abbrev pub invariant-loop-end : goal.invariant-loop-end
-invariant-loop-end g l = (a : ℕ) → Contains l.near.items a → Contains l.ends a
+abbrev pub invariant-loop-k : goal.invariant-loop-k
+invariant-loop-k g l = (a : ℕ) → Contains l.near.items a → Contains l.ends a

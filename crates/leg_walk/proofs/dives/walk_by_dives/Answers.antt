@@ -7,14 +7,14 @@ use Rattle.leg_walk.proofs.dives.walk_by_dives.Goals as goal
 
 pub dive_from_ends-requires-clause-within : goal.dive_from_ends-requires-clause-within
 dive_from_ends-requires-clause-within g c a there =
-    All-contains (λ a. a < g.G.Graph.size_of c.args.graph.now) c.args.ends.now a c.requires.ends (c.in_ok-near.ensures a (rw c.deref.ensures.value at there))
+    All-contains (λ a. a < g.G.Graph.size_of c.args.graph.now) c.args.ends.now a c.requires.ends (c.in_ok-near.ensures a (rw c.deref-in-rounds.ensures.value at there))
 
 pub returns-in-Some-clause-found : goal.returns-in-Some-clause-found
 returns-in-Some-clause-found g c =
     let graph = g.G.Graph in
     let here = c.args.graph.now in
     let far = IsFar (graph.OpenNode here) (IsStep (graph.IsBeside here) (graph.OpenStep here)) (IsOrigin (graph.size_of here) (graph.back_bound_of here)) c.rounds.left in
-    let found = rw (c.in-Some.is, c.deref.ensures.value) at c.in_ok-walk.ensures.found in
+    let found = rw (c.in-Some.is, c.deref-in-rounds.ensures.value) at c.in_ok-walk.ensures.found in
     shortest_from_back c.rounds.left found.0 c.in-Some.nodes.items (c.in_ok-near.ensures found.0 found.1)
     (λ b stop. All-contains far c.args.ends.now b c.rounds.invariant.far stop) found.2
 

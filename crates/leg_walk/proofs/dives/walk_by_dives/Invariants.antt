@@ -2,7 +2,7 @@
 use Rattle.std.proofs.Common.{All}
 use Rattle.leg_walk.specs.Walk.{IsStep}
 use Rattle.leg_walk.specs.Steps.Marks.{IsNoted}
-use Rattle.leg_walk.specs.Steps.Dive.{IsOrigin, IsFar, AreKnown}
+use Rattle.leg_walk.specs.Steps.Dive.{IsOrigin, IsFar, AreFar, AreKnown}
 use Rattle.leg_walk.proofs.dives.walk_by_dives.Given as goal
 
 abbrev pub invariant-rounds : goal.invariant-rounds
@@ -11,4 +11,5 @@ invariant-rounds g l =
       noted : IsNoted l.marks l.touched.items;
       known : AreKnown (graph.OpenNode l.graph) (IsStep (graph.IsBeside l.graph) (graph.OpenStep l.graph)) (IsOrigin (graph.size_of l.graph) (graph.back_bound_of l.graph)) l.marks;
       far : All (IsFar (graph.OpenNode l.graph) (IsStep (graph.IsBeside l.graph) (graph.OpenStep l.graph)) (IsOrigin (graph.size_of l.graph) (graph.back_bound_of l.graph)) l.left) l.ends;
+      of_ends : AreFar (graph.OpenNode l.graph) (IsStep (graph.IsBeside l.graph) (graph.OpenStep l.graph)) (IsOrigin (graph.size_of l.graph) (graph.back_bound_of l.graph)) l.ends l.known.items;
     }
