@@ -1,0 +1,25 @@
+use Rattle.std.proofs.Common.{◌≡◌, ℕ, true, subst}
+use Rattle.leg_compare.specs.declared.difference.Difference.TheVariants.{Changed}
+use Rattle.leg_compare.specs.Sections.{names_of}
+use Rattle.leg_compare.specs.Differences.{HasChanged}
+use Rattle.leg_compare.proofs.Between.{with_one, without_one}
+use Rattle.leg_compare.proofs.Named.{found_within}
+use Rattle.leg_compare.proofs.listing.push_change.Goals as goal
+
+pub has_changed-requires-clause-in_first : goal.has_changed-requires-clause-in_first
+has_changed-requires-clause-in_first g c = c.requires.one_name.there
+
+pub has_changed-requires-clause-in_second : goal.has_changed-requires-clause-in_second
+has_changed-requires-clause-in_second g c = found_within _ (names_of c.args.section c.args.second.now) c.args.j c.requires.one_name.found
+
+pub returns-in_ok-push : goal.returns-in_ok-push
+returns-in_ok-push g c =
+    rw c.in_ok-push.ensures.items (with_one c.args.first.now c.args.second.now (Changed c.args.section c.args.change c.args.i) c.args.list.now.items
+    (record { j = c.args.j; one_name = c.requires.one_name; changed = c.has_changed.ensures.0 c.if-has_changed.true }) c.requires.listed)
+
+pub returns-else-has_changed : goal.returns-else-has_changed
+returns-else-has_changed g c =
+    without_one c.args.first.now c.args.second.now (Changed c.args.section c.args.change c.args.i) c.args.list.now.items
+    (λ is. let same : is.j ≡ c.args.j = cc (is.one_name.found, c.requires.one_name.found) in
+    let changed : c.has_changed.result ≡ true = c.has_changed.ensures.1 (subst (λ (j : ℕ). HasChanged c.args.section c.args.change c.args.first.now c.args.second.now c.args.i j) same is.changed) in
+    let no : ⊥ = cc in no) c.requires.listed

@@ -1,0 +1,136 @@
+//! What differs between two entries of one name.
+
+ghost use Rattle.std.specs.Prelude.{◌≡◌, ◌↔◌, ◌<◌, length, IsTrue};
+ghost use Rattle.leg_block.specs.Movable.{MayMove};
+ghost use Rattle.leg_compare.specs.Sections.{names_of};
+ghost use Rattle.leg_compare.specs.Differences.{DiffersAsVia, IsOtherStatus, DiffersAsComponent, DiffersAsPin, DiffersAsNet, HasChanged};
+
+use crate::difference::{Change, Section};
+use crate::equal::{are_same_shapes, is_same_name, is_same_place};
+use crate::lists::are_same_ports;
+use crate::spelling::{are_same_terminals, go_on, grow};
+use leg_block::{Component, Design, Net, Pin, Status};
+use leg_cells::Via;
+use std::alloc::Allocator;
+
+/// Whether the vias are the same.
+fn is_same_via<A: Allocator>(a: &Via<'_, A>, b: &Via<'_, A>) -> bool
+    ensures { IsTrue result ↔ (a.now ≡ b.now) }
+{
+    a.name == b.name
+        && a.default_via == b.default_via
+        && a.good == b.good
+        && are_same_shapes(&a.shapes, &b.shapes)
+}
+
+/// Whether the vias differ so.
+fn via_differs<A: Allocator>(change: Change, a: &Via<'_, A>, b: &Via<'_, A>) -> bool
+    ensures { IsTrue result ↔ DiffersAsVia change a.now b.now }
+{
+    match change {
+        Change::Shapes => !is_same_via(a, b),
+        _ => false,
+    }
+}
+
+/// Whether a component of this status may be moved.
+fn may_move(status: Status) -> bool
+    ensures { IsTrue result ↔ MayMove status }
+{
+    match status {
+        Status::Unplaced => true,
+        Status::Placed => true,
+        Status::Fixed => false,
+        Status::Cover => false,
+    }
+}
+
+/// Whether the statuses differ, and not just as `UNPLACED` and `PLACED` do.
+fn is_other_status(a: Status, b: Status) -> bool
+    ensures { IsTrue result ↔ IsOtherStatus a b }
+{
+    a != b && !(may_move(a) && may_move(b))
+}
+
+/// Whether the components differ so.
+fn component_differs(change: Change, a: &Component<'_>, b: &Component<'_>) -> bool
+    ensures { IsTrue result ↔ DiffersAsComponent change a.now b.now }
+{
+    match change {
+        Change::Macro => a.master != b.master,
+        Change::Status => is_other_status(a.status, b.status),
+        Change::Place => !is_same_place(&a.place, &b.place),
+        _ => false,
+    }
+}
+
+/// Whether the pins differ so.
+fn pin_differs<A: Allocator>(change: Change, a: &Pin<'_, A>, b: &Pin<'_, A>) -> bool
+    ensures { IsTrue result ↔ DiffersAsPin change a.now b.now }
+{
+    match change {
+        Change::NetName => !is_same_name(&a.net_name, &b.net_name),
+        Change::Direction => !is_same_name(&a.direction, &b.direction),
+        Change::Usage => !is_same_name(&a.usage, &b.usage),
+        Change::Ports => !are_same_ports(a.ports.as_slice(), b.ports.as_slice()),
+        _ => false,
+    }
+}
+
+/// Whether the nets differ so, each spelled in its own design.
+fn net_differs<A: Allocator + Copy>(
+    first: &Design<'_, A>,
+    second: &Design<'_, A>,
+    change: Change,
+    a: &Net<'_, A>,
+    b: &Net<'_, A>,
+) -> bool
+    ensures { IsTrue result ↔ DiffersAsNet first.now second.now change a.now b.now }
+{
+    match change {
+        Change::Usage => !is_same_name(&a.usage, &b.usage),
+        Change::Terminals => {
+            !are_same_terminals(
+                first,
+                second,
+                a.terminals.as_slice(),
+                b.terminals.as_slice(),
+            )
+        }
+        Change::LostWires => !go_on(first, second, a.wires.as_slice(), b.wires.as_slice()),
+        Change::MoreWires => grow(first, second, a.wires.as_slice(), b.wires.as_slice()),
+        _ => false,
+    }
+}
+
+/// Whether entry `i` of the first design and entry `j` of the second differ so.
+pub(crate) fn has_changed<A: Allocator + Copy>(
+    first: &Design<'_, A>,
+    second: &Design<'_, A>,
+    section: Section,
+    change: Change,
+    i: usize,
+    j: usize,
+) -> bool
+    requires in_first { i < length (names_of section first.now) }
+    requires in_second { j < length (names_of section second.now) }
+    ensures { IsTrue result ↔ HasChanged section change first.now second.now i j }
+{
+    match section {
+        Section::Vias => via_differs(change, &first.vias()[i], &second.vias()[j]),
+        Section::Components => {
+            component_differs(change, &first.components()[i], &second.components()[j])
+        }
+        Section::Pins => pin_differs(change, &first.pins()[i], &second.pins()[j]),
+        Section::SpecialNets => {
+            net_differs(
+                first,
+                second,
+                change,
+                &first.special()[i],
+                &second.special()[j],
+            )
+        }
+        Section::Nets => net_differs(first, second, change, &first.nets()[i], &second.nets()[j]),
+    }
+}

@@ -1,0 +1,17 @@
+//! What differs between two designs of one library.
+#![tactic(auto)]
+
+mod changes;
+mod difference;
+mod equal;
+pub mod laws;
+mod listing;
+mod lists;
+mod parts;
+mod section;
+mod spelling;
+mod verdict;
+
+pub use difference::{Change, Difference, Part, Section, Verdict};
+pub use listing::differences;
+pub use verdict::verdict_of;
