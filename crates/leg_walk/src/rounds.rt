@@ -1,6 +1,6 @@
 //! A shortest walk, found in rounds of a growing limit.
 
-ghost use Rattle.std.specs.Prelude.{◌≡◌, ◌≤◌, ◌<◌, ◌^◌, ◌↔◌, ℕ, [], true, false, length, All, Contains, IfOk, OnOk};
+ghost use Rattle.std.specs.Prelude.{◌≡◌, ◌≤◌, ◌<◌, ◌+◌, ◌^◌, ◌↔◌, ℕ, [], true, false, length, All, Contains, IfOk, OnOk};
 ghost use Rattle.std.specs.Option.{option_map};
 ghost use Rattle.leg_walk.specs.Walk.{IsStep, IsAnswer};
 ghost use Rattle.leg_walk.specs.Marks.{AreUnseen};
@@ -65,6 +65,7 @@ pub fn shortest<G: Graph, A: Allocator + Copy>(
         return Ok(None);
     }
     let mut least = Vec::from_elem(alloc, 0, starts.len())?;
+    let mut told = 0;
     let mut growth = FIRST_GROWTH;
     'rounds: loop {
         let mut left_out = false;
@@ -73,6 +74,7 @@ pub fn shortest<G: Graph, A: Allocator + Copy>(
             graph,
             starts,
             &mut least,
+            told,
             ends,
             limit,
             marks,
@@ -85,6 +87,7 @@ pub fn shortest<G: Graph, A: Allocator + Copy>(
         if !left_out {
             return Ok(None);
         }
+        told = limit + 1;
         limit += growth;
         growth *= 2;
     }
@@ -121,6 +124,7 @@ fn one_round<G: Graph, A: Allocator + Copy>(
     graph: &G,
     starts: &[u32],
     least: &mut [u32],
+    told: u64,
     ends: &[u32],
     limit: u64,
     marks: &mut [Mark],
@@ -134,17 +138,18 @@ fn one_round<G: Graph, A: Allocator + Copy>(
     requires starts { All (λ a. a < G.size_of graph.now) starts.now }
     requires ends { All (λ a. a < G.size_of graph.now) ends.now }
     requires at_end { All (λ a. G.bound_of graph.now a ≡ 0) ends.now }
-    requires least { AreLeast (G.bound_of graph.now) starts.now least.old }
+    requires least { AreLeast (G.bound_of graph.now) starts.now told least.old }
+    requires grows { told ≤ limit + 1 }
     requires not_left { left_out.old ≡ false }
     ensures found { IfOk result (λ walk. IsRound (G.OpenNode graph.now) (IsStep (G.IsBeside graph.now) (G.OpenStep graph.now))
         (Contains starts.now) (Contains ends.now) left_out.new (option_map (λ nodes. nodes.items) walk)) }
-    ensures least { OnOk result (AreLeast (G.bound_of graph.now) starts.now least.new) }
+    ensures least { OnOk result (AreLeast (G.bound_of graph.now) starts.now (limit + 1) least.new) }
     ensures low { OnOk result (left_out.new ≡ true → limit < 2 ^ 33) }
     ensures unseen { AreUnseen marks.new }
     ensures untouched { touched.new.items ≡ [] }
 {
     let walk = walk_within(
-        alloc, graph, starts, least, ends, limit, marks, touched, left_out,
+        alloc, graph, starts, least, told, ends, limit, marks, touched, left_out,
     );
     reset(marks, touched);
     walk
@@ -156,6 +161,7 @@ fn walk_within<G: Graph, A: Allocator + Copy>(
     graph: &G,
     starts: &[u32],
     least: &mut [u32],
+    told: u64,
     ends: &[u32],
     limit: u64,
     marks: &mut [Mark],
@@ -169,16 +175,17 @@ fn walk_within<G: Graph, A: Allocator + Copy>(
     requires starts { All (λ a. a < G.size_of graph.now) starts.now }
     requires ends { All (λ a. a < G.size_of graph.now) ends.now }
     requires at_end { All (λ a. G.bound_of graph.now a ≡ 0) ends.now }
-    requires least { AreLeast (G.bound_of graph.now) starts.now least.old }
+    requires least { AreLeast (G.bound_of graph.now) starts.now told least.old }
+    requires grows { told ≤ limit + 1 }
     requires not_left { left_out.old ≡ false }
     ensures found { IfOk result (λ walk. IsRound (G.OpenNode graph.now) (IsStep (G.IsBeside graph.now) (G.OpenStep graph.now))
         (Contains starts.now) (Contains ends.now) left_out.new (option_map (λ nodes. nodes.items) walk)) }
-    ensures least { OnOk result (AreLeast (G.bound_of graph.now) starts.now least.new) }
+    ensures least { OnOk result (AreLeast (G.bound_of graph.now) starts.now (limit + 1) least.new) }
     ensures low { OnOk result (left_out.new ≡ true → limit < 2 ^ 33) }
     ensures noted { IsNoted marks.new touched.new.items }
 {
     let Some(end) = nearest_end(
-        alloc, graph, starts, least, ends, limit, marks, touched, left_out,
+        alloc, graph, starts, least, told, ends, limit, marks, touched, left_out,
     )?
     else {
         return Ok(None);

@@ -1,6 +1,6 @@
 //! A search within a limit, level by level, up to the nearest end.
 
-ghost use Rattle.std.specs.Prelude.{◌≡◌, ◌≤◌, ◌<◌, ◌^◌, [], true, false, length, All, Contains, IfOk, OnOk};
+ghost use Rattle.std.specs.Prelude.{◌≡◌, ◌≤◌, ◌<◌, ◌+◌, ◌^◌, [], true, false, length, All, Contains, IfOk, OnOk};
 ghost use Rattle.leg_walk.specs.Walk.{IsStep};
 ghost use Rattle.leg_walk.specs.Marks.{AreUnseen};
 ghost use Rattle.leg_walk.specs.Steps.Marks.{IsNoted};
@@ -21,6 +21,7 @@ pub(crate) fn nearest_end<G: Graph, A: Allocator + Copy>(
     graph: &G,
     starts: &[u32],
     least: &mut [u32],
+    told: u64,
     ends: &[u32],
     limit: u64,
     marks: &mut [Mark],
@@ -34,17 +35,18 @@ pub(crate) fn nearest_end<G: Graph, A: Allocator + Copy>(
     requires starts { All (λ a. a < G.size_of graph.now) starts.now }
     requires ends { All (λ a. a < G.size_of graph.now) ends.now }
     requires at_end { All (λ a. G.bound_of graph.now a ≡ 0) ends.now }
-    requires least { AreLeast (G.bound_of graph.now) starts.now least.old }
+    requires least { AreLeast (G.bound_of graph.now) starts.now told least.old }
+    requires grows { told ≤ limit + 1 }
     requires not_left { left_out.old ≡ false }
     ensures found { IfOk result (λ end. IsFound (G.OpenNode graph.now) (IsStep (G.IsBeside graph.now) (G.OpenStep graph.now))
         (Contains starts.now) (Contains ends.now) marks.new left_out.new end) }
     ensures low { OnOk result (left_out.new ≡ true → limit < 2 ^ 33) }
-    ensures least { OnOk result (AreLeast (G.bound_of graph.now) starts.now least.new) }
+    ensures least { OnOk result (AreLeast (G.bound_of graph.now) starts.now (limit + 1) least.new) }
     ensures noted { IsNoted marks.new touched.new.items }
 {
     let mut front = Vec::new(alloc);
     seed(
-        graph, starts, least, limit, marks, &mut front, touched, left_out,
+        graph, starts, least, told, limit, marks, &mut front, touched, left_out,
     )?;
     let mut level = Level { number: 0, limit };
     'levels: while !front.is_empty() {

@@ -11,11 +11,13 @@ use crate::mark::Mark;
 use std::alloc::{AllocError, Allocator};
 
 /// Marks the starts that are open and within the limit, and puts them into `next`. For each start `least` has how many steps are left
-/// at least from it to the ends, as far as is known: a start that is too far by that is passed over.
+/// at least from it to the ends, as far as is known: a start that is too far by that is passed over, and so is the question of one to
+/// which fewer than `told` are left by that: then no more are.
 pub(crate) fn seed<G: Graph, A: Allocator>(
     graph: &G,
     starts: &[u32],
     least: &mut [u32],
+    told: u64,
     limit: u64,
     marks: &mut [Mark],
     next: &mut Vec<u32, A>,
@@ -24,16 +26,17 @@ pub(crate) fn seed<G: Graph, A: Allocator>(
 ) -> Result<(), AllocError>
     requires count { length marks.old ≡ G.size_of graph.now }
     requires within { All (λ a. a < G.size_of graph.now) starts.now }
-    requires least { AreLeast (G.bound_of graph.now) starts.now least.old }
+    requires least { AreLeast (G.bound_of graph.now) starts.now told least.old }
+    requires grows { told ≤ limit + 1 }
     requires noted { IsNoted marks.old touched.old.items }
     ensures spread { OnOk result (IsSpread (G.OpenNode graph.now) (λ _ b. Contains starts.now b) (G.bound_of graph.now) limit 0
         marks.old next.old.items left_out.old marks.new next.new.items left_out.new) }
-    ensures least { OnOk result (AreLeast (G.bound_of graph.now) starts.now least.new) }
+    ensures least { OnOk result (AreLeast (G.bound_of graph.now) starts.now (limit + 1) least.new) }
     ensures noted { IsNoted marks.new touched.new.items }
 {
     for k in 0..starts.len() {
         least[k] = seed_one(
-            graph, starts[k], least[k], limit, marks, next, touched, left_out,
+            graph, starts[k], least[k], told, limit, marks, next, touched, left_out,
         )?;
     }
     Ok(())
@@ -44,6 +47,7 @@ fn seed_one<G: Graph, A: Allocator>(
     graph: &G,
     start: u32,
     least: u32,
+    told: u64,
     limit: u64,
     marks: &mut [Mark],
     next: &mut Vec<u32, A>,
@@ -53,22 +57,21 @@ fn seed_one<G: Graph, A: Allocator>(
     requires count { length marks.old ≡ G.size_of graph.now }
     requires within { start < G.size_of graph.now }
     requires least { least ≤ G.bound_of graph.now start }
+    requires told { least < told → G.bound_of graph.now start < told }
+    requires grows { told ≤ limit + 1 }
     requires noted { IsNoted marks.old touched.old.items }
     ensures spread { OnOk result (IsSpread (G.OpenNode graph.now) (λ _ b. b ≡ start) (G.bound_of graph.now) limit 0
         marks.old next.old.items left_out.old marks.new next.new.items left_out.new) }
     ensures least { IfOk result (λ least. least ≤ G.bound_of graph.now start) }
+    ensures told { IfOk result (λ least. least ≤ limit → G.bound_of graph.now start ≤ limit) }
     ensures noted { IsNoted marks.new touched.new.items }
 {
+    let least = look_again(graph, start, least, told, limit);
     if u64::from(least) > limit {
         *left_out = true;
         return Ok(least);
     }
     if !is_unseen(marks, start) {
-        return Ok(least);
-    }
-    let least = look_ahead(graph, start, limit);
-    if u64::from(least) > limit {
-        *left_out = true;
         return Ok(least);
     }
     let mark = Mark::Reached {
@@ -78,6 +81,23 @@ fn seed_one<G: Graph, A: Allocator>(
     let is_open = graph.is_open_node(start);
     enter(start, is_open, mark, marks, next, touched)?;
     Ok(least)
+}
+
+/// How many steps are left at least from the start to the ends: what is known, where that is more than the limit or less than is told,
+/// and else what is asked.
+fn look_again<G: Graph>(graph: &G, start: u32, least: u32, told: u64, limit: u64) -> u32
+    requires within { start < G.size_of graph.now }
+    requires least { least ≤ G.bound_of graph.now start }
+    requires told { least < told → G.bound_of graph.now start < told }
+    requires grows { told ≤ limit + 1 }
+    ensures least { result ≤ G.bound_of graph.now start }
+    ensures near { result ≤ limit → G.bound_of graph.now start ≤ limit }
+{
+    let known = u64::from(least);
+    if known > limit || known < told {
+        return least;
+    }
+    look_ahead(graph, start, limit)
 }
 
 /// How many times the limit a search looks ahead: so a start that is too far is not looked at again in the next few rounds.

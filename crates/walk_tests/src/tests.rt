@@ -362,7 +362,7 @@ fn keeps_near_a_shortest_walk_in_the_open(rt: HostRuntime) {
 }
 
 #[test]
-fn looks_seldom_at_a_start_that_is_far(rt: HostRuntime) {
+fn looks_seldom_at_starts(rt: HostRuntime) {
     static PLAN: Plan = Plan {
         width: 300,
         height: 40,
@@ -383,7 +383,7 @@ fn looks_seldom_at_a_start_that_is_far(rt: HostRuntime) {
     }
     check_searches(&rt, rt.alloc(), &mut maze, &SEARCHES);
     let looks = (maze.looks_at(0), maze.looks_at(299));
-    assert!(rt; looks.0 > 4 && looks.1 < 3, "looked {looks:?} times");
+    assert!(rt; looks.0 < 4 && looks.1 < 3, "looked {looks:?} times");
 }
 
 /// The walk through walls that look random.

@@ -8,7 +8,8 @@ abbrev pub invariant-rounds : goal.invariant-rounds
 invariant-rounds g l = record {
   unseen : AreUnseen l.marks;
   untouched : l.touched.items ≡ [];
-  least : AreLeast (g.G.Graph.bound_of l.graph) l.starts l.least.items;
+  least : AreLeast (g.G.Graph.bound_of l.graph) l.starts l.told l.least.items;
+  told_grows : l.told ≤ l.limit + 1;
   grows : 0 < l.growth;
   slowly : l.growth ≤ l.limit + 2;
 }

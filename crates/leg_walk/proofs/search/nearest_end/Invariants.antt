@@ -10,7 +10,7 @@ abbrev pub invariant-levels : goal.invariant-levels
 invariant-levels g l =
     let graph = g.G.Graph in record {
       noted : IsNoted l.marks l.touched.items;
-      least : AreLeast (graph.bound_of l.graph) l.starts l.least;
+      least : AreLeast (graph.bound_of l.graph) l.starts (l.limit + 1) l.least;
       underway : IsUnderway (graph.OpenNode l.graph) (IsStep (graph.IsBeside l.graph) (graph.OpenStep l.graph)) (Contains l.starts) (Contains l.ends)
           (graph.bound_of l.graph) l.limit l.level.number l.marks l.front.items l.left_out;
       low : l.left_out ≡ true → l.limit < 2 ^ 33;
