@@ -447,23 +447,26 @@ class ExampleTests(FlowCase):
             os.symlink(found, os.path.join(folder, name))
         return folder
 
-    def go_through(self, status):
+    def go_through(self, status=0, words=('made',), library=STANDARD, **bodies):
         """Runs a copy of the script that has its library here, with a qflow that writes a small block and a lefdef, named by a relative
-        path, whose place-check ends with this status."""
+        path, whose place-check ends with this status; `bodies` are those of other commands. Returns the run, and the commands of lefdef."""
         for folder in ('top/examples/from-verilog', 'commands'):
             os.makedirs(os.path.join(self.room, folder))
         os.symlink(os.path.join(TOP, 'tools'), os.path.join(self.room, 'top', 'tools'))
         shutil.copy(os.path.join(os.path.dirname(self.RUN), 'ring.v'), os.path.join(self.room, 'top', 'examples', 'from-verilog'))
         with open(self.RUN, encoding='utf-8') as file:
             text = file.read()
-        copy = self.file('top/examples/from-verilog/run', text.replace('\nlibrary=/usr', f'\nlibrary={STANDARD}\n: /usr'))
+        copy = self.file('top/examples/from-verilog/run', text.replace('\nlibrary=/usr', f'\nlibrary={library}\n: /usr'))
         self.file('placed.def', EaseRoutingTests.BLOCK)
-        programs = {'qflow': f'cp {self.room}/placed.def ring.def', 'yosys': '', 'graywolf': '', 'qrouter': '',
-                    'lefdef': f'echo "$1" >>{self.room}/calls\ncase $1 in place-check) exit {status};; legalise | route) cat "$2";; *) echo "$1";; esac'}
+        self.file('calls', '')
+        answers = {'place-check': f'exit {status}', 'legalise': 'cat "$2"', 'route': 'cat "$2"', **bodies.pop('lefdef', {})}
+        cases = ' '.join(f'{command}) {body};;' for command, body in answers.items())
+        programs = {'qflow': f'for name; do :; done; cp {self.room}/placed.def "$name.def"', 'yosys': '', 'graywolf': '', 'qrouter': '',
+                    'lefdef': f'echo "$1" >>{self.room}/calls\ncase $1 in {cases} *) echo "$1";; esac', **bodies}
         for name, body in programs.items():
             os.chmod(self.file(f'commands/{name}', f'#!/bin/sh\n{body}\n'), 0o755)
         path = os.pathsep.join([os.path.join(self.room, 'commands'), os.path.dirname(sys.executable), '/usr/bin', '/bin'])
-        done = subprocess.run(['/bin/sh', copy, 'made'], capture_output=True, text=True, cwd=self.room, timeout=60,
+        done = subprocess.run(['/bin/sh', copy, *words], capture_output=True, text=True, cwd=self.room, timeout=60,
                               env={'PATH': path, 'LEFDEF': 'commands/lefdef'}, check=False)
         with open(os.path.join(self.room, 'calls'), encoding='utf-8') as calls:
             return done, calls.read().split()
@@ -480,6 +483,78 @@ class ExampleTests(FlowCase):
         done, calls = self.go_through(2)
         self.assertEqual((done.returncode, calls), (2, ['place-check']), done.stderr)
         self.assertIn('run: the placement was not checked', done.stderr)
+
+    def test_a_block_that_is_not_routed_is_finished(self):
+        done, calls = self.go_through(lefdef={'route': 'echo "UNROUTABLE n"; exit 3', 'finish': 'cat "$2"'})
+        self.assertEqual((done.returncode, calls), (0, ['place-check', 'route', 'finish', 'measure', 'check']), done.stderr)
+
+    def test_a_block_that_is_not_finished_needs_more_room(self):
+        failing = {'route': 'echo "UNROUTABLE n"; exit 3', 'finish': 'echo "unfinished 2"; exit 3'}
+        done, calls = self.go_through(words=('made', self.file('ring.v', 'module ring (a);\n'), 'osu035', '0.7'), lefdef=failing)
+        self.assertEqual((done.returncode, done.stdout, calls), (1, 'UNROUTABLE n\nunfinished 2\n', ['place-check', 'route', 'finish']))
+        self.assertIn('osu035 0.5, or a number below 0.7\n', done.stderr)
+        self.assertFalse(os.path.exists(os.path.join(self.room, 'made', 'routed.def')))
+
+    def test_a_block_that_is_not_legalised_needs_more_room(self):
+        done, _ = self.go_through(1, lefdef={'legalise': 'echo "NOROOM u1"; exit 3'})
+        self.assertEqual((done.returncode, done.stdout), (1, 'NOROOM u1\n'))
+        self.assertIn('run: not legalised\nrun: give it more room:', done.stderr)
+
+    def test_a_design_of_ones_own_with_a_density(self):
+        self.file('own.v', '  module  top(a);\ninput a;\nendmodule\n')
+        qflow = f'echo "$*" >>words; for name; do :; done; [ "$3" = synthesize ] || cp {self.room}/placed.def "$name.def"'
+        done, _ = self.go_through(words=('made', 'own.v', 'osu050', '0.4'), qflow=qflow)
+        self.assertEqual(done.returncode, 0, done.stderr)
+        self.assertEqual(self.text_of('made/words'), '-T osu050 synthesize top\n-T osu050 place top\n')
+        self.assertEqual(self.text_of('made/project_vars.sh'), 'set initial_density = 0.4\n')
+        self.assertEqual(self.text_of('made/source/top.v'), self.text_of('own.v'))
+
+    def test_of_several_modules_the_top_one_has_the_name_of_the_file(self):
+        text = 'module first (a);\nendmodule\nmodule second (a);\nendmodule\n'
+        done, _ = self.go_through(words=('made', self.file('second.v', text)))
+        self.assertEqual((done.returncode, os.listdir(os.path.join(self.room, 'made', 'source'))), (0, ['second.v']), done.stderr)
+
+    def test_a_top_module_that_is_not_known_is_asked_for(self):
+        text = 'module first (a);\nendmodule\nmodule second (a);\nendmodule\n'
+        done, _ = self.go_through(words=('made', self.file('both.v', text)))
+        self.assertEqual(done.returncode, 5)
+        self.assertIn('It has:\nrun: first\nrun: second\nrun: name the file after it', done.stderr)
+
+    def test_a_folder_with_files_is_not_touched(self):
+        os.mkdir(os.path.join(self.room, 'made'))
+        self.file('made/routed.def', 'mine')
+        done, calls = self.go_through()
+        self.assertEqual((done.returncode, calls, self.text_of('made/routed.def')), (5, [], 'mine'))
+        self.assertIn('run: the folder made has files, which are not overwritten', done.stderr)
+
+    def test_a_design_that_is_missing(self):
+        done, _ = self.go_through(words=('made', 'nosuch.v'))
+        self.assertEqual((done.returncode, done.stderr), (5, 'run: cannot read the design nosuch.v\n'))
+        self.assertFalse(os.path.exists(os.path.join(self.room, 'made')))
+
+    def test_a_technology_that_is_not_installed_is_named(self):
+        done, _ = self.go_through(words=('made', 'ring.v', 'osu035'), library='/nosuch')
+        self.assertEqual((done.returncode, done.stderr), (5, 'run: missing Debian packages: qflow-tech-osu035\nrun: apt-get install -y qflow-tech-osu035\n'))
+
+    def test_words_that_mean_nothing(self):
+        for words, said in ((('made', 'ring.v', 'osu018', '1.5'), '1.5 is no density'), (('made', 'ring.v', 'osu018', '0.00'), '0.00 is no density'),
+                            (('made', 'ring.v', 'osu018', '0.5x'), '0.5x is no density'), (('made', 'ring.v', 'other'), 'there is no technology other'),
+                            (('made', 'ring.v', 'osu018', '0.5', 'more'), 'more than four words'), (('--force',), 'there is no option --force')):
+            with self.subTest(words=words):
+                done = subprocess.run(['/bin/sh', self.RUN, *words], capture_output=True, text=True, cwd=self.room, timeout=60, check=False)
+                self.assertEqual(done.returncode, 64)
+                self.assertIn(said, done.stderr)
+                self.assertIn('usage: ', done.stderr)
+
+    def test_a_design_that_qflow_does_not_place(self):
+        done, calls = self.go_through(qflow='echo "ERROR: no such gate"')
+        self.assertEqual((done.returncode, calls), (1, []))
+        self.assertIn('ERROR: no such gate', done.stderr)
+        self.assertIn('run: qflow wrote no ring.def; its whole output is in', done.stderr)
+
+    def text_of(self, name):
+        with open(os.path.join(self.room, name), encoding='utf-8') as file:
+            return file.read()
 
     def test_help(self):
         done = subprocess.run(['/bin/sh', self.RUN, '--help'], capture_output=True, text=True, timeout=60)

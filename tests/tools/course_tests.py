@@ -1,0 +1,215 @@
+"""Tests of examples/course: its blocks are as they are said to be, each violation is what its file says, and judge and score say what they should.
+The program is that of LEFDEF, or the one that is built in the tree; where an answer of lefdef is given, a small script stands in for it."""
+import os
+import re
+import subprocess
+import sys
+import tempfile
+import unittest
+
+TOP = os.path.normpath(os.path.join(os.path.dirname(os.path.abspath(__file__)), '..', '..'))
+COURSE = os.path.join(TOP, 'examples', 'course')
+CELLS = os.path.join(COURSE, 'cells.lef')
+PROGRAM = os.environ.get('LEFDEF') or os.path.join(TOP, 'crates', 'lefdef', 'out', 'lefdef')
+KINDS = ('UNPLACED', 'OUTSIDE', 'OFFSITE', 'OVERLAP', 'BLOCKED', 'SHORT', 'TOONEAR', 'OPEN')
+NAMES = [f'{exercise}{number}' for exercise in ('place', 'route') for number in range(1, 6)]
+sys.path.insert(0, os.path.join(TOP, 'tools'))
+
+from lefdef_text import read_design, read_library
+
+CELL_NAMES = ('INV', 'BUF', 'NAND2', 'NOR2', 'XOR2', 'MUX2', 'DFF', 'TIE', 'TAP', 'FILL')
+# Answers `compare` and the judging command with given lines and statuses, and everything else as the program does.
+STAND_IN = '''#!/bin/sh
+case $1 in
+compare) printf '{compared}'; exit {status};;
+{judging}) {judged};;
+*) exec {program} "$@";;
+esac
+'''
+
+
+def read(path):
+    with open(path, encoding='utf-8') as file:
+        return file.read()
+
+
+def block(name):
+    return os.path.join(COURSE, name[:-1], f'{name}.def')
+
+
+def asked(command, *paths):
+    """Returns the status of a command of the program, and its lines."""
+    done = subprocess.run([PROGRAM, command, *paths], capture_output=True, text=True, check=False, stdin=subprocess.DEVNULL)
+    return done.returncode, done.stdout.splitlines()
+
+
+class Room(unittest.TestCase):
+    """A test with a folder of its own."""
+
+    def setUp(self):
+        room = tempfile.TemporaryDirectory()
+        self.addCleanup(room.cleanup)
+        self.room = room.name
+
+    def file(self, name, text):
+        path = os.path.join(self.room, name)
+        with open(path, 'w', encoding='utf-8') as file:
+            file.write(text)
+        return path
+
+    def run_script(self, script, *words, program=PROGRAM):
+        """Returns the status of a script of the course, what it printed, and its messages."""
+        done = subprocess.run([sys.executable, os.path.join(COURSE, script), *words], capture_output=True, text=True, cwd=self.room, check=False,
+                              timeout=120, env={**os.environ, 'LEFDEF': program, 'PYTHONDONTWRITEBYTECODE': '1'})
+        return done.returncode, done.stdout, done.stderr
+
+
+class CellsTests(Room):
+    """The library."""
+
+    def test_cells_that_abut_are_legal_in_each_orientation(self):
+        macros = read_library([CELLS]).at(1000).macros
+        self.assertEqual(set(macros), set(CELL_NAMES))
+        lines, x = [], 0
+        for row, orientations in enumerate((('N', 'FN'), ('FS', 'S'))):
+            x = 0
+            for orientation in orientations:
+                for before in CELL_NAMES:
+                    for macro in (before, *CELL_NAMES):
+                        lines.append(f'- u{len(lines)} {macro} + PLACED ( {x} {2000 * row} ) {orientation} ;')
+                        x += macros[macro].width
+        rows = ''.join(f'ROW r{row} core 0 {2000 * row} {side} DO {x // 200} BY 1 STEP 200 0 ;\n' for row, side in enumerate(('N', 'FS')))
+        text = (f'DESIGN all ;\nUNITS DISTANCE MICRONS 1000 ;\nDIEAREA ( 0 0 ) ( {x} 4000 ) ;\n{rows}COMPONENTS {len(lines)} ;\n' + '\n'.join(lines)
+                + '\nEND COMPONENTS\nEND DESIGN\n')
+        self.assertEqual(asked('check', self.file('all.def', text), CELLS), (0, ['legal']))
+
+    def test_each_pin_has_a_crossing_of_tracks(self):
+        for macro in read_library([CELLS]).at(1000).macros.values():
+            for name, pin in macro.pins.items():
+                if pin.use not in ('POWER', 'GROUND'):
+                    crossings = [(x, y) for _, (x1, y1, x2, y2) in pin.shapes for x in range(100, macro.width, 200) for y in range(100, macro.height, 200)
+                                 if x1 < x < x2 and y1 < y < y2]
+                    self.assertTrue(crossings, (macro.name, name))
+
+
+class ViolationsTests(unittest.TestCase):
+    """The block for each kind of violation."""
+
+    def test_each_block_has_its_kind_alone(self):
+        folder = os.path.join(COURSE, 'violations')
+        self.assertEqual(sorted(os.listdir(folder)), sorted(f'{kind.lower()}.{ending}' for kind in KINDS for ending in ('def', 'txt')))
+        for kind in KINDS:
+            with self.subTest(kind=kind):
+                path = os.path.join(folder, kind.lower())
+                status, lines = asked('check', f'{path}.def', CELLS)
+                self.assertEqual((status, lines), (1, read(f'{path}.txt').splitlines()))
+                self.assertEqual({line.split()[0] for line in lines}, {kind, 'violations'})
+                self.assertRegex(read(f'{path}.def'), rf'\A# {kind}: .*\.\n')
+
+
+class BlocksTests(Room):
+    """The blocks of the exercises."""
+
+    def test_they_are_what_the_generator_writes(self):
+        status, out, err = self.run_script('generate', self.room)
+        self.assertEqual((status, out, err), (0, '', ''))
+        for name in NAMES:
+            self.assertEqual(read(os.path.join(self.room, name[:-1], f'{name}.def')), read(block(name)), name)
+
+    def test_those_to_be_legalised_are_not_legally_placed(self):
+        for name in NAMES[:5]:
+            status, lines = asked('place-check', block(name), CELLS)
+            self.assertEqual(status, 1, lines[:1])
+            self.assertLessEqual({'OFFSITE', 'OVERLAP'}, {line.split()[0] for line in lines}, name)
+
+    def test_those_to_be_routed_have_open_nets_alone(self):
+        for name in NAMES[5:]:
+            status, lines = asked('check', block(name), CELLS)
+            self.assertEqual((status, {line.split()[0] for line in lines}), (1, {'OPEN', 'violations'}), name)
+
+    def test_the_last_one_needs_more_than_one_net_after_the_other(self):
+        for name in NAMES[5:]:
+            status, lines = asked('route', block(name), CELLS)
+            self.assertEqual(status, 3 if name == 'route5' else 0, name)
+        self.assertIn(f'(`{lines[-1]}`)', read(os.path.join(COURSE, 'README.md')))
+
+    def test_the_table_of_the_page(self):
+        rows = dict(re.findall(r'(?m)^\| ((?:place|route)[0-9]) \| ([0-9]+, [0-9]+) \|', read(os.path.join(COURSE, 'README.md'))))
+        designs = {name: read_design(block(name), read_library([CELLS])) for name in NAMES}
+        self.assertEqual(rows, {name: f'{len(design.components)}, {len(design.nets)}' for name, design in designs.items()})
+
+    def test_the_definitions_of_the_page_are_those_of_the_files(self):
+        given = [line[4:] for line in read(os.path.join(COURSE, 'README.md')).splitlines() if re.match(r'    (  )?pub ', line)]
+        folder = os.path.join(TOP, 'crates', 'leg_wire', 'specs')
+        lines = [line for name in ('Spacing', 'Comparable') for line in read(os.path.join(folder, f'{name}.antt')).splitlines()]
+        self.assertEqual([line for line in given if line not in lines], [])
+        self.assertEqual(len(given), 17)
+
+
+class BestTests(Room):
+    """The best known scores."""
+
+    def test_they_are_what_the_program_reaches(self):
+        self.assertEqual(self.run_script('score', '--own'), (0, read(os.path.join(COURSE, 'best.txt')), ''))
+
+
+class JudgeTests(Room):
+    """What judge and score say of answers."""
+
+    def stand_in(self, compared, status, judged='exit 70', judging='nothing'):
+        path = self.file('lefdef', STAND_IN.format(compared=compared, status=status, judging=judging, judged=judged, program=PROGRAM))
+        os.chmod(path, 0o755)
+        return path
+
+    def answer(self, name, command, file=None):
+        done = subprocess.run([PROGRAM, command, block(name), CELLS], capture_output=True, text=True, check=True, stdin=subprocess.DEVNULL)
+        return self.file(file or f'{name}.def', done.stdout)
+
+    def test_answers_that_are_legal_and_still_their_blocks(self):
+        for name, command, compared in (('place1', 'legalise', 'places 15'), ('route1', 'route', 'wires 8')):
+            path, program = self.answer(name, command), self.stand_in(f'{compared}\\n', 1)
+            self.assertEqual(self.run_script('judge', path, program=program), (0, f'{name} legal\n', ''))
+
+    def test_scores_are_beside_the_best_ones(self):
+        path, program = self.answer('place1', 'legalise'), self.stand_in('places 15\\n', 1)
+        numbers = next(line.split(' #')[0].split()[1:] for line in read(os.path.join(COURSE, 'best.txt')).splitlines() if line.startswith('place1 '))
+        pairs = ' '.join(f'{word} {number} best {number}' for word, number in zip(numbers[::2], numbers[1::2]))
+        self.assertEqual(self.run_script('score', path, program=program), (0, f'place1 {pairs}\n', ''))
+
+    def test_a_block_as_it_was_handed_out(self):
+        for name, kinds in (('place1', 'OFFSITE 15, OVERLAP 9'), ('route1', 'OPEN 8')):
+            path, program = self.file(f'{name}.anna.def', read(block(name))), self.stand_in('same\\n', 0)
+            for script in ('judge', 'score'):
+                self.assertEqual(self.run_script(script, path, program=program), (1, f'{name} not legal: {kinds}\n', ''))
+
+    def test_other_changes_than_those_of_the_exercise(self):
+        moved = 'CHANGED COMPONENT t1 PLACE\\nCHANGED COMPONENT u2 PLACE\\ndiffers 2\\n'
+        for name, compared, said in (('place3', moved, 'CHANGED COMPONENT t1 PLACE'), ('route1', 'GONE NET n1\\ndiffers 1\\n', 'GONE NET n1'),
+                                     ('route1', 'CHANGED COMPONENT u2 PLACE\\nplaces 1\\n', 'CHANGED COMPONENT u2 PLACE'),
+                                     ('place1', 'DIFFERS ROWS\\nGONE NET n1\\nCHANGED COMPONENT u2 PLACE\\ndiffers 3\\n', 'DIFFERS ROWS, and 1 more'),
+                                     ('place1', 'CHANGED NET n1 MOREWIRES\\nwires 1\\n', 'CHANGED NET n1 MOREWIRES')):
+            with self.subTest(compared=compared):
+                judging = 'place-check | check'
+                program = self.stand_in(compared, 1, 'echo legal', judging)
+                self.assertEqual(self.run_script('judge', self.file(f'{name}.def', ''), program=program), (1, f'{name} another block: {said}\n', ''))
+
+    def test_answers_that_are_not_judged(self):
+        cut = self.file('place1.def', 'DESIGN d ;\n')
+        status, out, _ = self.run_script('judge', cut, self.file('mine.def', ''), os.path.join(self.room, 'place2.def'))
+        self.assertEqual(status, 2)
+        lines = out.splitlines()
+        self.assertRegex(lines[0], r'^place1 not read: .*place1\.def:1')
+        self.assertRegex(lines[1], r'mine\.def no block has this name: it is place1\.def to route5\.def$')
+        self.assertRegex(lines[2], r'^place2 not judged: cannot read .*place2\.def')
+        status, out, _ = self.run_script('judge', self.file('route1.def', read(block('route1'))), program=self.stand_in('', 64))
+        self.assertEqual((status, out), (2, 'route1 not judged: lefdef compare ended with status 64: \n'))
+
+    def test_usage(self):
+        for script in ('judge', 'score', 'generate'):
+            self.assertEqual(self.run_script(script)[0::2][0], 64)
+            status, out, _ = self.run_script(script, '--help')
+            self.assertEqual((status, f'examples/course/{script} ' in out), (0, True))
+
+
+if __name__ == '__main__':
+    unittest.main()
