@@ -5,11 +5,12 @@ use clap::{Arg, ArgAction, Command};
 use std::alloc::{AllocError, Global};
 
 const ABOUT: &str = "Checks, measures, legalises and routes a placed block of standard cells.
-With no arguments it reads one LEF that ends in END LIBRARY and then one DEF from standard input, and runs check.";
+With no arguments it reads one LEF that ends in END LIBRARY and then one DEF from standard input, and runs check.
+lefdef compare BEFORE AFTER LEF... prints what differs between two DEFs.";
 
 const STATUSES: &str = "Exit status:
-  0   the block is legal, or a design, a wirelength or this help was printed
-  1   violations were listed
+  0   the block is legal, the two DEFs are the same, or a design, a wirelength or this help was printed
+  1   violations or differences were listed
   2   a text was refused, a LEF length cannot be converted to database units, or a check met too many shapes
   3   the block could not be legalised, routed or finished
   4   out of memory

@@ -1,7 +1,8 @@
 //! lefdef: is a placed block of standard cells legal?
 //!
 //! `lefdef COMMAND DEF LEF...` reads the files, asks `leg_app` and writes its answer. With no arguments it reads one
-//! LEF that ends in END LIBRARY and then one DEF from standard input, and runs `check`. `lefdef --help` prints help.
+//! LEF that ends in END LIBRARY and then one DEF from standard input, and runs `check`. `lefdef compare BEFORE AFTER LEF...` tells what
+//! differs between two DEFs. `lefdef --help` prints help.
 #![tactic(auto)]
 
 mod help;
@@ -9,8 +10,9 @@ mod rounds;
 
 use help::help_text;
 use leg_app::{
-    Asked, FILE_LIMIT, Halt, InputFault, Line, Progress, Reason, RunFault, STREAM_LIMIT, Status,
-    asked_by, read_all, run_explained, run_help, run_out, run_stream_explained,
+    Asked, CompareLine, FILE_LIMIT, Halt, InputFault, Line, Progress, Reason, RunFault,
+    STREAM_LIMIT, Side, Status, asked_by, read_all, run_compare, run_explained, run_help, run_out,
+    run_stream_explained,
 };
 use leg_message::{NotingWriter, Paths, Texts, message, stream_message};
 use rounds::Rounds;
@@ -71,6 +73,7 @@ fn answered<'a, R: Runtime + AllocGlobal, P: Progress>(
     match asked_by(words) {
         Some(Asked::Stream) => on_stream(rt),
         Some(Asked::Help) => on_help(rt),
+        Some(Asked::Compare(line)) => on_two_files(rt, &line),
         Some(Asked::Files(line)) => on_files(rt, &line, progress),
         None => Err(Stop::Halt(Halt::Usage, None)),
     }
@@ -94,6 +97,18 @@ fn on_files<'a, R: Runtime + AllocGlobal, A: Allocator, P: Progress>(
     let def = file(rt, line.def)?;
     let lefs = as_slices(rt, &texts)?;
     on_texts(rt, line, &lefs, &def, progress)
+}
+
+// What differs between two DEFs: the LEFs are read in turn and then the DEFs, before any of them is judged.
+fn on_two_files<'a, R: Runtime + AllocGlobal, A: Allocator>(
+    rt: &R,
+    line: &CompareLine<'a, A>,
+) -> Result<Status, Stop<'a>> {
+    let texts = texts_of(rt, line.lefs)?;
+    let before = file(rt, line.before)?;
+    let after = file(rt, line.after)?;
+    let lefs = as_slices(rt, &texts)?;
+    on_two_texts(rt, line, &lefs, &before, &after)
 }
 
 // The bytes of these files.
@@ -133,27 +148,50 @@ fn on_texts<R: Runtime + AllocGlobal, A: Allocator, P: Progress>(
     let ran = run_explained(rt.alloc(), line.command, lefs, def, &mut out, progress);
     let ended = written(ran, out.error())?;
     if let Some(reason) = &ended.reason {
-        explain(rt, message_on(rt, line, lefs, def, reason));
+        explain(rt, message_on(rt, line.lefs, line.def, lefs, def, reason));
     }
     Ok(ended.status)
 }
 
-// The message on a run over the texts of files that stopped for this reason.
+// What differs between the texts of two DEFs.
+fn on_two_texts<R: Runtime + AllocGlobal, A: Allocator>(
+    rt: &R,
+    line: &CompareLine<'_, A>,
+    lefs: &[&[u8]],
+    before: &[u8],
+    after: &[u8],
+) -> Result<Status, Stop<'static>> {
+    let mut out = NotingWriter::new(io::writer(rt));
+    let ran = run_compare(rt.alloc(), lefs, before, after, &mut out);
+    let ended = written(ran, out.error())?;
+    if let Some(stopped) = &ended.reason {
+        let (path, def) = match stopped.side {
+            Side::Before => (line.before, before),
+            Side::After => (line.after, after),
+        };
+        let message = message_on(rt, line.lefs, path, lefs, def, &stopped.reason);
+        explain(rt, message);
+    }
+    Ok(ended.status)
+}
+
+// The message on a run over the texts of files of these paths that stopped for this reason.
 fn message_on<'t, R: Runtime + AllocGlobal, A: Allocator>(
     rt: &R,
-    line: &'t Line<'t, A>,
+    lef_paths: &'t [String<A>],
+    def_path: &'t str,
     lefs: &'t [&'t [u8]],
     def: &'t [u8],
     reason: &Reason<'_, Global>,
 ) -> Result<Vec<u8>, AllocError> {
     let mut paths = Vec::new(rt.alloc());
-    for path in line.lefs {
+    for path in lef_paths {
         paths.push(path.as_bytes())?;
     }
     let texts = Texts {
         paths: Some(Paths {
             lefs: &paths,
-            def: line.def.as_bytes(),
+            def: def_path.as_bytes(),
         }),
         lefs,
         def,
@@ -252,7 +290,7 @@ fn halted<R: Runtime + AllocGlobal>(rt: &R, halt: &Halt<'_>, cause: Option<io::E
         Halt::NotRead(path) => eprintln!(rt; "cannot read {path}"),
         Halt::NotWritten => eprintln!(rt; "cannot write"),
         Halt::Usage => eprintln!(rt;
-            "usage: lefdef COMMAND DEF LEF...\nCOMMAND is check, place-check, measure, legalise, route, flow or finish; lefdef --help says more"
+            "usage: lefdef COMMAND DEF LEF...\n       lefdef compare BEFORE AFTER LEF...\nCOMMAND is check, place-check, measure, legalise, route, flow or finish; lefdef --help says more"
         ),
     };
     // A message that can't be written changes no status.

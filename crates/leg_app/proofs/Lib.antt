@@ -9,3 +9,5 @@ mod CutTexts
 mod CutStreams
 mod OneStream
 mod Reasons
+mod Comparisons
+mod OneComparison

@@ -12,5 +12,7 @@ pub mod Flow
 pub mod Made
 pub mod Answer
 pub mod Reason
+pub mod CompareLines
+pub mod Comparison
 pub mod End
 pub mod Steps

@@ -93,8 +93,8 @@ fn library_answer<'e, A: Allocator + Copy, P: Progress>(
     }
 }
 
-// The name of the macro whose pin is needed, if one is.
-fn needed_master<A: Allocator + Copy>(
+/// The name of the macro whose pin is needed, if one is.
+pub(crate) fn needed_master<A: Allocator + Copy>(
     alloc: A,
     library: &Library<'_, A>,
     need: Need,

@@ -14,6 +14,7 @@ ghost use Rattle.leg_app.specs.Say.{SayLibraryFor, SayDesign};
 ghost use Rattle.leg_rules.specs.Violations.{AreAllViolations};
 ghost use Rattle.leg_app.specs.Violations.{AreViolationsOf};
 ghost use Rattle.leg_app.specs.Answer.{IsAnswer, IsStreamAnswer};
+ghost use Rattle.leg_app.specs.Comparison.{IsComparison};
 
 /// LEF texts denote one library at most, at the units of a DEF.
 pub fn texts_say_one_library()
@@ -63,6 +64,16 @@ pub fn stream_has_one_answer()
         → status ≢ Refused → status ≢ Memory → other ≢ Memory → (status ≡ other) × (text ≡ words) }
 {
     command_has_one_answer();
+}
+
+/// Of two answers of `compare` to the same texts, neither of them that memory ran out, either both refuse the texts, or they have
+/// the same status and the same text.
+pub fn comparison_has_one_answer()
+    ensures { (lefs : List (List ℕ)) (before after : List ℕ) (status other : Status) (text words : List ℕ)
+        → IsComparison lefs before after status text → IsComparison lefs before after other words
+        → status ≢ Refused → status ≢ Memory → other ≢ Memory → (status ≡ other) × (text ≡ words) }
+{
+    texts_say_one_design();
 }
 
 /// A file that is cut at `FILE_LIMIT` is answered as the whole of it: what is cut off is beyond what a text may have.

@@ -3,6 +3,10 @@
 
 mod answer;
 mod check;
+mod compare;
+mod compare_end;
+mod compare_lines;
+mod compare_output;
 mod end;
 mod finish_answer;
 mod finish_lines;
@@ -22,13 +26,19 @@ mod texts;
 // What a tool needs to read a block and to print what is not legal about it.
 pub use answer::{Answer, answer_to};
 pub use check::{Checked, check_design, check_texts};
+pub use compare::compare_texts;
+pub use compare_end::{ComparisonAnswer, ComparisonEnd, ComparisonReason, Side};
+pub use compare_output::run_compare;
 pub use end::Halt;
 pub use leg_block::{Design, Fault};
 pub use leg_cells::{Library, ScaleFault};
 pub use leg_design::DefText;
 pub use leg_finish::Progress;
 pub use leg_flat::{Flat, FlatFault};
-pub use leg_input::{Asked, Command, InputFault, Line, asked_by, line_of, read_all, split_stream};
+pub use leg_input::{
+    Asked, Command, CompareLine, InputFault, Line, asked_by, compare_line_of, line_of, read_all,
+    split_stream,
+};
 pub use leg_lex::ReadFault;
 pub use leg_lib::read_lefs;
 pub use leg_print::print_faults;

@@ -2,7 +2,7 @@
 
 ghost use Rattle.std.specs.Prelude.{◌≡◌, ◌++◌, IfOk, OnOk, option_map, codes, decimal};
 ghost use Rattle.std.specs.Fmt.{signed_decimal};
-ghost use Rattle.leg_app.specs.Lines.{kind_name, listing_text, refused_text, scale_kind_name, scale_text, wirelength_text};
+ghost use Rattle.leg_app.specs.Lines.{kind_name, listing_text, refused_line, refused_text, scale_kind_name, scale_text, wirelength_text};
 
 use itoa::Buffer;
 use leg_block::{Design, Fault};
@@ -48,8 +48,19 @@ pub(crate) fn refused_text<A: Allocator + Copy>(
 ) -> Result<Vec<u8, A>, AllocError>
     ensures { IfOk result (λ text. text.items ≡ refused_text fault.now) }
 {
+    refused_line(alloc, u64::from(fault.file), fault)
+}
+
+/// The line for a text of this number that isn't read.
+pub(crate) fn refused_line<A: Allocator + Copy>(
+    alloc: A,
+    file: u64,
+    fault: &ReadFault,
+) -> Result<Vec<u8, A>, AllocError>
+    ensures { IfOk result (λ text. text.items ≡ refused_line file fault.now.line fault.now.kind) }
+{
     let mut text = Vec::from_slice(alloc, b"REFUSED ")?;
-    push_number(&mut text, u64::from(fault.file))?;
+    push_number(&mut text, file)?;
     text.extend_from_slice(b" ")?;
     push_number(&mut text, u64::from(fault.line))?;
     text.extend_from_slice(b" ")?;

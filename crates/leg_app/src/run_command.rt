@@ -157,8 +157,8 @@ pub fn run_help<W: Write>(out: &mut W, help: &[u8]) -> Result<Status, RunFault>
     Ok(Status::Success)
 }
 
-// Stops at the writer's first error, and where it takes no byte.
-fn write_text<W: Write>(out: &mut W, text: &[u8]) -> Result<(), RunFault>
+/// Writes the text whole. It stops at the writer's first error, and where it takes no byte.
+pub(crate) fn write_text<W: Write>(out: &mut W, text: &[u8]) -> Result<(), RunFault>
     ensures whole { OnOk result (Appends (W.contents out.old) (W.contents out.new) text.now) }
     ensures cut { OnErr result (TakesFront text.now (W.contents out.old) (W.contents out.new)) }
 {

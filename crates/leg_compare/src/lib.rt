@@ -14,4 +14,5 @@ mod verdict;
 
 pub use difference::{Change, Difference, Part, Section, Verdict};
 pub use listing::differences;
+pub use section::entry_name;
 pub use verdict::verdict_of;

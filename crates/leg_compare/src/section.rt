@@ -56,6 +56,21 @@ pub(crate) fn name_at<'a, A: Allocator + Copy>(
     }
 }
 
+/// The name of the entry of this number; empty beyond the last.
+pub fn entry_name<'a, A: Allocator + Copy>(
+    design: &Design<'a, A>,
+    section: Section,
+    number: usize,
+) -> &'a [u8]
+    ensures { result.now ≡ get_or (names_of section design.now) number [] }
+{
+    if number < count_of(design, section) {
+        name_at(design, section, number)
+    } else {
+        b""
+    }
+}
+
 /// The names of the entries, with an index.
 pub(crate) fn names_of<'a, A: Allocator + Copy>(
     alloc: A,

@@ -8,5 +8,5 @@ mod stream;
 
 pub use command::Command;
 pub use input::{InputFault, read_all};
-pub use line::{Asked, Line, asked_by, line_of};
+pub use line::{Asked, CompareLine, Line, asked_by, compare_line_of, line_of};
 pub use stream::split_stream;

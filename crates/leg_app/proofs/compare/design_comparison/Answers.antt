@@ -1,0 +1,39 @@
+use Rattle.std.proofs.Common.{map, sym, ◌∙◌, subst}
+use Rattle.leg_lex.specs.Say.{Says}
+use Rattle.leg_lex.proofs.Saying.{says_one}
+use Rattle.leg_design.specs.Header.{units_in}
+use Rattle.leg_app.proofs.AnswerLemmas.{ok_weaker}
+use Rattle.leg_app.proofs.Sayings.{no_units, nothing_under}
+use Rattle.leg_app.proofs.Comparisons.{say_design, just_other}
+use Rattle.leg_app.proofs.compare.design_comparison.Goals as goal
+
+pub returns-then-units : goal.returns-then-units
+returns-then-units g c =
+    let lefs = map (λ t. t.now) c.args.lefs.now in
+    let library = c.args.library.now in
+    let after = c.args.after.now in
+    let same = c.if-units.true ∙ c.units.ensures in
+    ok_weaker _ _ c.second_comparison.result
+    (λ answer all before just says. all lefs before (say_design lefs before library c.args.first.now just says) (just_other lefs before after library (subst (Says units_in after) same c.in-Ok.ensures.units) just))
+    (rw c.in-Ok.ensures.text at c.second_comparison.ensures)
+
+pub returns-in-Ok : goal.returns-in-Ok
+returns-in-Ok g c =
+    let lefs = map (λ t. t.now) c.args.lefs.now in
+    let library = c.args.library.now in
+    let after = c.args.after.now in
+    ok_weaker _ _ c.other_units.result
+    (λ answer all before just says. all before c.args.first.now (say_design lefs before library c.args.first.now just says)
+    (λ units said is. c.if-units.false (says_one units_in after c.in-Ok.units units c.in-Ok.ensures.units said ∙ (is ∙ sym c.units.ensures))))
+    c.other_units.ensures
+
+pub returns : goal.returns
+returns g c =
+    let lefs = map (λ t. t.now) c.args.lefs.now in
+    let after = c.args.after.now in
+    ok_weaker _ _ c.refusal.result
+    (λ answer all before just says. all lefs before after
+    (λ not_memory. nothing_under lefs after (no_units lefs after (c.in-Err.ensures.none (λ is. not_memory (c.behind_lefs.ensures.kind ∙ is)))))
+    tt
+    (λ not_memory library say. absurd (no_units lefs after (c.in-Err.ensures.none (λ is. not_memory (c.behind_lefs.ensures.kind ∙ is))) library say)))
+    c.refusal.ensures

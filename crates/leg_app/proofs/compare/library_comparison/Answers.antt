@@ -1,0 +1,16 @@
+use Rattle.std.proofs.Common.{map}
+use Rattle.leg_app.proofs.AnswerLemmas.{ok_weaker}
+use Rattle.leg_app.proofs.Comparisons.{library_of}
+use Rattle.leg_app.proofs.compare.library_comparison.Goals as goal
+
+pub design_comparison-requires : goal.design_comparison-requires
+design_comparison-requires g c = library_of c.args.library.now c.args.before c.in-Ok.first c.in-Ok.ensures.found
+
+pub returns-in-Ok : goal.returns-in-Ok
+returns-in-Ok g c =
+    ok_weaker _ _ c.design_comparison.result (λ answer all just. all c.args.before just c.in-Ok.ensures.found) c.design_comparison.ensures
+
+pub returns-in-Err : goal.returns-in-Err
+returns-in-Err g c =
+    let lefs = map (λ t. t.now) c.args.lefs.now in
+    ok_weaker _ _ c.unread.result (λ answer all just. all lefs c.args.before c.args.after.now just c.in-Err.ensures.none) c.unread.ensures

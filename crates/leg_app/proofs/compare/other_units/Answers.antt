@@ -1,0 +1,28 @@
+use Rattle.std.proofs.Common.{map, sym, ◌∙◌}
+use Rattle.leg_app.specs.Say.{SayNothing}
+use Rattle.leg_app.specs.Steps.SaidLibrary.{SayNoLibrary}
+use Rattle.leg_app.proofs.AnswerLemmas.{ok_weaker, refuses_weaker, master_of_none}
+use Rattle.leg_app.proofs.Sayings.{nothing_under}
+use Rattle.leg_app.proofs.compare.other_units.Goals as goal
+
+pub returns-in-Ok : goal.returns-in-Ok
+returns-in-Ok g c =
+    let lefs = map (λ t. t.now) c.args.lefs.now in
+    let after = c.args.after.now in
+    let said = c.in-Ok.ensures in
+    let found = said.found in
+    ok_weaker _ _ c.other_library.result
+    (λ answer all before first say apart. all lefs before c.args.library.now first say
+    (λ same. apart found.units found.unit (sym (same ∙ found.scaled.units)))
+    (record { found = found; only = said.only }))
+    (rw said.text at c.other_library.ensures)
+
+pub returns-in-Err : goal.returns-in-Err
+returns-in-Err g c =
+    let lefs = map (λ t. t.now) c.args.lefs.now in
+    let after = c.args.after.now in
+    let fault = c.in-Err.fault in
+    let none = c.in-Err.ensures.none in
+    ok_weaker _ _ c.refusal.result
+    (λ answer all before first say apart. all lefs before after (refuses_weaker {nothing = SayNoLibrary lefs after} {other = SayNothing lefs after} {much = ⊥} {more = ⊥} fault (nothing_under lefs after) (λ much. much) none) c.in-Err.ensures.units (master_of_none lefs after fault none))
+    c.refusal.ensures

@@ -1,0 +1,22 @@
+use Rattle.std.proofs.Common.{◌≢◌, inr}
+use Rattle.leg_cells.specs.declared.scale_fault.ScaleKind.TheVariants as scale
+use Rattle.leg_app.proofs.AnswerLemmas.{ok_weaker}
+use Rattle.leg_app.proofs.Comparisons.{nothing_of}
+use Rattle.leg_app.proofs.compare.refusal.Goals as goal
+
+pub returns-in-Read : goal.returns-in-Read
+returns-in-Read g c =
+    ok_weaker _ _ c.not_read.result
+    (λ answer all lefs before after refused units of_master. all lefs before after (rw c.in-Read.is at refused) (rw c.in-Read.is at of_master))
+    c.not_read.ensures
+
+pub returns-in_ok-text-in-Scale : goal.returns-in_ok-text-in-Scale
+returns-in_ok-text-in-Scale g c = λ lefs before after refused units of_master.
+    let fault = c.in-Scale.fault in
+    let not_memory : fault.kind ≢ scale.Memory = λ is. (let same = rw is at c.if-ne.ensures in cc) in
+    let nothing = (rw c.in-Scale.is at refused) not_memory in
+    let told = c.in_ok-text-in-Scale.ensures in
+    rw c.refused.ensures (record {
+      answer = record { nothing = nothing_of c.args.side lefs before after nothing; reason = inr (record { name = fault.name; kind = fault.kind; not_memory = not_memory; is = told }) };
+      explains = (tt, (not_memory, told), record { nothing = nothing; units_are = rw c.in-Scale.is at units });
+    })

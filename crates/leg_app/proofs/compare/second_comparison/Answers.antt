@@ -1,0 +1,23 @@
+use Rattle.std.proofs.Common.{◌∙◌, sym, subst}
+use Rattle.leg_app.specs.Say.{SayDesign}
+use Rattle.leg_app.proofs.AnswerLemmas.{ok_weaker}
+use Rattle.leg_app.proofs.Comparisons.{say_design, library_of}
+use Rattle.leg_app.proofs.compare.second_comparison.Goals as goal
+
+pub comparison-requires : goal.comparison-requires
+comparison-requires g c = c.requires ∙ sym (library_of c.args.library.now c.args.after c.in-Ok.second c.in-Ok.ensures.found)
+
+pub returns-in-Ok : goal.returns-in-Ok
+returns-in-Ok g c =
+    let library = c.args.library.now in
+    let first = c.args.first.now in
+    let second = c.in-Ok.second in
+    ok_weaker _ _ c.comparison.result
+    (λ answer all lefs before say just. all lefs before c.args.after
+    (subst (λ l. SayDesign lefs before l first) (sym c.requires) say)
+    (subst (λ l. SayDesign lefs c.args.after l second) (sym c.requires) (say_design lefs c.args.after library second just c.in-Ok.ensures.found)))
+    c.comparison.ensures
+
+pub returns-in-Err : goal.returns-in-Err
+returns-in-Err g c =
+    ok_weaker _ _ c.unread.result (λ answer all lefs before say just. all lefs before c.args.after just c.in-Err.ensures.none) c.unread.ensures

@@ -1,0 +1,16 @@
+use Rattle.std.proofs.Common.{◌∙◌, ap, sym}
+use Rattle.leg_app.specs.Reason.{needed_master}
+use Rattle.leg_app.specs.Comparison.{def_of}
+use Rattle.leg_app.proofs.AnswerLemmas.{ok_weaker}
+use Rattle.leg_app.proofs.Sayings.{no_design}
+use Rattle.leg_app.proofs.compare.unread.Goals as goal
+
+pub returns : goal.returns
+returns g c =
+    let library = c.args.library.now in
+    ok_weaker _ _ c.refusal.result
+    (λ answer all lefs before after just none. all lefs before after
+    (λ not_memory. no_design lefs (def_of c.args.side before after) library just (none (λ is. not_memory (c.behind_lefs.ensures.kind ∙ is))))
+    tt
+    (λ not_memory other say. c.in_ok-master.ensures ∙ (ap (λ l. needed_master l c.args.fault.need) (sym (just.only other say)) ∙ ap (λ need. needed_master other need) (sym c.behind_lefs.ensures.need))))
+    c.refusal.ensures

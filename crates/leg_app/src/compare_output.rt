@@ -1,0 +1,43 @@
+//! A comparison from its texts to the bytes that are written.
+
+ghost use Rattle.std.specs.Prelude.{map, IfOk, OnErr};
+ghost use Rattle.leg_app.specs.Answer.{TakesAnswer, TakesPart};
+ghost use Rattle.leg_app.specs.Comparison.{IsComparison, IsComparisonExplained};
+
+use crate::compare::compare_texts;
+use crate::compare_end::ComparisonEnd;
+use crate::run_command::{RunFault, run_out, write_text};
+use std::alloc::Allocator;
+use std::io::Write;
+
+/// Writes what `compare` answers to the texts of the LEFs, in order, and of two DEFs, and returns how it ended. The answer's text is made
+/// whole before its first byte is written, and nothing is flushed. After a fault the writer has taken a proper prefix of it.
+pub fn run_compare<'a, W: Write, A: Allocator + Copy>(
+    alloc: A,
+    lefs: &[&'a [u8]],
+    before: &[u8],
+    after: &[u8],
+    out: &mut W,
+) -> Result<ComparisonEnd<'a, A>, RunFault>
+    ensures whole { IfOk result (λ ended. TakesAnswer (IsComparisonExplained (map (λ t. t.now) lefs.now) before.now after.now ended.reason) ended.status
+        (W.contents out.old) (W.contents out.new)) }
+    ensures cut { OnErr result (TakesPart (IsComparison (map (λ t. t.now) lefs.now) before.now after.now)
+        (W.contents out.old) (W.contents out.new)) }
+{
+    match compare_texts(alloc, lefs, before, after) {
+        Ok(answer) => {
+            write_text(out, &answer.text)?;
+            Ok(ComparisonEnd {
+                status: answer.status,
+                reason: answer.reason,
+            })
+        }
+        Err(_) => {
+            let status = run_out(out)?;
+            Ok(ComparisonEnd {
+                status,
+                reason: None,
+            })
+        }
+    }
+}
