@@ -6,3 +6,6 @@ mod Wires
 -- What printed texts say
 mod SaidAgain
 mod Legal
+-- What differs between a DEF and a printed text
+mod LastLines
+mod PrintedDifferences

@@ -16,9 +16,14 @@ ghost use Rattle.leg_app.specs.Routed.{PrintsRouted};
 ghost use Rattle.leg_app.specs.Flow.{PrintsFlow};
 ghost use Rattle.leg_app.specs.Finished.{PrintsFinished};
 ghost use Rattle.leg_agree.specs.Legal.{AnswersLegal};
+ghost use Rattle.leg_agree.specs.LastLine.{IsOfPlaces, IsOfWires, IsOfPlacesAndWires, AnswersAs};
 
 use leg_again::laws::printed_text_says_its_design;
-use leg_app::laws::command_has_one_answer;
+use leg_app::laws::{command_has_one_answer, texts_say_one_design};
+use leg_compare::laws::{
+    legalised_and_routed_design_differs_in_places_and_wires, legalised_design_differs_in_places,
+    routed_design_differs_in_wires,
+};
 
 /// What `route`, `legalise`, `flow` and `finish` print denotes the design that they made, under its library: the lines on how far
 /// components have moved, and on added wires, are comments.
@@ -81,4 +86,49 @@ pub fn finished_text_is_legal()
 {
     printed_text_says_its_design();
     command_has_one_answer();
+}
+
+/// What `legalise` prints differs in places of movable components alone from the DEF that it is made of: `compare` answers `same` or
+/// `places N`.
+pub fn legalised_text_differs_in_places()
+    ensures { (lefs : List (List ℕ)) (def text : List ℕ) (library : Contents) (design : DesignContents)
+        → SayDesign lefs def library design → (printed : PrintsLegalised design text)
+        → StayOne (printed_names printed.legalised) → length text ≤ TEXT_LIMIT → AnswersAs IsOfPlaces lefs def text }
+{
+    printed_texts_say_their_designs();
+    texts_say_one_design();
+    legalised_design_differs_in_places();
+}
+
+/// What `route` prints differs in added wires alone: `compare` answers `same` or `wires N`.
+pub fn routed_text_differs_in_wires()
+    ensures { (lefs : List (List ℕ)) (def text : List ℕ) (library : Contents) (design : DesignContents)
+        → SayDesign lefs def library design → (printed : PrintsRouted design text)
+        → StayOne (printed_names printed.routed) → length text ≤ TEXT_LIMIT → AnswersAs IsOfWires lefs def text }
+{
+    printed_texts_say_their_designs();
+    texts_say_one_design();
+    routed_design_differs_in_wires();
+}
+
+/// What `finish` prints differs in added wires alone: `compare` answers `same` or `wires N`.
+pub fn finished_text_differs_in_wires()
+    ensures { (lefs : List (List ℕ)) (def text : List ℕ) (library : Contents) (design : DesignContents)
+        → SayDesign lefs def library design → (printed : PrintsFinished design text)
+        → StayOne (printed_names printed.finished) → length text ≤ TEXT_LIMIT → AnswersAs IsOfWires lefs def text }
+{
+    printed_texts_say_their_designs();
+    texts_say_one_design();
+    routed_design_differs_in_wires();
+}
+
+/// What `flow` prints differs in places of movable components and in added wires alone: `compare` answers no `differs N`.
+pub fn flow_text_differs_in_places_and_wires()
+    ensures { (lefs : List (List ℕ)) (def text : List ℕ) (library : Contents) (design : DesignContents)
+        → SayDesign lefs def library design → (printed : PrintsFlow design text)
+        → StayOne (printed_names printed.routed) → length text ≤ TEXT_LIMIT → AnswersAs IsOfPlacesAndWires lefs def text }
+{
+    printed_texts_say_their_designs();
+    texts_say_one_design();
+    legalised_and_routed_design_differs_in_places_and_wires();
 }
