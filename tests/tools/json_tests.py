@@ -116,13 +116,28 @@ class JsonTests(Room):
         found = self.objects(example('around.def'), STANDARD, stdin=text + '# length 1400\n# vias 4\n')
         self.assertEqual([(line['kind'], line.get('length'), line.get('count')) for line in found[1:]], [('length', 1.4, None), ('vias', None, 4)])
 
+    def test_what_differs_between_two_designs(self):
+        answer = 'DIFFERS ROWS\nGONE COMPONENT u1\nADDED NET n2\nCHANGED COMPONENT u2 PLACE\ndiffers 4\n'
+        words = example('wired.def'), STANDARD, '--after', example('unfinished.def')
+        found = self.objects(*words, stdin=answer)
+        self.assertEqual([{name: value for name, value in line.items() if name not in ('number', 'text')} for line in found], [
+            {'kind': 'DIFFERS', 'part': 'ROWS'}, {'kind': 'GONE', 'section': 'COMPONENT', 'name': 'u1'}, {'kind': 'ADDED', 'section': 'NET', 'name': 'n2'},
+            {'kind': 'CHANGED', 'section': 'COMPONENT', 'name': 'u2', 'change': 'PLACE'}, {'kind': 'differs', 'count': 4}])
+        places = 'CHANGED COMPONENT u2 PLACE\nCHANGED NET n1 MOREWIRES\nplaces 1 wires 1\n'
+        self.assertEqual(self.objects(*words, stdin=places)[-1], {'kind': 'places', 'number': 3, 'text': 'places 1 wires 1', 'places': 1, 'wires': 1})
+        self.assertEqual(self.objects(*words, stdin='same\n'), [{'kind': 'same', 'number': 1, 'text': 'same'}])
+        done = self.run_tool('to-json', *words, stdin='CHANGED COMPONENT u2 PLACE\nplaces 1 wires 1\n')
+        self.assertEqual((done.returncode, done.stderr), (2, '-:2: 2 differences are counted, and 1 listed\n'))
+        found, = self.objects(example('wired.def'), STANDARD, '--after', example('misspelt.def'), stdin='REFUSED 2 10 UnknownName\n')
+        self.assertEqual((found['file'], found['column'], found['word']), (example('misspelt.def'), 6, 'INVX'))
+
     def test_each_answer_of_the_cases_of_the_program(self):
         tried = set()
         for name, command, (design, *libraries), text, path in cases():
             if command == 'flow' and 'NOTCLEAN' in text or command == '--help':
                 continue  # (the list is of the legalised block)
             with self.subTest(case=name):
-                asked = unittest.mock.Mock(design=design, libraries=libraries, answer=path, messages=None)
+                asked = unittest.mock.Mock(design=design, libraries=libraries, answer=path, messages=None, after=None)
                 found = [json.loads(json.dumps(line)) for line in to_json.objects(asked)]
                 answer = read_answer(path)
                 designs = [line for line in found if line['kind'] == 'design']
@@ -182,6 +197,11 @@ class AnswerTests(Room):
         for name in calls:
             self.assertTrue(getattr(lefdef_text, name)('a.def', ['b.lef'], self.program('legal\n')).is_legal)
         self.assertEqual(text_of(os.path.join(self.room, 'calls')).split('\n'), [*(f'{name.replace("_", "-")} a.def b.lef' for name in calls), ''])
+
+    def test_a_comparison(self):
+        answer = lefdef_text.compare('a.def', 'b.def', ['c.lef', 'd.lef'], self.program('CHANGED COMPONENT u2 PLACE\nplaces 1\n', 1))
+        self.assertEqual((answer.kind, answer.value('places', 'places'), answer.files), ('places', 1, ['c.lef', 'd.lef', 'a.def', 'b.def']))
+        self.assertEqual(text_of(os.path.join(self.room, 'calls')), 'compare a.def b.def c.lef d.lef\n')
 
     def test_a_refusal(self):
         message = 'a.def:10:6: `INVX` is not the name of a macro\n    - u2 INVX + PLACED ( 400 0 ) N ;\n         ^^^^\n'

@@ -162,5 +162,10 @@ def flow(design, libraries, program=None):
     return run('flow', design, libraries, program)
 
 
+def compare(before, after, libraries, program=None):
+    """Returns the answer of `lefdef compare` on two DEFs and the LEFs of both; of its files the DEF before comes after the LEFs, and last the other."""
+    return run('compare', before, [after, *libraries], program)._replace(files=[*libraries, before, after])
+
+
 def finish(design, libraries, program=None):
     return run('finish', design, libraries, program)

@@ -41,6 +41,14 @@ FORMS = {
     'MEMORY': '',
     'REFUSED': 'file:count line:count reason:word',
     'SCALE': 'name:name reason:word',
+    'DIFFERS': 'part:word',
+    'GONE': 'section:word name:name',
+    'ADDED': 'section:word name:name',
+    'CHANGED': 'section:word name:name change:word',
+    'same': '',
+    'places': 'places:count | places:count wires wires:count',
+    'wires': 'wires:count',
+    'differs': 'count:count',
     '# move': 'component:name distance:length',
     '# total': 'distance:length',
     '# greatest': 'distance:length',
@@ -48,8 +56,12 @@ FORMS = {
     '# vias': 'count:count',
 }
 VIOLATIONS = ('UNPLACED', 'OUTSIDE', 'OFFSITE', 'OVERLAP', 'BLOCKED', 'SHORT', 'TOONEAR', 'OPEN')
+DIFFERENCES = ('DIFFERS', 'GONE', 'ADDED', 'CHANGED')
 # What a last line counts; an answer with another one has that line alone.
-LISTED = {'legal': VIOLATIONS, 'violations': VIOLATIONS, 'FIXEDILLEGAL': VIOLATIONS, 'NOTCLEAN': VIOLATIONS, 'unfinished': ('UNFINISHED',)}
+LISTED = {
+    'legal': VIOLATIONS, 'violations': VIOLATIONS, 'FIXEDILLEGAL': VIOLATIONS, 'NOTCLEAN': VIOLATIONS, 'unfinished': ('UNFINISHED',),
+    'same': DIFFERENCES, 'places': DIFFERENCES, 'wires': DIFFERENCES, 'differs': DIFFERENCES}
+WHAT_IS_LISTED = {'UNFINISHED': 'nets', **dict.fromkeys(DIFFERENCES, 'differences'), **dict.fromkeys(VIOLATIONS, 'violations')}
 
 
 class Form(NamedTuple):
@@ -136,7 +148,7 @@ def read_violations(path):
     found = []
     for number, text in enumerate(lines, 1):
         line = line_of(text, number)
-        if line and line.kind in LISTED and line.kind != 'unfinished':
+        if line and LISTED.get(line.kind) == VIOLATIONS:
             check_count(path, line, found)
             if number < len(lines):
                 raise Refused(path, number + 1, f'nothing may follow {text}')
@@ -148,7 +160,7 @@ def read_violations(path):
 
 
 def check_count(path, last, listed):
-    count = last.values.get('count', 0)
+    count = sum(last.values.values())
     if count != len(listed):
-        what = 'nets' if last.kind == 'unfinished' else 'violations'
+        what = WHAT_IS_LISTED[LISTED[last.kind][0]]
         raise Refused(path, last.number, f'{count} {what} are counted, and {len(listed)} listed')
