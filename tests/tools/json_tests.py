@@ -136,8 +136,9 @@ class JsonTests(Room):
         for name, command, (design, *libraries), text, path in cases():
             if command == 'flow' and 'NOTCLEAN' in text or command == '--help':
                 continue  # (the list is of the legalised block)
+            after = libraries.pop(0) if command == 'compare' else None
             with self.subTest(case=name):
-                asked = unittest.mock.Mock(design=design, libraries=libraries, answer=path, messages=None, after=None)
+                asked = unittest.mock.Mock(design=design, libraries=libraries, answer=path, messages=None, after=after)
                 found = [json.loads(json.dumps(line)) for line in to_json.objects(asked)]
                 answer = read_answer(path)
                 designs = [line for line in found if line['kind'] == 'design']
@@ -146,9 +147,10 @@ class JsonTests(Room):
                 tried |= {line['kind'] for line in found}
                 if answer.lines and answer.lines[0].kind == 'REFUSED':
                     number, line = (answer.lines[0].values[name] for name in ('file', 'line'))
-                    self.assertEqual((found[0]['file'], found[0]['line']), ([*libraries, design][number], line))
+                    self.assertEqual((found[0]['file'], found[0]['line']), ([*libraries, design, after][number], line))
         self.assertGreaterEqual(tried, {
-            'legal', 'violations', 'design', 'REFUSED', 'hpwl', 'move', 'NOTCLEAN', 'FIXEDILLEGAL', 'UNROUTABLE', 'OPEN', 'BLOCKED'})
+            'legal', 'violations', 'design', 'REFUSED', 'hpwl', 'move', 'NOTCLEAN', 'FIXEDILLEGAL', 'UNROUTABLE', 'OPEN', 'BLOCKED',
+            'same', 'places', 'wires', 'differs', 'DIFFERS', 'GONE', 'CHANGED', 'ADDED'})
 
     def test_answers_that_are_none(self):
         for text, line, why in (
