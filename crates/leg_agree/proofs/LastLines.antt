@@ -1,5 +1,5 @@
 -- The verdict on what differs between a DEF and what a command has printed of it.
-use Rattle.std.proofs.Common.{◌≡◌, ◌≢◌, ℕ, ◌<◌, ◌⊎◌, List, [], ◌∷◌, inl, inr, refl, sym, ap, ◌∙◌, subst, arith}
+use Rattle.std.proofs.Common.{◌≡◌, ℕ, ◌<◌, ◌⊎◌, List, [], ◌∷◌, inl, inr, refl, sym, ap, ◌∙◌, subst, arith}
 use Rattle.std.specs.List.{All, flat_map}
 use Rattle.std.proofs.lemmas.List.Elements.{All-weaker, All-head, All-tail}
 use Rattle.leg_cells.specs.Records.{Contents}
@@ -17,7 +17,7 @@ use Rattle.leg_app.specs.declared.status.Status.{Status}
 use Rattle.leg_app.specs.declared.status.Status.TheVariants.{Success, Violations, Refused, Unsolved, Memory}
 use Rattle.leg_app.specs.Say.{SayDesign}
 use Rattle.leg_app.specs.CompareLines.{difference_line}
-use Rattle.leg_app.specs.Comparison.{Compares, IsComparison}
+use Rattle.leg_app.specs.Comparison.{Compares}
 use Rattle.leg_agree.specs.LastLine.{IsOfPlaces, IsOfWires, IsOfPlacesAndWires, EndsAs, AnswersAs}
 
 -- where all elements have a property that excludes another, none has that one
