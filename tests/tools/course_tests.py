@@ -153,17 +153,22 @@ class BestTests(Room):
         self.assertEqual(self.run_script('score', '--own'), (0, read(os.path.join(COURSE, 'best.txt')), ''))
 
 
-class JudgeTests(Room):
+class JudgedCase(Room):
+    """A test with answers of the program."""
+
+    def answer(self, name, command):
+        """Returns the path of the program's answer to a block."""
+        done = subprocess.run([PROGRAM, command, block(name), CELLS], capture_output=True, text=True, check=True, stdin=subprocess.DEVNULL)
+        return self.file(f'{name}.def', done.stdout)
+
+
+class JudgeTests(JudgedCase):
     """What judge and score say of answers."""
 
     def stand_in(self, compared, status, judged='exit 70', judging='nothing'):
         path = self.file('lefdef', STAND_IN.format(compared=compared, status=status, judging=judging, judged=judged, program=PROGRAM))
         os.chmod(path, 0o755)
         return path
-
-    def answer(self, name, command, file=None):
-        done = subprocess.run([PROGRAM, command, block(name), CELLS], capture_output=True, text=True, check=True, stdin=subprocess.DEVNULL)
-        return self.file(file or f'{name}.def', done.stdout)
 
     def test_answers_that_are_legal_and_still_their_blocks(self):
         for name, command, compared in (('place1', 'legalise', 'places 15'), ('route1', 'route', 'wires 8')):
@@ -209,6 +214,63 @@ class JudgeTests(Room):
             self.assertEqual(self.run_script(script)[0::2][0], 64)
             status, out, _ = self.run_script(script, '--help')
             self.assertEqual((status, f'examples/course/{script} ' in out), (0, True))
+
+
+class ComparedTests(JudgedCase):
+    """What judge says by the program's own `compare`."""
+
+    def judged(self, name, text):
+        """Returns the status of judge, and what it says of this text as an answer to a block."""
+        status, out, err = self.run_script('judge', self.file(f'{name}.def', text))
+        self.assertEqual(err, '')
+        return status, out.partition(' ')[2].rstrip('\n')
+
+    def changed(self, name, command, *changes):
+        """Returns the program's answer to a block, in which each pattern, which stands there once, is replaced."""
+        text = read(self.answer(name, command))
+        for pattern, put in changes:
+            text, count = re.subn(pattern, put, text, flags=re.MULTILINE | re.DOTALL)
+            self.assertEqual(count, 1, pattern)
+        return text
+
+    def test_the_programs_own_answers(self):
+        paths = [self.answer(name, 'legalise' if name in NAMES[:5] else 'finish') for name in NAMES]
+        self.assertEqual(self.run_script('judge', *paths), (0, ''.join(f'{name} legal\n' for name in NAMES), ''))
+
+    def test_components_in_another_order(self):
+        text = self.changed('place1', 'legalise', (r'^(- u0 [^\n]*\n)(.*)(?=END COMPONENTS)', r'\2\1'))
+        self.assertEqual(self.judged('place1', text), (0, 'legal'))
+
+    def test_an_empty_block(self):
+        for name, corner in (('place1', '10000 4000'), ('route1', '10000 2000')):
+            text = f'DESIGN {name} ;\nUNITS DISTANCE MICRONS 1000 ;\nDIEAREA ( 0 0 ) ( {corner} ) ;\nEND DESIGN\n'
+            status, said = self.judged(name, text)
+            self.assertEqual((status, said.split(',')[0]), (1, 'another block: DIFFERS ROWS'))
+
+    def test_a_lost_net(self):
+        text = self.changed('route1', 'route', (r'^- n1 .*?;\n', ''))
+        self.assertEqual(self.judged('route1', text), (1, 'another block: GONE NET n1'))
+
+    def test_a_lost_terminal(self):
+        text = self.changed('route1', 'route', (r'^(- n1 \( \w+ \w+ \)) \( \w+ \w+ \)(.*?;\n)', r'\1 ;\n'))
+        self.assertEqual(self.judged('route1', text), (1, 'another block: CHANGED NET n1 TERMINALS'))
+
+    def test_a_fixed_component_that_is_moved(self):
+        text = self.changed('place3', 'legalise', (r'^- t1 TAP \+ FIXED \( 0 2000 \)', '- t1 TAP + FIXED ( 200 2000 )'))
+        self.assertEqual(self.judged('place3', text), (1, 'another block: CHANGED COMPONENT t1 PLACE'))
+
+    def test_a_fixed_component_that_is_no_longer_fixed(self):
+        text = self.changed('place3', 'legalise', (r'^- t1 TAP \+ FIXED', '- t1 TAP + PLACED'))
+        self.assertEqual(self.judged('place3', text), (1, 'another block: CHANGED COMPONENT t1 STATUS'))
+
+    def test_a_component_that_is_moved_in_a_block_to_be_routed(self):
+        text = read(block('route1'))
+        moved = re.sub(r'^(- u0 \w+ \+ PLACED \( )[0-9]+', r'\g<1>9800', text, flags=re.MULTILINE)
+        self.assertEqual(self.judged('route1', moved), (1, 'another block: CHANGED COMPONENT u0 PLACE'))
+
+    def test_an_earlier_wire_that_is_lost(self):
+        text = self.changed('route4', 'finish', (r'm2 \( 500 300 \) \( 500 13700 \)', 'm2 ( 500 500 ) ( 500 13700 )'))
+        self.assertEqual(self.judged('route4', text), (1, 'another block: CHANGED NET i0 LOSTWIRES'))
 
 
 if __name__ == '__main__':
