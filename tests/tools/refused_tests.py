@@ -97,7 +97,8 @@ class CorpusTests(Room):
             self.assert_first(self.of_library(text), 'cells.lef', line, kind)
 
     def cases(self):
-        """Yields the files of each case of the program whose texts are kept, and what it prints last."""
+        """Yields the files of each case of the program whose texts are kept, these by the numbers that are printed, and what it prints last. Of two
+        DEFs that are compared it is the second one, where the first is not the one that is refused."""
         for name in sorted(os.listdir(CASES)):
             folder = os.path.join(CASES, name)
             words = lines_of('tests', 'program', name, 'words') if os.path.exists(os.path.join(folder, 'words')) else []
@@ -105,14 +106,18 @@ class CorpusTests(Room):
                 printed = lines_of('tests', 'program', name, 'stdout') if os.path.exists(os.path.join(folder, 'stdout')) else []
                 os.chdir(folder)
                 with self.subTest(case=name):
-                    yield words[1], words[2:], (printed or [''])[-1].split(' ')
+                    answer, defs, libraries = (printed or [''])[-1].split(' '), words[1:2], words[2:]
+                    if words[0] == 'compare':
+                        defs.append(libraries.pop(0))
+                    is_of_first = answer[0] == 'REFUSED' and int(answer[1]) <= len(libraries)
+                    yield defs[0 if is_of_first else -1], libraries, [*libraries, *defs], answer
 
     def test_cases_of_the_program(self):
         kinds = []
-        for design, libraries, answer in self.cases():
+        for design, libraries, texts, answer in self.cases():
             lines = self.lines(design, *libraries)
             if answer[0] == 'REFUSED':
-                self.assert_first(lines, [*libraries, design][int(answer[1])], answer[2], answer[3])
+                self.assert_first(lines, texts[int(answer[1])], answer[2], answer[3])
             elif answer[0] == 'SCALE':
                 self.assertRegex(lines[0], rf'^[^ ]+:[0-9]+: {answer[2]}, .* of {answer[1]} is ')
             else:

@@ -589,10 +589,13 @@ class RefusalTests(ViewCase):
                 answer = file.read().split()
             if answer[:1] == ['REFUSED']:
                 with open(case(name, 'words'), encoding='utf-8') as file:
-                    _, block, *libraries = [case(name, word) for word in file.read().split()]
+                    command, *paths = file.read().split()
+                count = 2 if command == 'compare' else 1
+                blocks, libraries = ([case(name, path) for path in part] for part in (paths[:count], paths[count:]))
+                block = blocks[max(int(answer[1]) - len(libraries), 0)]
                 tried += 1
                 with self.subTest(case=name):
-                    self.refused(2, f'{[*libraries, block][int(answer[1])]}:{answer[2]}: ', block, *libraries, '--svg', 'x.svg')
+                    self.refused(2, f'{[*libraries, *blocks][int(answer[1])]}:{answer[2]}: ', block, *libraries, '--svg', 'x.svg')
         self.assertGreater(tried, 4)
 
     def test_files_that_are_not_there(self):
