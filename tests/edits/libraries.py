@@ -1,11 +1,17 @@
 """The libraries that a crate's edits are tried over, and the words of a check.
 
+    tests/edits/libraries.py --sums FILE             writes the sum of the sources of each crate to FILE
+    tests/edits/libraries.py --note FILE CRATE..     notes beside the libraries of these crates in crates/*/out that they are of the sources
+                                                     whose sum FILE has, if the sources have not changed since
+
 Libraries in crates/*/out are used if they are of the sources that stand in the tree. Of those that `rt lib` and `rt check` make, the kit
-notes the sum of the sources beside the library. `rt ci` leaves no such note, but keeps on the machine, by the sum of a crate's sources and
-of the libraries below it, the sums of the files that it made of them. Otherwise `rt ci` makes them anew: it takes what it keeps of the same
+notes the sum of the sources beside the library. `rt ci` leaves no such note. Some kits keep on the machine, by the sum of a crate's sources
+and of the libraries below it, the sums of the files that it made of them. Where a kit keeps none, the gate, which runs `rt ci` and knows when
+it has proved a crate, notes it by the two calls above. Otherwise `rt ci` makes the libraries anew: it takes what it keeps of the same
 sources over the same libraries, and proves the rest. All is done in a copy of the crates, so what another rt does meanwhile changes nothing,
 as the one that puts a checkout's own libraries back when its `rt ci` ends."""
 import fcntl
+import hashlib
 import importlib.machinery
 import importlib.util
 import json
@@ -19,6 +25,8 @@ from pathlib import Path
 TOP = Path(__file__).resolve().parents[2]
 # The parts of a crate that a check reads.
 PARTS = ('src', 'specs', 'proofs')
+# What the gate notes in the folder of a library: the sum of the sources, and that of the library.
+NOTE = 'noted-by-the-gate'
 
 
 def kit():
@@ -109,10 +117,47 @@ def is_of_ci(kept, crate, sum_of):
     return files != [] and entry['files'] == [[it, sum_of(f'{crate.folder}/out/{it}')] for it in files]
 
 
+def sum_of_files(*folders):
+    """Returns a sum of the files in these folders: their names and what they hold."""
+    found = hashlib.sha256()
+    for folder in folders:
+        for path in sorted(it for it in folder.rglob('*') if it.is_file() and it.name != NOTE):
+            found.update(repr((str(path.relative_to(folder)), path.read_bytes())).encode())
+    return found.hexdigest()
+
+
+def sums_of_sources(top):
+    """Returns for each crate of the repository `top` a sum of its sources, of those below it, and of what the kit is."""
+    lines, uses = lines_of_crates(top)
+    own = {name: sum_of_files(*[top / 'crates' / name / part for part in PARTS]) for name in lines}
+    what = (kit() / 'KIT-ID').read_text(encoding='utf-8') if (kit() / 'KIT-ID').exists() else ''
+    return {name: hashlib.sha256(repr((what, lines[name], own[name], [own[it] for it in below(name, uses)])).encode()).hexdigest() for name in lines}
+
+
+def is_noted(crate, source_sum):
+    """Returns whether the library in the crate's out/ is one that the gate noted to be of sources with this sum."""
+    try:
+        return (crate / 'out/rlib' / NOTE).read_text(encoding='utf-8') == f"{source_sum} {sum_of_files(crate / 'out/rlib')}\n"
+    except OSError:
+        return False
+
+
+def note_libraries(names, sums, top=TOP):
+    """Notes beside the library of each of these crates whose sources have this sum still that it is of them."""
+    now = sums_of_sources(top)
+    for name in names:
+        made = top / 'crates' / name / 'out/rlib'
+        if made.is_dir() and now.get(name) == sums.get(name):
+            (made / NOTE).write_text(f'{now[name]} {sum_of_files(made)}\n', encoding='utf-8')
+
+
 def are_current(top, folder):
-    """Returns whether each crate of the repository `top` has a library in its out/ that is of its sources, as the kit in this folder finds."""
+    """Returns whether each crate of the repository `top` has a library in its out/ that is of its sources, as the kit in this folder or the gate
+    finds."""
     rt = module_of_rt(folder)
     if all(it.is_built() for it in rt.rtlib.crates_below(str(top))):
+        return True
+    if all(is_noted(top / 'crates' / name, source_sum) for name, source_sum in sums_of_sources(top).items()):
         return True
     try:
         # (the sums that `rt ci` goes by are those of its own kind of crate)
@@ -153,3 +198,18 @@ def words_of_check(name, top, folder, kept):
     words = [f'{folder}/bin/rattle', 'check', '--crate-name', name, root, *externs_of(name, top, folder), '--jobs', '1']
     words += ['--antt-project', f'{folder}/rattle/logic/antt-project.json', '--logic-built', f'{folder}/logic_built']
     return [*words, '--incremental', str(kept)]
+
+
+def main(words):
+    if len(words) == 2 and words[0] == '--sums':
+        Path(words[1]).write_text(json.dumps(sums_of_sources(TOP)), encoding='utf-8')
+    elif len(words) >= 2 and words[0] == '--note':
+        note_libraries(words[2:], json.loads(Path(words[1]).read_text(encoding='utf-8')))
+    else:
+        print(__doc__, file=sys.stderr)
+        return 64
+    return 0
+
+
+if __name__ == '__main__':
+    sys.exit(main(sys.argv[1:]))

@@ -420,8 +420,15 @@ class LibraryTests(unittest.TestCase):
             (folder / 'lib.rt').write_text(text + ('least(b, a)' if use else 'if a < b { a } else { b }') + '\n}\n', encoding='utf-8')
         (cls.room / 'crates.txt').write_text('lower:\nupper: lower\n', encoding='utf-8')
         (cls.room / 'HANDLES').write_text('Handles allowed: none.\n', encoding='utf-8')
+        # (the gate takes the sums before, and notes the libraries after)
+        cls.call_libraries('--sums', 'sums')
         ran = subprocess.run(['rt', 'ci'], cwd=str(cls.room), stdout=subprocess.PIPE, stderr=subprocess.STDOUT, universal_newlines=True)
         assert ran.returncode == 0, ran.stdout
+        cls.call_libraries('--note', 'sums', 'lower', 'upper')
+
+    @classmethod
+    def call_libraries(cls, *words):
+        subprocess.run([sys.executable, '-B', 'tests/edits/libraries.py', *words], cwd=str(cls.room), check=True)
 
     def are_current(self, *names):
         """Returns what a run of the script would find of these crates."""
@@ -450,6 +457,31 @@ class LibraryTests(unittest.TestCase):
         made.write_bytes(text)
         self.assertTrue(self.are_current('lower'))
         self.assertFalse(self.are_current('lower', 'upper'))
+
+    def test_a_note_of_other_sources_or_of_another_library_counts_for_nothing(self):
+        note = self.room / 'crates/lower/out/rlib/noted-by-the-gate'
+        source = self.room / 'crates/lower/src/lib.rt'
+        text, noted = source.read_text(encoding='utf-8'), note.read_text(encoding='utf-8')
+        script = 'import libraries; from pathlib import Path; print(libraries.is_noted(Path("../../crates/lower"), libraries.sums_of_sources(libraries.TOP)["lower"]))'
+
+        def is_noted():
+            ran = subprocess.run([sys.executable, '-B', '-c', script], cwd=str(self.room / 'tests/edits'), stdout=subprocess.PIPE, universal_newlines=True, check=True)
+            return ran.stdout == 'True\n'
+
+        self.assertTrue(is_noted())
+        source.write_text(text + '// more\n', encoding='utf-8')
+        self.assertFalse(is_noted())
+        # (nor is a library noted whose sources are others than before)
+        note.unlink()
+        self.call_libraries('--note', 'sums', 'lower')
+        self.assertFalse(note.exists())
+        source.write_text(text, encoding='utf-8')
+        self.call_libraries('--note', 'sums', 'lower')
+        self.assertEqual(note.read_text(encoding='utf-8'), noted)
+        (self.room / 'crates/lower/out/rlib/more').write_text('x', encoding='utf-8')
+        self.assertFalse(is_noted())
+        (self.room / 'crates/lower/out/rlib/more').unlink()
+        self.assertTrue(is_noted())
 
 
 if __name__ == '__main__':

@@ -54,7 +54,7 @@ class Room(unittest.TestCase):
 class GateTests(Room):
     def setUp(self):
         super().setUp()
-        for name in ('test', 'lefdef', 'tools/sources-sum'):
+        for name in ('test', 'lefdef', 'tools/sources-sum', 'tests/edits/libraries.py'):
             self.copy(name)
         self.file('crates.txt', 'lefdef:\n')
         self.file('crates/lefdef/src/main.rt', 'fn main() {}\n')
