@@ -14,7 +14,7 @@ from lefdef_text import Refused, Words, message_of
 from lefdef_text.words import WORD
 
 REFUSED, NO_FILE, USAGE = 2, 5, 64
-STATUSES = ('Exit status: 0: written; 2: a text is refused, with its file and line; 5: a file cannot be read or written, or exists already; '
+STATUSES = ('Exit status: 0: written; 2: a text is refused, with its file, its line and the word; 5: a file cannot be read or written, or exists already; '
             '64: usage error. Messages go to standard error.')
 ENTRY_SECTIONS = ('VIAS', 'COMPONENTS', 'PINS', 'BLOCKAGES', 'SPECIALNETS', 'NETS', 'GROUPS', 'REGIONS', 'FILLS', 'SLOTS', 'STYLES', 'SCANCHAINS',
                   'NONDEFAULTRULES', 'PINPROPERTIES', 'PROPERTYDEFINITIONS')
@@ -78,7 +78,7 @@ class EditedText(Words):
 
 
 class DefText(EditedText):
-    """A DEF text, its statements, and edits of it."""
+    """A DEF text, its statements, and edits of it. A text that is cut, in which a section does not end as it begins, is refused."""
 
     def __init__(self, path, text=None):
         super().__init__(path, text)
@@ -92,7 +92,9 @@ class DefText(EditedText):
             word = self.keyword()
             if word == 'END':
                 self.end_at[section] = begin
-                self.take()
+                self.expect(section or 'DESIGN')
+                if not section:
+                    return self.check_end()
                 section = ''
             elif word == 'BEGINEXT':
                 while self.keyword() != 'ENDEXT':
@@ -104,6 +106,11 @@ class DefText(EditedText):
                     self.section_at[word] = begin
                 else:
                     yield Statement(section, begin, self.at - 1)
+        return self.ends_early()
+
+    def check_end(self):
+        if self.more():
+            self.refuse('nothing may follow END DESIGN', self.at)
 
     def of(self, section, keyword='-'):
         """Returns the statements of a section that begin with a keyword."""
@@ -136,9 +143,9 @@ class Parser(argparse.ArgumentParser):
 
 
 class Arguments(Parser):
-    """Words of a command line: a DEF, LEFs where the tool needs them, and where the answer goes. `has_word` says whether a refusal names the
-    word at fault where its reason does not, and `order` what is said of the order of the files."""
-    has_word, order = False, 'the DEF is named first'
+    """Words of a command line: a DEF, LEFs where the tool needs them, and where the answer goes. `order` is what is said of the order of the
+    files."""
+    order = 'the DEF is named first'
 
     def __init__(self, prog, doc, libraries=None):
         super().__init__(prog, doc, STATUSES)
@@ -158,7 +165,7 @@ class Arguments(Parser):
 
 class LefArguments(Arguments):
     """Words of a command line: a LEF, those before it, and where the answer goes."""
-    has_word, order = True, 'this tool is given LEFs alone'
+    order = 'this tool is given LEFs alone'
 
     def add_inputs(self, libraries):
         self.add_argument('library', metavar='LEF', help='the LEF that is rewritten')
@@ -204,7 +211,7 @@ def run(parser, words, edit):
             write(asked.output, edit(asked, notes.append))
             status = 0
         except Refused as refused:
-            print(message_of(refused, design, libraries, parser.has_word, parser.order), file=sys.stderr)
+            print(message_of(refused, design, libraries, parser.order), file=sys.stderr)
             return REFUSED
         except UsageFault as fault:
             notes, status = [fault], USAGE

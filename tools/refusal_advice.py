@@ -1,5 +1,5 @@
 """Why lefdef refuses a form of LEF or DEF, in the words of these formats, and which tool helps."""
-from lefdef_text import Layer, Macro, Site, Via
+from lefdef_text import Layer, Macro, Site, Via, shown
 
 NO_TOOL = 'No tool rewrites it.'
 NO_ROW = 'No tool rewrites it; a row on which no component stands can be taken out.'
@@ -91,13 +91,7 @@ ADVICE = {
     'a word is no form of a DEF': ('lefdef reads no statement and no section with this word.', NO_TOOL),
 }
 OTHER_BLOCKAGE = ('No blockage of LEF/DEF 5.8 has this word.', NO_BLOCKAGE)
-WORDS_SHOWN = 200
 KINDS_OF_RECORDS = {'layer': Layer, 'site': Site, 'macro': Macro, 'via': Via}
-
-
-def shown(text):
-    """Returns a text on one line, with ? for each character that cannot be shown."""
-    return ''.join(it if it.isprintable() else '?' for it in ' '.join(text.split()))
 
 
 class Advice:
@@ -113,7 +107,7 @@ class Advice:
             why = f'{why}: {self.design.why_not_good[refused.word]}'
         elif refused.kind in ('Unexpected', 'EmptyRect') and refused.word not in why:
             why = f'{why}, at {refused.word[:40]}'
-        return shown(why[:WORDS_SHOWN])
+        return shown(' '.join(why.split()))
 
     def sentences(self, refused):
         """Returns the sentences on the form of a fault, each after a blank."""

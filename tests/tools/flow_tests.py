@@ -2,6 +2,7 @@
 as it needs no other program."""
 import gzip
 import os
+import re
 import shutil
 import subprocess
 import sys
@@ -11,7 +12,8 @@ import unittest
 TOP = os.path.normpath(os.path.join(os.path.dirname(os.path.abspath(__file__)), '..', '..'))
 sys.path.insert(0, os.path.join(TOP, 'tools'))
 
-from lefdef_text import Segment, ViaAt, read_design, read_library
+from flow_text import DefText
+from lefdef_text import Refused, Segment, ViaAt, read_design, read_library
 
 STANDARD = os.path.join(TOP, 'examples', 'standard.lef')
 HEAD = 'VERSION 5.8 ;\nDESIGN d ;\nUNITS DISTANCE MICRONS 1000 ;\nDIEAREA ( 0 0 ) ( 2000 4000 ) ;\n'
@@ -160,11 +162,11 @@ class FromQflowTests(FlowCase):
 
     def test_two_entries_with_terminals_are_refused(self):
         text = QFLOW.replace('- n.0\n+ ROUTED m1 40 ( 500', '- n.0 ( u3 A )\n+ ROUTED m1 40 ( 500')
-        self.assertEqual(self.refused('from-qflow', text, STANDARD), 'in.def:23: net n.0 appears twice in SPECIALNETS, the second time with more than wiring')
+        self.assertEqual(self.refused('from-qflow', text, STANDARD), 'in.def:23: net n.0 appears twice in SPECIALNETS, the second time with more than wiring, at -')
 
     def test_refusals_name_the_line_of_the_text_as_it_was(self):
         text = QFLOW.replace('END SPECIALNETS', '- w\n+ ROUTED m1 40 ( 0 0 ) ( 5 5 ) ;\nEND SPECIALNETS')
-        self.assertEqual(self.refused('from-qflow', text, STANDARD), 'in.def:26: a wire is neither horizontal nor vertical')
+        self.assertEqual(self.refused('from-qflow', text, STANDARD), 'in.def:26: a wire is neither horizontal nor vertical, at (')
 
     def test_a_terminal_with_synthesized_hides_no_later_one(self):
         text = QFLOW.replace('( u2 A )', '( u2 A + SYNTHESIZED ) ( u3 VDD )')
@@ -271,13 +273,13 @@ END DESIGN
 
     def test_a_block_without_tracks_of_a_layer_is_refused(self):
         last = self.BLOCK.count('\n')
-        self.assertEqual(self.refused('ease-routing', self.BLOCK.replace(TRACKS, ''), STANDARD), f'in.def:{last - 2}: there are no TRACKS along m1')
+        self.assertEqual(self.refused('ease-routing', self.BLOCK.replace(TRACKS, ''), STANDARD), f'in.def:{last - 2}: there are no TRACKS along m1, at DESIGN')
         text = self.BLOCK.replace(TRACKS, TRACKS.splitlines()[1] + '\n')
-        self.assertEqual(self.refused('ease-routing', text, STANDARD), f'in.def:{last - 1}: there are no TRACKS along m2')
+        self.assertEqual(self.refused('ease-routing', text, STANDARD), f'in.def:{last - 1}: there are no TRACKS along m2, at DESIGN')
 
     def test_more_tracks_than_lefdef_routes_on_are_refused(self):
         text = self.BLOCK.replace('DO 20 STEP 200 LAYER m1', 'DO 100000000 STEP 1 LAYER m1')
-        self.assertEqual(self.refused('ease-routing', text, STANDARD), 'in.def:6: there are more than 4194304 tracks')
+        self.assertEqual(self.refused('ease-routing', text, STANDARD), 'in.def:6: there are more than 4194304 tracks, at TRACKS')
 
     def test_a_pin_that_is_not_there_is_refused(self):
         self.assertEqual(self.refused('ease-routing', self.BLOCK.replace('( u2 A )', '( u2 B )'), STANDARD), 'in.def:14: macro INV has no pin B')
@@ -302,10 +304,10 @@ class PlainViasTests(FlowCase):
     def test_what_cannot_be_written_out_is_refused(self):
         for old, new, why in (
                 ('+ ROWCOL 2 3', '+ ROWCOL 2 3 + PATTERN 2_F', 'in.def:8: a via with + PATTERN cannot be written out'),
-                ('+ CUTSIZE 20 40 + LAYERS m1 v1 m2 + CUTSPACING 10 30\n', '+ CUTSIZE 20 40 + LAYERS m1 v1 m2\n', 'in.def:7: via made has no + CUTSPACING'),
+                ('+ CUTSIZE 20 40 + LAYERS m1 v1 m2 + CUTSPACING 10 30\n', '+ CUTSIZE 20 40 + LAYERS m1 v1 m2\n', 'in.def:7: via made has no + CUTSPACING, at -'),
                 ('+ CUTSIZE 20 40 + LAYERS m1 v1 m2 + CUTSPACING 10 30\n', '+ CUTSIZE 21 40 + LAYERS m1 v1 m2 + CUTSPACING 10 30\n',
-                 'in.def:7: via made: its middle lies between two database units'),
-                ('+ ORIGIN 10 0', '+ ORIGIN 10', 'in.def:8: 2 numbers expected here'),
+                 'in.def:7: via made: its middle lies between two database units, at -'),
+                ('+ ORIGIN 10 0', '+ ORIGIN 10', 'in.def:8: 2 numbers expected here, at 10'),
                 ('+ ORIGIN 10 0', '+ ORIGIN 10 x', 'in.def:8: a whole number was expected, not x')):
             with self.subTest(new=new):
                 self.assertEqual(self.refused('plain-vias', GENERATED.replace(old, new)), why)
@@ -336,7 +338,7 @@ class DropFillersTests(FlowCase):
         self.assertEqual(done, (64, '', 'drop-fillers: no macro is named FIL\n'))
 
     def test_a_component_without_a_macro_is_refused(self):
-        self.assertEqual(self.refused('drop-fillers', FILLED.replace('u1 INV + PLACED ( 0 0 ) N', 'u1'), STANDARD), 'in.def:6: a component has a name and a macro')
+        self.assertEqual(self.refused('drop-fillers', FILLED.replace('u1 INV + PLACED ( 0 0 ) N', 'u1'), STANDARD), 'in.def:6: a component has a name and a macro, at -')
 
 
 class OutputTests(FlowCase):
@@ -377,6 +379,23 @@ class OutputTests(FlowCase):
                 self.assertEqual(status, 2)
                 self.assertIn('in.def:6: a quoted word is not closed', err)
                 self.assertFalse(os.path.exists(out))
+
+    def test_a_text_that_is_cut(self):
+        for tool, libraries in self.TOOLS:
+            with self.subTest(tool=tool):
+                self.assertEqual(self.refused(tool, '', *libraries).splitlines()[1:], ['note: the text is empty'])
+                for text, why in ((EaseRoutingTests.BLOCK.replace('END DESIGN', ''), 'the text ends too early, at NETS'),
+                                  (EaseRoutingTests.BLOCK.replace('END COMPONENTS\n', ''), '(COMPONENTS|an entry or END) was expected, not NETS'),
+                                  (EaseRoutingTests.BLOCK + 'NETS 0 ;\n', 'nothing may follow END DESIGN, at NETS')):
+                    self.assertRegex(self.refused(tool, text, *libraries), f'^in.def:[0-9]+: {why}$')
+
+    def test_a_text_that_is_cut_anywhere(self):
+        for text in (FILLED, GENERATED, QFLOW):
+            ends = [found.end() for found in re.finditer(r'\S+', text)]
+            DefText('in.def', text)
+            for end in ends[:-1]:
+                with self.subTest(end=text[:end][-20:]), self.assertRaisesRegex(Refused, '^in.def:[0-9]+: (the text ends too early|.* was expected, not .*)$'):
+                    DefText('in.def', text[:end])
 
     def test_a_file_that_is_missing(self):
         for tool, libraries in self.TOOLS:

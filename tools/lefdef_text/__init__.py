@@ -26,11 +26,11 @@ from .lines import FORMS, VIOLATION_LINES, Line, Violation, read_violations
 from .notes import message_of
 from .rects import ORIENTATIONS, TURNS, Rect, grown, least_box, meets, moved, ordered, turned
 from .wiring import Wiring, wiring_of
-from .words import Refused, Words, read_text
+from .words import Refused, Words, read_text, shown
 
 __all__ = [
     'Answer', 'Blockage', 'Component', 'Design', 'FORMS', 'Layer', 'Library', 'Line', 'Macro', 'MacroPin', 'Net', 'NotRun', 'ORIENTATIONS',
     'Patch', 'Pin', 'Place', 'Port', 'Rect', 'Refusal', 'Refused', 'Row', 'Segment', 'Shape', 'Site', 'TURNS', 'Tracks', 'VIOLATION_LINES',
     'Via', 'ViaAt', 'Violation', 'Wiring', 'Words', 'check', 'compare', 'finish', 'flow', 'grown', 'least_box', 'legalise', 'measure', 'meets',
     'message_of', 'moved', 'ordered', 'place_check', 'read_answer', 'read_design', 'read_library', 'read_text', 'read_violations', 'route',
-    'run', 'turned', 'wiring_of']
+    'run', 'shown', 'turned', 'wiring_of']

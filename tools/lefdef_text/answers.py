@@ -6,7 +6,7 @@ import subprocess
 from typing import List, NamedTuple, Optional
 
 from .lines import LISTED, Line, Violation, answer_text, check_count, line_of, split_lines
-from .words import Refused
+from .words import Refused, shown
 
 # The exit statuses with which the program has printed an answer.
 ANSWERED = range(5)
@@ -84,7 +84,7 @@ def answer_of(path, text):
     for number, line in enumerate(lines[first:], first + 1):
         read = line_of(line, number)
         if read is None or read.kind.startswith('#') != (design is not None):
-            raise Refused(path, number, f'this is no line that lefdef prints{" here" if read else ""}: {line[:200]}')
+            raise Refused(path, number, f'this is no line that lefdef prints{" here" if read else ""}: {shown(line)}')
         found.append(read)
     if design is None:
         check_end(path, found)
@@ -97,10 +97,10 @@ def check_end(path, lines):
         raise Refused(path, 1, 'the answer is empty')
     last = lines[-1]
     if any(last.kind in listed for listed in LISTED.values()):
-        raise Refused(path, last.number, f'the answer ends without its last line, which has the number of those listed: {last.text[:200]}')
+        raise Refused(path, last.number, f'the answer ends without its last line, which has the number of those listed: {shown(last.text)}')
     for line in lines[:-1]:
         if line.kind not in LISTED.get(last.kind, ()):
-            raise Refused(path, line.number, f'the answer has lines of another one: {line.text[:200]} and then {last.text[:200]}')
+            raise Refused(path, line.number, f'the answer has lines of another one: {shown(line.text)} and then {shown(last.text)}')
     if last.kind in LISTED:
         check_count(path, last, lines[:-1])
 

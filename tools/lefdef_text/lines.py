@@ -4,7 +4,7 @@ import sys
 from typing import Any, Dict, NamedTuple, Tuple
 
 from .rects import Rect
-from .words import Refused, read_text
+from .words import Refused, read_text, shown
 
 NAME = r'\S+'
 SIDES = r'-?[0-9]+ -?[0-9]+ -?[0-9]+ -?[0-9]+'
@@ -154,7 +154,7 @@ def read_violations(path):
                 raise Refused(path, number + 1, f'nothing may follow {text}')
             return found
         if not line or not line.is_violation():
-            raise Refused(path, number, f'this is no line of a list of violations: {text[:200]}')
+            raise Refused(path, number, f'this is no line of a list of violations: {shown(text)}')
         found.append(line.violation())
     raise Refused(path, max(len(lines), 1), 'the list ends without its last line, `legal` or `violations N`')
 

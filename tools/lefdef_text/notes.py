@@ -1,6 +1,8 @@
 """What a refused text seems to be that is no LEF or DEF, or the other one of the two, as lefdef's notes have it (docs/FORMATS.md, "Messages")."""
 import os
 
+from .words import shown
+
 SIGNATURES = (
     (b'\x1f\x8b', 'the text is compressed: unpack it first, with gunzip'),
     (b'\xef\xbb\xbf', 'the text begins with a byte order mark: save it without one'),
@@ -38,9 +40,9 @@ def note_of(path, needed, order=DEF_FIRST):
     return None if found == needed else f'this seems to be a {found}, where a {needed} is needed: {order}'
 
 
-def message_of(refused, design, libraries, has_word=False, order=DEF_FIRST):
-    """Returns the message on a refusal, maybe with the word at fault, and with a line `note: ..` if the text seems to be none of its format."""
-    word = f', at {refused.word[:40]}' if has_word and refused.word and refused.word not in refused.why else ''
+def message_of(refused, design, libraries, order=DEF_FIRST):
+    """Returns the message on a refusal, with the word at fault, and with a line `note: ..` if the text seems to be none of its format."""
+    word = f', at {shown(refused.word, 40)}' if refused.word and refused.word not in refused.why else ''
     needed = 'DEF' if refused.path == design else 'LEF' if refused.path in libraries else None
     note = note_of(refused.path, needed, order) if needed else None
     return f'{refused}{word}\nnote: {note}' if note else f'{refused}{word}'

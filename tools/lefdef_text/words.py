@@ -17,12 +17,18 @@ class Refused(Exception):
     """A text is not one that can be read; the message names the file, the line and the reason.
 
     The kind is the one that lefdef prints, after `REFUSED` or `SCALE`. The form is the reason without what differs from one place to the
-    next, such as a number. The word at fault is the word number `at` of its text, or '' where a word is missing."""
+    next, such as a number. The word at fault is the word number `at` of its text: the last one where a text ends too early, or '' where it has
+    none."""
 
     def __init__(self, path, line, why, kind='Unexpected', form=None, at=None, word=''):
         super().__init__(f'{path}:{line}: {why}')
         self.path, self.line, self.why = path, line, why
         self.kind, self.form, self.at, self.word = kind, form or why, at, word
+
+
+def shown(text, most=200):
+    """Returns the first characters of a text on one line, with a blank for white space and ? for each that cannot be shown."""
+    return ''.join(' ' if it.isspace() else it if it.isprintable() else '?' for it in text[:most])
 
 
 def read_text(path):
@@ -112,7 +118,7 @@ class Words:
         return self.words[self.at].upper()
 
     def ends_early(self):
-        self.refuse('the text ends too early', self.count, 'UnexpectedEnd')
+        self.refuse('the text ends too early', self.count - 1, 'UnexpectedEnd')
 
     def take(self):
         word = self.words[self.at]
