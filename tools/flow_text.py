@@ -169,7 +169,7 @@ class LefArguments(Arguments):
 
     def add_inputs(self, libraries):
         self.add_argument('library', metavar='LEF', help='the LEF that is rewritten')
-        self.add_argument('libraries', metavar='BEFORE', nargs=libraries, help='the LEFs that lefdef is given before it, if it uses layers of theirs')
+        self.add_argument('libraries', metavar='BEFORE', nargs=libraries, default=(), help='the LEFs that lefdef is given before it, if it uses layers of theirs')
 
     def inputs(self, asked):
         return None, [asked.library, *asked.libraries]

@@ -167,11 +167,32 @@ class JsonTests(Room):
                 self.assertTrue(done.stderr.startswith(f'{answer}:{line}: '), done.stderr)
                 self.assertIn(why, done.stderr)
 
+    def test_a_refusal_of_other_texts_and_messages_of_another_one(self):
+        design = os.path.join(TOP, 'examples', 'misspelt.def')
+        answer, right = self.write('answer', 'REFUSED 1 10 UnknownName\n'), self.write('right', f'{design}:10:6: said\n')
+        self.assertEqual(self.objects(design, STANDARD, '--answer', answer, '--messages', right)[0]['message'], 'said')
+        self.assertEqual(self.objects(design, STANDARD, '--answer', answer, '--messages', self.write('none', ''))[0]['message'], 'there is no macro INVX')
+        for name, text in (('line', f'{design}:11:6: said\n'), ('file', f'{STANDARD}:10:6: said\n'), ('bytes', '\x7fELF\n\0')):
+            with self.subTest(name=name):
+                other = self.write(name, text)
+                done = self.run_tool('to-json', design, STANDARD, '--answer', answer, '--messages', other)
+                self.assertEqual((done.returncode, done.stdout), (2, ''))
+                self.assertEqual(done.stderr, f'{other}:1: this is no message on that refusal: {text.splitlines()[0]}\n'.replace('\x7f', '?'))
+        scale = self.write('scale', 'SCALE core NotOnUnit\n')
+        done = self.run_tool('to-json', example('unfinished.def'), STANDARD, '--answer', scale, '--messages', right)
+        self.assertEqual((done.returncode, done.stderr), (2, f'{scale}:1: nothing is refused in these texts: is the answer that on other texts? '
+                                                             'SCALE core NotOnUnit\n'))
+        library = self.write('core.lef', 'SITE core SIZE 0.20001 BY 2 ; END core\n')
+        done = self.run_tool('to-json', example('unfinished.def'), library, '--answer', scale, '--messages', right)
+        self.assertEqual((done.returncode, done.stderr), (2, f'{right}:1: this is no message on that refusal: {design}:10:6: said\n'))
+
     def test_texts_and_words_that_are_wrong(self):
         bad = self.write('bad.def', HEAD + 'COMPONENTS 1 ;\n- u1 NAND ;\nEND COMPONENTS END DESIGN')
         done = self.run_tool('to-json', bad, STANDARD, stdin='legal\n')
         self.assertEqual((done.returncode, done.stdout, done.stderr), (2, '', f'{bad}:3: there is no macro NAND\n'))
         done = self.run_tool('to-json', 'none.def', STANDARD, stdin='legal\n')
+        self.assertEqual((done.returncode, done.stdout, done.stderr), (5, '', 'to-json: cannot read none.def: No such file or directory\n'))
+        done = self.run_tool('to-json', example('unfinished.def'), STANDARD, '--after', 'none.def', stdin='legal\n')
         self.assertEqual((done.returncode, done.stdout, done.stderr), (5, '', 'to-json: cannot read none.def: No such file or directory\n'))
         self.assertEqual(self.run_tool('to-json', bad).returncode, 64)
         self.assertIn('--messages', self.run_tool('to-json', '--help').stdout)
