@@ -18,6 +18,18 @@ KINDS = ('UNPLACED', 'OUTSIDE', 'OFFSITE', 'OVERLAP', 'BLOCKED', 'SHORT', 'TOONE
 # The last line of `lefdef compare` that an answer may have: one to `place` differs in places alone, one to `route` in wires that are added.
 STILL_THE_BLOCK = {'place': 'same|places [0-9]+', 'route': 'same|wires [0-9]+'}
 RIGHT, WRONG, NOT_JUDGED = range(3)
+USAGE = 64
+
+
+def usage_status(words, doc):
+    """Prints what a script is for, where its words ask for that or are none that it takes, and returns its exit status; else None."""
+    if words == ['--help']:
+        print(doc.strip())
+        return 0
+    if words and not any(word.startswith('-') for word in words):
+        return None
+    print(doc.strip(), file=sys.stderr)
+    return USAGE
 
 
 class Verdict(NamedTuple):

@@ -116,6 +116,16 @@ class BlocksTests(Room):
         for name in NAMES:
             self.assertEqual(read(os.path.join(self.room, name[:-1], f'{name}.def')), read(block(name)), name)
 
+    def test_blocks_that_are_there_are_not_overwritten(self):
+        folder = os.path.join(self.room, 'route')
+        os.makedirs(folder)
+        path = os.path.join(folder, 'route5.def')
+        with open(path, 'w', encoding='utf-8') as file:
+            file.write('kept')
+        self.assertEqual(self.run_script('generate', self.room), (5, '', f'{path} exists already: nothing is written\n'))
+        self.assertEqual(([path for path, _, names in os.walk(self.room) if names], read(path)), ([folder], 'kept'))
+        self.assertEqual(self.run_script('generate', path), (5, '', f'cannot write {path}/place: Not a directory\n'))
+
     def test_those_to_be_legalised_are_not_legally_placed(self):
         for name in NAMES[:5]:
             status, lines = asked('place-check', block(name), CELLS)
@@ -211,7 +221,8 @@ class JudgeTests(JudgedCase):
 
     def test_usage(self):
         for script in ('judge', 'score', 'generate'):
-            self.assertEqual(self.run_script(script)[0::2][0], 64)
+            for words in ([], ['--none'], [block('place1'), '--none']):
+                self.assertEqual(self.run_script(script, *words)[:2], (64, ''), words)
             status, out, _ = self.run_script(script, '--help')
             self.assertEqual((status, f'examples/course/{script} ' in out), (0, True))
 
