@@ -551,6 +551,13 @@ class ExampleTests(FlowCase):
         self.assertEqual((done.returncode, done.stderr), (5, 'run: cannot read the design nosuch.v\n'))
         self.assertFalse(os.path.exists(os.path.join(self.room, 'made')))
 
+    def test_a_text_without_a_module(self):
+        path = self.file('none.v', '// module\n')
+        done, calls = self.go_through(words=('made', path))
+        self.assertEqual((done.returncode, calls), (5, []))
+        self.assertEqual(done.stderr, f'run: {path} has no module: none of its lines begins with the word module and a name\n')
+        self.assertFalse(os.path.exists(os.path.join(self.room, 'made')))
+
     def test_a_technology_that_is_not_installed_is_named(self):
         done, _ = self.go_through(words=('made', 'ring.v', 'osu035'), library='/nosuch')
         self.assertEqual((done.returncode, done.stderr), (5, 'run: missing Debian packages: qflow-tech-osu035\nrun: apt-get install -y qflow-tech-osu035\n'))
