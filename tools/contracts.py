@@ -18,6 +18,8 @@ START = re.compile(r'(?P<public>pub(?:\([a-z]+\))?\s+)?(?:(?:unsafe|const|extern
                    r'(?P<kind>fn|struct|enum|trait|impl|mod|use|const|static|type|ghost\s+use|ghost|macro_rules!)(?![\w])\s*(?P<name>\w+)?')
 CLAUSE = re.compile(r'\b((?:requires|ensures)\*?)(?:\s+(\w+))?\s*$')
 CLOSING = {'(': ')', '[': ']', '{': '}'}
+# Libraries with contracts that crates of tests call.
+FOR_TESTS = ('test_alloc', 'test_texts')
 # Members of std's traits that hold proofs and state nothing.
 PROOFS = {'laws'}
 
@@ -421,9 +423,9 @@ class Crates:
         self.read = {}
 
     def libraries(self):
-        """Returns the crates that have public contracts: those with a lib.rt, but for crates of tests alone, whose names end in `_tests`."""
+        """Returns the crates that have public contracts: those with a lib.rt, but for crates of tests alone, whose names begin with `test_`."""
         return [name for name in self.below
-                if not name.endswith('_tests') and os.path.exists(os.path.join(self.top, 'crates', name, 'src', 'lib.rt'))]
+                if (not name.startswith('test_') or name in FOR_TESTS) and os.path.exists(os.path.join(self.top, 'crates', name, 'src', 'lib.rt'))]
 
     def crate(self, name):
         if name not in self.read:

@@ -107,7 +107,7 @@ class ChangeTests(unittest.TestCase):
     """What a change of a source does to the pages."""
 
     def setUp(self):
-        self.copy = Doctored(('leg_geom', 'leg_sweep', 'leg_walk', 'leg_lib', 'leg_lent'))
+        self.copy = Doctored(('leg_geom', 'leg_sweep', 'leg_route_search', 'leg_lib', 'leg_c_memory'))
         self.addCleanup(self.copy.close)
         reference.write(self.copy.top)
         self.assertEqual(reference.differences(self.copy.top), {})
@@ -126,14 +126,14 @@ class ChangeTests(unittest.TestCase):
         self.assertEqual(list(self.differing()), ['leg_sweep.md'])
 
     def test_a_condition_that_is_added_is_a_difference(self):
-        self.copy.edit('crates/leg_walk/src/side.rt', '-> Side\n    ensures', '-> Side\n    requires { 0 ≡ 0 }\n    ensures')
-        self.assertEqual(list(self.differing()), ['leg_walk.md'])
+        self.copy.edit('crates/leg_route_search/src/side.rt', '-> Side\n    ensures', '-> Side\n    requires { 0 ≡ 0 }\n    ensures')
+        self.assertEqual(list(self.differing()), ['leg_route_search.md'])
 
     def test_a_condition_on_memory_that_goes_is_a_difference(self):
-        self.copy.edit('crates/leg_lent/src/memory.rt', '        requires* memory { sem 𝓛 (bytes_at ptr size) }\n', '')
+        self.copy.edit('crates/leg_c_memory/src/memory.rt', '        requires* memory { sem 𝓛 (bytes_at ptr size) }\n', '')
         found = self.differing()
-        self.assertEqual(list(found), ['leg_lent.md'])
-        self.assertIn('-    requires* memory { sem 𝓛 (bytes_at ptr size) }', found['leg_lent.md'])
+        self.assertEqual(list(found), ['leg_c_memory.md'])
+        self.assertIn('-    requires* memory { sem 𝓛 (bytes_at ptr size) }', found['leg_c_memory.md'])
 
     def test_a_law_of_a_trait_that_goes_is_a_difference(self):
         self.copy.edit('crates/leg_sweep/src/rule.rt', '    ghost symmetric: { (r : Self) (a b : Self.Item) → Holds r a b → Holds r b a };\n', '')
@@ -144,18 +144,18 @@ class ChangeTests(unittest.TestCase):
         self.assertEqual(list(self.differing()), ['leg_geom.md'])
 
     def test_a_call_that_is_no_longer_passed_on_is_a_difference(self):
-        self.copy.edit('crates/leg_walk/src/lib.rt', 'pub use side::{Side, opposite};', 'pub use side::Side;')
-        self.assertEqual(list(self.differing()), ['leg_walk.md'])
+        self.copy.edit('crates/leg_route_search/src/lib.rt', 'pub use side::opposite;\n', '')
+        self.assertEqual(list(self.differing()), ['leg_route_search.md'])
 
     def test_bodies_and_private_functions_make_no_difference(self):
-        self.copy.edit('crates/leg_walk/src/side.rt', 'Side::West => Side::East,', 'Side::West => Side::West,')
+        self.copy.edit('crates/leg_route_search/src/side.rt', 'Side::West => Side::East,', 'Side::West => Side::West,')
         self.copy.edit('crates/leg_sweep/src/pair_list.rt', '{ IfOk result (λ bands. bands.items ≡ empty_band reach ∷ []) }', '{ 0 ≡ 0 }')
         self.assertEqual(self.differing(), {})
 
     def test_pages_that_are_missing_or_of_no_crate_are_named(self):
-        self.copy.remove('docs/reference/leg_walk.md')
+        self.copy.remove('docs/reference/leg_route_search.md')
         self.copy.write('docs/reference/leg_none.md', '# leg_none\n')
-        self.assertEqual(self.differing(), {'leg_walk.md': 'is missing', 'leg_none.md': 'is of no crate'})
+        self.assertEqual(self.differing(), {'leg_route_search.md': 'is missing', 'leg_none.md': 'is of no crate'})
         reference.write(self.copy.top)
         self.assertEqual(self.differing(), {})
 
@@ -168,7 +168,7 @@ class ChangeTests(unittest.TestCase):
         self.assertTrue(said.getvalue().startswith('docs/reference/README.md is missing\n'))
 
     def test_a_form_that_is_not_known_is_an_error(self):
-        self.copy.edit('crates/leg_walk/src/mark.rt', '/// What a search has noted of a node.', 'extern "C" {}\n')
+        self.copy.edit('crates/leg_route_search/src/mark.rt', '/// What a search has noted of a node.', 'extern "C" {}\n')
         with self.assertRaises(reference.Unclear):
             self.differing()
 

@@ -14,7 +14,7 @@ use leg_app::{
     STREAM_LIMIT, Side, Status, asked_by, read_all, run_compare, run_explained, run_help, run_out,
     run_stream_explained,
 };
-use leg_message::{NotingWriter, Paths, Texts, message, stream_message};
+use leg_app_message::{NotingWriter, Paths, Texts, message, stream_message};
 use rounds::Rounds;
 use std::alloc::{AllocError, Allocator, Global};
 use std::fs::File;
@@ -270,7 +270,7 @@ fn explain<R: Runtime + AllocGlobal>(rt: &R, message: Result<Vec<u8>, AllocError
     }
 }
 
-// Says why there is no answer, and gives the exit status.
+// Denotes why there is no answer, and gives the exit status.
 fn stopped<R: Runtime + AllocGlobal>(rt: &R, stop: Stop<'_>) -> u8 {
     match stop {
         Stop::Halt(halt, cause) => halted(rt, &halt, cause),
@@ -284,7 +284,7 @@ fn stopped<R: Runtime + AllocGlobal>(rt: &R, stop: Stop<'_>) -> u8 {
     }
 }
 
-// Says on standard error why the program ends without an answer, and gives the exit status.
+// Denotes on standard error why the program ends without an answer, and gives the exit status.
 fn halted<R: Runtime + AllocGlobal>(rt: &R, halt: &Halt<'_>, cause: Option<io::Error>) -> u8 {
     let said = match halt {
         Halt::NotRead(path) => eprintln!(rt; "cannot read {path}"),

@@ -2,24 +2,24 @@
 use Rattle.std.proofs.Common.{◌≡◌, ℕ, false, List, Option, None, Some, is_some, option_map, Result, Ok, Err, IfOk, IfErr, OnErr, codes, inl, inr, refl, sym, arith}
 use Rattle.std.proofs.lemmas.Fmt.{decimal_digit}
 use Rattle.std.proofs.lemmas.Bool.{false≢true}
-use Rattle.leg_input.specs.declared.command.Command.{Command}
+use Rattle.leg_app_input.specs.declared.command.Command.{Command}
 use Rattle.leg_app.specs.declared.status.Status.{Status}
 use Rattle.leg_app.specs.declared.status.Status.TheVariants.{Success, Violations, Refused, Unsolved, Memory}
 use Rattle.leg_app.specs.declared.text_fault.TextFault.{TextFault}
 use Rattle.leg_app.specs.declared.text_fault.TextFault.TheVariants as faults
 use Rattle.leg_app.specs.Refusal.{Refuses, IsOutOfMemory}
-use Rattle.leg_cells.specs.Records.{Contents}
-use Rattle.leg_block.specs.Records.{DesignContents}
-use Rattle.leg_block.specs.declared.fault.Fault.{Fault}
-use Rattle.leg_block.specs.Violation.{IsListOf}
-use Rattle.leg_flat.specs.Flat.{FlatSaid}
-use Rattle.leg_app.specs.Say.{SayDesign}
-use Rattle.leg_app.specs.Lines.{no_library_text}
+use Rattle.leg_lib_records.specs.Records.{LibraryModel}
+use Rattle.leg_design_records.specs.Records.{DesignModel}
+use Rattle.leg_design_records.specs.declared.fault.Fault.{Fault}
+use Rattle.leg_design_records.specs.Violation.{IsListOf}
+use Rattle.leg_rules.specs.Metal.Flat.{FlatModel}
+use Rattle.leg_grammar.specs.Texts.{DenoteDesign}
+use Rattle.leg_output.specs.Commands.Check.{no_library_text}
 use Rattle.leg_app.specs.Answer.{Lists, IsShown, IsAnswer}
 use Rattle.leg_app.specs.Answer.{IsListing}
 use Rattle.leg_app.specs.Steps.Making.{IsMaking}
-use Rattle.leg_app.specs.Steps.SaidLibrary.{SayNoLibrary}
-use Rattle.leg_app.specs.Steps.Unread.{IsOfMaster}
+use Rattle.leg_app.specs.Steps.OneLibrary.{DenoteNoLibrary}
+use Rattle.leg_app.specs.Steps.FaultReasons.{IsOfMaster}
 
 -- what is weaker holds of what is answered too
 pub ok_weaker : {T E : Type 0} (P Q : T → Type 0) (r : Result T E) → ((t : T) → P t → Q t) → IfOk r P → IfOk r Q
@@ -39,7 +39,7 @@ refuses_weaker faults.TooMany weaker greater h = greater h
 refuses_weaker faults.Memory weaker greater h = tt
 
 -- where no library is said, no macro of it is needed
-pub master_of_none : (lefs : List (List ℕ)) (def : List ℕ) (fault : TextFault) → Refuses (SayNoLibrary lefs def) ⊥ fault → IsOfMaster lefs def fault None
+pub master_of_none : (lefs : List (List ℕ)) (def : List ℕ) (fault : TextFault) → Refuses (DenoteNoLibrary lefs def) ⊥ fault → IsOfMaster lefs def fault None
 master_of_none lefs def (faults.Read fault) none = λ not_memory library say. absurd (none not_memory library say)
 master_of_none lefs def (faults.Scale fault units) none = tt
 master_of_none lefs def faults.TooMany none = tt
@@ -56,17 +56,13 @@ pub err_weaker : {T E : Type 0} (P Q : E → Type 0) (r : Result T E) → ((e : 
 err_weaker P Q (Ok t) weaker holds = tt
 err_weaker P Q (Err e) weaker holds = weaker e holds
 
-pub on_err_weaker : {T E : Type 0} (P Q : Type 0) (r : Result T E) → (P → Q) → OnErr r P → OnErr r Q
-on_err_weaker P Q (Ok t) weaker holds = tt
-on_err_weaker P Q (Err e) weaker holds = weaker holds
-
 -- what isn't there isn't seen
 pub nothing_there : {X Y : Type 0} (f : X → Y) (o : Option X) → is_some o ≡ false → option_map f o ≡ None
 nothing_there f None e = refl
 nothing_there f (Some x) e = absurd (false≢true (sym e))
 
 -- violations that are listed, or told to be none, are an answer where they are all that the command lists
-pub listed_answer : (command : Command) (lefs : List (List ℕ)) (def : List ℕ) (library : Contents) (design : DesignContents) (flat : Option FlatSaid) (violations : List Fault) (status : Status) (text : List ℕ) → SayDesign lefs def library design → IsShown command design flat → IsListOf (Lists command library design) violations → IsListing design flat violations status text → IsAnswer command lefs def status text
+pub listed_answer : (command : Command) (lefs : List (List ℕ)) (def : List ℕ) (library : LibraryModel) (design : DesignModel) (flat : Option FlatModel) (violations : List Fault) (status : Status) (text : List ℕ) → DenoteDesign lefs def library design → IsShown command design flat → IsListOf (Lists command library design) violations → IsListing design flat violations status text → IsAnswer command lefs def status text
 listed_answer command lefs def library design flat violations Success text say shown list listed =
     inl (record { library = library; design = design; flat = flat; violations = violations; say = say; shown = shown; list = list; is = listed })
 listed_answer command lefs def library design flat violations Violations text say shown list listed =
@@ -76,7 +72,7 @@ listed_answer command lefs def library design flat violations Unsolved text say 
 listed_answer command lefs def library design flat violations Memory text say shown list listed = absurd listed
 
 -- what is made of a design is an answer to texts that say the design, and so is the reason for which nothing is made of it
-pub made_answer : (command : Command) (lefs : List (List ℕ)) (def : List ℕ) (library : Contents) (design : DesignContents) (status : Status) (text : List ℕ) → SayDesign lefs def library design → IsMaking command design status text → IsAnswer command lefs def status text
+pub made_answer : (command : Command) (lefs : List (List ℕ)) (def : List ℕ) (library : LibraryModel) (design : DesignModel) (status : Status) (text : List ℕ) → DenoteDesign lefs def library design → IsMaking command design status text → IsAnswer command lefs def status text
 made_answer command lefs def library design Success text say made = inr (inr (record { library = library; design = design; say = say; made = made }))
 made_answer command lefs def library design Unsolved text say reason = record { library = library; design = design; say = say; reason = reason }
 made_answer command lefs def library design Violations text say made = absurd made

@@ -1,56 +1,56 @@
 -- What is answered where two DEFs are compared.
 use Rattle.std.proofs.Common.{◌≡◌, ℕ, List, ◌⊎◌, inl, inr, refl, sym, ◌∙◌, subst}
 use Rattle.leg_lex.specs.Word.{texts}
-use Rattle.leg_lex.specs.Say.{Says}
-use Rattle.leg_lex.proofs.Saying.{says_one}
-use Rattle.leg_cells.specs.Records.{Contents}
-use Rattle.leg_block.specs.Records.{DesignContents}
-use Rattle.leg_design.specs.Header.{units_in}
-use Rattle.leg_design.specs.Form.{design_in}
-use Rattle.leg_compare.specs.declared.difference.Difference.{Difference}
-use Rattle.leg_compare.specs.declared.difference.Verdict.{Verdict}
-use Rattle.leg_compare.specs.declared.difference.Verdict.TheVariants.{Same, Places, Wires, PlacesAndWires, Differs}
-use Rattle.leg_compare.specs.Order.{AreAllDifferences}
-use Rattle.leg_compare.specs.Verdicts.{IsVerdict}
+use Rattle.leg_lex.specs.Denotes.{Denotes}
+use Rattle.leg_lex.proofs.Denotations.{says_one}
+use Rattle.leg_lib_records.specs.Records.{LibraryModel}
+use Rattle.leg_design_records.specs.Records.{DesignModel}
+use Rattle.leg_grammar.specs.Def.Header.{units_in}
+use Rattle.leg_grammar.specs.Def.Form.{design_in}
+use Rattle.leg_rules.specs.declared.difference.Difference.{Difference}
+use Rattle.leg_rules.specs.declared.difference.Verdict.{Verdict}
+use Rattle.leg_rules.specs.declared.difference.Verdict.TheVariants.{Same, Places, Wires, PlacesAndWires, Differs}
+use Rattle.leg_rules.specs.Compare.Order.{AreAllDifferences}
+use Rattle.leg_rules.specs.Compare.Verdicts.{IsVerdict}
 use Rattle.leg_app.specs.declared.compare_end.Side.{Side}
 use Rattle.leg_app.specs.declared.compare_end.Side.TheVariants.{Before, After}
-use Rattle.leg_app.specs.Say.{SayLibraryFor, SayDesign, SayNothing}
-use Rattle.leg_app.specs.Steps.SaidLibrary.{SaysJust}
-use Rattle.leg_app.specs.CompareLines.{comparison_text}
+use Rattle.leg_grammar.specs.Texts.{DenoteLibraryFor, DenoteDesign, DenoteNothing}
+use Rattle.leg_app.specs.Steps.OneLibrary.{DenotesJust}
+use Rattle.leg_output.specs.Commands.Compare.{comparison_text}
 use Rattle.leg_app.specs.Reason.{HasNoReason}
 use Rattle.leg_app.specs.Comparison.{status_of, def_of, Compares, IsComparison}
-use Rattle.leg_app.proofs.Sayings.{design_has_library}
+use Rattle.leg_app.proofs.Denotations.{design_has_library}
 
 -- a library is denoted with another DEF too, if that has its units
-for_other : (lefs : List (List ℕ)) (def other : List ℕ) (library : Contents) → Says units_in other library.units → SayLibraryFor lefs def library → SayLibraryFor lefs other library
+for_other : (lefs : List (List ℕ)) (def other : List ℕ) (library : LibraryModel) → Denotes units_in other library.units → DenoteLibraryFor lefs def library → DenoteLibraryFor lefs other library
 for_other lefs def other library units say = record {
   raw = say.raw;
   units = say.units;
   lef = say.lef;
-  unit = subst (Says units_in other) say.scaled.units units;
+  unit = subst (Denotes units_in other) say.scaled.units units;
   scaled = say.scaled;
 }
 
 -- and it is the only one, if it is with the one DEF
-pub just_other : (lefs : List (List ℕ)) (def other : List ℕ) (library : Contents) → Says units_in other library.units → SaysJust lefs def library → SaysJust lefs other library
+pub just_other : (lefs : List (List ℕ)) (def other : List ℕ) (library : LibraryModel) → Denotes units_in other library.units → DenotesJust lefs def library → DenotesJust lefs other library
 just_other lefs def other library units just = record {
   found = for_other lefs def other library units just.found;
   only = λ said say.
       just.only said
       (for_other lefs other def said
-      (subst (Says units_in def) (sym (say.scaled.units ∙ (says_one units_in other say.units library.units say.unit units ∙ just.found.scaled.units))) just.found.unit)
+      (subst (Denotes units_in def) (sym (say.scaled.units ∙ (says_one units_in other say.units library.units say.unit units ∙ just.found.scaled.units))) just.found.unit)
       say);
 }
 
 -- under the one library that is denoted the DEF denotes a design
-pub say_design : (lefs : List (List ℕ)) (def : List ℕ) (library : Contents) (design : DesignContents) → SaysJust lefs def library → Says (design_in library) def design → SayDesign lefs def library design
+pub say_design : (lefs : List (List ℕ)) (def : List ℕ) (library : LibraryModel) (design : DesignModel) → DenotesJust lefs def library → Denotes (design_in library) def design → DenoteDesign lefs def library design
 say_design lefs def library design just says = record { under = just.found; said = says }
 
-pub library_of : (library : Contents) (def : List ℕ) (design : DesignContents) → Says (design_in library) def design → design.library ≡ library
+pub library_of : (library : LibraryModel) (def : List ℕ) (design : DesignModel) → Denotes (design_in library) def design → design.library ≡ library
 library_of library def design says = (design_has_library library (texts says.words)).given design says.reads
 
 -- where one of the DEFs denotes nothing
-pub nothing_of : (side : Side) (lefs : List (List ℕ)) (before after : List ℕ) → SayNothing lefs (def_of side before after) → SayNothing lefs before ⊎ SayNothing lefs after
+pub nothing_of : (side : Side) (lefs : List (List ℕ)) (before after : List ℕ) → DenoteNothing lefs (def_of side before after) → DenoteNothing lefs before ⊎ DenoteNothing lefs after
 nothing_of Before lefs before after nothing = inl nothing
 nothing_of After lefs before after nothing = inr nothing
 
@@ -62,8 +62,8 @@ no_reason_of (Wires growths) = tt
 no_reason_of (PlacesAndWires moves growths) = tt
 no_reason_of (Differs count) = tt
 
-module _ (lefs : List (List ℕ)) (before after : List ℕ) (library : Contents) (first second : DesignContents) (list : List Difference) (text : List ℕ)
-    (say_first : SayDesign lefs before library first) (say_second : SayDesign lefs after library second) (all : AreAllDifferences first second list) where
+module _ (lefs : List (List ℕ)) (before after : List ℕ) (library : LibraryModel) (first second : DesignModel) (list : List Difference) (text : List ℕ)
+    (say_first : DenoteDesign lefs before library first) (say_second : DenoteDesign lefs after library second) (all : AreAllDifferences first second list) where
   compares : (verdict : Verdict) → IsVerdict first list verdict → text ≡ comparison_text first second list verdict → Compares lefs before after (status_of verdict) text
   compares verdict judged is = record {
     library = library;

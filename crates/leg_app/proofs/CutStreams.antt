@@ -6,13 +6,13 @@ use Rattle.std.proofs.Math.Seq.{take-append-add}
 use Rattle.leg_lex.specs.declared.limits.TheConstants.{TEXT_LIMIT}
 use Rattle.leg_lex.specs.declared.read_fault.Need.TheVariants.{OfKind}
 use Rattle.leg_lex.specs.declared.read_fault.FaultKind.TheVariants as kinds
-use Rattle.leg_input.specs.declared.command.Command.TheVariants.{Check}
+use Rattle.leg_app_input.specs.declared.command.Command.TheVariants.{Check}
 use Rattle.leg_app.specs.declared.status.Status.{Status}
 use Rattle.leg_app.specs.declared.status.Status.TheVariants.{Success, Violations, Refused, Unsolved, Memory}
-use Rattle.leg_app.specs.Say.{SayNothing}
-use Rattle.leg_input.specs.Stream.{end_library}
-use Rattle.leg_app.specs.Lines.{no_library_text}
-use Rattle.leg_app.specs.Answer.{IsAnswer, IsStreamAnswer, AnswersParts, TellsNoLibrary}
+use Rattle.leg_grammar.specs.Texts.{DenoteNothing}
+use Rattle.leg_app_input.specs.Stream.{end_library}
+use Rattle.leg_output.specs.Commands.Check.{no_library_text}
+use Rattle.leg_app.specs.Answer.{IsAnswer, IsStreamAnswer, AnswersParts, ReportsNoLibrary}
 
 -- a text begins with a needle, or it doesn't
 begins : (needle text : List ℕ) → ((after : List ℕ) × (text ≡ needle ++ after)) ⊎ ((after : List ℕ) → text ≡ needle ++ after → ⊥)
@@ -68,11 +68,6 @@ module _ (needle : List ℕ) where
         ]
       ]
 
-  -- what stands in a cut text stands in the whole of it
-  whole_stands : (limit : ℕ) (text before after : List ℕ) → take limit text ≡ before ++ needle ++ after → text ≡ before ++ needle ++ (after ++ drop limit text)
-  whole_stands limit text before after e =
-      sym (take-append-drop limit text) ∙ ap (λ l. l ++ drop limit text) e ∙ append_assoc (before ++ needle) after (drop limit text)
-
   -- and what ends within the limit stands in the cut text
   stands_cut : (limit : ℕ) (text before after : List ℕ) → length before + length needle ≤ limit → text ≡ before ++ needle ++ after
       → take limit text ≡ before ++ needle ++ take (limit - (length before + length needle)) after
@@ -83,12 +78,12 @@ module _ (needle : List ℕ) where
       ap (take limit) e ∙ ap (λ n. take n ((before ++ needle) ++ after)) sum ∙ take-append-add (before ++ needle) after rest
 
 -- texts of which one is too long say no design
-too_long : (lef def : List ℕ) → (TEXT_LIMIT < length lef) ⊎ (TEXT_LIMIT < length def) → SayNothing (lef ∷ []) def
+too_long : (lef def : List ℕ) → (TEXT_LIMIT < length lef) ⊎ (TEXT_LIMIT < length def) → DenoteNothing (lef ∷ []) def
 too_long lef def (inl long) library design say = omega (arith, long, say.under.lef.1.fits)
 too_long lef def (inr long) library design say = omega (arith, long, say.said.fits)
 
 -- what is answered to texts that say nothing is answered to all such texts
-answer_to_nothing : (lefs : List (List ℕ)) (def other : List ℕ) (status : Status) (text : List ℕ) → SayNothing lefs def → SayNothing lefs other → IsAnswer Check lefs def status text → IsAnswer Check lefs other status text
+answer_to_nothing : (lefs : List (List ℕ)) (def other : List ℕ) (status : Status) (text : List ℕ) → DenoteNothing lefs def → DenoteNothing lefs other → IsAnswer Check lefs def status text → IsAnswer Check lefs other status text
 answer_to_nothing lefs def other Success text none none_too (inl lists) = absurd (none lists.library lists.design lists.say)
 answer_to_nothing lefs def other Success text none none_too (inr (inl told)) = absurd (none told.library told.design told.say)
 answer_to_nothing lefs def other Success text none none_too (inr (inr printed)) = absurd (none printed.library printed.design printed.say)
@@ -137,7 +132,7 @@ module _ (limit : ℕ) (beyond : 2 * TEXT_LIMIT < limit) (stream : List ℕ) (lo
         answer = answer_to_nothing (parts.lef ∷ []) parts.def def status text (too_long parts.lef parts.def too) (too_long parts.lef def too_whole) parts.answer;
       }
 
-  no_library_answered : TellsNoLibrary (take limit stream) status text → IsStreamAnswer stream status text
+  no_library_answered : ReportsNoLibrary (take limit stream) status text → IsStreamAnswer stream status text
   no_library_answered told =
       elim (first_or_none end_library stream) [
         | inr nowhere ↦ inr (record { none = λ has. nowhere has.0 has.1.0 has.1.1; refused = told.refused; is = told.is })

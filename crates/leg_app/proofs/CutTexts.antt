@@ -5,19 +5,19 @@ use Rattle.std.proofs.lemmas.List.{take_all, length-take-le}
 use Rattle.leg_lex.specs.declared.limits.TheConstants.{TEXT_LIMIT}
 use Rattle.leg_lex.specs.Words.{Words}
 use Rattle.std.proofs.Common.{Option}
-use Rattle.leg_lex.specs.Say.{Says}
-use Rattle.leg_cells.specs.Records.{RawContents, Contents, empty_library}
-use Rattle.leg_lib.specs.Form.{lef_in}
-use Rattle.leg_lib.specs.Say.{Extend}
-use Rattle.leg_block.specs.Records.{DesignContents}
-use Rattle.leg_design.specs.Header.{units_in}
-use Rattle.leg_design.specs.Form.{design_in}
-use Rattle.leg_input.specs.declared.command.Command.{Command}
+use Rattle.leg_lex.specs.Denotes.{Denotes}
+use Rattle.leg_lib_records.specs.Records.{RawLibraryModel, LibraryModel, empty_library}
+use Rattle.leg_grammar.specs.Lef.Form.{lef_in}
+use Rattle.leg_grammar.specs.Lef.Library.{Extend}
+use Rattle.leg_design_records.specs.Records.{DesignModel}
+use Rattle.leg_grammar.specs.Def.Header.{units_in}
+use Rattle.leg_grammar.specs.Def.Form.{design_in}
+use Rattle.leg_app_input.specs.declared.command.Command.{Command}
 use Rattle.leg_app.specs.declared.status.Status.{Status}
 use Rattle.leg_app.specs.declared.status.Status.TheVariants.{Success, Violations, Refused, Unsolved, Memory}
-use Rattle.leg_app.specs.Say.{SayDesign}
-use Rattle.leg_app.specs.Made.{PrintsMade, TellsUnsolved}
-use Rattle.leg_app.specs.Answer.{ListsViolations, TellsWirelength, IsAnswer}
+use Rattle.leg_grammar.specs.Texts.{DenoteDesign}
+use Rattle.leg_app.specs.Results.{PrintsMade, ReportsUnsolved}
+use Rattle.leg_app.specs.Answer.{ListsViolations, ReportsWirelength, IsAnswer}
 
 -- a limit beyond that of texts
 module _ (limit : ℕ) (beyond : TEXT_LIMIT < limit) where
@@ -33,22 +33,22 @@ module _ (limit : ℕ) (beyond : TEXT_LIMIT < limit) where
   whole_text text short = take_all limit text (omega (arith, beyond, short))
 
   module _ {Said : Type 0} (reading : Words → Option Said) (text : List ℕ) (said : Said) where
-    cut_says : Says reading (take limit text) said → Says reading text said
-    cut_says says = subst (λ t. Says reading t said) (whole text says.fits) says
+    cut_says : Denotes reading (take limit text) said → Denotes reading text said
+    cut_says says = subst (λ t. Denotes reading t said) (whole text says.fits) says
 
-    says_cut : Says reading text said → Says reading (take limit text) said
-    says_cut says = subst (λ t. Says reading t said) (sym (whole_text text says.fits)) says
+    says_cut : Denotes reading text said → Denotes reading (take limit text) said
+    says_cut says = subst (λ t. Denotes reading t said) (sym (whole_text text says.fits)) says
 
-  cut_extends : (before library : RawContents) (lefs : List (List ℕ)) → Extend before (map (take limit) lefs) library → Extend before lefs library
+  cut_extends : (before library : RawLibraryModel) (lefs : List (List ℕ)) → Extend before (map (take limit) lefs) library → Extend before lefs library
   cut_extends before library [] extends = extends
   cut_extends before library (lef ∷ lefs) extends = (extends.0, cut_says (lef_in before) lef extends.0 extends.1, cut_extends extends.0 library lefs extends.2)
 
-  extends_cut : (before library : RawContents) (lefs : List (List ℕ)) → Extend before lefs library → Extend before (map (take limit) lefs) library
+  extends_cut : (before library : RawLibraryModel) (lefs : List (List ℕ)) → Extend before lefs library → Extend before (map (take limit) lefs) library
   extends_cut before library [] extends = extends
   extends_cut before library (lef ∷ lefs) extends = (extends.0, says_cut (lef_in before) lef extends.0 extends.1, extends_cut extends.0 library lefs extends.2)
 
   module _ (lefs : List (List ℕ)) (def : List ℕ) where
-    cut_designs : (library : Contents) (design : DesignContents) → SayDesign (map (take limit) lefs) (take limit def) library design → SayDesign lefs def library design
+    cut_designs : (library : LibraryModel) (design : DesignModel) → DenoteDesign (map (take limit) lefs) (take limit def) library design → DenoteDesign lefs def library design
     cut_designs library design say = record {
       under = record {
         raw = say.under.raw;
@@ -60,7 +60,7 @@ module _ (limit : ℕ) (beyond : TEXT_LIMIT < limit) where
       said = cut_says (design_in library) def design say.said;
     }
 
-    designs_cut : (library : Contents) (design : DesignContents) → SayDesign lefs def library design → SayDesign (map (take limit) lefs) (take limit def) library design
+    designs_cut : (library : LibraryModel) (design : DesignModel) → DenoteDesign lefs def library design → DenoteDesign (map (take limit) lefs) (take limit def) library design
     designs_cut library design say = record {
       under = record {
         raw = say.under.raw;
@@ -84,7 +84,7 @@ module _ (limit : ℕ) (beyond : TEXT_LIMIT < limit) where
       is = lists.is;
     }
 
-    cut_measures : (command : Command) (text : List ℕ) → TellsWirelength command (map (take limit) lefs) (take limit def) text → TellsWirelength command lefs def text
+    cut_measures : (command : Command) (text : List ℕ) → ReportsWirelength command (map (take limit) lefs) (take limit def) text → ReportsWirelength command lefs def text
     cut_measures command text told = record {
       measures = told.measures;
       library = told.library;
@@ -103,7 +103,7 @@ module _ (limit : ℕ) (beyond : TEXT_LIMIT < limit) where
       made = printed.made;
     }
 
-    cut_unsolved : (command : Command) (text : List ℕ) → TellsUnsolved command (map (take limit) lefs) (take limit def) text → TellsUnsolved command lefs def text
+    cut_unsolved : (command : Command) (text : List ℕ) → ReportsUnsolved command (map (take limit) lefs) (take limit def) text → ReportsUnsolved command lefs def text
     cut_unsolved command text told = record {
       library = told.library;
       design = told.design;

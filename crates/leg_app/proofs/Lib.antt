@@ -1,8 +1,8 @@
 -- What texts say, which the proofs of other crates cite too
-pub mod Sayings
+pub mod Denotations
 -- What is answered
 mod AnswerLemmas
-mod MovesTold
+mod MoveLines
 mod OneMaking
 mod OneAnswer
 mod CutTexts

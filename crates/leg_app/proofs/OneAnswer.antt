@@ -1,43 +1,43 @@
 -- What texts say, and what is answered to them, is one thing at most.
 use Rattle.std.proofs.Common.{◌≡◌, ◌≢◌, ℕ, ◌<◌, List, length, Option, None, Some, inl, inr, refl, sym, ap, ◌∙◌, subst, arith}
-use Rattle.leg_lex.proofs.Saying.{says_one}
-use Rattle.leg_cells.specs.Records.{RawContents, Contents}
-use Rattle.leg_cells.specs.Scale.{IsLibraryAt}
-use Rattle.leg_block.specs.declared.limits.TheConstants.{PART_LIMIT}
-use Rattle.leg_block.specs.Records.{DesignContents}
-use Rattle.leg_block.specs.declared.fault.Fault.{Fault}
-use Rattle.leg_block.specs.Violation.{IsListOf}
-use Rattle.leg_lex.specs.Say.{Says}
-use Rattle.leg_lib.specs.Say.{SayLibrary}
-use Rattle.leg_design.specs.Header.{units_in}
-use Rattle.leg_design.specs.Form.{design_in}
-use Rattle.leg_flat.specs.Flat.{FlatSaid, IsJudgedBy}
-use Rattle.leg_flat.specs.Metal.{metal_of}
+use Rattle.leg_lex.proofs.Denotations.{says_one}
+use Rattle.leg_lib_records.specs.Records.{RawLibraryModel, LibraryModel}
+use Rattle.leg_lib_records.specs.Scale.{IsLibraryAt}
+use Rattle.leg_design_records.specs.declared.limits.TheConstants.{PART_LIMIT}
+use Rattle.leg_design_records.specs.Records.{DesignModel}
+use Rattle.leg_design_records.specs.declared.fault.Fault.{Fault}
+use Rattle.leg_design_records.specs.Violation.{IsListOf}
+use Rattle.leg_lex.specs.Denotes.{Denotes}
+use Rattle.leg_grammar.specs.Lef.Library.{DenoteLibrary}
+use Rattle.leg_grammar.specs.Def.Header.{units_in}
+use Rattle.leg_grammar.specs.Def.Form.{design_in}
+use Rattle.leg_rules.specs.Metal.Flat.{FlatModel, IsJudgedBy}
+use Rattle.leg_rules.specs.Metal.Metal.{metal_of}
 use Rattle.leg_flat.proofs.OneFlat.{one_flat}
-use Rattle.leg_print.specs.Wirelength.{IsWirelength}
+use Rattle.leg_rules.specs.Wirelength.{IsWirelength}
 use Rattle.leg_print.proofs.OneWirelength.{one_wirelength}
-use Rattle.leg_input.specs.declared.command.Command.{Command}
-use Rattle.leg_input.specs.declared.command.Command.TheVariants.{PlaceCheck, Check, Measure, Legalise, Route, Flow, Finish}
+use Rattle.leg_app_input.specs.declared.command.Command.{Command}
+use Rattle.leg_app_input.specs.declared.command.Command.TheVariants.{PlaceCheck, Check, Measure, Legalise, Route, Flow, Finish}
 use Rattle.leg_app.specs.declared.status.Status.{Status}
 use Rattle.leg_app.specs.declared.status.Status.TheVariants.{Success, Violations, Refused, Unsolved, Memory}
-use Rattle.leg_app.specs.Say.{SayLibraryFor, SayDesign}
+use Rattle.leg_grammar.specs.Texts.{DenoteLibraryFor, DenoteDesign}
 use Rattle.leg_rules.specs.Violations.{IsViolation, AreAllViolations}
 use Rattle.leg_app.specs.Violations.{AreViolationsOf}
-use Rattle.leg_app.specs.Lines.{wirelength_text}
+use Rattle.leg_output.specs.Commands.Check.{wirelength_text}
 use Rattle.leg_legal.proofs.OneList.{one_list}
-use Rattle.leg_app.specs.Made.{IsTextMade, IsReason, PrintsMade, TellsUnsolved}
-use Rattle.leg_app.specs.Answer.{Lists, IsShown, IsListing, ListsViolations, TellsWirelength, IsAnswer}
+use Rattle.leg_app.specs.Results.{IsTextMade, IsReason, PrintsMade, ReportsUnsolved}
+use Rattle.leg_app.specs.Answer.{Lists, IsShown, IsListing, ListsViolations, ReportsWirelength, IsAnswer}
 use Rattle.leg_app.proofs.OneMaking.{IsOutcome, one_made, one_reason_told, made_or_not, shown_or_made, no_outcome_of_measure, no_outcome_of_check}
 
 -- LEF texts say one library at most, and at some units one at most
 abbrev pub SayOneRaw : Type 0
-SayOneRaw = (lefs : List (List ℕ)) (a b : RawContents) → SayLibrary lefs a → SayLibrary lefs b → a ≡ b
+SayOneRaw = (lefs : List (List ℕ)) (a b : RawLibraryModel) → DenoteLibrary lefs a → DenoteLibrary lefs b → a ≡ b
 
 abbrev pub IsOneAtUnits : Type 0
-IsOneAtUnits = (n : ℕ) (raw : RawContents) (a b : Contents) → IsLibraryAt n raw a → IsLibraryAt n raw b → a ≡ b
+IsOneAtUnits = (n : ℕ) (raw : RawLibraryModel) (a b : LibraryModel) → IsLibraryAt n raw a → IsLibraryAt n raw b → a ≡ b
 
 module _ (lefs : List (List ℕ)) (def : List ℕ) where
-  pub one_library_said : SayOneRaw → IsOneAtUnits → (a b : Contents) → SayLibraryFor lefs def a → SayLibraryFor lefs def b → a ≡ b
+  pub one_library_said : SayOneRaw → IsOneAtUnits → (a b : LibraryModel) → DenoteLibraryFor lefs def a → DenoteLibraryFor lefs def b → a ≡ b
   one_library_said one_raw one_at a b p q =
       let units : p.units ≡ q.units = says_one units_in def p.units q.units p.unit q.unit in
       let raw : p.raw ≡ q.raw = one_raw lefs p.raw q.raw p.lef q.lef in
@@ -45,19 +45,19 @@ module _ (lefs : List (List ℕ)) (def : List ℕ) where
 
   -- these texts say one library at most
   abbrev pub SayOneLibrary : Type 0
-  SayOneLibrary = (a b : Contents) → SayLibraryFor lefs def a → SayLibraryFor lefs def b → a ≡ b
+  SayOneLibrary = (a b : LibraryModel) → DenoteLibraryFor lefs def a → DenoteLibraryFor lefs def b → a ≡ b
 
-  pub one_design_said : SayOneLibrary → (library other : Contents) (a b : DesignContents) → SayDesign lefs def library a → SayDesign lefs def other b → (library ≡ other) × (a ≡ b)
+  pub one_design_said : SayOneLibrary → (library other : LibraryModel) (a b : DesignModel) → DenoteDesign lefs def library a → DenoteDesign lefs def other b → (library ≡ other) × (a ≡ b)
   one_design_said one library other a b p q =
       let same : library ≡ other = one library other p.under q.under in
-      (same, says_one (design_in other) def a b (subst (λ l. Says (design_in l) def a) same p.said) q.said)
+      (same, says_one (design_in other) def a b (subst (λ l. Denotes (design_in l) def a) same p.said) q.said)
 
-pub one_list_of_design : (library : Contents) (design : DesignContents) (a b : List Fault) → AreAllViolations library design a → AreAllViolations library design b → a ≡ b
+pub one_list_of_design : (library : LibraryModel) (design : DesignModel) (a b : List Fault) → AreAllViolations library design a → AreAllViolations library design b → a ≡ b
 one_list_of_design library design a b p q = one_list (IsViolation library design) a b p.list q.list
 
 -- these texts say one design at most
 abbrev pub SayOneDesign : List (List ℕ) → List ℕ → Type 0
-SayOneDesign lefs def = (library other : Contents) (a b : DesignContents) → SayDesign lefs def library a → SayDesign lefs def other b → (library ≡ other) × (a ≡ b)
+SayOneDesign lefs def = (library other : LibraryModel) (a b : DesignModel) → DenoteDesign lefs def library a → DenoteDesign lefs def other b → (library ≡ other) × (a ≡ b)
 
 pub one_list_of_texts : (lefs : List (List ℕ)) (def : List ℕ) → SayOneDesign lefs def → (a b : List Fault) → AreViolationsOf lefs def a → AreViolationsOf lefs def b → a ≡ b
 one_list_of_texts lefs def one a b p q =
@@ -66,7 +66,7 @@ one_list_of_texts lefs def one a b p q =
     one_list_of_design q.library q.design a b all q.all
 
 -- one flat is shown
-one_shown : (command : Command) (design : DesignContents) (f g : Option FlatSaid) → IsShown command design f → IsShown command design g → f ≡ g
+one_shown : (command : Command) (design : DesignModel) (f g : Option FlatModel) → IsShown command design f → IsShown command design g → f ≡ g
 one_shown PlaceCheck design None None p q = refl
 one_shown PlaceCheck design None (Some g) p q = absurd q
 one_shown PlaceCheck design (Some f) g p q = absurd p
@@ -80,7 +80,7 @@ one_shown Finish design f g p q = absurd p
 one_shown Check design (Some f) (Some g) p q = (let same : f ≡ g = one_flat design f g p.is_flat q.is_flat in cc)
 
 -- one status and one text go with violations
-one_listing : (design : DesignContents) (flat : Option FlatSaid) (violations : List Fault) (status other : Status) (text words : List ℕ) → IsListing design flat violations status text → IsListing design flat violations other words → (status ≡ other) × (text ≡ words)
+one_listing : (design : DesignModel) (flat : Option FlatModel) (violations : List Fault) (status other : Status) (text words : List ℕ) → IsListing design flat violations status text → IsListing design flat violations other words → (status ≡ other) × (text ≡ words)
 one_listing design flat violations Success Success text words p q = (refl, p.1 ∙ sym q.1)
 one_listing design flat violations Violations Violations text words p q = (refl, p.1 ∙ sym q.1)
 one_listing design flat violations Success Violations text words p q = absurd (q.0 p.0)
@@ -109,7 +109,7 @@ module _ (command : Command) (lefs : List (List ℕ)) (def : List ℕ) (one : Sa
       one_listing q.design q.flat q.violations status other text words of_list q.is
 
   -- what is judged keeps the limit of shapes
-  not_too_many : (design : DesignContents) (flat : Option FlatSaid) → command ≡ Check → IsShown command design flat → PART_LIMIT < length (metal_of design) → ⊥
+  not_too_many : (design : DesignModel) (flat : Option FlatModel) → command ≡ Check → IsShown command design flat → PART_LIMIT < length (metal_of design) → ⊥
   not_too_many design None is shown many = (let none : ⊥ = subst (λ c. IsShown c design None) is shown in none)
   not_too_many design (Some flat) is shown many =
       let judged : IsJudgedBy design flat = subst (λ c. IsShown c design (Some flat)) is shown in
@@ -123,11 +123,11 @@ module _ (command : Command) (lefs : List (List ℕ)) (def : List ℕ) (one : Sa
       not_too_many p.design p.flat much.flattens p.shown (subst (λ d. PART_LIMIT < length (metal_of d)) same.1 much.many.many)
 
   -- a command that tells a wirelength lists nothing
-  lists_nothing : (status : Status) (text words : List ℕ) → ListsViolations command lefs def status text → TellsWirelength command lefs def words → ⊥
+  lists_nothing : (status : Status) (text words : List ℕ) → ListsViolations command lefs def status text → ReportsWirelength command lefs def words → ⊥
   lists_nothing status text words p q = (let none : ⊥ = subst (λ c. IsShown c p.design p.flat) q.measures p.shown in none)
 
   -- one wirelength is told
-  one_measure : (text words : List ℕ) → TellsWirelength command lefs def text → TellsWirelength command lefs def words → text ≡ words
+  one_measure : (text words : List ℕ) → ReportsWirelength command lefs def text → ReportsWirelength command lefs def words → text ≡ words
   one_measure text words p q =
       let same = one p.library q.library p.design q.design p.say q.say in
       let measured : IsWirelength q.design p.length = subst (λ d. IsWirelength d p.length) same.1 p.measured in
@@ -135,20 +135,20 @@ module _ (command : Command) (lefs : List (List ℕ)) (def : List ℕ) (one : Sa
       p.is ∙ ap wirelength_text lengths ∙ sym q.is
 
   -- texts whose wirelength is told are not refused
-  measured_not_refused : (text words : List ℕ) → TellsWirelength command lefs def text → IsAnswer command lefs def Refused words → ⊥
+  measured_not_refused : (text words : List ℕ) → ReportsWirelength command lefs def text → IsAnswer command lefs def Refused words → ⊥
   measured_not_refused text words p (inl refusal) = refusal.nothing p.library p.design p.say
   measured_not_refused text words p (inr much) = (let both : ◌≡◌ {A = Command} Check Measure = sym much.flattens ∙ p.measures in cc)
 
   -- a command that lists violations or measures makes no design
-  lists_or_makes : (status : Status) (text words : List ℕ) (design : DesignContents)
+  lists_or_makes : (status : Status) (text words : List ℕ) (design : DesignModel)
       → ListsViolations command lefs def status text → IsOutcome command design words → ⊥
   lists_or_makes status text words design p outcome = shown_or_made command p.design design p.flat words p.shown outcome
 
-  measures_or_makes : (text words : List ℕ) (design : DesignContents) → TellsWirelength command lefs def text → IsOutcome command design words → ⊥
+  measures_or_makes : (text words : List ℕ) (design : DesignModel) → ReportsWirelength command lefs def text → IsOutcome command design words → ⊥
   measures_or_makes text words design p outcome = no_outcome_of_measure design words (subst (λ c. IsOutcome c design words) p.measures outcome)
 
   -- texts whose design has such an outcome are not refused
-  made_not_refused : (library : Contents) (design : DesignContents) (text words : List ℕ) → SayDesign lefs def library design
+  made_not_refused : (library : LibraryModel) (design : DesignModel) (text words : List ℕ) → DenoteDesign lefs def library design
       → IsOutcome command design text → IsAnswer command lefs def Refused words → ⊥
   made_not_refused library design text words say outcome (inl refusal) = refusal.nothing library design say
   made_not_refused library design text words say outcome (inr much) =
@@ -162,13 +162,13 @@ module _ (command : Command) (lefs : List (List ℕ)) (def : List ℕ) (one : Sa
         let made : IsTextMade command q.design text = subst (λ d. IsTextMade command d text) same.1 p.made in
         one_made command q.design text words first second third made q.made
 
-    one_unsolved : (text words : List ℕ) → TellsUnsolved command lefs def text → TellsUnsolved command lefs def words → text ≡ words
+    one_unsolved : (text words : List ℕ) → ReportsUnsolved command lefs def text → ReportsUnsolved command lefs def words → text ≡ words
     one_unsolved text words p q =
         let same = one p.library q.library p.design q.design p.say q.say in
         let reason : IsReason command q.design text = subst (λ d. IsReason command d text) same.1 p.reason in
         one_reason_told command q.design text words first second third reason q.reason
 
-    made_or_unsolved : (text words : List ℕ) → PrintsMade command lefs def text → TellsUnsolved command lefs def words → ⊥
+    made_or_unsolved : (text words : List ℕ) → PrintsMade command lefs def text → ReportsUnsolved command lefs def words → ⊥
     made_or_unsolved text words p q =
         let same = one p.library q.library p.design q.design p.say q.say in
         let made : IsTextMade command q.design text = subst (λ d. IsTextMade command d text) same.1 p.made in
@@ -193,7 +193,7 @@ module _ (command : Command) (lefs : List (List ℕ)) (def : List ℕ) (one : Sa
     listed_once text words (inr (inr p)) q = lists_or_makes Violations words text p.design q (inl p.made)
 
     -- nor is such a reason printed
-    unsolved_once : (text words : List ℕ) → IsAnswer command lefs def Success text → TellsUnsolved command lefs def words → ⊥
+    unsolved_once : (text words : List ℕ) → IsAnswer command lefs def Success text → ReportsUnsolved command lefs def words → ⊥
     unsolved_once text words (inl p) q = lists_or_makes Success text words q.design p (inr q.reason)
     unsolved_once text words (inr (inl p)) q = measures_or_makes text words q.design p (inr q.reason)
     unsolved_once text words (inr (inr p)) q = made_or_unsolved text words p q

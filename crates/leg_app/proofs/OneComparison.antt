@@ -3,24 +3,24 @@ use Rattle.std.proofs.Common.{◌≡◌, ◌≢◌, ℕ, zero, suc, ◌⊎◌, L
 use Rattle.std.specs.List.{All}
 use Rattle.std.proofs.lemmas.List.Elements.{All-contains, All-nil}
 use Rattle.leg_sweep.proofs.Lists.{same_rising}
-use Rattle.leg_block.specs.Records.{DesignContents}
-use Rattle.leg_compare.specs.declared.difference.Difference.{Difference}
-use Rattle.leg_compare.specs.declared.difference.Verdict.{Verdict}
-use Rattle.leg_compare.specs.declared.difference.Verdict.TheVariants.{Same, Places, Wires, PlacesAndWires, Differs}
-use Rattle.leg_compare.specs.Differences.{IsDifference}
-use Rattle.leg_compare.specs.Order.{rank, ComesBefore, AreAllDifferences}
-use Rattle.leg_compare.specs.Verdicts.{IsMove, IsGrowth, HasSoMany, AreMovesAndGrowths, IsVerdict}
+use Rattle.leg_design_records.specs.Records.{DesignModel}
+use Rattle.leg_rules.specs.declared.difference.Difference.{Difference}
+use Rattle.leg_rules.specs.declared.difference.Verdict.{Verdict}
+use Rattle.leg_rules.specs.declared.difference.Verdict.TheVariants.{Same, Places, Wires, PlacesAndWires, Differs}
+use Rattle.leg_rules.specs.Compare.Differences.{IsDifference}
+use Rattle.leg_rules.specs.Compare.Order.{rank, IsListedBefore, AreAllDifferences}
+use Rattle.leg_rules.specs.Compare.Verdicts.{IsMove, IsGrowth, HasSoMany, AreMovesAndGrowths, IsVerdict}
 use Rattle.leg_app.specs.declared.status.Status.{Status}
 use Rattle.leg_app.specs.declared.status.Status.TheVariants.{Success, Violations, Refused, Unsolved, Memory}
-use Rattle.leg_app.specs.CompareLines.{comparison_text}
-use Rattle.leg_app.specs.Comparison.{status_of, Compares, HasOtherUnits, TellsNotCompared, IsComparison}
+use Rattle.leg_output.specs.Commands.Compare.{comparison_text}
+use Rattle.leg_app.specs.Comparison.{status_of, Compares, HasOtherUnits, ReportsNotCompared, IsComparison}
 use Rattle.leg_app.proofs.OneAnswer.{SayOneDesign}
 
 -- Two lists of all differences are equal.
-ComesBefore-irreflexive : (d : Difference) → ComesBefore d d → ⊥
-ComesBefore-irreflexive d before = omega (arith, before.change refl refl)
+IsListedBefore-irreflexive : (d : Difference) → IsListedBefore d d → ⊥
+IsListedBefore-irreflexive d before = omega (arith, before.change refl refl)
 
-module _ (u v w : Difference) (one : ComesBefore u v) (two : ComesBefore v w) where
+module _ (u v w : Difference) (one : IsListedBefore u v) (two : IsListedBefore v w) where
   stages : (rank u).stage ≡ (rank w).stage → ((rank u).stage ≡ (rank v).stage) × ((rank v).stage ≡ (rank w).stage)
   stages same = (omega (arith, same, one.stage, two.stage), omega (arith, same, one.stage, two.stage))
 
@@ -31,16 +31,16 @@ module _ (u v w : Difference) (one : ComesBefore u v) (two : ComesBefore v w) wh
       let b = two.entry both.1 in
       (omega (arith, entry, a, b), omega (arith, entry, a, b))
 
-  ComesBefore-transitive : ComesBefore u w
-  ComesBefore-transitive = record {
+  IsListedBefore-transitive : IsListedBefore u w
+  IsListedBefore-transitive = record {
     stage = omega (arith, one.stage, two.stage);
     entry = λ same. (let both = stages same in omega (arith, one.entry both.0, two.entry both.1));
     change = λ same entry. (let both = stages same in let inner = entries same entry in omega (arith, one.change both.0 inner.0, two.change both.1 inner.1));
   }
 
-one_list : (first second : DesignContents) (a b : List Difference) → AreAllDifferences first second a → AreAllDifferences first second b → a ≡ b
+one_list : (first second : DesignModel) (a b : List Difference) → AreAllDifferences first second a → AreAllDifferences first second b → a ≡ b
 one_list first second a b p q =
-    same_rising ComesBefore ComesBefore-irreflexive ComesBefore-transitive a b p.increasing q.increasing
+    same_rising IsListedBefore IsListedBefore-irreflexive IsListedBefore-transitive a b p.increasing q.increasing
     (λ d has. q.all d (All-contains (IsDifference first second) a d p.each has)) (λ d has. p.all d (All-contains (IsDifference first second) b d q.each has))
 
 -- So many elements have a property, and no other number of them.
@@ -58,7 +58,7 @@ verdict_on (suc m) zero = Places (suc m)
 verdict_on zero (suc g) = Wires (suc g)
 verdict_on (suc m) (suc g) = PlacesAndWires (suc m) (suc g)
 
-module _ (first : DesignContents) (list : List Difference) where
+module _ (first : DesignModel) (list : List Difference) where
   abbrev OfAKind : Difference → Type 0
   OfAKind d = IsMove first d ⊎ IsGrowth d
 
@@ -119,13 +119,13 @@ module _ (lefs : List (List ℕ)) (before after : List ℕ) (one_before : SayOne
       let there : p.library ≡ q.other = (one_after p.library q.other p.second q.second p.say_second q.say_second).0 in
       q.apart (ap (λ l. l.units) (sym here ∙ there))
 
-  compared_not_refused : (status : Status) (text words : List ℕ) → Compares lefs before after status text → TellsNotCompared lefs before after words → ⊥
+  compared_not_refused : (status : Status) (text words : List ℕ) → Compares lefs before after status text → ReportsNotCompared lefs before after words → ⊥
   compared_not_refused status text words p q = elim q.nothing [
     | inl nothing ↦ nothing p.library p.first p.say_first
     | inr nothing ↦ nothing p.library p.second p.say_second
   ]
 
-  units_not_refused : (text words : List ℕ) → HasOtherUnits lefs before after text → TellsNotCompared lefs before after words → ⊥
+  units_not_refused : (text words : List ℕ) → HasOtherUnits lefs before after text → ReportsNotCompared lefs before after words → ⊥
   units_not_refused text words p q = elim q.nothing [
     | inl nothing ↦ nothing p.library p.first p.say_first
     | inr nothing ↦ nothing p.other p.second p.say_second

@@ -1,18 +1,18 @@
 -- What legalising makes of a design is printed in one way, or why it makes nothing is, and not both.
 use Rattle.std.proofs.Common.{◌≡◌, ◌≢◌, ◌⊎◌, ℕ, List, [], Option, inl, inr, refl, sym, ap, ◌∙◌}
-use Rattle.leg_block.specs.Records.{DesignContents}
-use Rattle.leg_flat.specs.Flat.{FlatSaid}
+use Rattle.leg_design_records.specs.Records.{DesignModel}
+use Rattle.leg_rules.specs.Metal.Flat.{FlatModel}
 use Rattle.leg_legal.specs.declared.fault.LegalFault.{LegalFault}
 use Rattle.leg_legal.specs.declared.fault.LegalFault.TheVariants.{FixedIllegal, NoSite, NoRoom, Memory}
-use Rattle.leg_legal.specs.Moves.{AreMoves}
-use Rattle.leg_legal.specs.Refusals.{IsRefusal}
+use Rattle.leg_rules.specs.Legalise.Moves.{AreMoves}
+use Rattle.leg_legal.specs.Refusals.{IsLegaliseRefusal}
 use Rattle.leg_legal.proofs.OneOutcome.{one_design, one_list_of_moves, one_cause, no_outcome}
-use Rattle.leg_input.specs.declared.command.Command.{Command}
-use Rattle.leg_input.specs.declared.command.Command.TheVariants.{PlaceCheck, Check, Measure, Legalise, Route, Flow, Finish}
-use Rattle.leg_app.specs.LegaliseLines.{legalised_text, fixed_illegal_text, no_site_text, no_room_text}
-use Rattle.leg_app.specs.Legalised.{PrintsLegalised, TellsNotLegalised}
-use Rattle.leg_app.specs.Legalised.TellsNotLegalised.{fixed_illegal, no_site, no_room}
-use Rattle.leg_app.specs.Made.{IsTextMade, IsReason}
+use Rattle.leg_app_input.specs.declared.command.Command.{Command}
+use Rattle.leg_app_input.specs.declared.command.Command.TheVariants.{PlaceCheck, Check, Measure, Legalise, Route, Flow, Finish}
+use Rattle.leg_output.specs.Commands.Legalise.{legalised_text, fixed_illegal_text, no_site_text, no_room_text}
+use Rattle.leg_app.specs.LegaliseResult.{PrintsLegalised, ReportsNotLegalised}
+use Rattle.leg_app.specs.LegaliseResult.ReportsNotLegalised.{fixed_illegal, no_site, no_room}
+use Rattle.leg_app.specs.Results.{IsTextMade, IsReason}
 use Rattle.leg_app.specs.Answer.{IsShown}
 
 -- a cause of refusal, of whatever allocator
@@ -20,19 +20,19 @@ abbrev Cause : Type 0
 Cause = LegalFault (Unit {0})
 
 -- what is told of it
-abbrev cause_text : DesignContents → Cause → List ℕ
+abbrev cause_text : DesignModel → Cause → List ℕ
 cause_text design (FixedIllegal violations) = fixed_illegal_text design violations
 cause_text design (NoSite c) = no_site_text design c
 cause_text design (NoRoom c) = no_room_text design c
 cause_text design Memory = []
 
-record TellsCause (design : DesignContents) (text : List ℕ) : Type 0 where
+record TellsCause (design : DesignModel) (text : List ℕ) : Type 0 where
   cause : Cause
-  refused : IsRefusal design cause
+  refused : IsLegaliseRefusal design cause
   kept : cause ≢ Memory
   is : text ≡ cause_text design cause
 
-cause_told : (design : DesignContents) (text : List ℕ) → TellsNotLegalised design text → TellsCause design text
+cause_told : (design : DesignModel) (text : List ℕ) → ReportsNotLegalised design text → TellsCause design text
 cause_told design text (fixed_illegal {violations = violations} list some is) =
     record { cause = FixedIllegal violations; refused = (list, some); kept = λ same. cc; is = is }
 cause_told design text (no_site {c = c} illegal staying least is) =
@@ -40,9 +40,9 @@ cause_told design text (no_site {c = c} illegal staying least is) =
 cause_told design text (no_room {c = c} staying suited stuck is) =
     record { cause = NoRoom c; refused = (staying, suited, stuck); kept = λ same. cc; is = is }
 
-module _ (design : DesignContents) (text words : List ℕ) where
+module _ (design : DesignModel) (text words : List ℕ) where
   -- one reason is told
-  one_reason : TellsNotLegalised design text → TellsNotLegalised design words → text ≡ words
+  one_reason : ReportsNotLegalised design text → ReportsNotLegalised design words → text ≡ words
   one_reason p q =
       let told = cause_told design text p in
       let also = cause_told design words q in
@@ -58,13 +58,13 @@ module _ (design : DesignContents) (text words : List ℕ) where
       p.is ∙ (λ i. legalised_text (designs i) (same.0 i) (same.1 i) (same.2 i)) ∙ sym q.is
 
   -- not both
-  legalised_or_not : PrintsLegalised design text → TellsNotLegalised design words → ⊥
+  legalised_or_not : PrintsLegalised design text → ReportsNotLegalised design words → ⊥
   legalised_or_not p q =
       let told = cause_told design words q in
       no_outcome design p.legalised told.cause told.refused told.kept p.legalises.run p.legalises.legal
 
 -- the same by command, but for those that route
-pub one_made : (command : Command) (design : DesignContents) (text words : List ℕ) → command ≢ Route → command ≢ Flow → command ≢ Finish
+pub one_made : (command : Command) (design : DesignModel) (text words : List ℕ) → command ≢ Route → command ≢ Flow → command ≢ Finish
     → IsTextMade command design text → IsTextMade command design words → text ≡ words
 one_made PlaceCheck design text words first second third p q = absurd p
 one_made Check design text words first second third p q = absurd p
@@ -74,7 +74,7 @@ one_made Route design text words first second third p q = absurd (first refl)
 one_made Flow design text words first second third p q = absurd (second refl)
 one_made Finish design text words first second third p q = absurd (third refl)
 
-pub one_reason_told : (command : Command) (design : DesignContents) (text words : List ℕ) → command ≢ Route → command ≢ Flow → command ≢ Finish
+pub one_reason_told : (command : Command) (design : DesignModel) (text words : List ℕ) → command ≢ Route → command ≢ Flow → command ≢ Finish
     → IsReason command design text → IsReason command design words → text ≡ words
 one_reason_told PlaceCheck design text words first second third p q = absurd p
 one_reason_told Check design text words first second third p q = absurd p
@@ -84,7 +84,7 @@ one_reason_told Route design text words first second third p q = absurd (first r
 one_reason_told Flow design text words first second third p q = absurd (second refl)
 one_reason_told Finish design text words first second third p q = absurd (third refl)
 
-pub made_or_not : (command : Command) (design : DesignContents) (text words : List ℕ) → command ≢ Route → command ≢ Flow → command ≢ Finish
+pub made_or_not : (command : Command) (design : DesignModel) (text words : List ℕ) → command ≢ Route → command ≢ Flow → command ≢ Finish
     → IsTextMade command design text → IsReason command design words → ⊥
 made_or_not PlaceCheck design text words first second third p q = p
 made_or_not Check design text words first second third p q = p
@@ -95,11 +95,11 @@ made_or_not Flow design text words first second third p q = second refl
 made_or_not Finish design text words first second third p q = third refl
 
 -- what a command makes of a design, or why it makes nothing of it
-abbrev pub IsOutcome : Command → DesignContents → List ℕ → Type 0
+abbrev pub IsOutcome : Command → DesignModel → List ℕ → Type 0
 IsOutcome command design text = IsTextMade command design text ⊎ IsReason command design text
 
 -- a command that lists violations has no such outcome, nor has the one that measures
-pub shown_or_made : (command : Command) (design other : DesignContents) (flat : Option FlatSaid) (text : List ℕ)
+pub shown_or_made : (command : Command) (design other : DesignModel) (flat : Option FlatModel) (text : List ℕ)
     → IsShown command design flat → IsOutcome command other text → ⊥
 shown_or_made PlaceCheck design other flat text shown (inl made) = made
 shown_or_made PlaceCheck design other flat text shown (inr reason) = reason
@@ -111,10 +111,10 @@ shown_or_made Route design other flat text shown outcome = shown
 shown_or_made Flow design other flat text shown outcome = shown
 shown_or_made Finish design other flat text shown outcome = shown
 
-pub no_outcome_of_measure : (design : DesignContents) (text : List ℕ) → IsOutcome Measure design text → ⊥
+pub no_outcome_of_measure : (design : DesignModel) (text : List ℕ) → IsOutcome Measure design text → ⊥
 no_outcome_of_measure design text (inl made) = made
 no_outcome_of_measure design text (inr reason) = reason
 
-pub no_outcome_of_check : (design : DesignContents) (text : List ℕ) → IsOutcome Check design text → ⊥
+pub no_outcome_of_check : (design : DesignModel) (text : List ℕ) → IsOutcome Check design text → ⊥
 no_outcome_of_check design text (inl made) = made
 no_outcome_of_check design text (inr reason) = reason

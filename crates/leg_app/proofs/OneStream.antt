@@ -1,9 +1,9 @@
 -- A stream is cut in one way, and has one answer at most.
 use Rattle.std.proofs.Common.{◌≡◌, ◌≢◌, ℕ, ◌≤◌, List, [], ◌∷◌, ◌++◌, length, take, drop, inl, inr, refl, sym, ap, ◌∙◌, subst, arith, length-append}
 use Rattle.std.proofs.lemmas.List.{take_at, drop_at}
-use Rattle.leg_input.specs.declared.command.Command.{Command}
-use Rattle.leg_input.specs.declared.command.Command.TheVariants.{Check, Route, Flow, Finish}
-use Rattle.leg_input.specs.Stream.{end_library, StandsBehind, IsSplit}
+use Rattle.leg_app_input.specs.declared.command.Command.{Command}
+use Rattle.leg_app_input.specs.declared.command.Command.TheVariants.{Check, Route, Flow, Finish}
+use Rattle.leg_app_input.specs.Stream.{end_library, StandsBehind, IsSplit}
 use Rattle.leg_app.specs.declared.status.Status.{Status}
 use Rattle.leg_app.specs.declared.status.Status.TheVariants.{Refused, Memory}
 use Rattle.leg_app.specs.Answer.{IsAnswer, IsStreamAnswer}

@@ -1,23 +1,23 @@
 -- Reasons of answers: from designs to the texts that say them, and to streams.
 use Rattle.std.proofs.Common.{◌≡◌, ℕ, List, [], ◌∷◌, Option, None, Some, sym, subst}
-use Rattle.leg_input.specs.declared.command.Command.{Command}
-use Rattle.leg_input.specs.declared.command.Command.TheVariants.{Check}
-use Rattle.leg_input.specs.Stream.{IsSplit}
-use Rattle.leg_cells.specs.Records.{Contents}
-use Rattle.leg_block.specs.Records.{DesignContents}
-use Rattle.leg_block.specs.declared.fault.Fault.{Fault}
-use Rattle.leg_flat.specs.Flat.{FlatSaid}
-use Rattle.leg_reason.specs.declared.reason.Reason.{Reason}
-use Rattle.leg_reason.specs.declared.reason.Reason.TheVariants.{Read, NoLibrary, Scale, TooMany, FixedIllegal, NoSite, NoRoom, NotClean, GridTooLarge, Unroutable, Unreachable, Unfinished}
+use Rattle.leg_app_input.specs.declared.command.Command.{Command}
+use Rattle.leg_app_input.specs.declared.command.Command.TheVariants.{Check}
+use Rattle.leg_app_input.specs.Stream.{IsSplit}
+use Rattle.leg_lib_records.specs.Records.{LibraryModel}
+use Rattle.leg_design_records.specs.Records.{DesignModel}
+use Rattle.leg_design_records.specs.declared.fault.Fault.{Fault}
+use Rattle.leg_rules.specs.Metal.Flat.{FlatModel}
+use Rattle.leg_app_reason.specs.declared.reason.Reason.{Reason}
+use Rattle.leg_app_reason.specs.declared.reason.Reason.TheVariants.{Read, NoLibrary, Scale, TooMany, FixedIllegal, NoSite, NoRoom, NotClean, GridTooLarge, Unroutable, Unreachable, Unfinished}
 use Rattle.leg_app.specs.declared.status.Status.{Status}
 use Rattle.leg_app.specs.declared.status.Status.TheVariants.{Success, Violations, Refused, Unsolved, Memory}
-use Rattle.leg_app.specs.Say.{SayDesign}
+use Rattle.leg_grammar.specs.Texts.{DenoteDesign}
 use Rattle.leg_app.specs.Answer.{IsListing}
 use Rattle.leg_app.specs.Reason.{Holds, HoldsOfTexts, IsSoOfStream, Explains}
 
 module _ {A : Type 0} where
   -- what is so of a design is so of the texts that say it
-  holds_of_texts : (command : Command) (lefs : List (List ℕ)) (def : List ℕ) (library : Contents) (design : DesignContents) (reason : Reason A) → SayDesign lefs def library design → Holds command design reason → HoldsOfTexts command lefs def reason
+  holds_of_texts : (command : Command) (lefs : List (List ℕ)) (def : List ℕ) (library : LibraryModel) (design : DesignModel) (reason : Reason A) → DenoteDesign lefs def library design → Holds command design reason → HoldsOfTexts command lefs def reason
   holds_of_texts command lefs def library design (Read fault master) say holds = absurd holds
   holds_of_texts command lefs def library design NoLibrary say holds = absurd holds
   holds_of_texts command lefs def library design (Scale fault units) say holds = absurd holds
@@ -31,39 +31,19 @@ module _ {A : Type 0} where
   holds_of_texts command lefs def library design (Unreachable net piece) say holds = record { library = library; design = design; say = say; holds = holds }
   holds_of_texts command lefs def library design Unfinished say holds = record { library = library; design = design; say = say; holds = holds }
 
-  pub explains_texts : (command : Command) (lefs : List (List ℕ)) (def : List ℕ) (library : Contents) (design : DesignContents) (status : Status) (reason : Option (Reason A)) (text : List ℕ) → SayDesign lefs def library design → Explains (Holds command design) status reason text → Explains (HoldsOfTexts command lefs def) status reason text
+  pub explains_texts : (command : Command) (lefs : List (List ℕ)) (def : List ℕ) (library : LibraryModel) (design : DesignModel) (status : Status) (reason : Option (Reason A)) (text : List ℕ) → DenoteDesign lefs def library design → Explains (Holds command design) status reason text → Explains (HoldsOfTexts command lefs def) status reason text
   explains_texts command lefs def library design status None text say explains = explains
   explains_texts command lefs def library design status (Some reason) text say explains =
       (explains.0, explains.1, holds_of_texts command lefs def library design reason say explains.2)
 
   -- violations that are listed, or told to be none, have no reason
-  no_reason : (design : DesignContents) (flat : Option FlatSaid) (violations : List Fault) (status : Status) (text : List ℕ) (IsSo : Reason A → Type 0) → IsListing design flat violations status text → Explains IsSo status None text
+  no_reason : (design : DesignModel) (flat : Option FlatModel) (violations : List Fault) (status : Status) (text : List ℕ) (IsSo : Reason A → Type 0) → IsListing design flat violations status text → Explains IsSo status None text
   no_reason design flat violations Success text IsSo listed = tt
   no_reason design flat violations Violations text IsSo listed = tt
   no_reason design flat violations Refused text IsSo listed = absurd listed
   no_reason design flat violations Unsolved text IsSo listed = absurd listed
   no_reason design flat violations Memory text IsSo listed = tt
 
-  pub explains_listing : (design : DesignContents) (flat : Option FlatSaid) (violations : List Fault) (status : Status) (reason : Option (Reason A)) (text : List ℕ) (IsSo : Reason A → Type 0) → reason ≡ None → IsListing design flat violations status text → Explains IsSo status reason text
+  pub explains_listing : (design : DesignModel) (flat : Option FlatModel) (violations : List Fault) (status : Status) (reason : Option (Reason A)) (text : List ℕ) (IsSo : Reason A → Type 0) → reason ≡ None → IsListing design flat violations status text → Explains IsSo status reason text
   explains_listing design flat violations status reason text IsSo none listed =
       subst (λ (r : Option (Reason A)). Explains IsSo status r text) (sym none) (no_reason design flat violations status text IsSo listed)
-
-  -- what is so of the two parts of a stream is so of the stream
-  so_of_stream : (stream lef def : List ℕ) (reason : Reason A) → IsSplit stream lef def → HoldsOfTexts Check (lef ∷ []) def reason → IsSoOfStream stream reason
-  so_of_stream stream lef def (Read fault master) split holds = (lef, def, split, holds)
-  so_of_stream stream lef def NoLibrary split holds = absurd holds.holds
-  so_of_stream stream lef def (Scale fault units) split holds = (lef, def, split, holds)
-  so_of_stream stream lef def TooMany split holds = (lef, def, split, holds)
-  so_of_stream stream lef def FixedIllegal split holds = (lef, def, split, holds)
-  so_of_stream stream lef def (NoSite component) split holds = (lef, def, split, holds)
-  so_of_stream stream lef def (NoRoom component) split holds = (lef, def, split, holds)
-  so_of_stream stream lef def (NotClean stage) split holds = (lef, def, split, holds)
-  so_of_stream stream lef def (GridTooLarge limit) split holds = (lef, def, split, holds)
-  so_of_stream stream lef def (Unroutable net piece) split holds = (lef, def, split, holds)
-  so_of_stream stream lef def (Unreachable net piece) split holds = (lef, def, split, holds)
-  so_of_stream stream lef def Unfinished split holds = (lef, def, split, holds)
-
-  pub explains_stream : (stream lef def : List ℕ) (status : Status) (reason : Option (Reason A)) (text : List ℕ) → IsSplit stream lef def → Explains (HoldsOfTexts Check (lef ∷ []) def) status reason text → Explains (IsSoOfStream stream) status reason text
-  explains_stream stream lef def status None text split explains = explains
-  explains_stream stream lef def status (Some reason) text split explains =
-      (explains.0, explains.1, so_of_stream stream lef def reason split explains.2)

@@ -3,28 +3,29 @@ use Rattle.std.specs.Prelude.{◌≡◌, ◌≢◌, ℕ, ℤ, List, [], ◌∷�
 use Rattle.std.specs.Io.KnownBytes.{Appends}
 use Rattle.leg_lex.specs.declared.read_fault.ReadFault.{ReadFault}
 use Rattle.leg_lex.specs.declared.read_fault.FaultKind.TheVariants as kinds
-use Rattle.leg_cells.specs.declared.scale_fault.ScaleKind.{ScaleKind}
-use Rattle.leg_cells.specs.declared.scale_fault.ScaleKind.TheVariants as scale
-use Rattle.leg_input.specs.declared.command.Command.{Command}
-use Rattle.leg_input.specs.declared.command.Command.TheVariants.{PlaceCheck, Check, Measure, Legalise, Route, Flow, Finish}
+use Rattle.leg_lib_records.specs.declared.scale_fault.ScaleKind.{ScaleKind}
+use Rattle.leg_lib_records.specs.declared.scale_fault.ScaleKind.TheVariants as scale
+use Rattle.leg_app_input.specs.declared.command.Command.{Command}
+use Rattle.leg_app_input.specs.declared.command.Command.TheVariants.{PlaceCheck, Check, Measure, Legalise, Route, Flow, Finish}
 use Rattle.leg_app.specs.declared.status.Status.{Status}
 use Rattle.leg_app.specs.declared.status.Status.TheVariants.{Success, Violations, Refused, Unsolved, Memory}
-use Rattle.leg_cells.specs.Records.{Contents}
-use Rattle.leg_block.specs.Records.{DesignContents}
-use Rattle.leg_block.specs.declared.fault.Fault.{Fault}
-use Rattle.leg_block.specs.Violation.{IsListOf}
-use Rattle.leg_flat.specs.Flat.{FlatSaid, IsJudgedBy}
-use Rattle.leg_place.specs.Faults.{Holds}
-use Rattle.leg_print.specs.Wirelength.{IsWirelength}
-use Rattle.leg_app.specs.Say.{SayDesign, SayNothing, SayTooMany}
+use Rattle.leg_lib_records.specs.Records.{LibraryModel}
+use Rattle.leg_design_records.specs.Records.{DesignModel}
+use Rattle.leg_design_records.specs.declared.fault.Fault.{Fault}
+use Rattle.leg_design_records.specs.Violation.{IsListOf}
+use Rattle.leg_rules.specs.Metal.Flat.{FlatModel, IsJudgedBy}
+use Rattle.leg_rules.specs.Placement.Violations.{IsPlacementViolation}
+use Rattle.leg_rules.specs.Wirelength.{IsWirelength}
+use Rattle.leg_app.specs.TooManyShapes.{DenoteTooMany}
+use Rattle.leg_grammar.specs.Texts.{DenoteDesign, DenoteNothing}
 use Rattle.leg_rules.specs.Violations.{IsViolation}
-use Rattle.leg_input.specs.Stream.{HasEndLibrary, IsSplit}
-use Rattle.leg_app.specs.Lines.{listing_text, legal_text, wirelength_text, memory_text, no_library_text, refused_text, scale_text, too_many_text}
-use Rattle.leg_app.specs.Made.{PrintsMade, TellsUnsolved}
+use Rattle.leg_app_input.specs.Stream.{HasEndLibrary, IsSplit}
+use Rattle.leg_output.specs.Commands.Check.{listing_text, legal_text, wirelength_text, memory_text, no_library_text, refused_text, scale_text, too_many_text}
+use Rattle.leg_app.specs.Results.{PrintsMade, ReportsUnsolved}
 
 -- the violations that the command lists: those of placement, or all; the other commands list none
-abbrev pub Lists : Command → Contents → DesignContents → Fault → Type 0
-Lists PlaceCheck library design fault = Holds library design fault
+abbrev pub Lists : Command → LibraryModel → DesignModel → Fault → Type 0
+Lists PlaceCheck library design fault = IsPlacementViolation library design fault
 Lists Check library design fault = IsViolation library design fault
 Lists Measure library design fault = ⊥
 Lists Legalise library design fault = ⊥
@@ -34,7 +35,7 @@ Lists Finish library design fault = ⊥
 
 -- the flat that is judged, and whose shapes and pieces the lines name: none, or the design's own; the other commands show
 -- none
-abbrev pub IsShown : Command → DesignContents → Option FlatSaid → Type 0
+abbrev pub IsShown : Command → DesignModel → Option FlatModel → Type 0
 IsShown PlaceCheck design None = Unit {0}
 IsShown PlaceCheck design (Some flat) = ⊥
 IsShown Check design None = ⊥
@@ -46,7 +47,7 @@ IsShown Flow design flat = ⊥
 IsShown Finish design flat = ⊥
 
 -- the status and the text for these violations: `legal` where there are none, and else a line for each and their number
-abbrev pub IsListing : DesignContents → Option FlatSaid → List Fault → Status → List ℕ → Type 0
+abbrev pub IsListing : DesignModel → Option FlatModel → List Fault → Status → List ℕ → Type 0
 IsListing design flat violations Success text = (violations ≡ []) × (text ≡ legal_text)
 IsListing design flat violations Violations text = (violations ≢ []) × (text ≡ listing_text design flat violations)
 IsListing design flat violations Refused text = ⊥
@@ -55,55 +56,55 @@ IsListing design flat violations Memory text = ⊥
 
 -- the texts denote a design, and the status and the text list its violations
 pub record ListsViolations (command : Command) (lefs : List (List ℕ)) (def : List ℕ) (status : Status) (text : List ℕ) : Type 0 where
-  pub library : Contents
-  pub design : DesignContents
-  pub flat : Option FlatSaid
+  pub library : LibraryModel
+  pub design : DesignModel
+  pub flat : Option FlatModel
   pub violations : List Fault
-  pub say : SayDesign lefs def library design
+  pub say : DenoteDesign lefs def library design
   pub shown : IsShown command design flat
   pub list : IsListOf (Lists command library design) violations
   pub is : IsListing design flat violations status text
 
 -- the texts denote a design, and its wirelength is printed
-pub record TellsWirelength (command : Command) (lefs : List (List ℕ)) (def text : List ℕ) : Type 0 where
+pub record ReportsWirelength (command : Command) (lefs : List (List ℕ)) (def text : List ℕ) : Type 0 where
   pub measures : command ≡ Measure
-  pub library : Contents
-  pub design : DesignContents
+  pub library : LibraryModel
+  pub design : DesignModel
   pub length : ℤ
-  pub say : SayDesign lefs def library design
+  pub say : DenoteDesign lefs def library design
   pub measured : IsWirelength design length
   pub is : text ≡ wirelength_text length
 
 -- a fault of the texts is printed
-pub record TellsFault (text : List ℕ) : Type 0 where
+pub record ReportsFault (text : List ℕ) : Type 0 where
   pub fault : ReadFault
   pub not_memory : fault.kind ≢ kinds.Memory
   pub is : text ≡ refused_text fault
 
-pub record TellsScale (text : List ℕ) : Type 0 where
+pub record ReportsScale (text : List ℕ) : Type 0 where
   pub name : List ℕ
   pub kind : ScaleKind
   pub not_memory : kind ≢ scale.Memory
   pub is : text ≡ scale_text name kind
 
 -- the texts denote no design, and a reason is printed
-pub record TellsRefusal (lefs : List (List ℕ)) (def text : List ℕ) : Type 0 where
-  pub nothing : SayNothing lefs def
-  pub reason : TellsFault text ⊎ TellsScale text
+pub record ReportsRefusal (lefs : List (List ℕ)) (def text : List ℕ) : Type 0 where
+  pub nothing : DenoteNothing lefs def
+  pub reason : ReportsFault text ⊎ ReportsScale text
 
 -- they denote one with more shapes than a flat may have
-pub record TellsTooMany (command : Command) (lefs : List (List ℕ)) (def text : List ℕ) : Type 0 where
+pub record ReportsTooMany (command : Command) (lefs : List (List ℕ)) (def text : List ℕ) : Type 0 where
   pub flattens : command ≡ Check
-  pub many : SayTooMany lefs def
+  pub many : DenoteTooMany lefs def
   pub is : text ≡ too_many_text
 
 -- The text and the status are an answer of the command to these texts.
 abbrev pub IsAnswer : Command → List (List ℕ) → List ℕ → Status → List ℕ → Type 0
 IsAnswer command lefs def Success text =
-    ListsViolations command lefs def Success text ⊎ (TellsWirelength command lefs def text ⊎ PrintsMade command lefs def text)
+    ListsViolations command lefs def Success text ⊎ (ReportsWirelength command lefs def text ⊎ PrintsMade command lefs def text)
 IsAnswer command lefs def Violations text = ListsViolations command lefs def Violations text
-IsAnswer command lefs def Refused text = TellsRefusal lefs def text ⊎ TellsTooMany command lefs def text
-IsAnswer command lefs def Unsolved text = TellsUnsolved command lefs def text
+IsAnswer command lefs def Refused text = ReportsRefusal lefs def text ⊎ ReportsTooMany command lefs def text
+IsAnswer command lefs def Unsolved text = ReportsUnsolved command lefs def text
 IsAnswer command lefs def Memory text = text ≡ memory_text
 
 -- A writer took a whole answer of this status: what it holds, where it shows its bytes, grew by the text.
@@ -134,13 +135,13 @@ pub record AnswersParts (stream : List ℕ) (status : Status) (text : List ℕ) 
   pub split : IsSplit stream lef def
   pub answer : IsAnswer Check (lef ∷ []) def status text
 
-pub record TellsNoLibrary (stream : List ℕ) (status : Status) (text : List ℕ) : Type 0 where
+pub record ReportsNoLibrary (stream : List ℕ) (status : Status) (text : List ℕ) : Type 0 where
   pub none : ¬ HasEndLibrary stream
   pub refused : status ≡ Refused
   pub is : text ≡ no_library_text
 
 abbrev pub IsStreamAnswer : List ℕ → Status → List ℕ → Type 0
-IsStreamAnswer stream status text = AnswersParts stream status text ⊎ TellsNoLibrary stream status text
+IsStreamAnswer stream status text = AnswersParts stream status text ⊎ ReportsNoLibrary stream status text
 
 -- the exit status of a run
 abbrev pub exit_code : Status → ℕ

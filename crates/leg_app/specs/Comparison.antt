@@ -2,25 +2,25 @@
 -- where the DEFs are not compared.
 use Rattle.std.specs.Prelude.{◌≡◌, ◌≢◌, ℕ, ◌+◌, List, ◌⊎◌, Option, None, Some}
 use Rattle.leg_lex.specs.declared.read_fault.FaultKind.TheVariants as kinds
-use Rattle.leg_cells.specs.Records.{Contents}
-use Rattle.leg_block.specs.Records.{DesignContents}
-use Rattle.leg_compare.specs.declared.difference.Difference.{Difference}
-use Rattle.leg_compare.specs.declared.difference.Verdict.{Verdict}
-use Rattle.leg_compare.specs.declared.difference.Verdict.TheVariants.{Same, Places, Wires, PlacesAndWires, Differs}
-use Rattle.leg_compare.specs.Order.{AreAllDifferences}
-use Rattle.leg_compare.specs.Verdicts.{IsVerdict}
-use Rattle.leg_reason.specs.declared.reason.Reason.{Reason}
-use Rattle.leg_reason.specs.declared.reason.Reason.TheVariants.{Read, NoLibrary, Scale, TooMany, FixedIllegal, NoSite, NoRoom, NotClean, GridTooLarge, Unroutable, Unreachable, Unfinished}
+use Rattle.leg_lib_records.specs.Records.{LibraryModel}
+use Rattle.leg_design_records.specs.Records.{DesignModel}
+use Rattle.leg_rules.specs.declared.difference.Difference.{Difference}
+use Rattle.leg_rules.specs.declared.difference.Verdict.{Verdict}
+use Rattle.leg_rules.specs.declared.difference.Verdict.TheVariants.{Same, Places, Wires, PlacesAndWires, Differs}
+use Rattle.leg_rules.specs.Compare.Order.{AreAllDifferences}
+use Rattle.leg_rules.specs.Compare.Verdicts.{IsVerdict}
+use Rattle.leg_app_reason.specs.declared.reason.Reason.{Reason}
+use Rattle.leg_app_reason.specs.declared.reason.Reason.TheVariants.{Read, NoLibrary, Scale, TooMany, FixedIllegal, NoSite, NoRoom, NotClean, GridTooLarge, Unroutable, Unreachable, Unfinished}
 use Rattle.leg_app.specs.declared.status.Status.{Status}
 use Rattle.leg_app.specs.declared.status.Status.TheVariants.{Success, Violations, Refused, Unsolved, Memory}
 use Rattle.leg_app.specs.declared.compare_end.Side.{Side}
 use Rattle.leg_app.specs.declared.compare_end.Side.TheVariants.{Before, After}
 use Rattle.leg_app.specs.declared.compare_end.ComparisonReason.{ComparisonReason}
-use Rattle.leg_app.specs.Say.{SayDesign, SayNothing}
-use Rattle.leg_app.specs.Lines.{memory_text, refused_line}
-use Rattle.leg_app.specs.CompareLines.{comparison_text, units_text}
-use Rattle.leg_app.specs.Answer.{TellsFault, TellsScale}
-use Rattle.leg_app.specs.Reason.{Tells, AreNotRead, AreNotScaled, HasReason, HasNoReason}
+use Rattle.leg_grammar.specs.Texts.{DenoteDesign, DenoteNothing}
+use Rattle.leg_output.specs.Commands.Check.{memory_text, refused_line}
+use Rattle.leg_output.specs.Commands.Compare.{comparison_text, units_text}
+use Rattle.leg_app.specs.Answer.{ReportsFault, ReportsScale}
+use Rattle.leg_app.specs.Reason.{ReportsReason, AreNotRead, AreNotScaled, HasReason, HasNoReason}
 
 -- success where the designs are the same
 abbrev pub status_of : Verdict → Status
@@ -32,13 +32,13 @@ status_of (Differs count) = Violations
 
 -- the DEFs denote designs of one library, and all that differs between them is printed
 pub record Compares (lefs : List (List ℕ)) (before after : List ℕ) (status : Status) (text : List ℕ) : Type 0 where
-  pub library : Contents
-  pub first : DesignContents
-  pub second : DesignContents
+  pub library : LibraryModel
+  pub first : DesignModel
+  pub second : DesignModel
   pub list : List Difference
   pub verdict : Verdict
-  pub say_first : SayDesign lefs before library first
-  pub say_second : SayDesign lefs after library second
+  pub say_first : DenoteDesign lefs before library first
+  pub say_second : DenoteDesign lefs after library second
   pub all : AreAllDifferences first second list
   pub judged : IsVerdict first list verdict
   pub status_is : status ≡ status_of verdict
@@ -46,25 +46,25 @@ pub record Compares (lefs : List (List ℕ)) (before after : List ℕ) (status :
 
 -- they denote designs at other units, and that is printed
 pub record HasOtherUnits (lefs : List (List ℕ)) (before after text : List ℕ) : Type 0 where
-  pub library : Contents
-  pub other : Contents
-  pub first : DesignContents
-  pub second : DesignContents
-  pub say_first : SayDesign lefs before library first
-  pub say_second : SayDesign lefs after other second
+  pub library : LibraryModel
+  pub other : LibraryModel
+  pub first : DesignModel
+  pub second : DesignModel
+  pub say_first : DenoteDesign lefs before library first
+  pub say_second : DenoteDesign lefs after other second
   pub apart : library.units ≢ other.units
   pub is : text ≡ units_text
 
 -- the LEFs and one of the DEFs denote no design, and a reason is printed
-pub record TellsNotCompared (lefs : List (List ℕ)) (before after text : List ℕ) : Type 0 where
-  pub nothing : SayNothing lefs before ⊎ SayNothing lefs after
-  pub reason : TellsFault text ⊎ TellsScale text
+pub record ReportsNotCompared (lefs : List (List ℕ)) (before after text : List ℕ) : Type 0 where
+  pub nothing : DenoteNothing lefs before ⊎ DenoteNothing lefs after
+  pub reason : ReportsFault text ⊎ ReportsScale text
 
 -- The text and the status are an answer of `compare` to these texts.
 abbrev pub IsComparison : List (List ℕ) → List ℕ → List ℕ → Status → List ℕ → Type 0
 IsComparison lefs before after Success text = Compares lefs before after Success text
 IsComparison lefs before after Violations text = Compares lefs before after Violations text ⊎ HasOtherUnits lefs before after text
-IsComparison lefs before after Refused text = TellsNotCompared lefs before after text
+IsComparison lefs before after Refused text = ReportsNotCompared lefs before after text
 IsComparison lefs before after Unsolved text = ⊥
 IsComparison lefs before after Memory text = text ≡ memory_text
 
@@ -78,10 +78,10 @@ printed_number Before file = file
 printed_number After file = file + 1
 
 -- The text tells the reason, which is of this DEF.
-abbrev pub TellsOf : {A : Type 0} → Side → Reason A → List ℕ → Type 0
-TellsOf side (Read fault master) text =
+abbrev pub ReportsOf : {A : Type 0} → Side → Reason A → List ℕ → Type 0
+ReportsOf side (Read fault master) text =
     (fault.kind ≢ kinds.Memory) × (text ≡ refused_line (printed_number side fault.file) fault.line fault.kind)
-TellsOf side reason text = Tells reason text
+ReportsOf side reason text = ReportsReason reason text
 
 -- The reason is that one of the LEFs and this DEF is not read, or that a length is none in the DEF's units; what it says besides is so.
 abbrev pub IsSoOf : {A : Type 0} → List (List ℕ) → List ℕ → Reason A → Type 0
@@ -102,7 +102,7 @@ IsSoOf lefs def Unfinished = ⊥
 abbrev pub ExplainsComparison : {A : Type 0} → List (List ℕ) → List ℕ → List ℕ → Status → Option (ComparisonReason A) → List ℕ → Type 0
 ExplainsComparison lefs before after status None text = HasNoReason status
 ExplainsComparison lefs before after status (Some reason) text =
-    HasReason status × TellsOf reason.side reason.reason text × IsSoOf lefs (def_of reason.side before after) reason.reason
+    HasReason status × ReportsOf reason.side reason.reason text × IsSoOf lefs (def_of reason.side before after) reason.reason
 
 -- The text and the status are an answer of `compare` to these texts, and this is its reason.
 pub record IsComparisonExplained {A : Type 0} (lefs : List (List ℕ)) (before after : List ℕ) (reason : Option (ComparisonReason A)) (status : Status) (text : List ℕ) : Type 0 where

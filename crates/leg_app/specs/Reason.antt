@@ -1,31 +1,32 @@
 -- The reason for which a command prints no design, list or length: what is printed of it, and what is so of the texts.
 use Rattle.std.specs.Prelude.{◌≡◌, ◌≢◌, ℕ, List, [], ◌∷◌, ◌++◌, Option, None, Some, option_map, slice_get, codes, decimal}
-use Rattle.leg_lex.specs.Say.{Says}
+use Rattle.leg_lex.specs.Denotes.{Denotes}
 use Rattle.leg_lex.specs.declared.read_fault.FaultKind.TheVariants as kinds
 use Rattle.leg_lex.specs.declared.read_fault.Need.{Need}
 use Rattle.leg_lex.specs.declared.read_fault.Need.TheVariants as needs
-use Rattle.leg_cells.specs.declared.scale_fault.ScaleKind.TheVariants as scale
-use Rattle.leg_cells.specs.Records.{Contents, MasterSaid}
-use Rattle.leg_block.specs.Records.{DesignContents}
-use Rattle.leg_design.specs.Header.{units_in}
-use Rattle.leg_flat.specs.Flat.{FlatSaid, IsFlatOf}
-use Rattle.leg_grid.specs.declared.limits.TheConstants.{GRID_LIMIT, GREATEST_GRID}
-use Rattle.leg_finish.specs.Reach.{IsFirstOfNetIfAny}
-use Rattle.leg_print.specs.Names.{name_by, net_name, piece_text}
-use Rattle.leg_print.specs.Lines.{piece_at}
-use Rattle.leg_input.specs.declared.command.Command.{Command}
-use Rattle.leg_input.specs.declared.command.Command.TheVariants.{PlaceCheck, Check, Measure, Legalise, Route, Flow, Finish}
-use Rattle.leg_reason.specs.declared.reason.Stage.{Stage}
-use Rattle.leg_reason.specs.declared.reason.Stage.TheVariants.{Given, Legalised}
-use Rattle.leg_reason.specs.declared.reason.Reason.{Reason}
-use Rattle.leg_reason.specs.declared.reason.Reason.TheVariants.{Read, NoLibrary, Scale, TooMany, FixedIllegal, NoSite, NoRoom, NotClean, GridTooLarge, Unroutable, Unreachable, Unfinished}
-use Rattle.leg_input.specs.Stream.{HasEndLibrary, IsSplit}
+use Rattle.leg_lib_records.specs.declared.scale_fault.ScaleKind.TheVariants as scale
+use Rattle.leg_lib_records.specs.Records.{LibraryModel, MasterModel}
+use Rattle.leg_design_records.specs.Records.{DesignModel}
+use Rattle.leg_grammar.specs.Def.Header.{units_in}
+use Rattle.leg_rules.specs.Metal.Flat.{FlatModel, IsFlatOf}
+use Rattle.leg_rules.specs.declared.grid_limits.TheConstants.{GRID_LIMIT, GREATEST_GRID}
+use Rattle.leg_rules.specs.Finish.Reach.{IsFirstOfNetIfAny}
+use Rattle.leg_output.specs.Names.{net_name, piece_text}
+use Rattle.leg_rules.specs.Names.{name_by}
+use Rattle.leg_output.specs.Lines.{piece_at}
+use Rattle.leg_app_input.specs.declared.command.Command.{Command}
+use Rattle.leg_app_input.specs.declared.command.Command.TheVariants.{PlaceCheck, Check, Measure, Legalise, Route, Flow, Finish}
+use Rattle.leg_app_reason.specs.declared.reason.Stage.{Stage}
+use Rattle.leg_app_reason.specs.declared.reason.Stage.TheVariants.{Given, Legalised}
+use Rattle.leg_app_reason.specs.declared.reason.Reason.{Reason}
+use Rattle.leg_app_reason.specs.declared.reason.Reason.TheVariants.{Read, NoLibrary, Scale, TooMany, FixedIllegal, NoSite, NoRoom, NotClean, GridTooLarge, Unroutable, Unreachable, Unfinished}
+use Rattle.leg_app_input.specs.Stream.{HasEndLibrary, IsSplit}
 use Rattle.leg_app.specs.declared.status.Status.{Status}
 use Rattle.leg_app.specs.declared.status.Status.TheVariants.{Success, Violations, Refused, Unsolved, Memory}
-use Rattle.leg_app.specs.Say.{SayLibraryFor, SayDesign, SayNothing}
-use Rattle.leg_app.specs.Legalised.{Legalises}
-use Rattle.leg_app.specs.Lines.{refused_text, scale_text, too_many_text, no_library_text}
-use Rattle.leg_app.specs.RouteLines.{grid_too_large_text}
+use Rattle.leg_grammar.specs.Texts.{DenoteLibraryFor, DenoteDesign, DenoteNothing}
+use Rattle.leg_app.specs.LegaliseResult.{Legalises}
+use Rattle.leg_output.specs.Commands.Check.{refused_text, scale_text, too_many_text, no_library_text}
+use Rattle.leg_output.specs.Commands.Route.{grid_too_large_text}
 use Rattle.leg_app.specs.Answer.{IsAnswer, IsStreamAnswer}
 
 -- its last line has this word and a number
@@ -33,24 +34,24 @@ abbrev pub EndsIn : List ℕ → List ℕ → Type 0
 EndsIn word text = (lines : List ℕ) × (number : ℕ) × (text ≡ lines ++ word ++ decimal number ++ codes "\n")
 
 -- The text tells the reason.
-abbrev pub Tells : {A : Type 0} → Reason A → List ℕ → Type 0
-Tells (Read fault master) text = (fault.kind ≢ kinds.Memory) × (text ≡ refused_text fault)
-Tells NoLibrary text = text ≡ no_library_text
-Tells (Scale fault units) text = (fault.kind ≢ scale.Memory) × (text ≡ scale_text fault.name fault.kind)
-Tells TooMany text = text ≡ too_many_text
-Tells FixedIllegal text = EndsIn (codes "FIXEDILLEGAL ") text
-Tells (NoSite component) text = text ≡ codes "NOSITE " ++ component ++ codes "\n"
-Tells (NoRoom component) text = text ≡ codes "NOROOM " ++ component ++ codes "\n"
-Tells (NotClean stage) text = EndsIn (codes "NOTCLEAN ") text
-Tells (GridTooLarge limit) text = text ≡ grid_too_large_text
-Tells (Unroutable net piece) text = text ≡ codes "UNROUTABLE " ++ net ++ codes "\n"
-Tells (Unreachable net piece) text = text ≡ codes "UNREACHABLE " ++ net ++ codes " " ++ piece ++ codes "\n"
-Tells Unfinished text = EndsIn (codes "unfinished ") text
+abbrev pub ReportsReason : {A : Type 0} → Reason A → List ℕ → Type 0
+ReportsReason (Read fault master) text = (fault.kind ≢ kinds.Memory) × (text ≡ refused_text fault)
+ReportsReason NoLibrary text = text ≡ no_library_text
+ReportsReason (Scale fault units) text = (fault.kind ≢ scale.Memory) × (text ≡ scale_text fault.name fault.kind)
+ReportsReason TooMany text = text ≡ too_many_text
+ReportsReason FixedIllegal text = EndsIn (codes "FIXEDILLEGAL ") text
+ReportsReason (NoSite component) text = text ≡ codes "NOSITE " ++ component ++ codes "\n"
+ReportsReason (NoRoom component) text = text ≡ codes "NOROOM " ++ component ++ codes "\n"
+ReportsReason (NotClean stage) text = EndsIn (codes "NOTCLEAN ") text
+ReportsReason (GridTooLarge limit) text = text ≡ grid_too_large_text
+ReportsReason (Unroutable net piece) text = text ≡ codes "UNROUTABLE " ++ net ++ codes "\n"
+ReportsReason (Unreachable net piece) text = text ≡ codes "UNREACHABLE " ++ net ++ codes " " ++ piece ++ codes "\n"
+ReportsReason Unfinished text = EndsIn (codes "unfinished ") text
 
 -- the net of this name, and the first piece of it that cannot be reached whatever other nets do; none where each can be
-pub record IsCutOff (design : DesignContents) (name : List ℕ) (piece : Option (List ℕ)) : Type 0 where
+pub record IsCutOff (design : DesignModel) (name : List ℕ) (piece : Option (List ℕ)) : Type 0 where
   pub net : ℕ
-  pub flat : FlatSaid
+  pub flat : FlatModel
   pub first : Option ℕ
   pub named : name ≡ net_name design net
   pub is_flat : IsFlatOf design flat
@@ -59,7 +60,7 @@ pub record IsCutOff (design : DesignContents) (name : List ℕ) (piece : Option 
 
 -- What the reason says besides is so, where the design that is to be routed is such a one, at this stage, under this limit of grids. It
 -- is none of the reasons for which texts are not read.
-abbrev pub HoldsWith : {A : Type 0} → Stage → ℕ → (DesignContents → Type 0) → Reason A → Type 0
+abbrev pub HoldsWith : {A : Type 0} → Stage → ℕ → (DesignModel → Type 0) → Reason A → Type 0
 HoldsWith stage limit IsRouted (Read fault master) = ⊥
 HoldsWith stage limit IsRouted NoLibrary = ⊥
 HoldsWith stage limit IsRouted (Scale fault units) = ⊥
@@ -69,7 +70,7 @@ HoldsWith stage limit IsRouted (NoSite component) = Unit {0}
 HoldsWith stage limit IsRouted (NoRoom component) = Unit {0}
 HoldsWith stage limit IsRouted (NotClean at) = at ≡ stage
 HoldsWith stage limit IsRouted (GridTooLarge most) = most ≡ limit
-HoldsWith stage limit IsRouted (Unroutable net piece) = (design : DesignContents) × IsRouted design × IsCutOff design net piece
+HoldsWith stage limit IsRouted (Unroutable net piece) = (design : DesignModel) × IsRouted design × IsCutOff design net piece
 HoldsWith stage limit IsRouted (Unreachable net piece) = Unit {0}
 HoldsWith stage limit IsRouted Unfinished = Unit {0}
 
@@ -83,7 +84,7 @@ stage_of Route = Given
 stage_of Flow = Legalised
 stage_of Finish = Given
 
-abbrev pub IsRoutedBy : Command → DesignContents → DesignContents → Type 0
+abbrev pub IsRoutedBy : Command → DesignModel → DesignModel → Type 0
 IsRoutedBy PlaceCheck design routed = ⊥
 IsRoutedBy Check design routed = ⊥
 IsRoutedBy Measure design routed = ⊥
@@ -103,29 +104,29 @@ grid_limit Flow = GRID_LIMIT
 grid_limit Finish = GREATEST_GRID
 
 -- what the reason of a command over this design says besides is so
-abbrev pub Holds : {A : Type 0} → Command → DesignContents → Reason A → Type 0
+abbrev pub Holds : {A : Type 0} → Command → DesignModel → Reason A → Type 0
 Holds command design reason = HoldsWith (stage_of command) (grid_limit command) (IsRoutedBy command design) reason
 
 -- the macro whose pin a fault needs, if it needs one
-abbrev pub needed_master : Contents → Need → Option (List ℕ)
-needed_master library (needs.KnownPin number) = Some (name_by (λ (m : MasterSaid). m.name) (slice_get library.masters number))
+abbrev pub needed_master : LibraryModel → Need → Option (List ℕ)
+needed_master library (needs.KnownPin number) = Some (name_by (λ (m : MasterModel). m.name) (slice_get library.masters number))
 needed_master library need = None
 
 -- texts denote nothing, and the macro whose pin is needed is one of their library
 pub record AreNotRead (lefs : List (List ℕ)) (def : List ℕ) (need : Need) (master : Option (List ℕ)) : Type 0 where
-  pub nothing : SayNothing lefs def
-  pub of_library : (library : Contents) → SayLibraryFor lefs def library → master ≡ needed_master library need
+  pub nothing : DenoteNothing lefs def
+  pub of_library : (library : LibraryModel) → DenoteLibraryFor lefs def library → master ≡ needed_master library need
 
 -- texts denote nothing, and these are the units of the DEF
 pub record AreNotScaled (lefs : List (List ℕ)) (def : List ℕ) (units : ℕ) : Type 0 where
-  pub nothing : SayNothing lefs def
-  pub units_are : Says units_in def units
+  pub nothing : DenoteNothing lefs def
+  pub units_are : Denotes units_in def units
 
 -- texts denote a design, and what the command's reason says besides is so
 pub record IsOfDesign {A : Type 0} (command : Command) (lefs : List (List ℕ)) (def : List ℕ) (reason : Reason A) : Type 0 where
-  pub library : Contents
-  pub design : DesignContents
-  pub say : SayDesign lefs def library design
+  pub library : LibraryModel
+  pub design : DesignModel
+  pub say : DenoteDesign lefs def library design
   pub holds : Holds command design reason
 
 -- What the reason says besides is so of the texts.
@@ -152,7 +153,7 @@ HasNoReason Memory = Unit {0}
 -- The status goes with the reason, the text tells it, and what it says besides is so.
 abbrev pub Explains : {A : Type 0} → (Reason A → Type 0) → Status → Option (Reason A) → List ℕ → Type 0
 Explains IsSo status None text = HasNoReason status
-Explains IsSo status (Some reason) text = HasReason status × Tells reason text × IsSo reason
+Explains IsSo status (Some reason) text = HasReason status × ReportsReason reason text × IsSo reason
 
 -- The text and the status are an answer of the command to these texts, and this is its reason.
 pub record IsExplained {A : Type 0} (command : Command) (lefs : List (List ℕ)) (def : List ℕ) (reason : Option (Reason A)) (status : Status) (text : List ℕ) : Type 0 where

@@ -1,11 +1,11 @@
 -- Why texts are refused.
 use Rattle.std.specs.Prelude.{◌≡◌, ◌≢◌, ℕ, List}
-use Rattle.leg_lex.specs.Say.{Says}
+use Rattle.leg_lex.specs.Denotes.{Denotes}
 use Rattle.leg_lex.specs.declared.read_fault.FaultKind.TheVariants as kinds
-use Rattle.leg_cells.specs.declared.scale_fault.ScaleKind.TheVariants as scale
+use Rattle.leg_lib_records.specs.declared.scale_fault.ScaleKind.TheVariants as scale
 use Rattle.leg_flat.specs.declared.fault.FlatFault.{FlatFault}
 use Rattle.leg_flat.specs.declared.fault.FlatFault.TheVariants as flat
-use Rattle.leg_design.specs.Header.{units_in}
+use Rattle.leg_grammar.specs.Def.Header.{units_in}
 use Rattle.leg_app.specs.declared.text_fault.TextFault.{TextFault}
 use Rattle.leg_app.specs.declared.text_fault.TextFault.TheVariants.{Read, Scale, TooMany, Memory}
 
@@ -31,6 +31,6 @@ IsOutOfMemory Memory = Unit {0}
 -- The units that come with a fault are the DEF's.
 abbrev pub HasUnitsOf : List ℕ → TextFault → Type 0
 HasUnitsOf def (Read fault) = Unit {0}
-HasUnitsOf def (Scale fault units) = Says units_in def units
+HasUnitsOf def (Scale fault units) = Denotes units_in def units
 HasUnitsOf def TooMany = Unit {0}
 HasUnitsOf def Memory = Unit {0}

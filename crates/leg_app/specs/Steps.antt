@@ -1,4 +1,4 @@
--- Intermediate state of the code. Only private contracts cite it.
-pub mod SaidLibrary
+-- Intermediate state of the code, and what crates of one algorithm know of one another. No promise of a command rests on it.
+pub mod OneLibrary
 pub mod Making
-pub mod Unread
+pub mod FaultReasons

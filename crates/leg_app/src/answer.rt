@@ -1,15 +1,15 @@
 //! What a command answers.
 
 ghost use Rattle.std.specs.Prelude.{◌≡◌, ℕ, List, None, Some, map, option_map, IfOk};
-ghost use Rattle.leg_input.specs.declared.command.Command.TheVariants.{PlaceCheck, Check, Measure};
+ghost use Rattle.leg_app_input.specs.declared.command.Command.TheVariants.{PlaceCheck, Check, Measure};
 ghost use Rattle.leg_app.specs.declared.status.Status.TheVariants.{Unsolved};
 ghost use Rattle.leg_app.specs.declared.text_fault.TextFault.TheVariants.{Read};
-ghost use Rattle.leg_app.specs.Say.{SayDesign, SayNothing};
-ghost use Rattle.leg_app.specs.Steps.SaidLibrary.{SaysJust};
+ghost use Rattle.leg_grammar.specs.Texts.{DenoteDesign, DenoteNothing};
+ghost use Rattle.leg_app.specs.Steps.OneLibrary.{DenotesJust};
 ghost use Rattle.leg_app.specs.Refusal.{Refuses, HasUnitsOf};
 ghost use Rattle.leg_app.specs.Answer.{IsListing};
 ghost use Rattle.leg_app.specs.Reason.{IsExplained, needed_master};
-ghost use Rattle.leg_app.specs.Steps.Unread.{IsOfMaster};
+ghost use Rattle.leg_app.specs.Steps.FaultReasons.{IsOfMaster};
 
 use crate::check::check_design;
 use crate::finish_answer::finish_answer;
@@ -20,16 +20,16 @@ use crate::route_answer::route_answer;
 use crate::status::Status;
 use crate::text_fault::TextFault;
 use crate::texts::{behind_lefs, library_for};
-use leg_block::{Design, Fault};
-use leg_cells::{Items, Library, ScaleKind};
+use leg_app_input::Command;
+use leg_app_reason::Reason;
 use leg_design::DefText;
+use leg_design_records::{Design, Fault};
 use leg_finish::Progress;
 use leg_flat::{Flat, FlatFault};
-use leg_input::Command;
 use leg_lex::{FaultKind, Need, ReadFault};
+use leg_lib_records::{Items, Library, ScaleKind};
 use leg_place::place_faults;
 use leg_print::hpwl;
-use leg_reason::Reason;
 use std::alloc::{AllocError, Allocator};
 
 /// What a command answers: a text to be written, the status that goes with it, and the reason where nothing else is written.
@@ -80,7 +80,7 @@ fn library_answer<'e, A: Allocator + Copy, P: Progress>(
     def: DefText<'_, A>,
     progress: &mut P,
 ) -> Result<Answer<'e, A>, AllocError>
-    ensures { IfOk result (λ answer. (lefs : List (List ℕ)) → SaysJust lefs def.entry library.now
+    ensures { IfOk result (λ answer. (lefs : List (List ℕ)) → DenotesJust lefs def.entry library.now
         → IsExplained command lefs def.entry answer.reason answer.status answer.text.items) }
 {
     match def.design(alloc, library) {
@@ -128,7 +128,7 @@ fn design_answer<'e, A: Allocator + Copy, P: Progress>(
     progress: &mut P,
 ) -> Result<Answer<'e, A>, AllocError>
     ensures { IfOk result (λ answer. (lefs : List (List ℕ)) (def : List ℕ) →
-        SayDesign lefs def design.entry.library design.entry →
+        DenoteDesign lefs def design.entry.library design.entry →
         IsExplained command lefs def answer.reason answer.status answer.text.items) }
 {
     match command {
@@ -147,7 +147,7 @@ fn placement_answer<'e, A: Allocator + Copy>(
     design: &Design<'_, A>,
 ) -> Result<Answer<'e, A>, AllocError>
     ensures { IfOk result (λ answer. (lefs : List (List ℕ)) (def : List ℕ) →
-        SayDesign lefs def design.now.library design.now →
+        DenoteDesign lefs def design.now.library design.now →
         IsExplained PlaceCheck lefs def answer.reason answer.status answer.text.items) }
 {
     let violations = place_faults(alloc, design.library(), design)?;
@@ -160,7 +160,7 @@ fn whole_answer<'e, A: Allocator + Copy>(
     design: &Design<'_, A>,
 ) -> Result<Answer<'e, A>, AllocError>
     ensures { IfOk result (λ answer. (lefs : List (List ℕ)) (def : List ℕ) →
-        SayDesign lefs def design.now.library design.now →
+        DenoteDesign lefs def design.now.library design.now →
         IsExplained Check lefs def answer.reason answer.status answer.text.items) }
 {
     match check_design(alloc, design) {
@@ -179,7 +179,7 @@ fn measure_answer<'e, A: Allocator + Copy>(
     design: &Design<'_, A>,
 ) -> Result<Answer<'e, A>, AllocError>
     ensures { IfOk result (λ answer. (lefs : List (List ℕ)) (def : List ℕ) →
-        SayDesign lefs def design.now.library design.now →
+        DenoteDesign lefs def design.now.library design.now →
         IsExplained Measure lefs def answer.reason answer.status answer.text.items) }
 {
     let length = hpwl(design.library(), design);
@@ -226,7 +226,7 @@ fn refusal<'a, A: Allocator + Copy>(
     master: Option<Items<u8, A>>,
 ) -> Result<Answer<'a, A>, AllocError>
     ensures { IfOk result (λ answer. (lefs : List (List ℕ)) (def : List ℕ) →
-        Refuses (SayNothing lefs def) ⊥ fault.entry → HasUnitsOf def fault.entry → IsOfMaster lefs def fault.entry master →
+        Refuses (DenoteNothing lefs def) ⊥ fault.entry → HasUnitsOf def fault.entry → IsOfMaster lefs def fault.entry master →
         IsExplained command lefs def answer.reason answer.status answer.text.items) }
 {
     match fault {
@@ -251,7 +251,7 @@ fn unread<'e, A: Allocator + Copy>(
     master: Option<Items<u8, A>>,
 ) -> Result<Answer<'e, A>, AllocError>
     ensures { IfOk result (λ answer. (lefs : List (List ℕ)) (def : List ℕ) →
-        Refuses (SayNothing lefs def) ⊥ (Read fault) → IsOfMaster lefs def (Read fault) master →
+        Refuses (DenoteNothing lefs def) ⊥ (Read fault) → IsOfMaster lefs def (Read fault) master →
         IsExplained command lefs def answer.reason answer.status answer.text.items) }
 {
     if fault.kind == FaultKind::Memory {

@@ -1,24 +1,25 @@
 //! All violations of a design.
 
 ghost use Rattle.std.specs.Prelude.{◌≡◌, ◌≢◌, ◌↔◌, ◌<◌, ℕ, List, length, map, IfOk, IfErr};
-ghost use Rattle.leg_block.specs.declared.limits.TheConstants.{PART_LIMIT};
-ghost use Rattle.leg_block.specs.Violation.{IsListOf};
+ghost use Rattle.leg_design_records.specs.declared.limits.TheConstants.{PART_LIMIT};
+ghost use Rattle.leg_design_records.specs.Violation.{IsListOf};
 ghost use Rattle.leg_flat.specs.declared.fault.FlatFault.TheVariants.{TooMany};
-ghost use Rattle.leg_flat.specs.Metal.{metal_of};
-ghost use Rattle.leg_app.specs.Say.{SayDesign, SayNothing, SayTooMany};
-ghost use Rattle.leg_app.specs.Steps.SaidLibrary.{SaysJust};
+ghost use Rattle.leg_rules.specs.Metal.Metal.{metal_of};
+ghost use Rattle.leg_app.specs.TooManyShapes.{DenoteTooMany};
+ghost use Rattle.leg_grammar.specs.Texts.{DenoteDesign, DenoteNothing};
+ghost use Rattle.leg_app.specs.Steps.OneLibrary.{DenotesJust};
 ghost use Rattle.leg_rules.specs.Violations.{IsViolation, AreAllViolations};
 ghost use Rattle.leg_app.specs.Violations.{AreViolationsOf};
-ghost use Rattle.leg_flat.specs.Flat.{IsJudgedBy};
+ghost use Rattle.leg_rules.specs.Metal.Flat.{IsJudgedBy};
 ghost use Rattle.leg_app.specs.Refusal.{Refuses, IsOutOfMemory};
 ghost use Rattle.leg_app.specs.declared.text_fault.TextFault.TheVariants.{Memory};
 
 use crate::text_fault::TextFault;
 use crate::texts::{behind_lefs, library_for};
-use leg_block::{Design, Fault};
-use leg_cells::Library;
 use leg_design::DefText;
+use leg_design_records::{Design, Fault};
 use leg_flat::{Flat, FlatFault, flatten};
+use leg_lib_records::Library;
 use leg_place::place_faults;
 use leg_wire::{open_faults, spacing_faults};
 use std::alloc::Allocator;
@@ -43,10 +44,10 @@ pub fn check_texts<'a, A: Allocator + Copy>(
     def: &[u8],
 ) -> Result<Vec<Fault, A>, TextFault<'a>>
     ensures found { IfOk result (λ found. AreViolationsOf (map (λ t. t.now) lefs.now) def.now found.items) }
-    ensures refused { IfErr result (λ fault. Refuses (SayNothing (map (λ t. t.now) lefs.now) def.now)
-        (SayTooMany (map (λ t. t.now) lefs.now) def.now) fault) }
+    ensures refused { IfErr result (λ fault. Refuses (DenoteNothing (map (λ t. t.now) lefs.now) def.now)
+        (DenoteTooMany (map (λ t. t.now) lefs.now) def.now) fault) }
     // Texts of a block with too many shapes are refused for no other reason, unless memory runs out.
-    ensures many { IfErr result (λ fault. SayTooMany (map (λ t. t.now) lefs.now) def.now → fault ≢ Memory → fault ≡ TextFault.TooMany) }
+    ensures many { IfErr result (λ fault. DenoteTooMany (map (λ t. t.now) lefs.now) def.now → fault ≢ Memory → fault ≡ TextFault.TooMany) }
     ensures memory { IfErr result (λ fault. IsOutOfMemory fault → fault ≡ Memory) }
 {
     match violations_in(alloc, lefs, def) {
@@ -63,8 +64,8 @@ fn violations_in<'a, A: Allocator + Copy>(
     def: &[u8],
 ) -> Result<Vec<Fault, A>, TextFault<'a>>
     ensures found { IfOk result (λ found. AreViolationsOf (map (λ t. t.now) lefs.now) def.now found.items) }
-    ensures refused { IfErr result (λ fault. Refuses (SayNothing (map (λ t. t.now) lefs.now) def.now)
-        (SayTooMany (map (λ t. t.now) lefs.now) def.now) fault) }
+    ensures refused { IfErr result (λ fault. Refuses (DenoteNothing (map (λ t. t.now) lefs.now) def.now)
+        (DenoteTooMany (map (λ t. t.now) lefs.now) def.now) fault) }
 {
     let (library, text) = library_for(alloc, lefs, def)?;
     check_def(alloc, lefs.len(), &library, text)
@@ -77,9 +78,9 @@ fn check_def<'e, A: Allocator + Copy>(
     library: &Library<'_, A>,
     def: DefText<'_, A>,
 ) -> Result<Vec<Fault, A>, TextFault<'e>>
-    ensures found { IfOk result (λ found. (lefs : List (List ℕ)) → SaysJust lefs def.entry library.now → AreViolationsOf lefs def.entry found.items) }
-    ensures refused { IfErr result (λ fault. (lefs : List (List ℕ)) → SaysJust lefs def.entry library.now
-        → Refuses (SayNothing lefs def.entry) (SayTooMany lefs def.entry) fault) }
+    ensures found { IfOk result (λ found. (lefs : List (List ℕ)) → DenotesJust lefs def.entry library.now → AreViolationsOf lefs def.entry found.items) }
+    ensures refused { IfErr result (λ fault. (lefs : List (List ℕ)) → DenotesJust lefs def.entry library.now
+        → Refuses (DenoteNothing lefs def.entry) (DenoteTooMany lefs def.entry) fault) }
 {
     match def.design(alloc, library) {
         Ok(design) => violations_of(alloc, &design),
@@ -93,8 +94,8 @@ fn violations_of<'e, A: Allocator + Copy>(
     design: &Design<'_, A>,
 ) -> Result<Vec<Fault, A>, TextFault<'e>>
     ensures found { IfOk result (λ found. AreAllViolations design.now.library design.now found.items) }
-    ensures refused { IfErr result (λ fault. (lefs : List (List ℕ)) (def : List ℕ) → SayDesign lefs def design.now.library design.now
-        → Refuses (SayNothing lefs def) (SayTooMany lefs def) fault) }
+    ensures refused { IfErr result (λ fault. (lefs : List (List ℕ)) (def : List ℕ) → DenoteDesign lefs def design.now.library design.now
+        → Refuses (DenoteNothing lefs def) (DenoteTooMany lefs def) fault) }
     // Where there are too many shapes, it is never reported that memory ran out.
     ensures many { IfErr result (λ fault. PART_LIMIT < length (metal_of design.now) → fault ≡ TextFault.TooMany) }
 {

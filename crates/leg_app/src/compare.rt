@@ -1,20 +1,20 @@
 //! What differs between two DEFs after the same LEFs.
 
 ghost use Rattle.std.specs.Prelude.{◌≡◌, ◌≢◌, ℕ, List, map, None, Some, IfOk, IfErr};
-ghost use Rattle.leg_lex.specs.Say.{Says};
+ghost use Rattle.leg_lex.specs.Denotes.{Denotes};
 ghost use Rattle.leg_lex.specs.declared.read_fault.FaultKind.TheVariants as kinds;
-ghost use Rattle.leg_cells.specs.Records.{Contents};
-ghost use Rattle.leg_block.specs.Records.{DesignContents};
-ghost use Rattle.leg_design.specs.Header.{units_in};
-ghost use Rattle.leg_design.specs.Form.{design_in};
+ghost use Rattle.leg_lib_records.specs.Records.{LibraryModel};
+ghost use Rattle.leg_design_records.specs.Records.{DesignModel};
+ghost use Rattle.leg_grammar.specs.Def.Header.{units_in};
+ghost use Rattle.leg_grammar.specs.Def.Form.{design_in};
 ghost use Rattle.leg_app.specs.declared.status.Status.TheVariants.{Refused};
-ghost use Rattle.leg_app.specs.Say.{SayDesign, SayNothing};
+ghost use Rattle.leg_grammar.specs.Texts.{DenoteDesign, DenoteNothing};
 ghost use Rattle.leg_app.specs.Refusal.{Refuses, HasUnitsOf};
 ghost use Rattle.leg_app.specs.declared.text_fault.TextFault.TheVariants.{Read};
-ghost use Rattle.leg_app.specs.CompareLines.{units_text};
+ghost use Rattle.leg_output.specs.Commands.Compare.{units_text};
 ghost use Rattle.leg_app.specs.Comparison.{status_of, def_of, printed_number, HasOtherUnits, IsComparisonExplained};
-ghost use Rattle.leg_app.specs.Steps.SaidLibrary.{SaysJust};
-ghost use Rattle.leg_app.specs.Steps.Unread.{IsOfMaster};
+ghost use Rattle.leg_app.specs.Steps.OneLibrary.{DenotesJust};
+ghost use Rattle.leg_app.specs.Steps.FaultReasons.{IsOfMaster};
 
 use crate::answer::needed_master;
 use crate::compare_end::{ComparisonAnswer, ComparisonReason, Side};
@@ -23,12 +23,12 @@ use crate::lines::{refused_line, scale_text};
 use crate::status::Status;
 use crate::text_fault::TextFault;
 use crate::texts::{behind_lefs, library_for};
-use leg_block::Design;
-use leg_cells::{Items, Library, ScaleKind};
+use leg_app_reason::Reason;
 use leg_compare::{Verdict, differences, verdict_of};
 use leg_design::DefText;
+use leg_design_records::Design;
 use leg_lex::{FaultKind, ReadFault};
-use leg_reason::Reason;
+use leg_lib_records::{Items, Library, ScaleKind};
 use std::alloc::{AllocError, Allocator};
 
 // What is printed of designs at other units.
@@ -58,7 +58,7 @@ fn library_comparison<'a, A: Allocator + Copy>(
     before: DefText<'_, A>,
     after: &[u8],
 ) -> Result<ComparisonAnswer<'a, A>, AllocError>
-    ensures { IfOk result (λ answer. SaysJust (map (λ t. t.now) lefs.now) before.entry library.now
+    ensures { IfOk result (λ answer. DenotesJust (map (λ t. t.now) lefs.now) before.entry library.now
         → IsComparisonExplained (map (λ t. t.now) lefs.now) before.entry after.now answer.reason answer.status answer.text.items) }
 {
     match before.design(alloc, library) {
@@ -76,8 +76,8 @@ fn design_comparison<'a, A: Allocator + Copy>(
     after: &[u8],
 ) -> Result<ComparisonAnswer<'a, A>, AllocError>
     requires { first.now.library ≡ library.now }
-    ensures { IfOk result (λ answer. (before : List ℕ) → SaysJust (map (λ t. t.now) lefs.now) before library.now
-        → Says (design_in library.now) before first.now
+    ensures { IfOk result (λ answer. (before : List ℕ) → DenotesJust (map (λ t. t.now) lefs.now) before library.now
+        → Denotes (design_in library.now) before first.now
         → IsComparisonExplained (map (λ t. t.now) lefs.now) before after.now answer.reason answer.status answer.text.items) }
 {
     match text_and_units(alloc, after) {
@@ -101,8 +101,8 @@ fn text_and_units<A: Allocator + Copy>(
     def: &[u8],
 ) -> Result<(DefText<'_, A>, u32), ReadFault>
     ensures text { IfOk result (λ both. both.0 ≡ def.now) }
-    ensures units { IfOk result (λ both. Says units_in def.now both.1) }
-    ensures none { IfErr result (λ fault. fault.kind ≢ kinds.Memory → (said : ℕ) → ¬ Says units_in def.now said) }
+    ensures units { IfOk result (λ both. Denotes units_in def.now both.1) }
+    ensures none { IfErr result (λ fault. fault.kind ≢ kinds.Memory → (said : ℕ) → ¬ Denotes units_in def.now said) }
 {
     let text = DefText::new(alloc, def)?;
     let units = text.units()?;
@@ -118,8 +118,8 @@ fn second_comparison<'e, A: Allocator + Copy>(
     after: DefText<'_, A>,
 ) -> Result<ComparisonAnswer<'e, A>, AllocError>
     requires { first.now.library ≡ library.now }
-    ensures { IfOk result (λ answer. (lefs : List (List ℕ)) (before : List ℕ) → SayDesign lefs before library.now first.now
-        → SaysJust lefs after.entry library.now
+    ensures { IfOk result (λ answer. (lefs : List (List ℕ)) (before : List ℕ) → DenoteDesign lefs before library.now first.now
+        → DenotesJust lefs after.entry library.now
         → IsComparisonExplained lefs before after.entry answer.reason answer.status answer.text.items) }
 {
     match after.design(alloc, library) {
@@ -135,8 +135,8 @@ fn comparison<'e, A: Allocator + Copy>(
     second: &Design<'_, A>,
 ) -> Result<ComparisonAnswer<'e, A>, AllocError>
     requires { first.now.library ≡ second.now.library }
-    ensures { IfOk result (λ answer. (lefs : List (List ℕ)) (before after : List ℕ) → SayDesign lefs before first.now.library first.now
-        → SayDesign lefs after first.now.library second.now
+    ensures { IfOk result (λ answer. (lefs : List (List ℕ)) (before after : List ℕ) → DenoteDesign lefs before first.now.library first.now
+        → DenoteDesign lefs after first.now.library second.now
         → IsComparisonExplained lefs before after answer.reason answer.status answer.text.items) }
 {
     let list = differences(alloc, first, second)?;
@@ -165,8 +165,8 @@ fn other_units<'a, A: Allocator + Copy>(
     library: &Library<'_, A>,
     after: &[u8],
 ) -> Result<ComparisonAnswer<'a, A>, AllocError>
-    ensures { IfOk result (λ answer. (before : List ℕ) (first : DesignContents) → SayDesign (map (λ t. t.now) lefs.now) before library.now first
-        → ((units : ℕ) → Says units_in after.now units → units ≢ library.now.units)
+    ensures { IfOk result (λ answer. (before : List ℕ) (first : DesignModel) → DenoteDesign (map (λ t. t.now) lefs.now) before library.now first
+        → ((units : ℕ) → Denotes units_in after.now units → units ≢ library.now.units)
         → IsComparisonExplained (map (λ t. t.now) lefs.now) before after.now answer.reason answer.status answer.text.items) }
 {
     match library_for(alloc, lefs, after) {
@@ -182,8 +182,8 @@ fn other_library<'e, A: Allocator + Copy>(
     other: &Library<'_, A>,
     after: DefText<'_, A>,
 ) -> Result<ComparisonAnswer<'e, A>, AllocError>
-    ensures { IfOk result (λ answer. (lefs : List (List ℕ)) (before : List ℕ) (library : Contents) (first : DesignContents)
-        → SayDesign lefs before library first → library.units ≢ other.now.units → SaysJust lefs after.entry other.now
+    ensures { IfOk result (λ answer. (lefs : List (List ℕ)) (before : List ℕ) (library : LibraryModel) (first : DesignModel)
+        → DenoteDesign lefs before library first → library.units ≢ other.now.units → DenotesJust lefs after.entry other.now
         → IsComparisonExplained lefs before after.entry answer.reason answer.status answer.text.items) }
 {
     match after.design(alloc, other) {
@@ -214,8 +214,8 @@ fn unread<'e, A: Allocator + Copy>(
     fault: ReadFault,
 ) -> Result<ComparisonAnswer<'e, A>, AllocError>
     ensures { IfOk result (λ answer. (lefs : List (List ℕ)) (before after : List ℕ)
-        → SaysJust lefs (def_of side before after) library.now
-        → (fault.kind ≢ kinds.Memory → (said : DesignContents) → ¬ Says (design_in library.now) (def_of side before after) said)
+        → DenotesJust lefs (def_of side before after) library.now
+        → (fault.kind ≢ kinds.Memory → (said : DesignModel) → ¬ Denotes (design_in library.now) (def_of side before after) said)
         → IsComparisonExplained lefs before after answer.reason answer.status answer.text.items) }
 {
     let master = needed_master(alloc, library, fault.need)?;
@@ -231,7 +231,7 @@ fn refusal<'a, A: Allocator + Copy>(
     master: Option<Items<u8, A>>,
 ) -> Result<ComparisonAnswer<'a, A>, AllocError>
     ensures { IfOk result (λ answer. (lefs : List (List ℕ)) (before after : List ℕ)
-        → Refuses (SayNothing lefs (def_of side before after)) ⊥ fault.entry → HasUnitsOf (def_of side before after) fault.entry
+        → Refuses (DenoteNothing lefs (def_of side before after)) ⊥ fault.entry → HasUnitsOf (def_of side before after) fault.entry
         → IsOfMaster lefs (def_of side before after) fault.entry master
         → IsComparisonExplained lefs before after answer.reason answer.status answer.text.items) }
 {
@@ -253,7 +253,7 @@ fn not_read<'e, A: Allocator + Copy>(
     master: Option<Items<u8, A>>,
 ) -> Result<ComparisonAnswer<'e, A>, AllocError>
     ensures { IfOk result (λ answer. (lefs : List (List ℕ)) (before after : List ℕ)
-        → Refuses (SayNothing lefs (def_of side before after)) ⊥ (Read fault)
+        → Refuses (DenoteNothing lefs (def_of side before after)) ⊥ (Read fault)
         → IsOfMaster lefs (def_of side before after) (Read fault) master
         → IsComparisonExplained lefs before after answer.reason answer.status answer.text.items) }
 {

@@ -1,7 +1,7 @@
 //! How a comparison of two DEFs ended.
 
 use crate::status::Status;
-use leg_reason::Reason;
+use leg_app_reason::Reason;
 use std::alloc::Allocator;
 
 /// One of the two DEFs of a comparison.

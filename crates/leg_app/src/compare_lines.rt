@@ -1,7 +1,7 @@
 //! The lines that `compare` prints.
 
 ghost use Rattle.std.specs.Prelude.{◌≡◌, ◌++◌, IfOk, OnOk, decimal};
-ghost use Rattle.leg_app.specs.CompareLines.{
+ghost use Rattle.leg_output.specs.Commands.Compare.{
   part_word,
   section_word,
   change_word,
@@ -12,8 +12,8 @@ ghost use Rattle.leg_app.specs.CompareLines.{
 };
 
 use crate::lines::push_number;
-use leg_block::Design;
 use leg_compare::{Change, Difference, Part, Section, Verdict, entry_name};
+use leg_design_records::Design;
 use std::alloc::{AllocError, Allocator};
 
 /// A line for each difference, and one on all of them.

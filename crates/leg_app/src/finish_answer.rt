@@ -1,10 +1,10 @@
 //! What `finish` answers.
 
 ghost use Rattle.std.specs.Prelude.{◌≡◌, IfOk};
-ghost use Rattle.leg_finish.specs.Refusal.{IsRefusal};
-ghost use Rattle.leg_input.specs.declared.command.Command.TheVariants.{Finish};
+ghost use Rattle.leg_finish.specs.Refusal.{IsFinishRefusal};
+ghost use Rattle.leg_app_input.specs.declared.command.Command.TheVariants.{Finish};
 ghost use Rattle.leg_app.specs.declared.status.Status.TheVariants.{Unsolved};
-ghost use Rattle.leg_app.specs.Finished.{TellsNotFinished};
+ghost use Rattle.leg_app.specs.FinishResult.{ReportsNotFinished};
 ghost use Rattle.leg_app.specs.Reason.{Explains, Holds};
 ghost use Rattle.leg_app.specs.Steps.Making.{IsMaking};
 
@@ -12,11 +12,11 @@ use crate::answer::{Answer, copied, unsolved};
 use crate::finish_lines::{finished_text, piece_name, unfinished_text, unreachable_text};
 use crate::route_lines::{flat_again, net_name, not_clean_text};
 use crate::status::Status;
-use leg_block::Design;
-use leg_block::laws::design_is_sound;
+use leg_app_reason::{Reason, Stage};
+use leg_design_records::Design;
+use leg_design_records::laws::design_is_sound;
 use leg_finish::{FinishFault, Progress, finish};
-use leg_grid::GREATEST_GRID;
-use leg_reason::{Reason, Stage};
+use leg_route_grid::GREATEST_GRID;
 use std::alloc::{AllocError, Allocator};
 
 /// What is answered where this design is to be finished. The progress is told of each round.
@@ -49,9 +49,9 @@ fn not_finished<'e, A: Allocator + Copy>(
     design: &Design<'_, A>,
     fault: &FinishFault<A>,
 ) -> Result<Answer<'e, A>, AllocError>
-    requires { IsRefusal design.now fault.now }
+    requires { IsFinishRefusal design.now fault.now }
     ensures status { IfOk result (λ answer. answer.status ≡ Unsolved) }
-    ensures tells { IfOk result (λ answer. TellsNotFinished design.now answer.text.items) }
+    ensures tells { IfOk result (λ answer. ReportsNotFinished design.now answer.text.items) }
     ensures explains { IfOk result (λ answer. Explains (Holds Finish design.now) answer.status answer.reason answer.text.items) }
 {
     match fault {

@@ -2,16 +2,17 @@
 
 ghost use Rattle.std.specs.Prelude.{◌≡◌, ◌++◌, Some, option_map, codes, IfOk, OnOk};
 ghost use Rattle.std.specs.List.{flat_map};
-ghost use Rattle.leg_print.specs.Names.{name_by, piece_text};
-ghost use Rattle.leg_print.specs.Lines.{piece_at};
-ghost use Rattle.leg_app.specs.FinishLines.{number_line, finished_text, unfinished_line, unfinished_text};
+ghost use Rattle.leg_output.specs.Names.{piece_text};
+ghost use Rattle.leg_rules.specs.Names.{name_by};
+ghost use Rattle.leg_output.specs.Lines.{piece_at};
+ghost use Rattle.leg_output.specs.Commands.Finish.{number_line, finished_text, unfinished_line, unfinished_text};
 
 use crate::lines::push_number;
 use crate::route_lines::net_name;
-use leg_block::Design;
-use leg_cells::Items;
+use leg_design_records::Design;
 use leg_finish::WireTotals;
 use leg_flat::{Flat, Piece};
+use leg_lib_records::Items;
 use leg_print::{print_def, push_piece};
 use std::alloc::{AllocError, Allocator};
 

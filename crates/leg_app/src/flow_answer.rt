@@ -1,10 +1,10 @@
 //! What `flow` answers.
 
 ghost use Rattle.std.specs.Prelude.{IfOk};
-ghost use Rattle.leg_block.specs.Records.{DesignContents};
-ghost use Rattle.leg_legal.specs.Moves.{AreMoves};
-ghost use Rattle.leg_input.specs.declared.command.Command.TheVariants.{Flow};
-ghost use Rattle.leg_app.specs.Legalised.{Legalises};
+ghost use Rattle.leg_design_records.specs.Records.{DesignModel};
+ghost use Rattle.leg_rules.specs.Legalise.Moves.{AreMoves};
+ghost use Rattle.leg_app_input.specs.declared.command.Command.TheVariants.{Flow};
+ghost use Rattle.leg_app.specs.LegaliseResult.{Legalises};
 ghost use Rattle.leg_app.specs.Reason.{Explains, Holds};
 ghost use Rattle.leg_app.specs.Steps.Making.{IsMaking};
 
@@ -13,10 +13,10 @@ use crate::legalise_answer::not_legalised;
 use crate::legalise_lines::legalised_text;
 use crate::route_answer::not_routed;
 use crate::status::Status;
-use leg_block::Design;
-use leg_block::laws::design_is_sound;
+use leg_app_reason::Stage;
+use leg_design_records::Design;
+use leg_design_records::laws::design_is_sound;
 use leg_legal::{Moves, legalise};
-use leg_reason::Stage;
 use leg_route::route;
 use std::alloc::{AllocError, Allocator};
 
@@ -44,10 +44,10 @@ fn routing_answer<'e, A: Allocator + Copy>(
     legalised: Design<'_, A>,
     moves: &Moves<A>,
 ) -> Result<Answer<'e, A>, AllocError>
-    ensures is { IfOk result (λ answer. (design : DesignContents) → Legalises design legalised.entry →
+    ensures is { IfOk result (λ answer. (design : DesignModel) → Legalises design legalised.entry →
         AreMoves design legalised.entry moves.now.per_component moves.now.total moves.now.greatest →
         IsMaking Flow design answer.status answer.text.items) }
-    ensures explains { IfOk result (λ answer. (design : DesignContents) → Legalises design legalised.entry →
+    ensures explains { IfOk result (λ answer. (design : DesignModel) → Legalises design legalised.entry →
         Explains (Holds Flow design) answer.status answer.reason answer.text.items) }
 {
     let library = legalised.library();

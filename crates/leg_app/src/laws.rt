@@ -2,15 +2,15 @@
 //! names the laws that it follows from.
 
 ghost use Rattle.std.specs.Prelude.{◌≡◌, ◌≢◌, ℕ, List, map, take};
-ghost use Rattle.leg_cells.specs.Records.{Contents};
-ghost use Rattle.leg_block.specs.Records.{DesignContents};
-ghost use Rattle.leg_block.specs.declared.fault.Fault.{Fault};
-ghost use Rattle.leg_input.specs.declared.command.Command.{Command};
-ghost use Rattle.leg_input.specs.declared.command.Command.TheVariants.{Route, Flow, Finish};
+ghost use Rattle.leg_lib_records.specs.Records.{LibraryModel};
+ghost use Rattle.leg_design_records.specs.Records.{DesignModel};
+ghost use Rattle.leg_design_records.specs.declared.fault.Fault.{Fault};
+ghost use Rattle.leg_app_input.specs.declared.command.Command.{Command};
+ghost use Rattle.leg_app_input.specs.declared.command.Command.TheVariants.{Route, Flow, Finish};
 ghost use Rattle.leg_app.specs.declared.status.Status.{Status};
 ghost use Rattle.leg_app.specs.declared.status.Status.TheVariants.{Refused, Memory};
 ghost use Rattle.leg_app.specs.declared.limits.TheConstants.{FILE_LIMIT, STREAM_LIMIT};
-ghost use Rattle.leg_app.specs.Say.{SayLibraryFor, SayDesign};
+ghost use Rattle.leg_grammar.specs.Texts.{DenoteLibraryFor, DenoteDesign};
 ghost use Rattle.leg_rules.specs.Violations.{AreAllViolations};
 ghost use Rattle.leg_app.specs.Violations.{AreViolationsOf};
 ghost use Rattle.leg_app.specs.Answer.{IsAnswer, IsStreamAnswer};
@@ -18,7 +18,7 @@ ghost use Rattle.leg_app.specs.Comparison.{IsComparison};
 
 /// LEF texts denote one library at most, at the units of a DEF.
 pub fn texts_say_one_library()
-    ensures { (lefs : List (List ℕ)) (def : List ℕ) (a b : Contents) → SayLibraryFor lefs def a → SayLibraryFor lefs def b → a ≡ b }
+    ensures { (lefs : List (List ℕ)) (def : List ℕ) (a b : LibraryModel) → DenoteLibraryFor lefs def a → DenoteLibraryFor lefs def b → a ≡ b }
 {
     leg_lib::laws::texts_say_one_library();
     leg_lib::laws::one_library_at_units();
@@ -26,15 +26,15 @@ pub fn texts_say_one_library()
 
 /// Texts denote one design at most.
 pub fn texts_say_one_design()
-    ensures { (lefs : List (List ℕ)) (def : List ℕ) (library other : Contents) (a b : DesignContents)
-        → SayDesign lefs def library a → SayDesign lefs def other b → (library ≡ other) × (a ≡ b) }
+    ensures { (lefs : List (List ℕ)) (def : List ℕ) (library other : LibraryModel) (a b : DesignModel)
+        → DenoteDesign lefs def library a → DenoteDesign lefs def other b → (library ≡ other) × (a ≡ b) }
 {
     texts_say_one_library();
 }
 
 /// A design has one list of violations.
 pub fn design_has_one_list()
-    ensures { (library : Contents) (design : DesignContents) (a b : List Fault)
+    ensures { (library : LibraryModel) (design : DesignModel) (a b : List Fault)
         → AreAllViolations library design a → AreAllViolations library design b → a ≡ b }
 {}
 

@@ -1,23 +1,23 @@
 //! What `legalise` answers.
 
 ghost use Rattle.std.specs.Prelude.{◌≡◌, IfOk};
-ghost use Rattle.leg_block.specs.Records.{DesignContents};
-ghost use Rattle.leg_legal.specs.Refusals.{IsRefusal};
-ghost use Rattle.leg_input.specs.declared.command.Command.{Command};
-ghost use Rattle.leg_input.specs.declared.command.Command.TheVariants.{Legalise};
+ghost use Rattle.leg_design_records.specs.Records.{DesignModel};
+ghost use Rattle.leg_legal.specs.Refusals.{IsLegaliseRefusal};
+ghost use Rattle.leg_app_input.specs.declared.command.Command.{Command};
+ghost use Rattle.leg_app_input.specs.declared.command.Command.TheVariants.{Legalise};
 ghost use Rattle.leg_app.specs.declared.status.Status.TheVariants.{Unsolved};
 ghost use Rattle.leg_app.specs.Reason.{Explains, Holds};
-ghost use Rattle.leg_app.specs.Legalised.{TellsNotLegalised};
+ghost use Rattle.leg_app.specs.LegaliseResult.{ReportsNotLegalised};
 ghost use Rattle.leg_app.specs.Steps.Making.{IsMaking};
 
 use crate::answer::{Answer, copied, unsolved};
 use crate::legalise_lines::{component_name, fixed_illegal_text, legalised_text};
 use crate::lines::name_line;
 use crate::status::Status;
-use leg_block::Design;
-use leg_block::laws::design_is_sound;
+use leg_app_reason::Reason;
+use leg_design_records::Design;
+use leg_design_records::laws::design_is_sound;
 use leg_legal::{LegalFault, legalise};
-use leg_reason::Reason;
 use std::alloc::{AllocError, Allocator};
 
 /// What is answered where this design is to be legalised.
@@ -50,8 +50,8 @@ pub(crate) fn not_legalised<'e, A: Allocator + Copy>(
     fault: &LegalFault<A>,
 ) -> Result<Answer<'e, A>, AllocError>
     ensures status { IfOk result (λ answer. answer.status ≡ Unsolved) }
-    ensures tells { IfOk result (λ answer. IsRefusal design.now fault.now → TellsNotLegalised design.now answer.text.items) }
-    ensures explains { IfOk result (λ answer. (command : Command) (before : DesignContents)
+    ensures tells { IfOk result (λ answer. IsLegaliseRefusal design.now fault.now → ReportsNotLegalised design.now answer.text.items) }
+    ensures explains { IfOk result (λ answer. (command : Command) (before : DesignModel)
         → Explains (Holds command before) answer.status answer.reason answer.text.items) }
 {
     match fault {

@@ -1,11 +1,11 @@
 //! The lines that `legalise` prints.
 
 ghost use Rattle.std.specs.Prelude.{◌≡◌, ◌++◌, IfOk, OnOk};
-ghost use Rattle.leg_print.specs.Names.{component_name};
-ghost use Rattle.leg_app.specs.LegaliseLines.{length_line, move_line, total_lines, legalised_text, fixed_illegal_text};
+ghost use Rattle.leg_rules.specs.Names.{component_name};
+ghost use Rattle.leg_output.specs.Commands.Legalise.{length_line, move_line, total_lines, legalised_text, fixed_illegal_text};
 
 use crate::lines::{push_length, push_number};
-use leg_block::{Component, Design, Fault};
+use leg_design_records::{Component, Design, Fault};
 use leg_flat::Flat;
 use leg_legal::Moves;
 use leg_print::{print_def, print_faults};

@@ -30,19 +30,19 @@ pub use compare::compare_texts;
 pub use compare_end::{ComparisonAnswer, ComparisonEnd, ComparisonReason, Side};
 pub use compare_output::run_compare;
 pub use end::Halt;
-pub use leg_block::{Design, Fault};
-pub use leg_cells::{Library, ScaleFault};
-pub use leg_design::DefText;
-pub use leg_finish::Progress;
-pub use leg_flat::{Flat, FlatFault};
-pub use leg_input::{
+pub use leg_app_input::{
     Asked, Command, CompareLine, InputFault, Line, asked_by, compare_line_of, line_of, read_all,
     split_stream,
 };
+pub use leg_app_reason::{Reason, Stage};
+pub use leg_design::DefText;
+pub use leg_design_records::{Design, Fault};
+pub use leg_finish::Progress;
+pub use leg_flat::{Flat, FlatFault};
 pub use leg_lex::ReadFault;
 pub use leg_lib::read_lefs;
+pub use leg_lib_records::{Library, ScaleFault};
 pub use leg_print::print_faults;
-pub use leg_reason::{Reason, Stage};
 pub use limits::{FILE_LIMIT, STREAM_LIMIT};
 pub use run_command::{
     Ended, RunFault, run, run_explained, run_help, run_out, run_stream, run_stream_explained,

@@ -2,13 +2,13 @@
 
 ghost use Rattle.std.specs.Prelude.{◌≡◌, ◌++◌, IfOk, OnOk, option_map, codes, decimal};
 ghost use Rattle.std.specs.Fmt.{signed_decimal};
-ghost use Rattle.leg_app.specs.Lines.{kind_name, listing_text, refused_line, refused_text, scale_kind_name, scale_text, wirelength_text};
+ghost use Rattle.leg_output.specs.Commands.Check.{kind_name, listing_text, refused_line, refused_text, scale_kind_name, scale_text, wirelength_text};
 
 use itoa::Buffer;
-use leg_block::{Design, Fault};
-use leg_cells::{ScaleFault, ScaleKind};
+use leg_design_records::{Design, Fault};
 use leg_flat::Flat;
 use leg_lex::{FaultKind, ReadFault};
+use leg_lib_records::{ScaleFault, ScaleKind};
 use leg_print::print_faults;
 use std::alloc::{AllocError, Allocator};
 

@@ -1,18 +1,18 @@
 //! What `route` answers.
 
 ghost use Rattle.std.specs.Prelude.{◌≡◌, ◌≤◌, length, IfOk};
-ghost use Rattle.leg_block.specs.declared.limits.TheConstants.{PART_LIMIT};
-ghost use Rattle.leg_block.specs.Records.{DesignContents};
-ghost use Rattle.leg_flat.specs.Metal.{metal_of};
-ghost use Rattle.leg_grid.specs.declared.limits.TheConstants.{GRID_LIMIT};
-ghost use Rattle.leg_grid.specs.GridSize.{IsGridTooLarge};
-ghost use Rattle.leg_print.specs.Names.{net_name};
-ghost use Rattle.leg_route.specs.Refusal.{IsRefusal};
-ghost use Rattle.leg_input.specs.declared.command.Command.{Command};
-ghost use Rattle.leg_input.specs.declared.command.Command.TheVariants.{Route};
+ghost use Rattle.leg_design_records.specs.declared.limits.TheConstants.{PART_LIMIT};
+ghost use Rattle.leg_design_records.specs.Records.{DesignModel};
+ghost use Rattle.leg_rules.specs.Metal.Metal.{metal_of};
+ghost use Rattle.leg_rules.specs.declared.grid_limits.TheConstants.{GRID_LIMIT};
+ghost use Rattle.leg_rules.specs.Route.GridSize.{IsGridTooLarge};
+ghost use Rattle.leg_output.specs.Names.{net_name};
+ghost use Rattle.leg_route.specs.Refusal.{IsRouteRefusal};
+ghost use Rattle.leg_app_input.specs.declared.command.Command.{Command};
+ghost use Rattle.leg_app_input.specs.declared.command.Command.TheVariants.{Route};
 ghost use Rattle.leg_app.specs.declared.status.Status.TheVariants.{Unsolved};
 ghost use Rattle.leg_app.specs.Reason.{Explains, Holds, IsCutOff, IsRoutedBy, stage_of, grid_limit};
-ghost use Rattle.leg_app.specs.Routed.{TellsNotRouted};
+ghost use Rattle.leg_app.specs.RouteResult.{ReportsNotRouted};
 ghost use Rattle.leg_app.specs.Steps.Making.{IsMaking};
 
 use crate::answer::{Answer, copied, unsolved};
@@ -20,14 +20,14 @@ use crate::finish_lines::piece_name;
 use crate::lines::name_line;
 use crate::route_lines::{flat_again, net_name, not_clean_text};
 use crate::status::Status;
-use leg_block::Design;
-use leg_block::laws::design_is_sound;
-use leg_cells::Items;
+use leg_app_reason::{Reason, Stage};
+use leg_design_records::Design;
+use leg_design_records::laws::design_is_sound;
 use leg_finish::first_unreachable_piece;
-use leg_grid::GRID_LIMIT;
+use leg_lib_records::Items;
 use leg_print::print_def;
-use leg_reason::{Reason, Stage};
 use leg_route::{RouteFault, route};
+use leg_route_grid::GRID_LIMIT;
 use std::alloc::{AllocError, Allocator};
 
 /// What is answered where this design is to be routed.
@@ -60,10 +60,10 @@ pub(crate) fn not_routed<'e, A: Allocator + Copy>(
     design: &Design<'_, A>,
     fault: &RouteFault<A>,
 ) -> Result<Answer<'e, A>, AllocError>
-    requires { IsRefusal design.now fault.now }
+    requires { IsRouteRefusal design.now fault.now }
     ensures status { IfOk result (λ answer. answer.status ≡ Unsolved) }
-    ensures tells { IfOk result (λ answer. TellsNotRouted design.now answer.text.items) }
-    ensures explains { IfOk result (λ answer. (command : Command) (before : DesignContents)
+    ensures tells { IfOk result (λ answer. ReportsNotRouted design.now answer.text.items) }
+    ensures explains { IfOk result (λ answer. (command : Command) (before : DesignModel)
         → stage ≡ stage_of command → GRID_LIMIT ≡ grid_limit command → IsRoutedBy command before design.now
         → Explains (Holds command before) answer.status answer.reason answer.text.items) }
 {

@@ -1,14 +1,14 @@
 //! The lines that `route` prints where a design is not routed.
 
 ghost use Rattle.std.specs.Prelude.{◌≡◌, ◌≤◌, length, IfOk};
-ghost use Rattle.leg_block.specs.declared.limits.TheConstants.{PART_LIMIT};
-ghost use Rattle.leg_flat.specs.Flat.{FlatSaid, IsFlatOf};
-ghost use Rattle.leg_flat.specs.Metal.{metal_of};
-ghost use Rattle.leg_print.specs.Names.{net_name};
-ghost use Rattle.leg_app.specs.RouteLines.{not_clean_text};
+ghost use Rattle.leg_design_records.specs.declared.limits.TheConstants.{PART_LIMIT};
+ghost use Rattle.leg_rules.specs.Metal.Flat.{FlatModel, IsFlatOf};
+ghost use Rattle.leg_rules.specs.Metal.Metal.{metal_of};
+ghost use Rattle.leg_output.specs.Names.{net_name};
+ghost use Rattle.leg_output.specs.Commands.Route.{not_clean_text};
 
 use crate::lines::push_number;
-use leg_block::{Design, Fault};
+use leg_design_records::{Design, Fault};
 use leg_flat::{Flat, flatten};
 use leg_print::print_faults;
 use std::alloc::{AllocError, Allocator};
@@ -21,7 +21,7 @@ pub(crate) fn not_clean_text<A: Allocator + Copy>(
     violations: &[Fault],
 ) -> Result<Vec<u8, A>, AllocError>
     requires { length (metal_of design.now) ≤ PART_LIMIT }
-    ensures { IfOk result (λ text. (flat : FlatSaid) → IsFlatOf design.now flat → text.items ≡ not_clean_text design.now flat violations.now) }
+    ensures { IfOk result (λ text. (flat : FlatModel) → IsFlatOf design.now flat → text.items ≡ not_clean_text design.now flat violations.now) }
 {
     let flat = flat_again(alloc, design)?;
     shown_text(alloc, design, &flat, violations)

@@ -4,14 +4,14 @@ ghost use Rattle.std.specs.Prelude.{◌≡◌, map, IfOk, OnOk, OnErr};
 ghost use Rattle.std.specs.Io.KnownBytes.{Appends};
 ghost use Rattle.leg_app.specs.declared.status.Status.TheVariants.{Success, Memory};
 ghost use Rattle.leg_app.specs.Answer.{IsAnswer, IsStreamAnswer, TakesAnswer, TakesFront, TakesPart};
-ghost use Rattle.leg_app.specs.Lines.{memory_text};
+ghost use Rattle.leg_output.specs.Commands.Check.{memory_text};
 ghost use Rattle.leg_app.specs.Reason.{IsExplained, IsStreamExplained};
 
 use crate::answer::answer_to;
 use crate::status::Status;
+use leg_app_input::{Command, split_stream};
+use leg_app_reason::Reason;
 use leg_finish::Progress;
-use leg_input::{Command, split_stream};
-use leg_reason::Reason;
 use std::alloc::Allocator;
 use std::io::Write;
 use thiserror::Error;

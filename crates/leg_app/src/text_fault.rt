@@ -4,9 +4,9 @@ ghost use Rattle.std.specs.Prelude.{◌≡◌, ◌↔◌, IsTrue};
 ghost use Rattle.leg_app.specs.declared.text_fault.TextFault.TheVariants as faults;
 ghost use Rattle.leg_app.specs.Refusal.{of_flat, IsOutOfMemory};
 
-use leg_cells::{ScaleFault, ScaleKind};
 use leg_flat::FlatFault;
 use leg_lex::{FaultKind, ReadFault};
+use leg_lib_records::{ScaleFault, ScaleKind};
 use std::alloc::AllocError;
 
 /// Why a block's texts are refused.

@@ -1,16 +1,16 @@
 //! What LEF and DEF texts denote together.
 
 ghost use Rattle.std.specs.Prelude.{◌≡◌, map, IfOk, IfErr};
-ghost use Rattle.leg_cells.specs.Records.{Contents};
-ghost use Rattle.leg_app.specs.Say.{SayLibraryFor};
-ghost use Rattle.leg_app.specs.Steps.SaidLibrary.{SayNoLibrary};
+ghost use Rattle.leg_lib_records.specs.Records.{LibraryModel};
+ghost use Rattle.leg_grammar.specs.Texts.{DenoteLibraryFor};
+ghost use Rattle.leg_app.specs.Steps.OneLibrary.{DenoteNoLibrary};
 ghost use Rattle.leg_app.specs.Refusal.{Refuses, HasUnitsOf};
 
 use crate::text_fault::TextFault;
-use leg_cells::Library;
 use leg_design::DefText;
 use leg_lex::ReadFault;
 use leg_lib::{file_number, read_lefs};
+use leg_lib_records::Library;
 use std::alloc::Allocator;
 
 /// The fault of a DEF, as the text that comes after this many LEFs.
@@ -30,12 +30,12 @@ pub(crate) fn library_for<'a, 'd, A: Allocator + Copy>(
     lefs: &[&'a [u8]],
     def: &'d [u8],
 ) -> Result<(Library<'a, A>, DefText<'d, A>), TextFault<'a>>
-    ensures found { IfOk result (λ both. SayLibraryFor (map (λ t. t.now) lefs.now) def.now both.0) }
+    ensures found { IfOk result (λ both. DenoteLibraryFor (map (λ t. t.now) lefs.now) def.now both.0) }
     // The texts denote no other library.
-    ensures only { IfOk result (λ both. (said : Contents)
-        → SayLibraryFor (map (λ t. t.now) lefs.now) def.now said → said ≡ both.0) }
+    ensures only { IfOk result (λ both. (said : LibraryModel)
+        → DenoteLibraryFor (map (λ t. t.now) lefs.now) def.now said → said ≡ both.0) }
     ensures text { IfOk result (λ both. both.1 ≡ def.now) }
-    ensures none { IfErr result (λ fault. Refuses (SayNoLibrary (map (λ t. t.now) lefs.now) def.now) ⊥ fault) }
+    ensures none { IfErr result (λ fault. Refuses (DenoteNoLibrary (map (λ t. t.now) lefs.now) def.now) ⊥ fault) }
     ensures units { IfErr result (λ fault. HasUnitsOf def.now fault) }
 {
     let raw = read_lefs(alloc, lefs)?;

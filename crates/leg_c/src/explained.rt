@@ -3,12 +3,12 @@
 ghost use Rattle.std.specs.Prelude.{◌≡◌, map, IfSome, IfNone};
 ghost use Rattle.leg_app.specs.declared.end.Halt.TheVariants.{Usage};
 ghost use Rattle.leg_app.specs.End.{halt_code};
-ghost use Rattle.leg_call.specs.Call.{command_of};
-ghost use Rattle.leg_call.specs.Explained.{named_texts, AnswersExplained};
+ghost use Rattle.leg_c_call.specs.Call.{command_of};
+ghost use Rattle.leg_c_call.specs.Explanation.{named_texts, AnswersExplained};
 
-use leg_lent::Memory;
+use leg_c_memory::Memory;
 
-/// `leg_call::call_explained`, for C.
+/// `leg_c_call::call_explained`, for C.
 #[unsafe(no_mangle)]
 pub extern "C" fn lefdef_run_explained(
     memory: Memory,
@@ -28,7 +28,7 @@ pub extern "C" fn lefdef_run_explained(
     ensures unknown { IfNone (command_of command)
         ((result ≡ halt_code Usage) × (length.new ≡ 0) × (out.new ≡ out.old) × (message_length.new ≡ 0) × (message.new ≡ message.old)) }
 {
-    leg_call::call_explained(
+    leg_c_call::call_explained(
         memory,
         command,
         lef_names,

@@ -4,14 +4,14 @@
 ghost use Rattle.std.specs.Prelude.{◌≡◌, map, IfSome, IfNone};
 ghost use Rattle.leg_app.specs.declared.end.Halt.TheVariants.{Usage};
 ghost use Rattle.leg_app.specs.End.{halt_code};
-ghost use Rattle.leg_call.specs.Call.{command_of, Answers};
+ghost use Rattle.leg_c_call.specs.Call.{command_of, Answers};
 
 mod explained;
 
 pub use explained::lefdef_run_explained;
-use leg_lent::Memory;
+use leg_c_memory::Memory;
 
-/// `leg_call::call`, for C.
+/// `leg_c_call::call`, for C.
 #[unsafe(no_mangle)]
 pub extern "C" fn lefdef_run(
     memory: Memory,
@@ -26,5 +26,5 @@ pub extern "C" fn lefdef_run(
     ensures unknown { IfNone (command_of command)
         ((result ≡ halt_code Usage) × (length.new ≡ 0) × (out.new ≡ out.old)) }
 {
-    leg_call::call(memory, command, lefs, def, out, length)
+    leg_c_call::call(memory, command, lefs, def, out, length)
 }

@@ -3,45 +3,45 @@ use Rattle.std.proofs.Common.{◌≡◌, ℕ, ◌<◌, List, [], ◌∷◌, leng
 use Rattle.std.proofs.lemmas.List.{append-nil}
 use Rattle.std.proofs.lemmas.Option.{same_Some}
 use Rattle.leg_lex.specs.NameLookup.{place_of, AreApart}
-use Rattle.leg_cells.specs.Records.{ViaSaid}
-use Rattle.leg_block.specs.declared.records.Terminal.{Terminal}
-use Rattle.leg_block.specs.declared.records.Wire.{Wire}
-use Rattle.leg_block.specs.declared.records.Component.{Component}
-use Rattle.leg_block.specs.Records.{DesignContents, PinSaid, NetSaid}
-use Rattle.leg_block.specs.WellFormed.{IsWellFormed}
-use Rattle.leg_compare.specs.declared.difference.Part.{Part}
-use Rattle.leg_compare.specs.declared.difference.Section.{Section}
-use Rattle.leg_compare.specs.declared.difference.Section.TheVariants.{Vias, Components, Pins, SpecialNets, Nets}
-use Rattle.leg_compare.specs.declared.difference.Change.{Change}
-use Rattle.leg_compare.specs.declared.difference.Change.TheVariants.{Shapes, Macro, Place, Status, NetName, Direction, Usage, Ports, Terminals, LostWires, MoreWires}
-use Rattle.leg_compare.specs.declared.difference.Difference.{Difference}
-use Rattle.leg_compare.specs.declared.difference.Difference.TheVariants.{Whole, Gone, Changed, Added}
-use Rattle.leg_compare.specs.Sections.{names_of}
-use Rattle.leg_compare.specs.Spelling.{spelled_terminal, spelled_terminals, spelled_wire, spelled_wires}
-use Rattle.leg_compare.specs.Differences.{DiffersInPart, DiffersAsVia, DiffersAsComponent, DiffersAsPin, DiffersAsNet, DifferAt, HasChanged, IsDifference}
+use Rattle.leg_lib_records.specs.Records.{ViaModel}
+use Rattle.leg_design_records.specs.declared.records.Terminal.{Terminal}
+use Rattle.leg_design_records.specs.declared.records.Wire.{Wire}
+use Rattle.leg_design_records.specs.declared.records.Component.{Component}
+use Rattle.leg_design_records.specs.Records.{DesignModel, PinModel, NetModel}
+use Rattle.leg_design_records.specs.WellFormed.{IsWellFormed}
+use Rattle.leg_rules.specs.declared.difference.Part.{Part}
+use Rattle.leg_rules.specs.declared.difference.Section.{Section}
+use Rattle.leg_rules.specs.declared.difference.Section.TheVariants.{Vias, Components, Pins, SpecialNets, Nets}
+use Rattle.leg_rules.specs.declared.difference.Change.{Change}
+use Rattle.leg_rules.specs.declared.difference.Change.TheVariants.{Shapes, Macro, Place, Status, NetName, Direction, Usage, Ports, Terminals, LostWires, MoreWires}
+use Rattle.leg_rules.specs.declared.difference.Difference.{Difference}
+use Rattle.leg_rules.specs.declared.difference.Difference.TheVariants.{Whole, Gone, Changed, Added}
+use Rattle.leg_rules.specs.Compare.Sections.{names_of}
+use Rattle.leg_rules.specs.Compare.Spelling.{spelled_terminal, spelled_terminals, spelled_wire, spelled_wires}
+use Rattle.leg_rules.specs.Compare.Differences.{DiffersInPart, DiffersAsVia, DiffersAsComponent, DiffersAsPin, DiffersAsNet, DifferAt, HasChanged, IsDifference}
 
 -- no two entries of a section have one name
-pub names_apart : (design : DesignContents) → IsWellFormed design → (section : Section) → AreApart (names_of section design)
+pub names_apart : (design : DesignModel) → IsWellFormed design → (section : Section) → AreApart (names_of section design)
 names_apart design proper Vias = proper.vias.apart
 names_apart design proper Components = proper.components.apart
 names_apart design proper Pins = proper.pins.apart
 names_apart design proper SpecialNets = proper.nets.special.apart
 names_apart design proper Nets = proper.nets.nets.apart
 
-pub record AreAlike (first second : DesignContents) : Type 0 where
+pub record AreAlike (first second : DesignModel) : Type 0 where
   pub parts : (part : Part) → ¬ DiffersInPart part first second
   pub names : (section : Section) → names_of section second ≡ names_of section first
   pub apart : (section : Section) → AreApart (names_of section first)
 
 -- a change of an entry, which is at one place in both designs
-pub record IsChangeAt (first second : DesignContents) (d : Difference) : Type 0 where
+pub record IsChangeAt (first second : DesignModel) (d : Difference) : Type 0 where
   pub section : Section
   pub change : Change
   pub i : ℕ
   pub is : d ≡ Changed section change i
   pub changed : HasChanged section change first second i i
 
-module _ (first second : DesignContents) (alike : AreAlike first second) where
+module _ (first second : DesignModel) (alike : AreAlike first second) where
   found : (section : Section) (i : ℕ) → i < length (names_of section first) → place_of (get_or (names_of section first) i []) (names_of section second) ≡ Some i
   found section i within = ap (place_of (get_or (names_of section first) i [])) (alike.names section) ∙ alike.apart section i within
 
@@ -66,7 +66,7 @@ none_differ Differs xs i never h =
     let same : h.x ≡ h.y = same_Some h.x h.y (sym h.at_first ∙ h.at_second) in
     never h.y (subst (λ (x : _). Differs x h.y) same h.differ)
 
-pub same_via : (change : Change) (x : ViaSaid) → ¬ DiffersAsVia change x x
+pub same_via : (change : Change) (x : ViaModel) → ¬ DiffersAsVia change x x
 same_via Shapes x h = h refl
 same_via Macro x h = absurd h
 same_via Status x h = absurd h
@@ -92,7 +92,7 @@ same_component Terminals x h = absurd h
 same_component LostWires x h = absurd h
 same_component MoreWires x h = absurd h
 
-pub same_pin : (change : Change) (x : PinSaid) → ¬ DiffersAsPin change x x
+pub same_pin : (change : Change) (x : PinModel) → ¬ DiffersAsPin change x x
 same_pin Shapes x h = absurd h
 same_pin Macro x h = absurd h
 same_pin Status x h = absurd h
@@ -105,16 +105,16 @@ same_pin Terminals x h = absurd h
 same_pin LostWires x h = absurd h
 same_pin MoreWires x h = absurd h
 
-pub goes_on_itself : (first second : DesignContents) → ((w : Wire) → spelled_wire second w ≡ spelled_wire first w) → (wires : List Wire) → spelled_wires second wires ≡ spelled_wires first wires
+pub goes_on_itself : (first second : DesignModel) → ((w : Wire) → spelled_wire second w ≡ spelled_wire first w) → (wires : List Wire) → spelled_wires second wires ≡ spelled_wires first wires
 goes_on_itself first second same [] = refl
 goes_on_itself first second same (w ∷ wires) = λ i. same w i ∷ goes_on_itself first second same wires i
 
-pub terminals_same : (first second : DesignContents) → ((t : Terminal) → spelled_terminal second t ≡ spelled_terminal first t) → (terminals : List Terminal) → spelled_terminals second terminals ≡ spelled_terminals first terminals
+pub terminals_same : (first second : DesignModel) → ((t : Terminal) → spelled_terminal second t ≡ spelled_terminal first t) → (terminals : List Terminal) → spelled_terminals second terminals ≡ spelled_terminals first terminals
 terminals_same first second same [] = refl
 terminals_same first second same (t ∷ terminals) = λ i. same t i ∷ terminals_same first second same terminals i
 
-module _ (first second : DesignContents) (terminals : (t : Terminal) → spelled_terminal second t ≡ spelled_terminal first t) (wires : (w : Wire) → spelled_wire second w ≡ spelled_wire first w) where
-  pub same_net : (change : Change) (x : NetSaid) → ¬ DiffersAsNet first second change x x
+module _ (first second : DesignModel) (terminals : (t : Terminal) → spelled_terminal second t ≡ spelled_terminal first t) (wires : (w : Wire) → spelled_wire second w ≡ spelled_wire first w) where
+  pub same_net : (change : Change) (x : NetModel) → ¬ DiffersAsNet first second change x x
   same_net Shapes x h = absurd h
   same_net Macro x h = absurd h
   same_net Status x h = absurd h

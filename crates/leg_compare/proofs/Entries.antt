@@ -2,11 +2,11 @@
 use Rattle.std.proofs.Common.{◌≡◌, ◌≢◌, ℕ, ◌<◌, Bool, true, false, not, List, [], length, get_or, Option, None, Some, refl, sym, ap, ◌∙◌}
 use Rattle.std.specs.Prelude.{is_some}
 use Rattle.leg_lex.specs.NameLookup.{place_of}
-use Rattle.leg_block.specs.Records.{DesignContents}
-use Rattle.leg_compare.specs.declared.difference.Section.{Section}
-use Rattle.leg_compare.specs.Sections.{names_of, IsMissing}
+use Rattle.leg_design_records.specs.Records.{DesignModel}
+use Rattle.leg_rules.specs.declared.difference.Section.{Section}
+use Rattle.leg_rules.specs.Compare.Sections.{names_of, IsMissing}
 
-module _ (section : Section) (first second : DesignContents) (i : ℕ) (name : List ℕ) (others : List (List ℕ)) (found : Option ℕ) where
+module _ (section : Section) (first second : DesignModel) (i : ℕ) (name : List ℕ) (others : List (List ℕ)) (found : Option ℕ) where
   -- its name is looked up among those of the other design
   abbrev pub IsLookedUp : Type 0
   IsLookedUp = (others ≡ names_of section second) × (name ≡ get_or (names_of section first) i []) × (found ≡ place_of name others)

@@ -1,70 +1,70 @@
 -- What differs where entries of NETS have got wires.
 use Rattle.std.proofs.Common.{◌≡◌, ℕ, zero, suc, List, [], ◌∷◌, ◌++◌, Some, slice_get, refl, sym, ap, ◌∙◌, subst}
 use Rattle.std.proofs.lemmas.Option.{same_Some}
-use Rattle.leg_cells.specs.Scale.{OneForOne}
-use Rattle.leg_block.specs.declared.records.Terminal.{Terminal}
-use Rattle.leg_block.specs.declared.records.Terminal.TheVariants.{Comp, Pin}
-use Rattle.leg_block.specs.declared.records.Wire.{Wire}
-use Rattle.leg_block.specs.declared.records.Wire.TheVariants.{Segment, ViaAt, Patch}
-use Rattle.leg_block.specs.Records.{DesignContents, NetSaid, net_names}
-use Rattle.leg_block.specs.WellFormed.{IsWellFormed}
-use Rattle.leg_grown.specs.SameButForWires.{IsSameNetButForWires, IsSameButForWires}
-use Rattle.leg_compare.specs.declared.difference.Part.{Part}
-use Rattle.leg_compare.specs.declared.difference.Part.TheVariants.{Name, Divider, BusBits, Die, Rows, Tracks, Blockages}
-use Rattle.leg_compare.specs.declared.difference.Section.{Section}
-use Rattle.leg_compare.specs.declared.difference.Section.TheVariants.{Vias, Components, Pins, SpecialNets, Nets}
-use Rattle.leg_compare.specs.declared.difference.Change.{Change}
-use Rattle.leg_compare.specs.declared.difference.Change.TheVariants.{Shapes, Macro, Place, Status, NetName, Direction, Usage, Ports, Terminals, LostWires, MoreWires}
-use Rattle.leg_compare.specs.declared.difference.Difference.{Difference}
-use Rattle.leg_compare.specs.declared.difference.Difference.TheVariants.{Changed}
-use Rattle.leg_compare.specs.Sections.{names_of}
-use Rattle.leg_compare.specs.Spelling.{spelled_terminal, spelled_terminals, spelled_wire, spelled_wires}
-use Rattle.leg_compare.specs.Differences.{DiffersInPart, DiffersAsVia, DiffersAsComponent, DiffersAsPin, DiffersAsNet, DifferAt, HasChanged, IsDifference}
-use Rattle.leg_compare.specs.Verdicts.{IsGrowth}
+use Rattle.leg_lib_records.specs.Scale.{OneForOne}
+use Rattle.leg_design_records.specs.declared.records.Terminal.{Terminal}
+use Rattle.leg_design_records.specs.declared.records.Terminal.TheVariants.{Comp, Pin}
+use Rattle.leg_design_records.specs.declared.records.Wire.{Wire}
+use Rattle.leg_design_records.specs.declared.records.Wire.TheVariants.{Segment, ViaAt, Patch}
+use Rattle.leg_design_records.specs.Records.{DesignModel, NetModel, net_names}
+use Rattle.leg_design_records.specs.WellFormed.{IsWellFormed}
+use Rattle.leg_rules.specs.Route.SameButForWires.{IsSameNetButForWires, IsSameButForWires}
+use Rattle.leg_rules.specs.declared.difference.Part.{Part}
+use Rattle.leg_rules.specs.declared.difference.Part.TheVariants.{Name, Divider, BusBits, Die, Rows, Tracks, Blockages}
+use Rattle.leg_rules.specs.declared.difference.Section.{Section}
+use Rattle.leg_rules.specs.declared.difference.Section.TheVariants.{Vias, Components, Pins, SpecialNets, Nets}
+use Rattle.leg_rules.specs.declared.difference.Change.{Change}
+use Rattle.leg_rules.specs.declared.difference.Change.TheVariants.{Shapes, Macro, Place, Status, NetName, Direction, Usage, Ports, Terminals, LostWires, MoreWires}
+use Rattle.leg_rules.specs.declared.difference.Difference.{Difference}
+use Rattle.leg_rules.specs.declared.difference.Difference.TheVariants.{Changed}
+use Rattle.leg_rules.specs.Compare.Sections.{names_of}
+use Rattle.leg_rules.specs.Compare.Spelling.{spelled_terminal, spelled_terminals, spelled_wire, spelled_wires}
+use Rattle.leg_rules.specs.Compare.Differences.{DiffersInPart, DiffersAsVia, DiffersAsComponent, DiffersAsPin, DiffersAsNet, DifferAt, HasChanged, IsDifference}
+use Rattle.leg_rules.specs.Compare.Verdicts.{IsGrowth}
 use Rattle.leg_compare.proofs.Alike.{names_apart, AreAlike, IsChangeAt, only_changes, none_differ, same_via, same_component, same_pin, same_net, goes_on_itself, terminals_same}
 
 -- entries that correspond have one name, and stand at one place
-pub same_net_names : (before after : List NetSaid) → OneForOne IsSameNetButForWires before after → net_names after ≡ net_names before
+pub same_net_names : (before after : List NetModel) → OneForOne IsSameNetButForWires before after → net_names after ≡ net_names before
 same_net_names [] [] h = refl
 same_net_names [] (y ∷ ys) h = absurd h
 same_net_names (x ∷ xs) [] h = absurd h
 same_net_names (x ∷ xs) (y ∷ ys) h =
-    let head : y.name ≡ x.name = ap (λ (n : NetSaid). n.name) h.0.is in
+    let head : y.name ≡ x.name = ap (λ (n : NetModel). n.name) h.0.is in
     let tail = same_net_names xs ys h.1 in
     λ i. head i ∷ tail i
 
-grown_at : (before after : List NetSaid) (i : ℕ) (x y : NetSaid) → OneForOne IsSameNetButForWires before after → slice_get before i ≡ Some x → slice_get after i ≡ Some y → IsSameNetButForWires x y
+grown_at : (before after : List NetModel) (i : ℕ) (x y : NetModel) → OneForOne IsSameNetButForWires before after → slice_get before i ≡ Some x → slice_get after i ≡ Some y → IsSameNetButForWires x y
 grown_at [] after i x y h there here = absurd (let no : ⊥ = cc in no)
 grown_at (a ∷ before) [] i x y h there here = absurd h
 grown_at (a ∷ before) (b ∷ after) zero x y h there here =
     let first : a ≡ x = same_Some a x there in
     let second : b ≡ y = same_Some b y here in
-    subst (λ (n : NetSaid). IsSameNetButForWires n y) first (subst (λ (n : NetSaid). IsSameNetButForWires a n) second h.0)
+    subst (λ (n : NetModel). IsSameNetButForWires n y) first (subst (λ (n : NetModel). IsSameNetButForWires a n) second h.0)
 grown_at (a ∷ before) (b ∷ after) (suc i) x y h there here = grown_at before after i x y h.1 there here
 
-module _ (first second : DesignContents) (terminals : (t : Terminal) → spelled_terminal second t ≡ spelled_terminal first t) (wires : (w : Wire) → spelled_wire second w ≡ spelled_wire first w) where
+module _ (first second : DesignModel) (terminals : (t : Terminal) → spelled_terminal second t ≡ spelled_terminal first t) (wires : (w : Wire) → spelled_wire second w ≡ spelled_wire first w) where
   goes_on : (front more : List Wire) → spelled_wires second (front ++ more) ≡ spelled_wires first front ++ spelled_wires first more
   goes_on [] more = goes_on_itself first second wires more
   goes_on (w ∷ front) more = λ i. wires w i ∷ goes_on front more i
 
   -- an entry that has grown has more wires, and nothing else of it differs
-  growth_of : (change : Change) (x y : NetSaid) → IsSameNetButForWires x y → DiffersAsNet first second change x y → change ≡ MoreWires
+  growth_of : (change : Change) (x y : NetModel) → IsSameNetButForWires x y → DiffersAsNet first second change x y → change ≡ MoreWires
   growth_of Shapes x y same differ = absurd differ
   growth_of Macro x y same differ = absurd differ
   growth_of Status x y same differ = absurd differ
   growth_of Place x y same differ = absurd differ
   growth_of NetName x y same differ = absurd differ
   growth_of Direction x y same differ = absurd differ
-  growth_of Usage x y same differ = absurd (differ (sym (ap (λ (n : NetSaid). n.usage) same.is)))
+  growth_of Usage x y same differ = absurd (differ (sym (ap (λ (n : NetModel). n.usage) same.is)))
   growth_of Ports x y same differ = absurd differ
-  growth_of Terminals x y same differ = absurd (differ (sym (ap (λ (n : NetSaid). spelled_terminals second n.terminals) same.is ∙ terminals_same first second terminals x.terminals)))
-  growth_of LostWires x y same differ = absurd (differ (record { more = spelled_wires first same.more; is = ap (λ (n : NetSaid). spelled_wires second n.wires) same.is ∙ goes_on x.wires same.more }))
+  growth_of Terminals x y same differ = absurd (differ (sym (ap (λ (n : NetModel). spelled_terminals second n.terminals) same.is ∙ terminals_same first second terminals x.terminals)))
+  growth_of LostWires x y same differ = absurd (differ (record { more = spelled_wires first same.more; is = ap (λ (n : NetModel). spelled_wires second n.wires) same.is ∙ goes_on x.wires same.more }))
   growth_of MoreWires x y same differ = refl
 
-  pub growth_at : (change : Change) (i : ℕ) (before after : List NetSaid) → OneForOne IsSameNetButForWires before after → DifferAt (DiffersAsNet first second change) before after i i → change ≡ MoreWires
+  pub growth_at : (change : Change) (i : ℕ) (before after : List NetModel) → OneForOne IsSameNetButForWires before after → DifferAt (DiffersAsNet first second change) before after i i → change ≡ MoreWires
   growth_at change i before after grown h = growth_of change h.x h.y (grown_at before after i h.x h.y grown h.at_first h.at_second) h.differ
 
-module _ (before : DesignContents) (proper : IsWellFormed before) (nets : List NetSaid) (grown : OneForOne IsSameNetButForWires before.nets nets) where
+module _ (before : DesignModel) (proper : IsWellFormed before) (nets : List NetModel) (grown : OneForOne IsSameNetButForWires before.nets nets) where
   terminal_same : (t : Terminal) → spelled_terminal (record before { nets = nets }) t ≡ spelled_terminal before t
   terminal_same (Comp c k) = refl
   terminal_same (Pin p) = refl
@@ -107,6 +107,6 @@ module _ (before : DesignContents) (proper : IsWellFormed before) (nets : List N
     by c = changed c.section c.change c.i c.is c.changed
 
 -- of designs that are the same but for added wires, entries of NETS have more wires, and nothing else differs
-pub wires_differ : (before after : DesignContents) → IsWellFormed before → IsSameButForWires before after → (d : Difference) → IsDifference before after d → IsGrowth d
+pub wires_differ : (before after : DesignModel) → IsWellFormed before → IsSameButForWires before after → (d : Difference) → IsDifference before after d → IsGrowth d
 wires_differ before after proper same d is =
-    only_growths before proper after.nets same.nets d (subst (λ (design : DesignContents). IsDifference before design d) same.rest is)
+    only_growths before proper after.nets same.nets d (subst (λ (design : DesignModel). IsDifference before design d) same.rest is)

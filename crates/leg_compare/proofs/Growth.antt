@@ -1,8 +1,8 @@
 -- Lists that go on as others, with or without more.
 use Rattle.std.proofs.Common.{◌≡◌, ℕ, ◌+◌, ◌<◌, ◌≤◌, List, [], ◌∷◌, ◌++◌, length, length-append, get_or, drop, map, sym, ap, ◌∙◌, arith}
 use Rattle.std.proofs.lemmas.List.{length-map, get_or-map, get_or_append_left, take-append-drop, append-nil}
-use Rattle.leg_compare.specs.Spelling.{SpelledWire}
-use Rattle.leg_compare.specs.Differences.{GoesOn, Grows}
+use Rattle.leg_rules.specs.Compare.Spelling.{SpelledWire}
+use Rattle.leg_rules.specs.Compare.Differences.{GoesOn, NetGrows}
 use Rattle.leg_compare.proofs.ListsAlike.{front_alike}
 
 module _ {X Y : Type 0} (f : X → SpelledWire) (g : Y → SpelledWire) (xs : List X) (ys : List Y) where
@@ -26,13 +26,13 @@ module _ {X Y : Type 0} (f : X → SpelledWire) (g : Y → SpelledWire) (xs : Li
       ∙ sym (ap (λ l. get_or l k (f d)) h.is)
       ∙ get_or-map g ys k e (f d) there
 
-  pub grows : length xs < length ys → GoesOn (map f xs) (map g ys) → Grows (map f xs) (map g ys)
+  pub grows : length xs < length ys → GoesOn (map f xs) (map g ys) → NetGrows (map f xs) (map g ys)
   grows less h = record {
     goes_on = h;
     some = λ same. omega (arith, ap length same, length-map xs f, length-map ys g);
   }
 
-  pub longer : Grows (map f xs) (map g ys) → length xs < length ys
+  pub longer : NetGrows (map f xs) (map g ys) → length xs < length ys
   longer h = by h.goes_on.more h.goes_on.is where
     by : (more : List SpelledWire) → map g ys ≡ map f xs ++ more → length xs < length ys
     by [] is = absurd (h.some (is ∙ append-nil (map f xs)))

@@ -1,20 +1,20 @@
 -- Elements that are the same
-mod Decided
+mod Decisions
 mod ListsAlike
 mod Growth
 mod Named
 mod Entries
 -- The list of differences
 mod Ranks
-mod Listed
-mod Between
+mod DifferenceLists
+mod BetweenRanks
 -- The verdict
-mod Counted
+mod Counts
 -- What legalising and routing change
 mod Alike
 mod MovedPlaces
 mod GrownNets
 mod MovedAndGrown
 -- Designs without differences
-mod ToldApart
+mod Codes
 mod SameByName

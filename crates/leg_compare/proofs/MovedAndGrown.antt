@@ -1,34 +1,34 @@
 -- What differs where movable components have moved and entries of NETS have got wires, and where nothing has changed.
 use Rattle.std.proofs.Common.{◌≡◌, ℕ, ◌⊎◌, inl, inr, List, length, Some, slice_get, refl, ap, ◌∙◌, subst}
-use Rattle.leg_cells.specs.Scale.{OneForOne}
-use Rattle.leg_block.specs.declared.records.Component.{Component}
-use Rattle.leg_block.specs.declared.records.Terminal.{Terminal}
-use Rattle.leg_block.specs.declared.records.Terminal.TheVariants.{Comp, Pin}
-use Rattle.leg_block.specs.declared.records.Wire.{Wire}
-use Rattle.leg_block.specs.declared.records.Wire.TheVariants.{Segment, ViaAt, Patch}
-use Rattle.leg_block.specs.Records.{DesignContents, NetSaid}
-use Rattle.leg_block.specs.WellFormed.{IsWellFormed}
-use Rattle.leg_legal.specs.SameButForPlaces.{IsSameButForPlaces}
-use Rattle.leg_grown.specs.SameButForWires.{IsSameNetButForWires, IsSameButForWires}
-use Rattle.leg_compare.specs.declared.difference.Part.{Part}
-use Rattle.leg_compare.specs.declared.difference.Part.TheVariants.{Name, Divider, BusBits, Die, Rows, Tracks, Blockages}
-use Rattle.leg_compare.specs.declared.difference.Section.{Section}
-use Rattle.leg_compare.specs.declared.difference.Section.TheVariants.{Vias, Components, Pins, SpecialNets, Nets}
-use Rattle.leg_compare.specs.declared.difference.Change.{Change}
-use Rattle.leg_compare.specs.declared.difference.Difference.{Difference}
-use Rattle.leg_compare.specs.declared.difference.Difference.TheVariants.{Changed}
-use Rattle.leg_compare.specs.Sections.{names_of}
-use Rattle.leg_compare.specs.Spelling.{spelled_terminal, spelled_wire}
-use Rattle.leg_compare.specs.Differences.{DiffersInPart, DiffersAsVia, DiffersAsComponent, DiffersAsPin, DiffersAsNet, HasChanged, IsDifference}
-use Rattle.leg_compare.specs.Verdicts.{IsMove, IsGrowth}
+use Rattle.leg_lib_records.specs.Scale.{OneForOne}
+use Rattle.leg_design_records.specs.declared.records.Component.{Component}
+use Rattle.leg_design_records.specs.declared.records.Terminal.{Terminal}
+use Rattle.leg_design_records.specs.declared.records.Terminal.TheVariants.{Comp, Pin}
+use Rattle.leg_design_records.specs.declared.records.Wire.{Wire}
+use Rattle.leg_design_records.specs.declared.records.Wire.TheVariants.{Segment, ViaAt, Patch}
+use Rattle.leg_design_records.specs.Records.{DesignModel, NetModel}
+use Rattle.leg_design_records.specs.WellFormed.{IsWellFormed}
+use Rattle.leg_rules.specs.Legalise.SameButForPlaces.{IsSameButForPlaces}
+use Rattle.leg_rules.specs.Route.SameButForWires.{IsSameNetButForWires, IsSameButForWires}
+use Rattle.leg_rules.specs.declared.difference.Part.{Part}
+use Rattle.leg_rules.specs.declared.difference.Part.TheVariants.{Name, Divider, BusBits, Die, Rows, Tracks, Blockages}
+use Rattle.leg_rules.specs.declared.difference.Section.{Section}
+use Rattle.leg_rules.specs.declared.difference.Section.TheVariants.{Vias, Components, Pins, SpecialNets, Nets}
+use Rattle.leg_rules.specs.declared.difference.Change.{Change}
+use Rattle.leg_rules.specs.declared.difference.Difference.{Difference}
+use Rattle.leg_rules.specs.declared.difference.Difference.TheVariants.{Changed}
+use Rattle.leg_rules.specs.Compare.Sections.{names_of}
+use Rattle.leg_rules.specs.Compare.Spelling.{spelled_terminal, spelled_wire}
+use Rattle.leg_rules.specs.Compare.Differences.{DiffersInPart, DiffersAsVia, DiffersAsComponent, DiffersAsPin, DiffersAsNet, HasChanged, IsDifference}
+use Rattle.leg_rules.specs.Compare.Verdicts.{IsMove, IsGrowth}
 use Rattle.leg_compare.proofs.Alike.{names_apart, AreAlike, IsChangeAt, only_changes, none_differ, same_via, same_component, same_pin, same_net}
 use Rattle.leg_compare.proofs.MovedPlaces.{IsKeptOrMoved, kept_or_moved, same_component_names, terminal_same as owner_same, move_at}
 use Rattle.leg_compare.proofs.GrownNets.{same_net_names, growth_at}
 
-module _ (before : DesignContents) (proper : IsWellFormed before) (components : List Component) (count : length components ≡ length before.components)
+module _ (before : DesignModel) (proper : IsWellFormed before) (components : List Component) (count : length components ≡ length before.components)
     (kept : (i : ℕ) (old new : Component) → slice_get before.components i ≡ Some old → slice_get components i ≡ Some new → IsKeptOrMoved before i old new)
-    (nets : List NetSaid) (grown : OneForOne IsSameNetButForWires before.nets nets) where
-  abbrev pub changed_to : DesignContents
+    (nets : List NetModel) (grown : OneForOne IsSameNetButForWires before.nets nets) where
+  abbrev pub changed_to : DesignModel
   changed_to = record before { components = components; nets = nets }
 
   terminal_same : (t : Terminal) → spelled_terminal changed_to t ≡ spelled_terminal before t
@@ -76,16 +76,16 @@ module _ (before : DesignContents) (proper : IsWellFormed before) (components : 
 
 -- of a design that was legalised and then routed, movable components have other places, entries of NETS have more wires, and nothing
 -- else differs
-pub places_and_wires_differ : (before between after : DesignContents) → IsWellFormed before → IsSameButForPlaces before between → IsSameButForWires between after
+pub places_and_wires_differ : (before between after : DesignModel) → IsWellFormed before → IsSameButForPlaces before between → IsSameButForWires between after
     → (d : Difference) → IsDifference before after d → IsMove before d ⊎ IsGrowth d
 places_and_wires_differ before between after proper moved grown d is =
     moves_and_growths before proper between.components moved.count (kept_or_moved before between moved) after.nets grown_nets d
-    (subst (λ (design : DesignContents). IsDifference before design d) (grown.rest ∙ ap (λ (b : DesignContents). record b { nets = after.nets }) moved.rest) is) where
+    (subst (λ (design : DesignModel). IsDifference before design d) (grown.rest ∙ ap (λ (b : DesignModel). record b { nets = after.nets }) moved.rest) is) where
       grown_nets : OneForOne IsSameNetButForWires before.nets after.nets
-      grown_nets = subst (λ (nets : List NetSaid). OneForOne IsSameNetButForWires nets after.nets) (ap (λ (b : DesignContents). b.nets) moved.rest) grown.nets
+      grown_nets = subst (λ (nets : List NetModel). OneForOne IsSameNetButForWires nets after.nets) (ap (λ (b : DesignModel). b.nets) moved.rest) grown.nets
 
 -- a design does not differ from itself
-pub never_from_itself : (design : DesignContents) → IsWellFormed design → (d : Difference) → ¬ IsDifference design design d
+pub never_from_itself : (design : DesignModel) → IsWellFormed design → (d : Difference) → ¬ IsDifference design design d
 never_from_itself design proper d is = by (only_changes design design alike d is) where
   alike : AreAlike design design
   alike = record { parts = part_same; names = λ section. refl; apart = names_apart design proper } where

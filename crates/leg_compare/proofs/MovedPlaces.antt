@@ -2,36 +2,37 @@
 use Rattle.std.proofs.Common.{◌≡◌, ℕ, ◌<◌, ◌≤◌, ◌⊎◌, inl, inr, List, length, get_or, Option, None, Some, slice_get, refl, sym, ap, ◌∙◌, subst, arith}
 use Rattle.std.proofs.lemmas.Option.{same_Some, slice_get-get_or, slice_get_past}
 use Rattle.std.proofs.lemmas.Bool.{cases_lt}
-use Rattle.leg_block.specs.declared.records.Component.{Component}
-use Rattle.leg_block.specs.declared.records.Terminal.{Terminal}
-use Rattle.leg_block.specs.declared.records.Terminal.TheVariants.{Comp, Pin}
-use Rattle.leg_block.specs.declared.records.Wire.{Wire}
-use Rattle.leg_block.specs.declared.records.Wire.TheVariants.{Segment, ViaAt, Patch}
-use Rattle.leg_block.specs.Movable.{MayMove, IsMovable}
-use Rattle.leg_block.specs.Records.{DesignContents, component_names}
-use Rattle.leg_block.specs.WellFormed.{IsWellFormed}
-use Rattle.leg_block.proofs.MovableOrNot.{movable_or_not}
-use Rattle.leg_legal.specs.SameButForPlaces.{IsPlacedAnew, IsSameButForPlaces}
-use Rattle.leg_compare.specs.declared.difference.Part.{Part}
-use Rattle.leg_compare.specs.declared.difference.Part.TheVariants.{Name, Divider, BusBits, Die, Rows, Tracks, Blockages}
-use Rattle.leg_compare.specs.declared.difference.Section.{Section}
-use Rattle.leg_compare.specs.declared.difference.Section.TheVariants.{Vias, Components, Pins, SpecialNets, Nets}
-use Rattle.leg_compare.specs.declared.difference.Change.{Change}
-use Rattle.leg_compare.specs.declared.difference.Change.TheVariants.{Shapes, Macro, Place, Status as OtherStatus, NetName, Direction, Usage, Ports, Terminals, LostWires, MoreWires}
-use Rattle.leg_compare.specs.declared.difference.Difference.{Difference}
-use Rattle.leg_compare.specs.declared.difference.Difference.TheVariants.{Changed}
-use Rattle.leg_compare.specs.Sections.{names_of}
-use Rattle.leg_compare.specs.Spelling.{name_by, pin_name_in, spelled_terminal, spelled_wire}
-use Rattle.leg_compare.specs.Differences.{DiffersInPart, DiffersAsVia, DiffersAsComponent, DiffersAsPin, DiffersAsNet, DifferAt, HasChanged, IsDifference}
-use Rattle.leg_compare.specs.Verdicts.{IsMove}
+use Rattle.leg_design_records.specs.declared.records.Component.{Component}
+use Rattle.leg_design_records.specs.declared.records.Terminal.{Terminal}
+use Rattle.leg_design_records.specs.declared.records.Terminal.TheVariants.{Comp, Pin}
+use Rattle.leg_design_records.specs.declared.records.Wire.{Wire}
+use Rattle.leg_design_records.specs.declared.records.Wire.TheVariants.{Segment, ViaAt, Patch}
+use Rattle.leg_design_records.specs.Movable.{MayMove, IsMovable}
+use Rattle.leg_design_records.specs.Records.{DesignModel, component_names}
+use Rattle.leg_design_records.specs.WellFormed.{IsWellFormed}
+use Rattle.leg_design_records.proofs.MovableOrNot.{movable_or_not}
+use Rattle.leg_rules.specs.Legalise.SameButForPlaces.{IsPlacedAnew, IsSameButForPlaces}
+use Rattle.leg_rules.specs.declared.difference.Part.{Part}
+use Rattle.leg_rules.specs.declared.difference.Part.TheVariants.{Name, Divider, BusBits, Die, Rows, Tracks, Blockages}
+use Rattle.leg_rules.specs.declared.difference.Section.{Section}
+use Rattle.leg_rules.specs.declared.difference.Section.TheVariants.{Vias, Components, Pins, SpecialNets, Nets}
+use Rattle.leg_rules.specs.declared.difference.Change.{Change}
+use Rattle.leg_rules.specs.declared.difference.Change.TheVariants.{Shapes, Macro, Place, Status as OtherStatus, NetName, Direction, Usage, Ports, Terminals, LostWires, MoreWires}
+use Rattle.leg_rules.specs.declared.difference.Difference.{Difference}
+use Rattle.leg_rules.specs.declared.difference.Difference.TheVariants.{Changed}
+use Rattle.leg_rules.specs.Compare.Sections.{names_of}
+use Rattle.leg_rules.specs.Compare.Spelling.{pin_name_in, spelled_terminal, spelled_wire}
+use Rattle.leg_rules.specs.Names.{name_by}
+use Rattle.leg_rules.specs.Compare.Differences.{DiffersInPart, DiffersAsVia, DiffersAsComponent, DiffersAsPin, DiffersAsNet, DifferAt, HasChanged, IsDifference}
+use Rattle.leg_rules.specs.Compare.Verdicts.{IsMove}
 use Rattle.leg_compare.proofs.ListsAlike.{all_alike}
 use Rattle.leg_compare.proofs.Alike.{names_apart, AreAlike, IsChangeAt, only_changes, none_differ, same_via, same_component, same_pin, same_net}
 
 -- the component stays as it is, or it is movable and has another place
-abbrev pub IsKeptOrMoved : DesignContents → ℕ → Component → Component → Type 0
+abbrev pub IsKeptOrMoved : DesignModel → ℕ → Component → Component → Type 0
 IsKeptOrMoved before i old new = (new ≡ old) ⊎ (IsMovable before i × IsPlacedAnew old new)
 
-module _ (before : DesignContents) (proper : IsWellFormed before) (components : List Component) (count : length components ≡ length before.components)
+module _ (before : DesignModel) (proper : IsWellFormed before) (components : List Component) (count : length components ≡ length before.components)
     (kept : (i : ℕ) (old new : Component) → slice_get before.components i ≡ Some old → slice_get components i ≡ Some new → IsKeptOrMoved before i old new) where
   kept_at : (i : ℕ) (d e : Component) → i < length before.components → IsKeptOrMoved before i (get_or before.components i d) (get_or components i e)
   kept_at i d e within =
@@ -139,7 +140,7 @@ module _ (before : DesignContents) (proper : IsWellFormed before) (components : 
     by c = changed c.section c.change c.i c.is c.changed
 
 -- each component of a design that is the same but for places stays as it is, or is movable and has another place
-pub kept_or_moved : (before after : DesignContents) → IsSameButForPlaces before after → (i : ℕ) (old new : Component) → slice_get before.components i ≡ Some old → slice_get after.components i ≡ Some new → IsKeptOrMoved before i old new
+pub kept_or_moved : (before after : DesignModel) → IsSameButForPlaces before after → (i : ℕ) (old new : Component) → slice_get before.components i ≡ Some old → slice_get after.components i ≡ Some new → IsKeptOrMoved before i old new
 kept_or_moved before after same i old new there here =
     elim (movable_or_not before i) [
       | inl movable ↦ inr (movable, same.moves i old new movable there here)
@@ -147,6 +148,6 @@ kept_or_moved before after same i old new there here =
     ]
 
 -- of designs that are the same but for places, movable components have other places, and nothing else differs
-pub places_differ : (before after : DesignContents) → IsWellFormed before → IsSameButForPlaces before after → (d : Difference) → IsDifference before after d → IsMove before d
+pub places_differ : (before after : DesignModel) → IsWellFormed before → IsSameButForPlaces before after → (d : Difference) → IsDifference before after d → IsMove before d
 places_differ before after proper same d is =
-    only_moves before proper after.components same.count (kept_or_moved before after same) d (subst (λ (design : DesignContents). IsDifference before design d) same.rest is)
+    only_moves before proper after.components same.count (kept_or_moved before after same) d (subst (λ (design : DesignModel). IsDifference before design d) same.rest is)

@@ -1,16 +1,16 @@
 -- Ranks of differences, and what stands between two of them.
 use Rattle.std.proofs.Common.{◌≡◌, ◌≢◌, ℕ, List, [], ◌∷◌, get_or, ◌+◌, ◌<◌, ◌≤◌, ◌⊎◌, inl, inr, refl, sym, ap, ◌∙◌, arith}
 use Rattle.std.proofs.lemmas.Bool.{cases_lt}
-use Rattle.leg_compare.specs.declared.difference.Part.{Part}
-use Rattle.leg_compare.specs.declared.difference.Part.TheVariants.{Name, Divider, BusBits, Die, Rows, Tracks, Blockages}
-use Rattle.leg_compare.specs.declared.difference.Section.{Section}
-use Rattle.leg_compare.specs.declared.difference.Section.TheVariants.{Vias, Components, Pins, SpecialNets, Nets}
-use Rattle.leg_compare.specs.declared.difference.Change.{Change}
-use Rattle.leg_compare.specs.declared.difference.Change.TheVariants.{Shapes, Macro, Place, Status, NetName, Direction, Usage, Ports, Terminals, LostWires, MoreWires}
-use Rattle.leg_compare.specs.declared.difference.Difference.{Difference}
-use Rattle.leg_compare.specs.declared.difference.Difference.TheVariants.{Whole, Gone, Changed, Added}
-use Rattle.leg_compare.specs.Order.{part_number, section_number, change_number, Rank, rank, IsBelow}
-use Rattle.leg_compare.specs.Steps.Listed.{at}
+use Rattle.leg_rules.specs.declared.difference.Part.{Part}
+use Rattle.leg_rules.specs.declared.difference.Part.TheVariants.{Name, Divider, BusBits, Die, Rows, Tracks, Blockages}
+use Rattle.leg_rules.specs.declared.difference.Section.{Section}
+use Rattle.leg_rules.specs.declared.difference.Section.TheVariants.{Vias, Components, Pins, SpecialNets, Nets}
+use Rattle.leg_rules.specs.declared.difference.Change.{Change}
+use Rattle.leg_rules.specs.declared.difference.Change.TheVariants.{Shapes, Macro, Place, Status, NetName, Direction, Usage, Ports, Terminals, LostWires, MoreWires}
+use Rattle.leg_rules.specs.declared.difference.Difference.{Difference}
+use Rattle.leg_rules.specs.declared.difference.Difference.TheVariants.{Whole, Gone, Changed, Added}
+use Rattle.leg_rules.specs.Compare.Order.{part_number, section_number, change_number, Rank, rank, IsBelow}
+use Rattle.leg_compare.specs.Steps.Listing.{at}
 
 -- a part, a section and a change are known by their numbers
 parts : List Part

@@ -6,28 +6,28 @@ use Rattle.std.proofs.lemmas.List.Elements.{Contains-get_or}
 use Rattle.std.proofs.lemmas.Option.{slice_get-get_or}
 use Rattle.leg_lex.specs.NameLookup.{place_of, AreApart}
 use Rattle.leg_lex.proofs.NameLookup.{place_stands}
-use Rattle.leg_cells.specs.Records.{Contents, ViaSaid}
+use Rattle.leg_lib_records.specs.Records.{LibraryModel, ViaModel}
 use Rattle.leg_geom.specs.declared.place.Place.{Place}
-use Rattle.leg_block.specs.declared.records.Status.{Status}
-use Rattle.leg_block.specs.declared.records.Status.TheVariants as status
-use Rattle.leg_block.specs.declared.records.Component.{Component}
-use Rattle.leg_block.specs.Movable.{MayMove}
-use Rattle.leg_block.specs.Records.{DesignContents, PinSaid, NetSaid}
-use Rattle.leg_block.specs.WellFormed.{IsWellFormed}
-use Rattle.leg_block.specs.WellFormedParts.{IsPlaced, IsComponent}
-use Rattle.leg_compare.specs.declared.difference.Part.TheVariants.{Name, Divider, BusBits, Die, Rows, Tracks, Blockages}
-use Rattle.leg_compare.specs.declared.difference.Section.{Section}
-use Rattle.leg_compare.specs.declared.difference.Section.TheVariants.{Vias, Components, Pins, SpecialNets, Nets}
-use Rattle.leg_compare.specs.declared.difference.Change.{Change}
-use Rattle.leg_compare.specs.declared.difference.Change.TheVariants.{Shapes, Macro, Place as OtherPlace, Status as OtherStatus, NetName, Direction, Usage, Ports, Terminals, LostWires, MoreWires}
-use Rattle.leg_compare.specs.declared.difference.Difference.{Difference}
-use Rattle.leg_compare.specs.declared.difference.Difference.TheVariants.{Whole, Gone, Changed, Added}
-use Rattle.leg_compare.specs.Sections.{names_of}
-use Rattle.leg_compare.specs.Spelling.{spelled_terminals, spelled_wires}
-use Rattle.leg_compare.specs.Differences.{DiffersAsVia, DiffersAsComponent, DiffersAsPin, DiffersAsNet, DifferAt, IsDifference}
+use Rattle.leg_design_records.specs.declared.records.Status.{Status}
+use Rattle.leg_design_records.specs.declared.records.Status.TheVariants as status
+use Rattle.leg_design_records.specs.declared.records.Component.{Component}
+use Rattle.leg_design_records.specs.Movable.{MayMove}
+use Rattle.leg_design_records.specs.Records.{DesignModel, PinModel, NetModel}
+use Rattle.leg_design_records.specs.WellFormed.{IsWellFormed}
+use Rattle.leg_design_records.specs.WellFormedParts.{IsPlaced, IsComponent}
+use Rattle.leg_rules.specs.declared.difference.Part.TheVariants.{Name, Divider, BusBits, Die, Rows, Tracks, Blockages}
+use Rattle.leg_rules.specs.declared.difference.Section.{Section}
+use Rattle.leg_rules.specs.declared.difference.Section.TheVariants.{Vias, Components, Pins, SpecialNets, Nets}
+use Rattle.leg_rules.specs.declared.difference.Change.{Change}
+use Rattle.leg_rules.specs.declared.difference.Change.TheVariants.{Shapes, Macro, Place as OtherPlace, Status as OtherStatus, NetName, Direction, Usage, Ports, Terminals, LostWires, MoreWires}
+use Rattle.leg_rules.specs.declared.difference.Difference.{Difference}
+use Rattle.leg_rules.specs.declared.difference.Difference.TheVariants.{Whole, Gone, Changed, Added}
+use Rattle.leg_rules.specs.Compare.Sections.{names_of}
+use Rattle.leg_rules.specs.Compare.Spelling.{spelled_terminals, spelled_wires}
+use Rattle.leg_rules.specs.Compare.Differences.{DiffersAsVia, DiffersAsComponent, DiffersAsPin, DiffersAsNet, DifferAt, IsDifference}
 use Rattle.leg_compare.specs.Same.{HasSame, AreSameByName, IsSameNet, IsSameDesign}
 use Rattle.leg_compare.proofs.Alike.{names_apart}
-use Rattle.leg_compare.proofs.ToldApart.{told_in, same_if, words_told, vias_told, places_told, statuses_told, ports_told, wires_told, terminals_told, masters_told, names_told}
+use Rattle.leg_compare.proofs.Codes.{told_in, same_if, words_told, vias_told, places_told, statuses_told, ports_told, wires_told, terminals_told, masters_told, names_told}
 
 -- Lists of named elements of which none is missing in the other, and none has changed, are the same by name.
 module _ {X : Type 0} (name_of : X → List ℕ) (Differs : Change → X → X → Type 0) (Same : X → X → Type 0) (Good : X → Type 0) (xs ys : List X)
@@ -93,10 +93,10 @@ one_status status.Unplaced status.Cover place p q m n = absurd n
 one_status status.Placed status.Fixed place p q m n = absurd n
 one_status status.Placed status.Cover place p q m n = absurd n
 
-module _ (first second : DesignContents) (library : first.library ≡ second.library) (proper : IsWellFormed first) (proper_second : IsWellFormed second)
+module _ (first second : DesignModel) (library : first.library ≡ second.library) (proper : IsWellFormed first) (proper_second : IsWellFormed second)
     (none : (d : Difference) → ¬ IsDifference first second d) where
   -- entries of one name that differ in nothing
-  vias_same : (x y : ViaSaid) → Unit {0} → Unit {0} → x.name ≡ y.name → ((change : Change) → ¬ DiffersAsVia change x y) → x ≡ y
+  vias_same : (x y : ViaModel) → Unit {0} → Unit {0} → x.name ≡ y.name → ((change : Change) → ¬ DiffersAsVia change x y) → x ≡ y
   vias_same x y _ _ name never = same_if (vias_told first x y) (never Shapes)
 
   statuses_same : (x y : Component) → IsPlaced x.status x.place → IsPlaced y.status y.place → x.place ≡ y.place → ¬ DiffersAsComponent OtherStatus x y → x.status ≡ y.status
@@ -111,7 +111,7 @@ module _ (first second : DesignContents) (library : first.library ≡ second.lib
       let status = statuses_same x y p.placed q.placed place (never OtherStatus) in
       λ i. record { name = name i; master = master i; status = status i; place = place i }
 
-  pins_same : (x y : PinSaid) → Unit {0} → Unit {0} → x.name ≡ y.name → ((change : Change) → ¬ DiffersAsPin change x y) → x ≡ y
+  pins_same : (x y : PinModel) → Unit {0} → Unit {0} → x.name ≡ y.name → ((change : Change) → ¬ DiffersAsPin change x y) → x ≡ y
   pins_same x y _ _ name never =
       let net = same_if (words_told first x.net_name y.net_name) (never NetName) in
       let direction = same_if (words_told first x.direction y.direction) (never Direction) in
@@ -119,7 +119,7 @@ module _ (first second : DesignContents) (library : first.library ≡ second.lib
       let ports = same_if (ports_told first x x.ports y.ports) (never Ports) in
       λ i. record { name = name i; net_name = net i; direction = direction i; usage = usage i; ports = ports i }
 
-  nets_same : (x y : NetSaid) → Unit {0} → Unit {0} → x.name ≡ y.name → ((change : Change) → ¬ DiffersAsNet first second change x y) → IsSameNet first second x y
+  nets_same : (x y : NetModel) → Unit {0} → Unit {0} → x.name ≡ y.name → ((change : Change) → ¬ DiffersAsNet first second change x y) → IsSameNet first second x y
   nets_same x y _ _ name never = record {
     usage = same_if (words_told first x.usage y.usage) (never Usage);
     terminals = same_if (terminals_told (spelled_terminals first x.terminals) (spelled_terminals second y.terminals)) (never Terminals);
@@ -142,29 +142,29 @@ module _ (first second : DesignContents) (library : first.library ≡ second.lib
     name = same_if (names_told first.name second.name) (none (Whole Name));
     divider = same_if (words_told first first.divider second.divider) (none (Whole Divider));
     bus = same_if (words_told first first.bus second.bus) (none (Whole BusBits));
-    die = same_if (told_in (λ x. record first { die = x }) (λ (e : DesignContents). e.die) (λ x. refl) first.die second.die) (none (Whole Die));
-    rows = same_if (told_in (λ x. record first { rows = x }) (λ (e : DesignContents). e.rows) (λ x. refl) first.rows second.rows) (none (Whole Rows));
-    tracks = same_if (told_in (λ x. record first { tracks = x }) (λ (e : DesignContents). e.tracks) (λ x. refl) first.tracks second.tracks) (none (Whole Tracks));
-    blockages = same_if (told_in (λ x. record first { blockages = x }) (λ (e : DesignContents). e.blockages) (λ x. refl) first.blockages second.blockages) (none (Whole Blockages));
+    die = same_if (told_in (λ x. record first { die = x }) (λ (e : DesignModel). e.die) (λ x. refl) first.die second.die) (none (Whole Die));
+    rows = same_if (told_in (λ x. record first { rows = x }) (λ (e : DesignModel). e.rows) (λ x. refl) first.rows second.rows) (none (Whole Rows));
+    tracks = same_if (told_in (λ x. record first { tracks = x }) (λ (e : DesignModel). e.tracks) (λ x. refl) first.tracks second.tracks) (none (Whole Tracks));
+    blockages = same_if (told_in (λ x. record first { blockages = x }) (λ (e : DesignModel). e.blockages) (λ x. refl) first.blockages second.blockages) (none (Whole Blockages));
     vias =
-        same_by_name (λ (v : ViaSaid). v.name) DiffersAsVia (λ a b. a ≡ b) (λ v. Unit {0}) first.vias second.vias (any first.vias) (any second.vias) (names_apart second proper_second Vias)
+        same_by_name (λ (v : ViaModel). v.name) DiffersAsVia (λ a b. a ≡ b) (λ v. Unit {0}) first.vias second.vias (any first.vias) (any second.vias) (names_apart second proper_second Vias)
         (none_gone Vias) (none_added Vias) (λ change i j within found differ. none (Changed Vias change i) (record { j = j; one_name = record { there = within; found = found }; changed = differ })) vias_same;
     components =
         same_by_name (λ (c : Component). c.name) DiffersAsComponent (λ a b. a ≡ b) (IsComponent first.library) first.components second.components proper.components.each
-        (subst (λ (l : Contents). All (IsComponent l) second.components) (sym library) proper_second.components.each) (names_apart second proper_second Components)
+        (subst (λ (l : LibraryModel). All (IsComponent l) second.components) (sym library) proper_second.components.each) (names_apart second proper_second Components)
         (none_gone Components) (none_added Components) (λ change i j within found differ. none (Changed Components change i) (record { j = j; one_name = record { there = within; found = found }; changed = differ })) components_same;
     pins =
-        same_by_name (λ (p : PinSaid). p.name) DiffersAsPin (λ a b. a ≡ b) (λ p. Unit {0}) first.pins second.pins (any first.pins) (any second.pins) (names_apart second proper_second Pins)
+        same_by_name (λ (p : PinModel). p.name) DiffersAsPin (λ a b. a ≡ b) (λ p. Unit {0}) first.pins second.pins (any first.pins) (any second.pins) (names_apart second proper_second Pins)
         (none_gone Pins) (none_added Pins) (λ change i j within found differ. none (Changed Pins change i) (record { j = j; one_name = record { there = within; found = found }; changed = differ })) pins_same;
     special =
-        same_by_name (λ (n : NetSaid). n.name) (DiffersAsNet first second) (IsSameNet first second) (λ n. Unit {0}) first.special second.special (any first.special) (any second.special) (names_apart second proper_second SpecialNets)
+        same_by_name (λ (n : NetModel). n.name) (DiffersAsNet first second) (IsSameNet first second) (λ n. Unit {0}) first.special second.special (any first.special) (any second.special) (names_apart second proper_second SpecialNets)
         (none_gone SpecialNets) (none_added SpecialNets) (λ change i j within found differ. none (Changed SpecialNets change i) (record { j = j; one_name = record { there = within; found = found }; changed = differ })) nets_same;
     nets =
-        same_by_name (λ (n : NetSaid). n.name) (DiffersAsNet first second) (IsSameNet first second) (λ n. Unit {0}) first.nets second.nets (any first.nets) (any second.nets) (names_apart second proper_second Nets)
+        same_by_name (λ (n : NetModel). n.name) (DiffersAsNet first second) (IsSameNet first second) (λ n. Unit {0}) first.nets second.nets (any first.nets) (any second.nets) (names_apart second proper_second Nets)
         (none_gone Nets) (none_added Nets) (λ change i j within found differ. none (Changed Nets change i) (record { j = j; one_name = record { there = within; found = found }; changed = differ })) nets_same;
   }
 
 -- designs of one library between which there is no difference are the same but for the order of named entries
-pub same_without_difference : (first second : DesignContents) → first.library ≡ second.library → IsWellFormed first → IsWellFormed second
+pub same_without_difference : (first second : DesignModel) → first.library ≡ second.library → IsWellFormed first → IsWellFormed second
     → ((d : Difference) → ¬ IsDifference first second d) → IsSameDesign first second
 same_without_difference first second library proper proper_second none = all_same first second library proper proper_second none

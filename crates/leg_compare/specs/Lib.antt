@@ -1,7 +1,2 @@
-pub mod Sections
-pub mod Spelling
-pub mod Differences
-pub mod Order
 pub mod Same
-pub mod Verdicts
 pub mod Steps

@@ -1,2 +1,2 @@
 -- What the calls that make the list of differences have of it in between.
-pub mod Listed
+pub mod Listing

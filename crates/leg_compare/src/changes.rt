@@ -1,16 +1,16 @@
 //! What differs between two entries of one name.
 
 ghost use Rattle.std.specs.Prelude.{◌≡◌, ◌↔◌, ◌<◌, length, IsTrue};
-ghost use Rattle.leg_block.specs.Movable.{MayMove};
-ghost use Rattle.leg_compare.specs.Sections.{names_of};
-ghost use Rattle.leg_compare.specs.Differences.{DiffersAsVia, IsOtherStatus, DiffersAsComponent, DiffersAsPin, DiffersAsNet, HasChanged};
+ghost use Rattle.leg_design_records.specs.Movable.{MayMove};
+ghost use Rattle.leg_rules.specs.Compare.Sections.{names_of};
+ghost use Rattle.leg_rules.specs.Compare.Differences.{DiffersAsVia, IsOtherStatus, DiffersAsComponent, DiffersAsPin, DiffersAsNet, HasChanged};
 
-use crate::difference::{Change, Section};
 use crate::equal::{are_same_shapes, is_same_name, is_same_place};
 use crate::lists::are_same_ports;
 use crate::spelling::{are_same_terminals, go_on, grow};
-use leg_block::{Component, Design, Net, Pin, Status};
-use leg_cells::Via;
+use leg_design_records::{Component, Design, Net, Pin, Status};
+use leg_lib_records::Via;
+use leg_rules::{Change, Section};
 use std::alloc::Allocator;
 
 /// Whether the vias are the same.

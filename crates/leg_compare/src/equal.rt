@@ -2,9 +2,9 @@
 
 ghost use Rattle.std.specs.Prelude.{◌≡◌, ◌↔◌, IsTrue, option_map};
 
-use leg_cells::{Items, Shape};
 use leg_geom::{Orient, Place, Rect};
 use leg_lex::Name;
+use leg_lib_records::{Items, Shape};
 use std::alloc::Allocator;
 
 /// Whether both are the same word, or there is none.

@@ -2,7 +2,6 @@
 #![tactic(auto)]
 
 mod changes;
-mod difference;
 mod equal;
 pub mod laws;
 mod listing;
@@ -12,7 +11,7 @@ mod section;
 mod spelling;
 mod verdict;
 
-pub use difference::{Change, Difference, Part, Section, Verdict};
+pub use leg_rules::{Change, Difference, Part, Section, Verdict};
 pub use listing::differences;
 pub use section::entry_name;
 pub use verdict::verdict_of;

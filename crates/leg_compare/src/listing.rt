@@ -1,17 +1,17 @@
 //! The list of all differences.
 
 ghost use Rattle.std.specs.Prelude.{◌≡◌, ◌↔◌, ◌<◌, ◌+◌, suc, [], length, get_or, IsTrue, IfOk, OnOk};
-ghost use Rattle.leg_compare.specs.Sections.{names_of, AreOfOneName};
-ghost use Rattle.leg_compare.specs.Differences.{IsDifference};
-ghost use Rattle.leg_compare.specs.Order.{Rank, part_number, section_number, change_number, AreAllDifferences};
-ghost use Rattle.leg_compare.specs.Steps.Listed.{AreListedTo, at};
+ghost use Rattle.leg_rules.specs.Compare.Sections.{names_of, AreOfOneName};
+ghost use Rattle.leg_rules.specs.Compare.Differences.{IsDifference};
+ghost use Rattle.leg_rules.specs.Compare.Order.{Rank, part_number, section_number, change_number, AreAllDifferences};
+ghost use Rattle.leg_compare.specs.Steps.Listing.{AreListedTo, at};
 
 use crate::changes::has_changed;
-use crate::difference::{Change, Difference, Part, Section};
 use crate::parts::differ_in;
 use crate::section::{count_of, name_at, names_of};
-use leg_block::Design;
+use leg_design_records::Design;
 use leg_lex::Names;
+use leg_rules::{Change, Difference, Part, Section};
 use std::alloc::{AllocError, Allocator};
 
 /// All differences between the designs, each once, in order. The designs are of one library. It fails only when out of memory.

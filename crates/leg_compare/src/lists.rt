@@ -1,10 +1,10 @@
 //! Lists of two designs whose elements have no names, compared in their order.
 
 ghost use Rattle.std.specs.Prelude.{◌≡◌, ◌↔◌, map, IsTrue};
-ghost use Rattle.leg_block.specs.Records.{blockage_said};
+ghost use Rattle.leg_design_records.specs.Records.{blockage_said};
 
 use crate::equal::{are_same_rects, are_same_shapes, is_same_orient, is_same_place};
-use leg_block::{Blockage, Port, Row, Track};
+use leg_design_records::{Blockage, Port, Row, Track};
 use std::alloc::Allocator;
 
 /// Whether the rows are the same.

@@ -1,12 +1,12 @@
 //! What a design has once.
 
 ghost use Rattle.std.specs.Prelude.{◌≡◌, ◌↔◌, IsTrue};
-ghost use Rattle.leg_compare.specs.Differences.{DiffersInPart};
+ghost use Rattle.leg_rules.specs.Compare.Differences.{DiffersInPart};
 
-use crate::difference::Part;
 use crate::equal::is_same_word;
 use crate::lists::{are_same_blockages, are_same_rows, are_same_tracks};
-use leg_block::Design;
+use leg_design_records::Design;
+use leg_rules::Part;
 use std::alloc::Allocator;
 
 /// Whether the designs differ in this part.

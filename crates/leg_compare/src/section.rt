@@ -2,11 +2,11 @@
 
 ghost use Rattle.std.specs.Prelude.{◌≡◌, ◌<◌, [], length, get_or, IfOk};
 ghost use Rattle.leg_lex.specs.NameLookup.{AreApart};
-ghost use Rattle.leg_compare.specs.Sections.{names_of};
+ghost use Rattle.leg_rules.specs.Compare.Sections.{names_of};
 
-use crate::difference::Section;
-use leg_block::Design;
+use leg_design_records::Design;
 use leg_lex::Names;
+use leg_rules::Section;
 use std::alloc::{AllocError, Allocator};
 
 /// How many entries the section has. No two have one name.

@@ -1,11 +1,12 @@
 //! Terminals and wires of two designs, compared by the names of the entries that they speak of.
 
 ghost use Rattle.std.specs.Prelude.{◌≡◌, ◌↔◌, IsTrue, slice_get};
-ghost use Rattle.leg_compare.specs.Differences.{GoesOn, Grows};
-ghost use Rattle.leg_compare.specs.Spelling.SpelledWire.{via};
-ghost use Rattle.leg_compare.specs.Spelling.{via_name, pin_name_in, component_name, design_pin_name, spelled_terminal, spelled_terminals, spelled_wire, spelled_wires};
+ghost use Rattle.leg_rules.specs.Compare.Differences.{GoesOn, NetGrows};
+ghost use Rattle.leg_rules.specs.Compare.Spelling.SpelledWire.{via};
+ghost use Rattle.leg_rules.specs.Compare.Spelling.{pin_name_in, spelled_terminal, spelled_terminals, spelled_wire, spelled_wires};
+ghost use Rattle.leg_rules.specs.Names.{via_name, component_name, design_pin_name};
 
-use leg_block::{Design, Terminal, Wire};
+use leg_design_records::{Design, Terminal, Wire};
 use leg_geom::Point;
 use std::alloc::Allocator;
 
@@ -189,7 +190,7 @@ pub(crate) fn grow<A: Allocator + Copy>(
     a: &[Wire],
     b: &[Wire],
 ) -> bool
-    ensures { IsTrue result ↔ Grows (spelled_wires first.now a.now) (spelled_wires second.now b.now) }
+    ensures { IsTrue result ↔ NetGrows (spelled_wires first.now a.now) (spelled_wires second.now b.now) }
 {
     a.len() < b.len() && go_on(first, second, a, b)
 }

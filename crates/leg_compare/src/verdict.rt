@@ -1,10 +1,10 @@
 //! What all differences of two designs are together.
 
 ghost use Rattle.std.specs.Prelude.{◌↔◌, IsTrue};
-ghost use Rattle.leg_compare.specs.Verdicts.{IsMove, IsGrowth, IsVerdict};
+ghost use Rattle.leg_rules.specs.Compare.Verdicts.{IsMove, IsGrowth, IsVerdict};
 
-use crate::difference::{Change, Difference, Section, Verdict};
-use leg_block::Design;
+use leg_design_records::Design;
+use leg_rules::{Change, Difference, Section, Verdict};
 use std::alloc::Allocator;
 
 /// Whether a movable component has another place.

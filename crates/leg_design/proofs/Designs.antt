@@ -1,14 +1,14 @@
 -- The design that the forms of a text make, once the lone pins are added.
 use Rattle.std.proofs.Common.{◌≡◌, ℕ, ◌+◌, ◌≤◌, arith, nat_lt, ◌&&◌, Bool, true, false, Some, None, refl, sym, subst}
 use Rattle.std.proofs.lemmas.Bool.Decides.{nat_tests}
-use Rattle.leg_block.specs.declared.limits.TheConstants.{PART_LIMIT}
-use Rattle.leg_block.specs.Records.{DesignContents, terminal_count}
-use Rattle.leg_nets.proofs.LonePins.{no_fewer}
-use Rattle.leg_design.specs.Parts.{DesignParts}
-use Rattle.leg_design.specs.Form.{all_nets, with_all_nets, design_of}
+use Rattle.leg_design_records.specs.declared.limits.TheConstants.{PART_LIMIT}
+use Rattle.leg_design_records.specs.Records.{DesignModel, terminal_count}
+use Rattle.leg_design_nets.proofs.LonePins.{no_fewer}
+use Rattle.leg_grammar.specs.Def.Parts.{DesignParts}
+use Rattle.leg_grammar.specs.Def.Form.{all_nets, with_all_nets, design_of}
 
 -- the terminals of all nets, with the lone pins too
-abbrev pub all_terminals : DesignContents → ℕ
+abbrev pub all_terminals : DesignModel → ℕ
 all_terminals design = terminal_count (all_nets design).nets + terminal_count (all_nets design).special
 
 -- DESIGN, UNITS and DIEAREA have appeared

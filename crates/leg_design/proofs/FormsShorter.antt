@@ -4,28 +4,28 @@ use Rattle.leg_lex.specs.Words.{Words, is_at, keyword_at, end_at}
 use Rattle.leg_lex.proofs.Until.{Below, Shortens, below_none, below_some, below_bind, below_ask, below_if, below_more}
 use Rattle.leg_lex.proofs.Shorter.{keyword_below, end_below}
 use Rattle.leg_lex.proofs.Statements.{statement_below}
-use Rattle.leg_lex.proofs.Passed.{past_below}
-use Rattle.leg_section.specs.Guard.{when, unless}
-use Rattle.leg_section.specs.Namespace.{KnownSaid}
-use Rattle.leg_block.specs.Records.{NetSaid}
-use Rattle.leg_nets.specs.Net.{net_entry, section_word, nets_at}
-use Rattle.leg_design.specs.Parts.{DesignParts, known, divider_form, bus_form, name_form, units_form, die_form, row_form, track_form, vias_form, components_form, pins_form, blockages_form, nets_form, special_form}
-use Rattle.leg_design.specs.Skipped.{is_past_statement, is_past_section, past_def_section, past_def_extension, past_def_form}
-use Rattle.leg_design.specs.Form.{header_form, def_form_at}
-use Rattle.leg_section.proofs.Sections.{section_below}
+use Rattle.leg_lex.proofs.ReadPast.{past_below}
+use Rattle.leg_grammar.specs.Def.Guard.{when, unless}
+use Rattle.leg_grammar.specs.Def.Namespace.{KnownModel}
+use Rattle.leg_design_records.specs.Records.{NetModel}
+use Rattle.leg_grammar.specs.Def.Net.{net_entry, section_word, nets_at}
+use Rattle.leg_grammar.specs.Def.Parts.{DesignParts, known, divider_form, bus_form, name_form, units_form, die_form, row_form, track_form, vias_form, components_form, pins_form, blockages_form, nets_form, special_form}
+use Rattle.leg_grammar.specs.Def.Skipped.{is_past_statement, is_past_section, past_def_section, past_def_extension, past_def_form}
+use Rattle.leg_grammar.specs.Def.Form.{header_form, def_form_at}
+use Rattle.leg_design_common.proofs.Sections.{section_below}
 use Rattle.leg_design.proofs.Headers.{word_after_below, design_name_below, units_below}
-use Rattle.leg_floorplan.proofs.Dies.{die_below}
-use Rattle.leg_floorplan.proofs.Rows.{row_below}
-use Rattle.leg_floorplan.proofs.Tracks.{track_below}
-use Rattle.leg_floorplan.proofs.Vias.{vias_below}
-use Rattle.leg_floorplan.proofs.Components.{components_below}
-use Rattle.leg_floorplan.proofs.Pins.{pins_below}
-use Rattle.leg_floorplan.proofs.Blockages.{blockages_below}
-use Rattle.leg_nets.proofs.NetEntries.{net_entry_shortens}
+use Rattle.leg_design_floorplan.proofs.Dies.{die_below}
+use Rattle.leg_design_floorplan.proofs.Rows.{row_below}
+use Rattle.leg_design_floorplan.proofs.Tracks.{track_below}
+use Rattle.leg_design_floorplan.proofs.Vias.{vias_below}
+use Rattle.leg_design_floorplan.proofs.Components.{components_below}
+use Rattle.leg_design_floorplan.proofs.Pins.{pins_below}
+use Rattle.leg_design_floorplan.proofs.Blockages.{blockages_below}
+use Rattle.leg_design_nets.proofs.NetEntries.{net_entry_shortens}
 
 -- the entries of nets
 
-nets_below : (known : KnownSaid) (special : Bool) (others : List NetSaid) (words : Words) → Below (length words) (nets_at known special others words)
+nets_below : (known : KnownModel) (special : Bool) (others : List NetModel) (words : Words) → Below (length words) (nets_at known special others words)
 unfolding nets_at
 nets_below known special others words =
     section_below (section_word special) (net_entry known special others) (net_entry_shortens known special others) [] words

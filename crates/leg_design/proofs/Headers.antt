@@ -4,7 +4,7 @@ use Rattle.leg_lex.specs.declared.limits.TheConstants.{UNITS_LIMIT}
 use Rattle.leg_lex.specs.Words.{Words}
 use Rattle.leg_lex.proofs.Shorter.{keyword_below, mark_below, name_below, word_below, whole_below}
 use Rattle.leg_lex.proofs.Until.{Below, below_none, below_some, below_bind, below_if, below_more}
-use Rattle.leg_design.specs.Header.{word_after, design_name_at, microns_at, units_after, units_at}
+use Rattle.leg_grammar.specs.Def.Header.{word_after, design_name_at, microns_at, units_after, units_at}
 
 pub word_after_below : (keyword : List ℕ) (words : Words) → Below (length words) (word_after keyword words)
 unfolding word_after

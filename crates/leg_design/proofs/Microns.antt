@@ -1,8 +1,8 @@
 -- Whether UNITS DISTANCE MICRONS stand in a row.
 use Rattle.std.proofs.Common.{◌≡◌, false, List, ℕ, Option, None, Some, is_some, codes, refl, ◌∙◌}
 use Rattle.leg_lex.specs.Words.{Words, is_at, keyword_at}
-use Rattle.leg_lex.proofs.Passed.{keyword_is_there}
-use Rattle.leg_design.specs.Header.{microns_at}
+use Rattle.leg_lex.proofs.ReadPast.{keyword_is_there}
+use Rattle.leg_grammar.specs.Def.Header.{microns_at}
 
 none_is : {X : Type 0} (o : Option X) → is_some o ≡ false → o ≡ None
 none_is None none = refl

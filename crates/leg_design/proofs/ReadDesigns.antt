@@ -6,19 +6,19 @@ use Rattle.std.proofs.lemmas.Option.{slice_get_within}
 use Rattle.leg_lex.specs.Words.{Words, end_at, nothing_at}
 use Rattle.leg_lex.specs.Until.{until}
 use Rattle.leg_lex.specs.Statements.{at_end}
-use Rattle.leg_cells.specs.Records.{Contents}
-use Rattle.leg_block.specs.declared.limits.TheConstants.{PART_LIMIT}
-use Rattle.leg_block.specs.declared.records.Terminal.{Terminal}
-use Rattle.leg_block.specs.declared.records.Terminal.TheVariants.{Comp, Pin}
-use Rattle.leg_block.specs.Records.{NetSaid, DesignContents}
-use Rattle.leg_design.specs.Parts.{DesignParts, no_parts, known}
-use Rattle.leg_design.specs.Form.{def_form_at, all_nets, with_all_nets, design_of, design_in}
-use Rattle.leg_block.specs.WellFormedNets.{IsTerminal, IsNet, HasNets}
-use Rattle.leg_block.specs.WellFormed.{IsWellFormed}
-use Rattle.leg_section.proofs.Gives.{Gives, gives_some, gives_bind, gives_skip, when_gives, unless_gives, until_gives}
-use Rattle.leg_nets.proofs.ReadTerminals.{IsKnownTerminal}
-use Rattle.leg_nets.proofs.ReadNets.{IsKnownNet}
-use Rattle.leg_nets.proofs.LonePinsListed.{lone_pins_listed}
+use Rattle.leg_lib_records.specs.Records.{LibraryModel}
+use Rattle.leg_design_records.specs.declared.limits.TheConstants.{PART_LIMIT}
+use Rattle.leg_design_records.specs.declared.records.Terminal.{Terminal}
+use Rattle.leg_design_records.specs.declared.records.Terminal.TheVariants.{Comp, Pin}
+use Rattle.leg_design_records.specs.Records.{NetModel, DesignModel}
+use Rattle.leg_grammar.specs.Def.Parts.{DesignParts, no_parts, known}
+use Rattle.leg_grammar.specs.Def.Form.{def_form_at, all_nets, with_all_nets, design_of, design_in}
+use Rattle.leg_design_records.specs.WellFormedNets.{IsTerminal, IsNet, HasNets}
+use Rattle.leg_design_records.specs.WellFormed.{IsWellFormed}
+use Rattle.leg_design_common.proofs.Gives.{Gives, gives_some, gives_bind, gives_skip, when_gives, unless_gives, until_gives}
+use Rattle.leg_design_nets.proofs.ReadTerminals.{IsKnownTerminal}
+use Rattle.leg_design_nets.proofs.ReadNets.{IsKnownNet}
+use Rattle.leg_design_nets.proofs.LonePinsListed.{lone_pins_listed}
 use Rattle.leg_design.proofs.Designs.{all_terminals}
 use Rattle.leg_design.proofs.ReadForms.{HasSoundParts, form_keeps, no_parts_sound}
 use Rattle.leg_design.proofs.ReadNetForms.{HasNetParts, lists_of, net_form_keeps, no_net_parts}
@@ -34,7 +34,7 @@ first_and_last true false c all = absurd (let e : ⊥ = cc in e)
 first_and_last false b c all = absurd (let e : ⊥ = cc in e)
 
 module _ (parts : DesignParts) where
-  said : DesignContents
+  said : DesignModel
   said = with_all_nets parts.design
 
   terminal_is : (t : Terminal) → IsKnownTerminal (known parts.design) t → IsTerminal said t
@@ -42,7 +42,7 @@ module _ (parts : DesignParts) where
   terminal_is (Comp c k) is = is
   terminal_is (Pin p) is = is
 
-  net_is : (special : Bool) (net : NetSaid) → IsKnownNet (known parts.design) special net → IsNet said special net
+  net_is : (special : Bool) (net : NetModel) → IsKnownNet (known parts.design) special net → IsNet said special net
   unfolding said
   net_is special net is = record {
     name = is.name;
@@ -73,11 +73,11 @@ module _ (parts : DesignParts) where
   all_nets_are sound few = nets_are sound few
 
 -- both hold of what the forms say
-record AreRead (library : Contents) (parts : DesignParts) : Type 0 where
+record AreRead (library : LibraryModel) (parts : DesignParts) : Type 0 where
   sound : HasSoundParts library parts
   nets : HasNetParts parts
 
-form_is_read : (library : Contents) (parts : DesignParts) (words : Words) → AreRead library parts → Gives (λ said. AreRead library said.0) (def_form_at parts words)
+form_is_read : (library : LibraryModel) (parts : DesignParts) (words : Words) → AreRead library parts → Gives (λ said. AreRead library said.0) (def_form_at parts words)
 form_is_read library parts words before = record {
   given = λ next is. record {
     sound = (form_keeps library parts words before.sound).given next is;
@@ -86,10 +86,10 @@ form_is_read library parts words before = record {
 }
 
 -- a well-formed design under this library
-abbrev IsRead : Contents → DesignContents → Type 0
+abbrev IsRead : LibraryModel → DesignModel → Type 0
 IsRead library design = IsWellFormed design × (design.library ≡ library)
 
-design_gives : (library : Contents) (parts : DesignParts) → AreRead library parts → Gives (IsRead library) (design_of parts)
+design_gives : (library : LibraryModel) (parts : DesignParts) → AreRead library parts → Gives (IsRead library) (design_of parts)
 unfolding design_of
 design_gives library parts are =
     let header = are.sound.header in
@@ -114,11 +114,11 @@ design_gives library parts are =
       are.sound.same,
     )))
 
-forms_give : (library : Contents) (words : Words) → Gives (λ forms. AreRead library forms.0) (until at_end def_form_at (no_parts library) words)
+forms_give : (library : LibraryModel) (words : Words) → Gives (λ forms. AreRead library forms.0) (until at_end def_form_at (no_parts library) words)
 forms_give library words =
     until_gives (AreRead library) at_end def_form_at (form_is_read library) (no_parts library) words (record { sound = no_parts_sound library; nets = no_net_parts library })
 
-text_gives : (library : Contents) (words : Words) → Gives (IsRead library) (design_in library words)
+text_gives : (library : LibraryModel) (words : Words) → Gives (IsRead library) (design_in library words)
 unfolding design_in
 text_gives library words =
     gives_bind (forms_give library words) (λ forms are.
@@ -127,9 +127,9 @@ text_gives library words =
     design_gives library forms.0 are)))
 
 -- A design that a DEF says under a library is well-formed.
-pub reads_well_formed : (library : Contents) (words : Words) (design : DesignContents) → design_in library words ≡ Some design → IsWellFormed design
+pub reads_well_formed : (library : LibraryModel) (words : Words) (design : DesignModel) → design_in library words ≡ Some design → IsWellFormed design
 reads_well_formed library words design is = ((text_gives library words).given design is).0
 
 -- A design that a DEF says under a library has this library.
-pub design_has_library : (library : Contents) (words : Words) → Gives (λ design. design.library ≡ library) (design_in library words)
+pub design_has_library : (library : LibraryModel) (words : Words) → Gives (λ design. design.library ≡ library) (design_in library words)
 design_has_library library words = record { given = λ design is. ((text_gives library words).given design is).1 }

@@ -2,30 +2,30 @@
 use Rattle.std.proofs.Common.{◌≡◌, ℕ, Bool, true, false, ◌==◌, List, All, Option, is_some, refl, codes}
 use Rattle.std.proofs.lemmas.List.Elements.{All-push, All-nil}
 use Rattle.leg_lex.specs.Words.{Words, is_at, is_name, is_word, keyword_at, mark_at}
-use Rattle.leg_geom.specs.Plane.{Sides}
-use Rattle.leg_cells.specs.Records.{Contents, ViaSaid}
-use Rattle.leg_block.specs.declared.records.Component.{Component}
-use Rattle.leg_block.specs.declared.records.Row.{Row}
-use Rattle.leg_section.specs.Guard.{when, unless}
-use Rattle.leg_design.specs.Header.{word_after, design_name_at, units_at}
-use Rattle.leg_nets.specs.Net.{nets_at}
-use Rattle.leg_block.specs.Records.{TrackSaid, PinSaid, BlockageSaid}
-use Rattle.leg_design.specs.Parts.{DesignParts, no_parts, known, divider_form, bus_form, name_form, units_form, die_form, row_form, track_form, vias_form, components_form, pins_form, blockages_form, nets_form, special_form}
-use Rattle.leg_design.specs.Skipped.{past_def_form}
-use Rattle.leg_design.specs.Form.{header_form, def_form_at}
-use Rattle.leg_block.specs.WellFormedParts.{IsKept, IsArea, AreComponents, IsRow, IsTrack, AreVias, ArePins, AreBlockages}
-use Rattle.leg_section.proofs.Gives.{Gives, gives_some, gives_bind, gives_skip, gives_if, name_gives, word_gives}
-use Rattle.leg_floorplan.proofs.ReadDie.{die_gives}
-use Rattle.leg_floorplan.proofs.ReadComponents.{components_give, no_components}
-use Rattle.leg_floorplan.proofs.ReadRows.{row_gives}
-use Rattle.leg_floorplan.proofs.ReadTracks.{track_gives}
-use Rattle.leg_floorplan.proofs.ReadVias.{vias_give, no_vias}
-use Rattle.leg_floorplan.proofs.ReadPins.{pins_give, no_pins}
-use Rattle.leg_floorplan.proofs.ReadBlockages.{blockages_give, no_blockages}
+use Rattle.leg_geom.specs.Plane.{RectModel}
+use Rattle.leg_lib_records.specs.Records.{LibraryModel, ViaModel}
+use Rattle.leg_design_records.specs.declared.records.Component.{Component}
+use Rattle.leg_design_records.specs.declared.records.Row.{Row}
+use Rattle.leg_grammar.specs.Def.Guard.{when, unless}
+use Rattle.leg_grammar.specs.Def.Header.{word_after, design_name_at, units_at}
+use Rattle.leg_grammar.specs.Def.Net.{nets_at}
+use Rattle.leg_design_records.specs.Records.{TrackModel, PinModel, BlockageModel}
+use Rattle.leg_grammar.specs.Def.Parts.{DesignParts, no_parts, known, divider_form, bus_form, name_form, units_form, die_form, row_form, track_form, vias_form, components_form, pins_form, blockages_form, nets_form, special_form}
+use Rattle.leg_grammar.specs.Def.Skipped.{past_def_form}
+use Rattle.leg_grammar.specs.Def.Form.{header_form, def_form_at}
+use Rattle.leg_design_records.specs.WellFormedParts.{IsKept, IsArea, AreComponents, IsRow, IsTrack, AreVias, ArePins, AreBlockages}
+use Rattle.leg_design_common.proofs.Gives.{Gives, gives_some, gives_bind, gives_skip, gives_if, name_gives, word_gives}
+use Rattle.leg_design_floorplan.proofs.ReadDie.{die_gives}
+use Rattle.leg_design_floorplan.proofs.ReadComponents.{components_give, no_components}
+use Rattle.leg_design_floorplan.proofs.ReadRows.{row_gives}
+use Rattle.leg_design_floorplan.proofs.ReadTracks.{track_gives}
+use Rattle.leg_design_floorplan.proofs.ReadVias.{vias_give, no_vias}
+use Rattle.leg_design_floorplan.proofs.ReadPins.{pins_give, no_pins}
+use Rattle.leg_design_floorplan.proofs.ReadBlockages.{blockages_give, no_blockages}
 
 -- what the forms before the sections gave is well-formed
-pub record AreHeaderForms (library : Contents) (has_name has_die : Bool) (name : List ℕ) (divider bus : Option (List ℕ)) (die : Sides)
-    (rows : List Row) (tracks : List TrackSaid) : Type 0 where
+pub record AreHeaderForms (library : LibraryModel) (has_name has_die : Bool) (name : List ℕ) (divider bus : Option (List ℕ)) (die : RectModel)
+    (rows : List Row) (tracks : List TrackModel) : Type 0 where
   pub name_ : has_name ≡ true → is_name name ≡ true
   pub divider_ : IsKept divider
   pub bus_ : IsKept bus
@@ -34,15 +34,15 @@ pub record AreHeaderForms (library : Contents) (has_name has_die : Bool) (name :
   pub tracks_ : All (IsTrack library) tracks
 
 -- what the sections before those of nets gave is well-formed
-pub record AreSections (library : Contents) (vias : List ViaSaid) (components : List Component) (pins : List PinSaid)
-    (blockages : List BlockageSaid) : Type 0 where
+pub record AreSections (library : LibraryModel) (vias : List ViaModel) (components : List Component) (pins : List PinModel)
+    (blockages : List BlockageModel) : Type 0 where
   pub vias_ : AreVias library vias
   pub components_ : AreComponents library components
   pub pins_ : ArePins library pins
   pub blockages_ : AreBlockages library blockages
 
 -- what was read so far is well-formed, and under this library
-pub record HasSoundParts (library : Contents) (parts : DesignParts) : Type 0 where
+pub record HasSoundParts (library : LibraryModel) (parts : DesignParts) : Type 0 where
   pub same : parts.design.library ≡ library
   pub header : AreHeaderForms parts.design.library parts.has.name parts.has.die parts.design.name parts.design.divider parts.design.bus parts.design.die parts.design.rows parts.design.tracks
   pub sections : AreSections parts.design.library parts.design.vias parts.design.components parts.design.pins parts.design.blockages
@@ -63,7 +63,7 @@ design_name_gives words =
     gives_skip (mark_at 59 name.1) (λ end.
     gives_some _ named)))
 
-module _ (library : Contents) (parts : DesignParts) (words : Words) (sound : HasSoundParts library parts) where
+module _ (library : LibraryModel) (parts : DesignParts) (words : Words) (sound : HasSoundParts library parts) where
   -- where something is said, the parts are still sound
   abbrev Keeps : Option (DesignParts × Words) → Type 0
   Keeps said = Gives (λ (next : DesignParts × Words). HasSoundParts library next.0) said
@@ -266,7 +266,7 @@ module _ (library : Contents) (parts : DesignParts) (words : Words) (sound : Has
       (gives_if (is_at (codes "SPECIALNETS") words) special_keep
       (gives_if (is_at (codes "NETS") words) nets_keep header_keeps)))))
 
-pub no_parts_sound : (library : Contents) → HasSoundParts library (no_parts library)
+pub no_parts_sound : (library : LibraryModel) → HasSoundParts library (no_parts library)
 no_parts_sound library = record {
   same = refl;
   header = record {

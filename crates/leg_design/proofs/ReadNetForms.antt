@@ -3,34 +3,34 @@ use Rattle.std.proofs.Common.{◌≡◌, ◌≤◌, Bool, true, false, ◌==◌,
 use Rattle.std.proofs.lemmas.Bool.{true≢false}
 use Rattle.std.proofs.lemmas.List.Elements.{All-nil, Contains-append_left, Contains-append_right, Contains-append_cases}
 use Rattle.leg_lex.specs.Words.{Words, is_at}
-use Rattle.leg_cells.specs.Records.{Contents}
-use Rattle.leg_block.specs.declared.limits.TheConstants.{ENTRY_LIMIT, PART_LIMIT}
-use Rattle.leg_section.specs.Guard.{when, unless}
-use Rattle.leg_section.specs.Namespace.{KnownSaid}
-use Rattle.leg_design.specs.Header.{word_after, design_name_at, units_at}
-use Rattle.leg_floorplan.specs.Die.{die_at}
-use Rattle.leg_floorplan.specs.Row.{row_at}
-use Rattle.leg_floorplan.specs.Track.{track_at}
-use Rattle.leg_floorplan.specs.Via.{vias_at}
-use Rattle.leg_floorplan.specs.Component.{components_at}
-use Rattle.leg_floorplan.specs.Pin.{pins_at}
-use Rattle.leg_floorplan.specs.Blockage.{blockages_at}
-use Rattle.leg_nets.specs.LonePins.{NetLists}
-use Rattle.leg_block.specs.Records.{NetSaid, wire_count}
-use Rattle.leg_design.specs.Parts.{DesignParts, no_parts, known, divider_form, bus_form, name_form, units_form, die_form, row_form, track_form, vias_form, components_form, pins_form, blockages_form, nets_form, special_form}
-use Rattle.leg_design.specs.Skipped.{past_def_form}
-use Rattle.leg_design.specs.Form.{header_form, def_form_at}
-use Rattle.leg_block.specs.WellFormedNets.{AreInOneNet}
-use Rattle.leg_section.proofs.Gives.{Gives, gives_some, gives_bind, gives_skip, gives_if, unless_gives}
-use Rattle.leg_nets.proofs.ReadNets.{IsKnownNet, AreEntries, nets_give}
-use Rattle.leg_nets.proofs.ReadLonePins.{HasEntries}
-use Rattle.leg_nets.proofs.MoreKnown.{Grows, nets_grow, vias_grow, components_grow, pins_grow}
+use Rattle.leg_lib_records.specs.Records.{LibraryModel}
+use Rattle.leg_design_records.specs.declared.limits.TheConstants.{ENTRY_LIMIT, PART_LIMIT}
+use Rattle.leg_grammar.specs.Def.Guard.{when, unless}
+use Rattle.leg_grammar.specs.Def.Namespace.{KnownModel}
+use Rattle.leg_grammar.specs.Def.Header.{word_after, design_name_at, units_at}
+use Rattle.leg_grammar.specs.Def.Die.{die_at}
+use Rattle.leg_grammar.specs.Def.Row.{row_at}
+use Rattle.leg_grammar.specs.Def.Track.{track_at}
+use Rattle.leg_grammar.specs.Def.Via.{vias_at}
+use Rattle.leg_grammar.specs.Def.Component.{components_at}
+use Rattle.leg_grammar.specs.Def.Pin.{pins_at}
+use Rattle.leg_grammar.specs.Def.Blockage.{blockages_at}
+use Rattle.leg_grammar.specs.Def.LonePins.{NetLists}
+use Rattle.leg_design_records.specs.Records.{NetModel, wire_count}
+use Rattle.leg_grammar.specs.Def.Parts.{DesignParts, no_parts, known, divider_form, bus_form, name_form, units_form, die_form, row_form, track_form, vias_form, components_form, pins_form, blockages_form, nets_form, special_form}
+use Rattle.leg_grammar.specs.Def.Skipped.{past_def_form}
+use Rattle.leg_grammar.specs.Def.Form.{header_form, def_form_at}
+use Rattle.leg_design_records.specs.WellFormedNets.{AreInOneNet}
+use Rattle.leg_design_common.proofs.Gives.{Gives, gives_some, gives_bind, gives_skip, gives_if, unless_gives}
+use Rattle.leg_design_nets.proofs.ReadNets.{IsKnownNet, AreEntries, nets_give}
+use Rattle.leg_design_nets.proofs.ReadLonePins.{HasEntries}
+use Rattle.leg_design_nets.proofs.MoreKnown.{Grows, nets_grow, vias_grow, components_grow, pins_grow}
 
-abbrev pub lists_of : List NetSaid → List NetSaid → NetLists
+abbrev pub lists_of : List NetModel → List NetModel → NetLists
 lists_of nets special = record { nets = nets; special = special }
 
 -- The entries so far; what they may name is empty where it hasn't appeared yet.
-pub record HasNetsSoFar (before : KnownSaid) (vias components pins : Bool) (nets special : List NetSaid) : Type 0 where
+pub record HasNetsSoFar (before : KnownModel) (vias components pins : Bool) (nets special : List NetModel) : Type 0 where
   pub no_vias : vias ≡ false → before.vias ≡ []
   pub no_components : components ≡ false → before.components ≡ []
   pub no_pins : pins ≡ false → before.pins ≡ []
@@ -40,7 +40,7 @@ abbrev pub HasNetParts : DesignParts → Type 0
 HasNetParts parts =
     HasNetsSoFar (known parts.design) parts.has.vias parts.has.components parts.has.pins parts.design.nets parts.design.special
 
-entries_grow : (before next : KnownSaid) (lists : NetLists) → Grows before next → HasEntries before lists → HasEntries next lists
+entries_grow : (before next : KnownModel) (lists : NetLists) → Grows before next → HasEntries before lists → HasEntries next lists
 entries_grow before next lists grows entries = record {
   nets = nets_grow before next false lists.nets grows entries.nets;
   nets_apart = entries.nets_apart;
@@ -52,20 +52,20 @@ entries_grow before next lists grows entries = record {
 }
 
 -- the order of the two sections doesn't matter
-other_order : (nets special : List NetSaid) → AreInOneNet (nets ++ special) → AreInOneNet (special ++ nets)
+other_order : (nets special : List NetModel) → AreInOneNet (nets ++ special) → AreInOneNet (special ++ nets)
 other_order nets special before a b t in_a in_b = before a b t (moved a in_a) (moved b in_b) where
-  moved : (c : NetSaid) → Contains (special ++ nets) c → Contains (nets ++ special) c
+  moved : (c : NetModel) → Contains (special ++ nets) c → Contains (nets ++ special) c
   moved c there =
       ⊎_elim (λ here. Contains-append_right nets special c here) (λ other. Contains-append_left nets special c other)
       (Contains-append_cases special nets c there)
 
 -- the other section is all of them
-only_others : (nets others : List NetSaid) → AreInOneNet (nets ++ others) → AreInOneNet others
+only_others : (nets others : List NetModel) → AreInOneNet (nets ++ others) → AreInOneNet others
 only_others nets others before a b t in_a in_b =
     before a b t (Contains-append_right nets others a in_a) (Contains-append_right nets others b in_b)
 
 -- a section begins, beside the other's entries
-begins : (before : KnownSaid) (special : Bool) (others : List NetSaid) → AreInOneNet others → length others ≤ ENTRY_LIMIT → wire_count others ≤ PART_LIMIT → AreEntries before special others []
+begins : (before : KnownModel) (special : Bool) (others : List NetModel) → AreInOneNet others → length others ≤ ENTRY_LIMIT → wire_count others ≤ PART_LIMIT → AreEntries before special others []
 begins before special others one_net few few_wires = record {
   each = All-nil (IsKnownNet before special);
   apart = λ i less. absurd (omega arith);
@@ -227,7 +227,7 @@ module _ (parts : DesignParts) (words : Words) (sound : HasNetParts parts) where
       (gives_if (is_at (codes "SPECIALNETS") words) special_keep
       (gives_if (is_at (codes "NETS") words) nets_keep header_keeps)))))
 
-pub no_net_parts : (library : Contents) → HasNetParts (no_parts library)
+pub no_net_parts : (library : LibraryModel) → HasNetParts (no_parts library)
 no_net_parts library = record {
   no_vias = λ new. refl;
   no_components = λ new. refl;

@@ -2,8 +2,8 @@
 use Rattle.std.proofs.Common.{◌≡◌, ℕ, List, [], ◌∷◌, None, Some, refl, ap, ◌∙◌}
 use Rattle.leg_lex.specs.Words.{Words, next_at, end_at}
 use Rattle.leg_lex.specs.Past.{past}
-use Rattle.leg_lex.proofs.Said.{made_is, rest_is}
-use Rattle.leg_design.specs.Skipped.{past_def_section}
+use Rattle.leg_lex.proofs.Parts.{made_is, rest_is}
+use Rattle.leg_grammar.specs.Def.Skipped.{past_def_section}
 
 pub past_section_from : (words : Words) (keyword : List ℕ) (rest : Words) → next_at words ≡ Some (keyword, rest) → past_def_section words ≡ past (end_at keyword) rest
 unfolding past_def_section next_at

@@ -3,16 +3,16 @@
 ghost use Rattle.std.specs.Prelude.{ℕ, ◌≡◌, ◌≢◌, ◌<◌, ◌≤◌, length, IfOk, IfErr};
 ghost use Rattle.leg_lex.specs.declared.limits.TheConstants.{TEXT_LIMIT, UNITS_LIMIT};
 ghost use Rattle.leg_lex.specs.declared.read_fault.FaultKind.TheVariants.{Memory};
-ghost use Rattle.leg_lex.specs.Say.{Says, HasNoWords};
-ghost use Rattle.leg_block.specs.Records.{DesignContents};
-ghost use Rattle.leg_design.specs.Header.{units_in};
-ghost use Rattle.leg_design.specs.Form.{design_in};
+ghost use Rattle.leg_lex.specs.Denotes.{Denotes, HasNoWords};
+ghost use Rattle.leg_design_records.specs.Records.{DesignModel};
+ghost use Rattle.leg_grammar.specs.Def.Header.{units_in};
+ghost use Rattle.leg_grammar.specs.Def.Form.{design_in};
 
 use crate::form::design_words;
 use crate::header::units_anywhere;
-use leg_block::Design;
-use leg_cells::Library;
+use leg_design_records::Design;
 use leg_lex::{Cursor, ReadFault, Words, file_words};
+use leg_lib_records::Library;
 use std::alloc::Allocator;
 use std::marker::Model;
 
@@ -27,7 +27,7 @@ pub struct DefText<'a, A: Allocator> {
 
 impl<'a, A: Allocator> Model for DefText<'a, A> {
     ghost use Rattle.std.specs.Prelude.{ℕ, List};
-    ghost use Rattle.leg_lex.specs.Say.{HasWords};
+    ghost use Rattle.leg_lex.specs.Denotes.{HasWords};
 
     ghost Value = { List ℕ };
 
@@ -53,11 +53,11 @@ impl<'a, A: Allocator + Copy> DefText<'a, A> {
     /// The database units of a micron that the DEF denotes, from 1 to 20,000, at the first place where its `UNITS`
     /// appear.
     pub fn units(&self) -> Result<u32, ReadFault>
-        ensures found { IfOk result (λ n. Says units_in self.now n) }
+        ensures found { IfOk result (λ n. Denotes units_in self.now n) }
         ensures limits { IfOk result (λ n. (1 ≤ n) × (n ≤ UNITS_LIMIT)) }
         // The text denotes no other number.
-        ensures only { IfOk result (λ n. (said : ℕ) → Says units_in self.now said → said ≡ n) }
-        ensures none { IfErr result (λ fault. fault.kind ≢ Memory → (said : ℕ) → ¬ Says units_in self.now said) }
+        ensures only { IfOk result (λ n. (said : ℕ) → Denotes units_in self.now said → said ≡ n) }
+        ensures none { IfErr result (λ fault. fault.kind ≢ Memory → (said : ℕ) → ¬ Denotes units_in self.now said) }
         // It needs no memory.
         ensures no_memory { IfErr result (λ fault. fault.kind ≢ Memory) }
     {
@@ -66,12 +66,12 @@ impl<'a, A: Allocator + Copy> DefText<'a, A> {
 
     /// The design that the DEF denotes under a library. The words go with it, so that they take no memory any more.
     pub fn design(self, alloc: A, library: &'a Library<'a, A>) -> Result<Design<'a, A>, ReadFault>
-        ensures found { IfOk result (λ design. Says (design_in library.now) self.entry design) }
+        ensures found { IfOk result (λ design. Denotes (design_in library.now) self.entry design) }
         // The text denotes no other design.
-        ensures only { IfOk result (λ design. (said : DesignContents)
-            → Says (design_in library.now) self.entry said → said ≡ design) }
+        ensures only { IfOk result (λ design. (said : DesignModel)
+            → Denotes (design_in library.now) self.entry said → said ≡ design) }
         ensures none { IfErr result (λ fault. fault.kind ≢ Memory
-            → (said : DesignContents) → ¬ Says (design_in library.now) self.entry said) }
+            → (said : DesignModel) → ¬ Denotes (design_in library.now) self.entry said) }
     {
         design_words(alloc, library, &mut Cursor::new(0, &self.words))
     }

@@ -4,19 +4,19 @@ ghost use Rattle.std.specs.Prelude.{◌≡◌, IfOk, codes};
 ghost use Rattle.leg_lex.specs.Words.{Reads, Means};
 ghost use Rattle.leg_lex.specs.Until.{until};
 ghost use Rattle.leg_lex.specs.Statements.{at_end};
-ghost use Rattle.leg_block.specs.Records.{net_names};
-ghost use Rattle.leg_design.specs.Parts.{no_parts};
-ghost use Rattle.leg_design.specs.Form.{header_form, def_form_at, design_in};
+ghost use Rattle.leg_design_records.specs.Records.{net_names};
+ghost use Rattle.leg_grammar.specs.Def.Parts.{no_parts};
+ghost use Rattle.leg_grammar.specs.Def.Form.{header_form, def_form_at, design_in};
 
 use crate::parts::Parts;
 use crate::skipped::past_form;
-use leg_block::{Design, DesignFields};
-use leg_cells::Library;
+use leg_design_records::{Design, DesignFields};
 use leg_lex::{Cursor, Names, ReadFault};
+use leg_lib_records::Library;
 use std::alloc::Allocator;
 
 /// A form that comes before the sections.
-#[tactic(auto, unfolding(crate::specs::Form::header_form))]
+#[tactic(auto, unfolding(leg_grammar::specs::Def::Form::header_form))]
 fn header_form<'a, A: Allocator + Copy>(
     alloc: A,
     parts: &mut Parts<'a, A>,
@@ -44,7 +44,7 @@ fn header_form<'a, A: Allocator + Copy>(
 }
 
 /// One form.
-#[tactic(auto, unfolding(crate::specs::Form::def_form_at))]
+#[tactic(auto, unfolding(leg_grammar::specs::Def::Form::def_form_at))]
 fn form<'a, A: Allocator + Copy>(
     alloc: A,
     parts: &mut Parts<'a, A>,
@@ -86,7 +86,7 @@ fn forms<'a, A: Allocator + Copy>(
 }
 
 /// The fields of the design that the words of a DEF denote under a library, and the names of its entries of `SPECIALNETS`.
-#[tactic(auto, unfolding(crate::specs::Form::design_in))]
+#[tactic(auto, unfolding(leg_grammar::specs::Def::Form::design_in))]
 fn design_fields<'a, A: Allocator + Copy>(
     alloc: A,
     library: &'a Library<'a, A>,

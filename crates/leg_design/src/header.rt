@@ -5,12 +5,12 @@ ghost use Rattle.leg_lex.specs.declared.limits.TheConstants.{UNITS_LIMIT};
 ghost use Rattle.leg_lex.specs.declared.read_fault.FaultKind.TheVariants.{Memory};
 ghost use Rattle.leg_lex.specs.Words.{Reads, Means};
 ghost use Rattle.leg_lex.specs.Past.{past};
-ghost use Rattle.leg_design.specs.Header.{word_after, design_name_at, microns_at, units_after, units_at, units_in};
+ghost use Rattle.leg_grammar.specs.Def.Header.{word_after, design_name_at, microns_at, units_after, units_at, units_in};
 
 use leg_lex::{Cursor, FaultKind, Need, ReadFault, UNITS_LIMIT};
 
 /// The word after this keyword, and its `;`.
-#[tactic(auto, unfolding(crate::specs::Header::word_after))]
+#[tactic(auto, unfolding(leg_grammar::specs::Def::Header::word_after))]
 pub(crate) fn word_after<'a>(
     keyword: &[u8],
     words: &mut Cursor<'_, 'a>,
@@ -24,7 +24,7 @@ pub(crate) fn word_after<'a>(
 }
 
 /// The name of the design: `DESIGN NAME ;`.
-#[tactic(auto, unfolding(crate::specs::Header::design_name_at))]
+#[tactic(auto, unfolding(leg_grammar::specs::Def::Header::design_name_at))]
 pub(crate) fn design_name<'a>(words: &mut Cursor<'_, 'a>) -> Result<&'a [u8], ReadFault>
     ensures { Reads (λ name. name.now) result words.new (design_name_at words.old) }
 {
@@ -35,7 +35,7 @@ pub(crate) fn design_name<'a>(words: &mut Cursor<'_, 'a>) -> Result<&'a [u8], Re
 }
 
 /// `UNITS DISTANCE MICRONS`.
-#[tactic(auto, unfolding(crate::specs::Header::microns_at))]
+#[tactic(auto, unfolding(leg_grammar::specs::Def::Header::microns_at))]
 fn microns(words: &mut Cursor<'_, '_>) -> Result<(), ReadFault>
     ensures reads { Reads (λ x. x) result words.new (microns_at words.old) }
     ensures no_memory { IfErr result (λ fault. fault.kind ≢ Memory) }
@@ -46,7 +46,7 @@ fn microns(words: &mut Cursor<'_, '_>) -> Result<(), ReadFault>
 }
 
 /// A number of database units, from 1 to `UNITS_LIMIT`, and its `;`. Another number is `TooLarge`.
-#[tactic(auto, unfolding(crate::specs::Header::units_after))]
+#[tactic(auto, unfolding(leg_grammar::specs::Def::Header::units_after))]
 fn units_after(words: &mut Cursor<'_, '_>) -> Result<u32, ReadFault>
     ensures said { Reads (λ n. n) result words.new (units_after words.old) }
     ensures limits { IfOk result (λ n. (1 ≤ n) × (n ≤ UNITS_LIMIT)) }
@@ -62,7 +62,7 @@ fn units_after(words: &mut Cursor<'_, '_>) -> Result<u32, ReadFault>
 }
 
 /// The database units of a micron: `UNITS DISTANCE MICRONS n ;`.
-#[tactic(auto, unfolding(crate::specs::Header::units_at))]
+#[tactic(auto, unfolding(leg_grammar::specs::Def::Header::units_at))]
 pub(crate) fn units(words: &mut Cursor<'_, '_>) -> Result<u32, ReadFault>
     ensures { Reads (λ n. n) result words.new (units_at words.old) }
 {
@@ -89,7 +89,7 @@ fn is_at_microns(words: &Cursor<'_, '_>) -> Result<bool, ReadFault>
 }
 
 /// Reads past everything up to the first `UNITS DISTANCE MICRONS`, and these words.
-#[tactic(auto, using(leg_lex::proofs::Passed::past_here, leg_lex::proofs::Passed::past_later, leg_lex::proofs::Passed::past_nowhere, leg_lex::proofs::Passed::next_shorter))]
+#[tactic(auto, using(leg_lex::proofs::ReadPast::past_here, leg_lex::proofs::ReadPast::past_later, leg_lex::proofs::ReadPast::past_nowhere, leg_lex::proofs::ReadPast::next_shorter))]
 fn past_microns(words: &mut Cursor<'_, '_>) -> Result<(), ReadFault>
     ensures reads { Reads (λ x. x) result words.new (past microns_at words.old) }
     ensures no_memory { IfErr result (λ fault. fault.kind ≢ Memory) }
@@ -101,7 +101,7 @@ fn past_microns(words: &mut Cursor<'_, '_>) -> Result<(), ReadFault>
 }
 
 /// The database units of a micron, from the first place where `UNITS DISTANCE MICRONS` follow one another.
-#[tactic(auto, unfolding(crate::specs::Header::units_in))]
+#[tactic(auto, unfolding(leg_grammar::specs::Def::Header::units_in))]
 pub(crate) fn units_anywhere(words: &mut Cursor<'_, '_>) -> Result<u32, ReadFault>
     ensures said { Means (λ n. n) result (units_in words.old) }
     ensures limits { IfOk result (λ n. (1 ≤ n) × (n ≤ UNITS_LIMIT)) }

@@ -1,13 +1,13 @@
 //! Laws of the definitions that contracts cite. Each function does nothing: its contract is the law.
 
 ghost use Rattle.std.specs.Prelude.{◌≡◌, ℕ, List};
-ghost use Rattle.leg_lex.specs.Say.{Says};
-ghost use Rattle.leg_cells.specs.Records.{Contents};
-ghost use Rattle.leg_block.specs.Records.{DesignContents};
-ghost use Rattle.leg_design.specs.Form.{design_in};
+ghost use Rattle.leg_lex.specs.Denotes.{Denotes};
+ghost use Rattle.leg_lib_records.specs.Records.{LibraryModel};
+ghost use Rattle.leg_design_records.specs.Records.{DesignModel};
+ghost use Rattle.leg_grammar.specs.Def.Form.{design_in};
 
 /// Under equal libraries a DEF text denotes at most one design.
 pub fn text_says_one_design()
-    ensures { (library same : Contents) (text : List ℕ) (a b : DesignContents) → library ≡ same
-        → Says (design_in library) text a → Says (design_in same) text b → a ≡ b }
+    ensures { (library same : LibraryModel) (text : List ℕ) (a b : DesignModel) → library ≡ same
+        → Denotes (design_in library) text a → Denotes (design_in same) text b → a ≡ b }
 {}

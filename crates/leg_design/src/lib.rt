@@ -1,7 +1,7 @@
 //! DEF designs: what a DEF text denotes under a library, exactly, in database units (LEF/DEF 5.8, "DEF Syntax").
 //!
 //! `read_def` reads a text and gives a `Design`, or reports the fault and its line; `DefText` is for callers that need
-//! its units first. The records of a design are those of `leg_block`.
+//! its units first. The records of a design are those of `leg_design_records`.
 #![tactic(auto)]
 
 mod def_text;
@@ -13,7 +13,7 @@ mod read;
 mod skipped;
 
 pub use def_text::DefText;
-pub use leg_block::{
+pub use leg_design_records::{
     Axis, Blockage, Component, Design, ENTRY_LIMIT, Fault, Net, PART_LIMIT, Pin, Port, Row, Status,
     Terminal, Track, Wire,
 };

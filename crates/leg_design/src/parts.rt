@@ -2,23 +2,23 @@
 
 ghost use Rattle.std.specs.Prelude.{◌≡◌, ◌≤◌, ◌+◌, nat_lt, ◌&&◌, true, IfOk, OnOk};
 ghost use Rattle.leg_lex.specs.Words.{Reads, Means};
-ghost use Rattle.leg_block.specs.declared.limits.TheConstants.{PART_LIMIT};
-ghost use Rattle.leg_section.specs.Guard.{unless};
-ghost use Rattle.leg_block.specs.Records.{net_names, terminal_count};
-ghost use Rattle.leg_design.specs.Parts.{no_parts, divider_form, bus_form, name_form, units_form, die_form, row_form, track_form};
-ghost use Rattle.leg_design.specs.Form.{with_all_nets, design_of};
+ghost use Rattle.leg_design_records.specs.declared.limits.TheConstants.{PART_LIMIT};
+ghost use Rattle.leg_grammar.specs.Def.Guard.{unless};
+ghost use Rattle.leg_design_records.specs.Records.{net_names, terminal_count};
+ghost use Rattle.leg_grammar.specs.Def.Parts.{no_parts, divider_form, bus_form, name_form, units_form, die_form, row_form, track_form};
+ghost use Rattle.leg_grammar.specs.Def.Form.{with_all_nets, design_of};
 
 mod sections;
 
 use crate::header::{design_name, units, word_after};
-use leg_block::{Blockage, Component, DesignFields, PART_LIMIT, Pin, Row, Track};
-use leg_cells::{Library, Via};
-use leg_floorplan::die::die;
-use leg_floorplan::row::row;
-use leg_floorplan::track::track;
+use leg_design_floorplan::die::die;
+use leg_design_floorplan::row::row;
+use leg_design_floorplan::track::track;
+use leg_design_nets::{NetTable, add_lone_pins};
+use leg_design_records::{Blockage, Component, DesignFields, PART_LIMIT, Pin, Row, Track};
 use leg_geom::Rect;
 use leg_lex::{Cursor, Entry, FaultKind, Keyword, Name, NamedList, Names, Need, ReadFault};
-use leg_nets::{NetTable, add_lone_pins};
+use leg_lib_records::{Library, Via};
 use std::alloc::{AllocError, Allocator};
 use std::marker::Model;
 
@@ -55,8 +55,8 @@ pub(crate) struct Parts<'a, A: Allocator + Copy> {
 
 impl<'a, A: Allocator + Copy> Model for Parts<'a, A> {
     ghost use Rattle.std.specs.Prelude.{[], is_some, map, unwrap_or};
-    ghost use Rattle.leg_block.specs.Records.{blockage_said};
-    ghost use Rattle.leg_design.specs.Parts.{DesignParts, no_die};
+    ghost use Rattle.leg_design_records.specs.Records.{blockage_said};
+    ghost use Rattle.leg_grammar.specs.Def.Parts.{DesignParts, no_die};
 
     ghost Value = { DesignParts };
 
@@ -122,7 +122,7 @@ impl<'a, A: Allocator + Copy> Parts<'a, A> {
     }
 
     /// `DIVIDERCHAR word ;`, once.
-    #[tactic(auto, unfolding(crate::specs::Parts::divider_form))]
+    #[tactic(auto, unfolding(leg_grammar::specs::Def::Parts::divider_form))]
     pub(crate) fn divider_form(&mut self, words: &mut Cursor<'_, 'a>) -> Result<(), ReadFault>
         ensures { Reads (λ _. self.new) result words.new (divider_form self.old words.old) }
     {
@@ -133,7 +133,7 @@ impl<'a, A: Allocator + Copy> Parts<'a, A> {
     }
 
     /// `BUSBITCHARS word ;`, once.
-    #[tactic(auto, unfolding(crate::specs::Parts::bus_form))]
+    #[tactic(auto, unfolding(leg_grammar::specs::Def::Parts::bus_form))]
     pub(crate) fn bus_form(&mut self, words: &mut Cursor<'_, 'a>) -> Result<(), ReadFault>
         ensures { Reads (λ _. self.new) result words.new (bus_form self.old words.old) }
     {
@@ -144,7 +144,7 @@ impl<'a, A: Allocator + Copy> Parts<'a, A> {
     }
 
     /// `DESIGN NAME ;`, once.
-    #[tactic(auto, unfolding(crate::specs::Parts::name_form))]
+    #[tactic(auto, unfolding(leg_grammar::specs::Def::Parts::name_form))]
     pub(crate) fn name_form(&mut self, words: &mut Cursor<'_, 'a>) -> Result<(), ReadFault>
         ensures { Reads (λ _. self.new) result words.new (name_form self.old words.old) }
     {
@@ -155,7 +155,7 @@ impl<'a, A: Allocator + Copy> Parts<'a, A> {
     }
 
     /// `UNITS`, once. Another number than the library's is `Unexpected`.
-    #[tactic(auto, unfolding(crate::specs::Parts::units_form))]
+    #[tactic(auto, unfolding(leg_grammar::specs::Def::Parts::units_form))]
     pub(crate) fn units_form(&mut self, words: &mut Cursor<'_, 'a>) -> Result<(), ReadFault>
         ensures { Reads (λ _. self.new) result words.new (units_form self.old words.old) }
     {
@@ -169,7 +169,7 @@ impl<'a, A: Allocator + Copy> Parts<'a, A> {
     }
 
     /// `DIEAREA`, once.
-    #[tactic(auto, unfolding(crate::specs::Parts::die_form))]
+    #[tactic(auto, unfolding(leg_grammar::specs::Def::Parts::die_form))]
     pub(crate) fn die_form(&mut self, alloc: A, words: &mut Cursor<'_, 'a>) -> Result<(), ReadFault>
         ensures { Reads (λ _. self.new) result words.new (die_form self.old words.old) }
     {
@@ -179,7 +179,7 @@ impl<'a, A: Allocator + Copy> Parts<'a, A> {
     }
 
     /// One more row.
-    #[tactic(auto, unfolding(crate::specs::Parts::row_form))]
+    #[tactic(auto, unfolding(leg_grammar::specs::Def::Parts::row_form))]
     pub(crate) fn row_form(&mut self, alloc: A, words: &mut Cursor<'_, 'a>) -> Result<(), ReadFault>
         ensures { Reads (λ _. self.new) result words.new (row_form self.old words.old) }
     {
@@ -189,7 +189,7 @@ impl<'a, A: Allocator + Copy> Parts<'a, A> {
     }
 
     /// More tracks.
-    #[tactic(auto, unfolding(crate::specs::Parts::track_form))]
+    #[tactic(auto, unfolding(leg_grammar::specs::Def::Parts::track_form))]
     pub(crate) fn track_form(
         &mut self,
         alloc: A,

@@ -3,28 +3,28 @@
 ghost use Rattle.std.specs.Prelude.{ℕ, ◌≡◌, ◌≢◌, ◌<◌, ◌≤◌, length, IfOk, IfErr};
 ghost use Rattle.leg_lex.specs.declared.limits.TheConstants.{TEXT_LIMIT, UNITS_LIMIT};
 ghost use Rattle.leg_lex.specs.declared.read_fault.FaultKind.TheVariants.{Memory};
-ghost use Rattle.leg_lex.specs.Say.{Says};
-ghost use Rattle.leg_block.specs.Records.{DesignContents};
-ghost use Rattle.leg_design.specs.Header.{units_in};
-ghost use Rattle.leg_design.specs.Form.{design_in};
+ghost use Rattle.leg_lex.specs.Denotes.{Denotes};
+ghost use Rattle.leg_design_records.specs.Records.{DesignModel};
+ghost use Rattle.leg_grammar.specs.Def.Header.{units_in};
+ghost use Rattle.leg_grammar.specs.Def.Form.{design_in};
 
 use crate::def_text::DefText;
-use leg_block::Design;
-use leg_cells::Library;
+use leg_design_records::Design;
 use leg_lex::ReadFault;
+use leg_lib_records::Library;
 use std::alloc::Allocator;
 
 /// The database units of a micron that a DEF denotes, from 1 to 20,000, at the first place where its `UNITS` appear.
 ///
 /// A fault gives the text's number, 0, and the line of the word at fault.
 pub fn def_units<A: Allocator + Copy>(alloc: A, text: &[u8]) -> Result<u32, ReadFault>
-    ensures found { IfOk result (λ n. Says units_in text.now n) }
+    ensures found { IfOk result (λ n. Denotes units_in text.now n) }
     ensures limits { IfOk result (λ n. (1 ≤ n) × (n ≤ UNITS_LIMIT)) }
     // The text denotes no other number.
-    ensures only { IfOk result (λ n. (said : ℕ) → Says units_in text.now said → said ≡ n) }
+    ensures only { IfOk result (λ n. (said : ℕ) → Denotes units_in text.now said → said ≡ n) }
     // A text that is too long is never reported as out of memory.
     ensures too_long { IfErr result (λ fault. TEXT_LIMIT < length text.now → fault.kind ≢ Memory) }
-    ensures none { IfErr result (λ fault. fault.kind ≢ Memory → (said : ℕ) → ¬ Says units_in text.now said) }
+    ensures none { IfErr result (λ fault. fault.kind ≢ Memory → (said : ℕ) → ¬ Denotes units_in text.now said) }
 {
     let def = DefText::new(alloc, text)?;
     def.units()
@@ -38,14 +38,14 @@ pub fn read_def<'a, A: Allocator + Copy>(
     library: &'a Library<'a, A>,
     text: &'a [u8],
 ) -> Result<Design<'a, A>, ReadFault>
-    ensures found { IfOk result (λ design. Says (design_in library.now) text.now design) }
+    ensures found { IfOk result (λ design. Denotes (design_in library.now) text.now design) }
     // The text denotes no other design.
-    ensures only { IfOk result (λ design. (said : DesignContents)
-        → Says (design_in library.now) text.now said → said ≡ design) }
+    ensures only { IfOk result (λ design. (said : DesignModel)
+        → Denotes (design_in library.now) text.now said → said ≡ design) }
     // A text that is too long is never reported as out of memory.
     ensures too_long { IfErr result (λ fault. TEXT_LIMIT < length text.now → fault.kind ≢ Memory) }
     ensures none { IfErr result (λ fault. fault.kind ≢ Memory
-        → (said : DesignContents) → ¬ Says (design_in library.now) text.now said) }
+        → (said : DesignModel) → ¬ Denotes (design_in library.now) text.now said) }
 {
     let def = DefText::new(alloc, text)?;
     def.design(alloc, library)

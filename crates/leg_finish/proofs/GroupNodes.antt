@@ -2,17 +2,18 @@
 use Rattle.std.proofs.Common.{◌≡◌, ◌↔◌, ◌==◌, ℕ, ◌<◌, ◌≤◌, Bool, true, false, List, Contains, length, get_or, Some, slice_get, refl, sym, subst, ap, ◌∙◌, arith}
 use Rattle.std.proofs.lemmas.Bool.{eqb-true, eqb-false, eq-eqb, ne_eqb}
 use Rattle.std.proofs.lemmas.Option.{same_Some, slice_get_within, slice_get_read, slice_get-get_or, get_or_from_slice_get}
-use Rattle.leg_block.specs.Records.{DesignContents}
-use Rattle.leg_flat.specs.declared.shape.Shape.{Shape}
-use Rattle.leg_flat.specs.Flat.{FlatSaid}
+use Rattle.leg_design_records.specs.Records.{DesignModel}
+use Rattle.leg_rules.specs.declared.shape.Shape.{Shape}
+use Rattle.leg_rules.specs.Metal.Flat.{FlatModel}
 use Rattle.leg_wire.specs.NetShapes.{AreNumbersOf}
-use Rattle.leg_wire.specs.Touch.{piece_count, LiesIn, AreJoined, AreFirsts}
-use Rattle.leg_wire.specs.Touch.Joined.{itself}
-use Rattle.leg_grid.specs.declared.node.Node.{Node}
-use Rattle.leg_grid.specs.declared.slot_box.SlotBox.{SlotBox}
-use Rattle.leg_grid.specs.Grid.{GridSaid, IsNumberOf}
-use Rattle.leg_grid.specs.Numbered.{IsOneOf}
-use Rattle.leg_finish.specs.Reach.{MeetsJoinedTo, MeetsOthers, IsUnreachable}
+use Rattle.leg_wire.specs.PieceMarks.{AreFirsts}
+use Rattle.leg_rules.specs.Joins.Touch.{piece_count, LiesIn, AreJoined}
+use Rattle.leg_rules.specs.Joins.Touch.Joined.{itself}
+use Rattle.leg_rules.specs.declared.node.Node.{Node}
+use Rattle.leg_route_grid.specs.declared.slot_box.SlotBox.{SlotBox}
+use Rattle.leg_route_grid.specs.Steps.Grid.{GridModel, IsNumberOf}
+use Rattle.leg_route_grid.specs.Steps.NodeNumbers.{IsOneOf}
+use Rattle.leg_rules.specs.Finish.Reach.{MeetsJoinedTo, MeetsOthers, IsUnreachable}
 use Rattle.leg_finish.specs.Steps.GroupSlots.{IsJoinedAs, MeetsShapeOf, AreSlotsOf}
 
 -- a piece that is the least of those that it is joined to
@@ -20,13 +21,13 @@ pub own_at : (firsts : List ℕ) (k first : ℕ) → k < length firsts → first
 own_at firsts k first within read same = subst (λ j. slice_get firsts j ≡ Some first) (sym same) (slice_get-get_or firsts k 0 within ∙ ap Some (sym read))
 
 -- The pieces of a net, the least that each is joined to, and the laws of pieces that are joined.
-module _ (flat : FlatSaid) (net : ℕ) (firsts : List ℕ) (firsts_are : AreFirsts (AreJoined flat net) (piece_count flat net) firsts) (back : (a b : ℕ) → AreJoined flat net a b → AreJoined flat net b a)
+module _ (flat : FlatModel) (net : ℕ) (firsts : List ℕ) (firsts_are : AreFirsts (AreJoined flat net) (piece_count flat net) firsts) (back : (a b : ℕ) → AreJoined flat net a b → AreJoined flat net b a)
     (onward : (a b c : ℕ) → AreJoined flat net a b → AreJoined flat net b c → AreJoined flat net a c) where
   pub known_within : (k least : ℕ) → slice_get firsts k ≡ Some least → k < piece_count flat net
   known_within k least there = rw (← firsts_are.count) (slice_get_within firsts k least there)
 
   -- where a piece cannot be reached, the least that it is joined to cannot be either
-  least_too : (design : DesignContents) (k least : ℕ) → slice_get firsts k ≡ Some least → IsUnreachable design flat net k → IsUnreachable design flat net least
+  least_too : (design : DesignModel) (k least : ℕ) → slice_get firsts k ≡ Some least → IsUnreachable design flat net k → IsUnreachable design flat net least
   least_too design k least there unreachable =
       let is = firsts_are.each k least there in
       record {
@@ -38,7 +39,7 @@ module _ (flat : FlatSaid) (net : ℕ) (firsts : List ℕ) (firsts_are : AreFirs
       }
 
   -- so a piece that isn't the least of its group is not the first that cannot be reached
-  pub not_least : (design : DesignContents) (k least : ℕ) → slice_get firsts k ≡ Some least → (least ≡ k → ⊥) → ((j : ℕ) → j < k → ¬ IsUnreachable design flat net j) → ¬ IsUnreachable design flat net k
+  pub not_least : (design : DesignModel) (k least : ℕ) → slice_get firsts k ≡ Some least → (least ≡ k → ⊥) → ((j : ℕ) → j < k → ¬ IsUnreachable design flat net j) → ¬ IsUnreachable design flat net k
   not_least design k least there differ none unreachable =
       let upto : least ≤ k = (firsts_are.each k least there).least k (known_within k least there) itself in
       none least (omega (arith, upto, differ)) (least_too design k least there unreachable)
@@ -90,7 +91,7 @@ module _ (flat : FlatSaid) (net : ℕ) (firsts : List ℕ) (firsts_are : AreFirs
             lies = record { on_layer = sym lies.on_layer; inside = lies.inside };
           }
 
-      module _ (grid : GridSaid) (boxes : List SlotBox) (slots : List ℕ) where
+      module _ (grid : GridModel) (boxes : List SlotBox) (slots : List ℕ) where
         -- the slots in shapes of the group
         pub starts_are : AreSlotsOf grid flat.shapes (IsJoinedAs firsts first true) numbers boxes slots → (n : ℕ) → Contains slots n ↔ IsOneOf (IsNumberOf grid) (MeetsJoinedTo flat net first) n
         starts_are told n = (

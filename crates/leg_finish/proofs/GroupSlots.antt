@@ -2,16 +2,16 @@
 use Rattle.std.proofs.Common.{◌≡◌, ◌↔◌, ℕ, ◌<◌, List, [], ◌∷◌, ◌++◌, All, Contains, Option, Some, slice_get, ◌⊎◌, inl, inr, sym, subst, ◌∙◌}
 use Rattle.std.proofs.lemmas.List.Elements.{Contains-append_left, Contains-push, Contains-push_cases}
 use Rattle.std.proofs.lemmas.Option.{same_Some}
-use Rattle.leg_flat.specs.declared.shape.Shape.{Shape}
-use Rattle.leg_grid.specs.declared.node.Node.{Node}
-use Rattle.leg_grid.specs.declared.slot_box.SlotBox.{SlotBox}
-use Rattle.leg_grid.specs.Bound.{AreBoxed}
-use Rattle.leg_grid.specs.Grid.{GridSaid, IsNumberOf, slot_total}
-use Rattle.leg_grid.specs.InRect.{LiesInRect}
-use Rattle.leg_grid.specs.Numbered.{IsOneOf}
+use Rattle.leg_rules.specs.declared.shape.Shape.{Shape}
+use Rattle.leg_rules.specs.declared.node.Node.{Node}
+use Rattle.leg_route_grid.specs.declared.slot_box.SlotBox.{SlotBox}
+use Rattle.leg_route_grid.specs.Steps.WalkBounds.{AreBoxed}
+use Rattle.leg_route_grid.specs.Steps.Grid.{GridModel, IsNumberOf, slot_total}
+use Rattle.leg_route_grid.specs.Steps.NodesInRect.{LiesInRect}
+use Rattle.leg_route_grid.specs.Steps.NodeNumbers.{IsOneOf}
 use Rattle.leg_finish.specs.Steps.GroupSlots.{MeetsShapeOf, AreSlotsOf}
 
-module _ (grid : GridSaid) (shapes : List Shape) (IsMeant : Option ℕ → Type 0) where
+module _ (grid : GridModel) (shapes : List Shape) (IsMeant : Option ℕ → Type 0) where
   -- one shape more
   module _ (numbers : List ℕ) (boxes : List SlotBox) (slots : List ℕ) (done : AreSlotsOf grid shapes IsMeant numbers boxes slots) (k : ℕ) (shape : Shape) (read : slice_get shapes k ≡ Some shape) where
     earlier : (node : Node) → MeetsShapeOf shapes IsMeant numbers node → MeetsShapeOf shapes IsMeant (numbers ++ k ∷ []) node

@@ -1,11 +1,11 @@
 mod OpenNets
 mod AddedWires
-mod LaidOut
+mod WiresByNet
 mod WithWires
 mod NetsLeft
 mod OneWire
-mod Judged
+mod Judgement
 mod GroupSlots
 mod GroupNodes
 mod Ways
-mod FirstReached
+mod FirstReach

@@ -3,16 +3,16 @@ use Rattle.std.proofs.Common.{◌≡◌, ◌≢◌, ◌<◌, ◌≤◌, ℕ, zer
 use Rattle.std.specs.List.{AllZip}
 use Rattle.std.proofs.lemmas.List.Elements.{All-get_or, AllZip-get_or, length_all_zip}
 use Rattle.std.proofs.lemmas.Option.{slice_get_within, get_or_from_slice_get}
-use Rattle.leg_block.specs.Records.{DesignContents}
-use Rattle.leg_flat.specs.Flat.{FlatSaid}
-use Rattle.leg_wire.specs.Open.{IsOpenNet}
+use Rattle.leg_design_records.specs.Records.{DesignModel}
+use Rattle.leg_rules.specs.Metal.Flat.{FlatModel}
+use Rattle.leg_rules.specs.Joins.Violations.{IsOpenNet}
 use Rattle.leg_finish.specs.declared.groups.OpenNet.{OpenNet}
-use Rattle.leg_finish.specs.Reach.{AreReachable}
-use Rattle.leg_finish.specs.Refusal.{AreUnfinished}
+use Rattle.leg_rules.specs.Finish.Reach.{AreReachable}
+use Rattle.leg_rules.specs.Finish.Refusal.{AreUnfinished}
 use Rattle.leg_finish.specs.Steps.OpenNets.{IsOpenWith, AreOpenNets}
 use Rattle.leg_finish.specs.Steps.Places.{ArePlacesIn, IsNetAt}
 
-module _ {A : Type 0} (design : DesignContents) (flat : FlatSaid) (nets : List (OpenNet A)) (are : AreOpenNets design flat nets) where
+module _ {A : Type 0} (design : DesignModel) (flat : FlatModel) (nets : List (OpenNet A)) (are : AreOpenNets design flat nets) where
   -- there are no more open nets than entries
   at_least : (k : ℕ) (d : OpenNet A) → k < length nets → k ≤ (get_or nets k d).net
   at_least zero d low = omega arith

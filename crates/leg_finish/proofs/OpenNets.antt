@@ -6,21 +6,22 @@ use Rattle.std.proofs.lemmas.List.{get_or_default}
 use Rattle.std.proofs.lemmas.List.Elements.{All-nil, All-push, All-weaker, All-get_or}
 use Rattle.std.proofs.lemmas.List.Quantifiers.{all_pairs_push, Any-push}
 use Rattle.std.proofs.lemmas.Option.{slice_get_read, slice_get-get_or}
-use Rattle.leg_block.specs.Records.{DesignContents}
-use Rattle.leg_flat.specs.Flat.{FlatSaid}
+use Rattle.leg_design_records.specs.Records.{DesignModel}
+use Rattle.leg_rules.specs.Metal.Flat.{FlatModel}
 use Rattle.leg_wire.specs.NetShapes.{AreNumbersOf}
-use Rattle.leg_wire.specs.Open.{IsOpenNet}
-use Rattle.leg_wire.specs.Touch.{piece_count, AreJoined, AreFirsts}
+use Rattle.leg_rules.specs.Joins.Violations.{IsOpenNet}
+use Rattle.leg_wire.specs.PieceMarks.{AreFirsts}
+use Rattle.leg_rules.specs.Joins.Touch.{piece_count, AreJoined}
 use Rattle.leg_finish.specs.declared.groups.OpenNet.{OpenNet}
 use Rattle.leg_finish.specs.Steps.OpenNets.{IsOpenWith, AreOpenNets, AreOpenNetsBelow, AreListsFrom}
 
 abbrev pub JoinedBothWays : Type 0
-JoinedBothWays = (flat : FlatSaid) (net a b : ℕ) → AreJoined flat net a b → AreJoined flat net b a
+JoinedBothWays = (flat : FlatModel) (net a b : ℕ) → AreJoined flat net a b → AreJoined flat net b a
 
 abbrev pub IsOther : ℕ → Type 0
 IsOther first = first ≢ 0
 
-module _ (both : JoinedBothWays) (design : DesignContents) (flat : FlatSaid) (net : ℕ) (firsts : List ℕ) (are : AreFirsts (AreJoined flat net) (piece_count flat net) firsts) where
+module _ (both : JoinedBothWays) (design : DesignModel) (flat : FlatModel) (net : ℕ) (firsts : List ℕ) (are : AreFirsts (AreJoined flat net) (piece_count flat net) firsts) where
   pub open_by_firsts : net < length design.nets → Any IsOther firsts → IsOpenNet design flat net
   open_by_firsts entry any =
       let k = any.0 in
@@ -55,7 +56,7 @@ module _ (both : JoinedBothWays) (design : DesignContents) (flat : FlatSaid) (ne
     by (inr other) = (is_open.0, first, low, get_or_default firsts is_open.0 first 0 low, other)
 
 -- a list of open nets as it grows
-module _ {A : Type 0} (limit : ℕ) (design : DesignContents) (flat : FlatSaid) (nets : List (OpenNet A)) (are : AreOpenNetsBelow limit design flat nets) where
+module _ {A : Type 0} (limit : ℕ) (design : DesignModel) (flat : FlatModel) (nets : List (OpenNet A)) (are : AreOpenNetsBelow limit design flat nets) where
   abbrev IsBelow : ℕ → OpenNet A → Type 0
   IsBelow n net = net.net < n
 
@@ -90,7 +91,7 @@ module _ {A : Type 0} (limit : ℕ) (design : DesignContents) (flat : FlatSaid) 
         by (inl low) = any_before n one (are.all n low is_open)
         by (inr past) = Any-push (Has n) nets one (omega (arith, less, past, is))
 
-pub none_open : {A : Type 0} (design : DesignContents) (flat : FlatSaid) → AreOpenNetsBelow {A = A} 0 design flat []
+pub none_open : {A : Type 0} (design : DesignModel) (flat : FlatModel) → AreOpenNetsBelow {A = A} 0 design flat []
 none_open {A} design flat = record {
   increasing = λ i j d less within. absurd (omega (arith, within));
   below = All-nil (λ (net : OpenNet A). net.net < 0);
@@ -98,7 +99,7 @@ none_open {A} design flat = record {
   all = λ n less is_open. absurd (omega (arith, less));
 }
 
-pub all_open : {A : Type 0} (design : DesignContents) (flat : FlatSaid) (limit : ℕ) (nets : List (OpenNet A)) → limit ≡ length design.nets → AreOpenNetsBelow limit design flat nets → AreOpenNets design flat nets
+pub all_open : {A : Type 0} (design : DesignModel) (flat : FlatModel) (limit : ℕ) (nets : List (OpenNet A)) → limit ≡ length design.nets → AreOpenNetsBelow limit design flat nets → AreOpenNets design flat nets
 all_open design flat limit nets is are = record {
   increasing = are.increasing;
   each = are.each;
@@ -106,13 +107,13 @@ all_open design flat limit nets is are = record {
 }
 
 -- the lists of the shapes' numbers, as they are taken one after another
-pub lists_first : (flat : FlatSaid) (count : ℕ) (lists : List (List ℕ)) → length lists ≡ count → ((net : ℕ) → net < count → AreNumbersOf flat.shapes net (get_or lists net [])) → AreListsFrom flat 0 count lists
+pub lists_first : (flat : FlatModel) (count : ℕ) (lists : List (List ℕ)) → length lists ≡ count → ((net : ℕ) → net < count → AreNumbersOf flat.shapes net (get_or lists net [])) → AreListsFrom flat 0 count lists
 lists_first flat count lists long each = record { count_is = omega (arith, long); each = λ k low. let same : k ≡ 0 + k = omega arith in subst (λ n. AreNumbersOf flat.shapes n (get_or lists k [])) same (each k (omega (arith, low, long))) }
 
-pub list_here : (flat : FlatSaid) (net count : ℕ) (own : List ℕ) (lists : List (List ℕ)) → AreListsFrom flat net count (own ∷ lists) → AreNumbersOf flat.shapes net own
+pub list_here : (flat : FlatModel) (net count : ℕ) (own : List ℕ) (lists : List (List ℕ)) → AreListsFrom flat net count (own ∷ lists) → AreNumbersOf flat.shapes net own
 list_here flat net count own lists are = let none : net + 0 ≡ net = omega arith in subst (λ n. AreNumbersOf flat.shapes n own) none (are.each 0 (omega arith))
 
-pub lists_next : (flat : FlatSaid) (net count : ℕ) (own : List ℕ) (lists : List (List ℕ)) → AreListsFrom flat net count (own ∷ lists) → AreListsFrom flat (net + 1) count lists
+pub lists_next : (flat : FlatModel) (net count : ℕ) (own : List ℕ) (lists : List (List ℕ)) → AreListsFrom flat net count (own ∷ lists) → AreListsFrom flat (net + 1) count lists
 lists_next flat net count own lists are = record {
   count_is = let long = are.count_is in omega (arith, long);
   each = λ k low. let same : net + suc k ≡ (net + 1) + k = omega arith in subst (λ n. AreNumbersOf flat.shapes n (get_or lists k [])) same (are.each (suc k) (omega (arith, low)));

@@ -3,18 +3,19 @@ use Rattle.std.proofs.Common.{◌≡◌, ◌↔◌, ℕ, List, [], Contains, Opt
 use Rattle.std.specs.List.{AllZip}
 use Rattle.std.proofs.lemmas.Bool.{true≢false, false≢true}
 use Rattle.leg_sweep.proofs.Lists.{Contains-nil}
-use Rattle.leg_flat.specs.Flat.{FlatSaid}
-use Rattle.leg_walk.specs.Walk.{Walk, here, on, IsStep, IsShortest, NoWalk, IsAnswer}
-use Rattle.leg_grid.specs.declared.node.Node.{Node}
-use Rattle.leg_grid.specs.declared.slot_access.SlotAccess.{SlotAccess}
-use Rattle.leg_grid.specs.declared.slot_box.SlotBox.{SlotBox}
-use Rattle.leg_grid.specs.Nodes.{IsNode}
-use Rattle.leg_grid.specs.OpenMetal.{IsOpenNode, IsOpenStep}
-use Rattle.leg_grid.specs.Bound.{IsBesideNear}
-use Rattle.leg_grid.specs.Grid.{GridSaid, IsNumberOf}
-use Rattle.leg_grid.specs.Admitted.{IsNodeAdmitted, IsStepAdmitted}
-use Rattle.leg_grid.specs.Numbered.{IsOneOf, IsNodeAmong}
-use Rattle.leg_finish.specs.Steps.Reached.{HasNoWay}
+use Rattle.leg_rules.specs.Metal.Flat.{FlatModel}
+use Rattle.leg_route_search.specs.Steps.Walks.{IsStep, IsShortestIfAny}
+use Rattle.leg_rules.specs.Route.Walk.{Walk, here, on, IsShortest, NoWalk}
+use Rattle.leg_rules.specs.declared.node.Node.{Node}
+use Rattle.leg_route_grid.specs.declared.slot_access.SlotAccess.{SlotAccess}
+use Rattle.leg_route_grid.specs.declared.slot_box.SlotBox.{SlotBox}
+use Rattle.leg_rules.specs.Route.Nodes.{IsNode}
+use Rattle.leg_rules.specs.Route.OpenMetal.{IsOpenNode, IsOpenStep}
+use Rattle.leg_route_grid.specs.Steps.WalkBounds.{IsNeighbourNear}
+use Rattle.leg_route_grid.specs.Steps.Grid.{GridModel, IsNumberOf}
+use Rattle.leg_route_grid.specs.Steps.AccessToNet.{IsNodeAdmitted, IsStepAdmitted}
+use Rattle.leg_route_grid.specs.Steps.NodeNumbers.{IsOneOf, IsNodeAmong}
+use Rattle.leg_finish.specs.Steps.Reach.{HasNoWay}
 
 -- both ends of a walk are open
 module _ {Point : Type 0} {Open : Point → Type 0} {Step : Point → Point → Type 0} where
@@ -26,7 +27,7 @@ module _ {Point : Type 0} {Open : Point → Type 0} {Step : Point → Point → 
   walk_last (here is_open) = is_open
   walk_last (on is_open step rest) = walk_last rest
 
-module _ (grid : GridSaid) (apart : (n : ℕ) (a b : Node) → IsNumberOf grid n a → IsNumberOf grid n b → a ≡ b) (numbered : (a : Node) → IsNode grid.design a → (n : ℕ) × IsNumberOf grid n a) where
+module _ (grid : GridModel) (apart : (n : ℕ) (a b : Node) → IsNumberOf grid n a → IsNumberOf grid n b → a ≡ b) (numbered : (a : Node) → IsNode grid.design a → (n : ℕ) × IsNumberOf grid n a) where
   -- the nodes in these slots are those of which this holds
   module _ (numbers : List ℕ) (P : Node → Type 0) (are : (n : ℕ) → Contains numbers n ↔ IsOneOf (IsNumberOf grid) P n) where
     among : (node : Node) → IsNode grid.design node → P node → IsNodeAmong grid numbers node
@@ -36,7 +37,7 @@ module _ (grid : GridSaid) (apart : (n : ℕ) (a b : Node) → IsNumberOf grid n
     holds_of : (node : Node) → IsNodeAmong grid numbers node → P node
     holds_of node is = let one = (are is.n).0 is.has in subst P (apart is.n one.node node one.is is.is) one.holds
 
-  pub same_way : (flat : FlatSaid) (net : ℕ) (starts ends : List ℕ) (Start End : Node → Type 0) → ((n : ℕ) → Contains starts n ↔ IsOneOf (IsNumberOf grid) Start n)
+  pub same_way : (flat : FlatModel) (net : ℕ) (starts ends : List ℕ) (Start End : Node → Type 0) → ((n : ℕ) → Contains starts n ↔ IsOneOf (IsNumberOf grid) Start n)
       → ((n : ℕ) → Contains ends n ↔ IsOneOf (IsNumberOf grid) End n)
       → HasNoWay grid flat net starts ends ↔ NoWalk (IsOpenNode grid.design flat net) (IsOpenStep grid.design flat net) Start End
   same_way flat net starts ends Start End first last = (
@@ -44,7 +45,7 @@ module _ (grid : GridSaid) (apart : (n : ℕ) (a b : Node) → IsNumberOf grid n
     λ none a b nodes start is_end walk. none a b nodes (holds_of starts Start first a start) (holds_of ends End last b is_end) walk,
   )
 
-module _ (grid : GridSaid) (flat : FlatSaid) (net : ℕ) (starts ends : List ℕ) where
+module _ (grid : GridModel) (flat : FlatModel) (net : ℕ) (starts ends : List ℕ) where
   -- there is no way where no walk can begin, or none can end
   pub no_starts : starts ≡ [] → HasNoWay grid flat net starts ends
   no_starts none a b nodes start is_end walk = Contains-nil start.n (subst (λ xs. Contains xs start.n) none start.has)
@@ -55,7 +56,7 @@ module _ (grid : GridSaid) (flat : FlatSaid) (net : ℕ) (starts ends : List ℕ
   -- what a search answers
   module _ (slots : List SlotAccess) (origin around : List SlotBox) where
     abbrev pub IsFound : Option (List ℕ) → Type 0
-    IsFound answer = IsAnswer (IsNodeAdmitted slots net) (IsStep (IsBesideNear grid origin around) (IsStepAdmitted grid slots net)) (Contains starts) (Contains ends) answer
+    IsFound answer = IsShortestIfAny (IsNodeAdmitted slots net) (IsStep (IsNeighbourNear grid origin around) (IsStepAdmitted grid slots net)) (Contains starts) (Contains ends) answer
 
     abbrev pub IsWay : List Node → Type 0
     IsWay nodes = IsShortest (IsOpenNode grid.design flat net) (IsOpenStep grid.design flat net) (IsNodeAmong grid starts) (IsNodeAmong grid ends) nodes

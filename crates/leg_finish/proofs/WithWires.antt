@@ -2,47 +2,47 @@
 use Rattle.std.proofs.Common.{◌≡◌, ◌↔◌, ◌+◌, ◌≤◌, ℕ, List, [], ◌∷◌, false, All, length, map, sum_by, inl, inr, refl, arith}
 use Rattle.std.proofs.lemmas.List.Elements.{All-nil, All-cons, All-head, All-tail}
 use Rattle.std.proofs.lemmas.List.Sums.{sum_by-cons}
-use Rattle.leg_cells.specs.Records.{Contents}
-use Rattle.leg_cells.specs.Sound.{IsSound}
-use Rattle.leg_place.specs.Faults as place
-use Rattle.leg_block.specs.declared.fault.Fault.{Fault}
-use Rattle.leg_block.specs.declared.limits.TheConstants.{PART_LIMIT}
-use Rattle.leg_block.specs.declared.records.Wire.{Wire}
-use Rattle.leg_block.specs.MoreWires.{with_more_wires}
-use Rattle.leg_block.specs.Records.{DesignContents, wire_count}
-use Rattle.leg_block.specs.WellFormed.{IsWellFormed}
-use Rattle.leg_block.specs.WellFormedNets.{IsWire}
-use Rattle.leg_flat.specs.Metal.{metal_of}
-use Rattle.leg_flat.specs.Flat.{FlatSaid, IsFlatOf}
-use Rattle.leg_wire.specs.Open.{IsOpenNet}
+use Rattle.leg_lib_records.specs.Records.{LibraryModel}
+use Rattle.leg_lib_records.specs.Sound.{IsSound}
+use Rattle.leg_rules.specs.Placement.Violations.{IsPlacementViolation}
+use Rattle.leg_design_records.specs.declared.fault.Fault.{Fault}
+use Rattle.leg_design_records.specs.declared.limits.TheConstants.{PART_LIMIT}
+use Rattle.leg_design_records.specs.declared.records.Wire.{Wire}
+use Rattle.leg_design_records.specs.MoreWires.{with_more_wires}
+use Rattle.leg_design_records.specs.Records.{DesignModel, wire_count}
+use Rattle.leg_design_records.specs.WellFormed.{IsWellFormed}
+use Rattle.leg_design_records.specs.WellFormedNets.{IsWire}
+use Rattle.leg_rules.specs.Metal.Metal.{metal_of}
+use Rattle.leg_rules.specs.Metal.Flat.{FlatModel, IsFlatOf}
+use Rattle.leg_rules.specs.Joins.Violations.{IsOpenNet}
 use Rattle.leg_rules.specs.Legal.{IsLegal}
 use Rattle.leg_rules.specs.Violations.{IsViolationIn, IsViolation}
-use Rattle.leg_grown.specs.CleanWire.{HasNoSpacingFault}
-use Rattle.leg_grown.specs.Finished.{finished, AreByNet, IsFinishedFrom}
-use Rattle.leg_grown.specs.Growth.{AddedWire, Grows}
-use Rattle.leg_finish.specs.Steps.Judged.{AreFinishing}
+use Rattle.leg_route_laws.specs.CleanWire.{HasNoSpacingFault}
+use Rattle.leg_route_laws.specs.Finished.{finished, AreByNet, IsFinishedFrom}
+use Rattle.leg_route_laws.specs.Growth.{AddedWire, Grows}
+use Rattle.leg_finish.specs.Steps.Judgement.{AreFinishing}
 use Rattle.leg_finish.proofs.AddedWires.{wires_more}
 
 abbrev pub FinishedIsLegal : Type 0
 FinishedIsLegal =
-    (library : Contents) (design : DesignContents) (added : List AddedWire) (grown : FlatSaid) (lists : List (List Wire)) (end : FlatSaid) → IsFinishedFrom design added grown lists end
-    → ((fault : Fault) → ¬ place.Holds library design fault) → HasNoSpacingFault library grown → ((n : ℕ) → ¬ IsOpenNet design grown n)
+    (library : LibraryModel) (design : DesignModel) (added : List AddedWire) (grown : FlatModel) (lists : List (List Wire)) (end : FlatModel) → IsFinishedFrom design added grown lists end
+    → ((fault : Fault) → ¬ IsPlacementViolation library design fault) → HasNoSpacingFault library grown → ((n : ℕ) → ¬ IsOpenNet design grown n)
     → (fault : Fault) → ¬ IsViolationIn library (finished design lists) end fault
 
 abbrev pub PlacementStays : Type 0
-PlacementStays = (library : Contents) (design : DesignContents) (lists : List (List Wire)) (fault : Fault) → place.Holds library design fault ↔ place.Holds library (finished design lists) fault
+PlacementStays = (library : LibraryModel) (design : DesignModel) (lists : List (List Wire)) (fault : Fault) → IsPlacementViolation library design fault ↔ IsPlacementViolation library (finished design lists) fault
 
 abbrev pub ShapesStayAsMany : Type 0
 ShapesStayAsMany =
-    (design : DesignContents) (flat grown : FlatSaid) (added : List AddedWire) (lists : List (List Wire)) → IsFlatOf design flat → Grows design added flat grown
+    (design : DesignModel) (flat grown : FlatModel) (added : List AddedWire) (lists : List (List Wire)) → IsFlatOf design flat → Grows design added flat grown
     → AreByNet (length design.nets) added lists → length (metal_of (finished design lists)) ≡ length grown.shapes
 
 abbrev pub WiresHaveShapes : Type 0
 WiresHaveShapes =
-    (design : DesignContents) (lists : List (List Wire)) → IsSound design.library → IsWellFormed design → All (All (IsWire design.library design.vias false)) lists
+    (design : DesignModel) (lists : List (List Wire)) → IsSound design.library → IsWellFormed design → All (All (IsWire design.library design.vias false)) lists
     → wire_count (with_more_wires design.nets lists) + wire_count design.special ≤ length (metal_of (finished design lists))
 
-module _ (design : DesignContents) (lists : List (List Wire)) (it : AreFinishing design lists) where
+module _ (design : DesignModel) (lists : List (List Wire)) (it : AreFinishing design lists) where
   pub few_shapes : ShapesStayAsMany → length (metal_of (finished design lists)) ≤ PART_LIMIT
   few_shapes stay = rw (stay design it.flat it.grown it.laid.added lists it.comes.clean.judged.is_flat it.laid.grows it.laid.by_net) it.within
 
@@ -57,7 +57,7 @@ module _ (design : DesignContents) (lists : List (List Wire)) (it : AreFinishing
       omega (arith, few, more)
 
   module _ (is_legal : FinishedIsLegal) (placement : PlacementStays) (proper : IsWellFormed design) (proper_end : IsWellFormed (finished design lists)) where
-    from : (end : FlatSaid) → IsFlatOf (finished design lists) end → IsFinishedFrom design it.laid.added it.grown lists end
+    from : (end : FlatModel) → IsFlatOf (finished design lists) end → IsFinishedFrom design it.laid.added it.grown lists end
     from end is_end = record {
       flat = it.flat;
       is_flat = it.comes.clean.judged.is_flat;
@@ -77,7 +77,7 @@ module _ (design : DesignContents) (lists : List (List Wire)) (it : AreFinishing
               it.no_fault.joined fault (inr metal.holds)
         ]
 
-    pub legal_then : ShapesStayAsMany → (end : FlatSaid) → IsFlatOf (finished design lists) end → IsLegal (finished design lists)
+    pub legal_then : ShapesStayAsMany → (end : FlatModel) → IsFlatOf (finished design lists) end → IsLegal (finished design lists)
     legal_then stay end is_end = record { flat = end; judged = record { few = few_shapes stay; is_flat = is_end }; none = no_violation }
 
 -- lists that hold their wires

@@ -1,4 +1,2 @@
-pub mod Reach
-pub mod Wires
 pub mod Refusal
 pub mod Steps

@@ -1,7 +1,7 @@
--- Intermediate state of the code. Only private contracts cite it.
+-- Intermediate state of the code, and what crates of one algorithm know of one another. No promise of a command rests on it.
 pub mod OpenNets
 pub mod Places
-pub mod Judged
-pub mod Found
+pub mod Judgement
+pub mod SearchResult
 pub mod GroupSlots
-pub mod Reached
+pub mod Reach

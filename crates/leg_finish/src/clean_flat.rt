@@ -2,13 +2,13 @@
 
 ghost use Rattle.std.specs.Prelude.{◌≡◌, IfOk, IfErr};
 ghost use Rattle.leg_rules.specs.Legal.{IsCleanIn};
-ghost use Rattle.leg_finish.specs.Refusal.{IsRefusal};
+ghost use Rattle.leg_finish.specs.Refusal.{IsFinishRefusal};
 
 use crate::fault::FinishFault;
-use leg_block::Design;
-use leg_cells::{Items, Library};
+use leg_check::faults_but_open;
+use leg_design_records::Design;
 use leg_flat::{Flat, flatten};
-use leg_rules::faults_but_open;
+use leg_lib_records::{Items, Library};
 use std::alloc::Allocator;
 
 /// The flat of the design, if no violation of another kind than `OpenNet` holds; else these violations.
@@ -19,7 +19,7 @@ pub(crate) fn clean_flat<A: Allocator + Copy>(
 ) -> Result<Flat<A>, FinishFault<A>>
     requires { library.now ≡ design.now.library }
     ensures clean { IfOk result (λ flat. IsCleanIn design.now flat) }
-    ensures refused { IfErr result (λ fault. IsRefusal design.now fault) }
+    ensures refused { IfErr result (λ fault. IsFinishRefusal design.now fault) }
 {
     let flat = flatten(alloc, library, design)?;
     let faults = faults_but_open(alloc, library, design, &flat)?;

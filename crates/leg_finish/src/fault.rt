@@ -4,10 +4,10 @@ ghost use Rattle.std.specs.Prelude.{◌≡◌};
 ghost use Rattle.leg_finish.specs.declared.fault.FinishFault.TheVariants.{Memory};
 ghost use Rattle.leg_finish.specs.Refusal.{of_flat, of_grid};
 
-use leg_block::Fault;
-use leg_cells::Items;
+use leg_design_records::Fault;
 use leg_flat::FlatFault;
-use leg_grid::GridFault;
+use leg_lib_records::Items;
+use leg_route_grid::GridFault;
 use std::alloc::{AllocError, AllocFailed, Allocator};
 
 /// The cause for which a design isn't finished (lefdef's own rules). Of several, the first in this order is reported, apart from

@@ -1,15 +1,15 @@
 //! Finishing a design.
 
 ghost use Rattle.std.specs.Prelude.{◌≡◌, ◌≤◌, length, map, IfOk, IfErr, OnOk};
-ghost use Rattle.leg_block.specs.declared.limits.TheConstants.{PART_LIMIT};
-ghost use Rattle.leg_flat.specs.Metal.{metal_of};
-ghost use Rattle.leg_grid.specs.declared.limits.TheConstants.{GREATEST_GRID};
-ghost use Rattle.leg_grid.specs.GridSize.{IsGridBeyond};
+ghost use Rattle.leg_design_records.specs.declared.limits.TheConstants.{PART_LIMIT};
+ghost use Rattle.leg_rules.specs.Metal.Metal.{metal_of};
+ghost use Rattle.leg_rules.specs.declared.grid_limits.TheConstants.{GREATEST_GRID};
+ghost use Rattle.leg_rules.specs.Route.GridSize.{IsGridBeyond};
 ghost use Rattle.leg_rules.specs.Legal.{IsLegal};
-ghost use Rattle.leg_grown.specs.SameButForWires.{IsSameButForWires};
-ghost use Rattle.leg_finish.specs.Refusal.{IsRefusal};
-ghost use Rattle.leg_finish.specs.Wires.{AddsToOpenNets, HaveTotals};
-ghost use Rattle.leg_finish.specs.Steps.Judged.{AreFinishing};
+ghost use Rattle.leg_rules.specs.Route.SameButForWires.{IsSameButForWires};
+ghost use Rattle.leg_finish.specs.Refusal.{IsFinishRefusal};
+ghost use Rattle.leg_rules.specs.Finish.Wires.{AddsToOpenNets, HaveTotals};
+ghost use Rattle.leg_finish.specs.Steps.Judgement.{AreFinishing};
 
 use crate::clean_flat::clean_flat;
 use crate::fault::FinishFault;
@@ -18,16 +18,16 @@ use crate::groups::open_nets;
 use crate::layout::empty_lists;
 use crate::totals::{WireTotals, totals_of};
 use crate::unfinished::why_unfinished;
-use leg_block::laws::design_is_sound;
-use leg_block::{Design, Wire};
-use leg_cells::Library;
+use leg_design_records::laws::design_is_sound;
+use leg_design_records::{Design, Wire};
+use leg_finish_search::{Budget, Progress};
 use leg_flat::laws::{design_has_one_flat, every_design_has_a_flat};
-use leg_grid::{GREATEST_GRID, Grid};
-use leg_grown::laws::{
+use leg_lib_records::Library;
+use leg_route_grid::{GREATEST_GRID, Grid};
+use leg_route_laws::laws::{
     finished_design_is_legal, finished_design_is_same, no_wires_by_net, placement_stays,
     shapes_stay_as_many,
 };
-use leg_ripup::{Budget, Progress};
 use std::alloc::Allocator;
 
 /// The design with all its nets routed (lefdef's own rules), within the budget that lefdef takes. See `finish_within`.
@@ -45,7 +45,7 @@ pub fn finish<'a, A: Allocator + Copy, P: Progress>(
     ensures few { IfOk result (λ done. length (metal_of done.0) ≤ PART_LIMIT) }
     ensures fits { OnOk result (¬ IsGridBeyond GREATEST_GRID design.entry) }
     ensures unchanged { IfErr result (λ back. back.0 ≡ design.entry) }
-    ensures refused { IfErr result (λ back. IsRefusal design.entry back.1) }
+    ensures refused { IfErr result (λ back. IsFinishRefusal design.entry back.1) }
 {
     finish_within(alloc, library, design, Budget::DEFAULT, progress)
 }
@@ -55,7 +55,7 @@ pub fn finish<'a, A: Allocator + Copy, P: Progress>(
 /// long the new wires are together and how many of them are vias.
 ///
 /// The wires lie on the grid of tracks and are spelled as `route` of `leg_route` spells its own. They are found by negotiation (see
-/// `negotiate` of `leg_ripup`), and nothing is claimed of their lengths. The design is given only if the calls by which `check`
+/// `negotiate` of `leg_finish_search`), and nothing is claimed of their lengths. The design is given only if the calls by which `check`
 /// judges find nothing wrong with it.
 ///
 /// The library is the one that the design was read with. On each refusal the design comes back unchanged: `TooMany` where it has
@@ -78,7 +78,7 @@ pub fn finish_within<'a, A: Allocator + Copy, P: Progress>(
     ensures few { IfOk result (λ done. length (metal_of done.0) ≤ PART_LIMIT) }
     ensures fits { OnOk result (¬ IsGridBeyond GREATEST_GRID design.entry) }
     ensures unchanged { IfErr result (λ back. back.0 ≡ design.entry) }
-    ensures refused { IfErr result (λ back. IsRefusal design.entry back.1) }
+    ensures refused { IfErr result (λ back. IsFinishRefusal design.entry back.1) }
 {
     match wires_for(alloc, library, &design, budget, progress) {
         Ok(lists) => add_all(design, lists),
@@ -99,7 +99,7 @@ fn add_all<'a, A: Allocator + Copy>(
     ensures few { IfOk result (λ done. length (metal_of done.0) ≤ PART_LIMIT) }
     ensures fits { OnOk result (¬ IsGridBeyond GREATEST_GRID design.entry) }
     ensures unchanged { IfErr result (λ back. back.0 ≡ design.entry) }
-    ensures refused { IfErr result (λ back. IsRefusal design.entry back.1) }
+    ensures refused { IfErr result (λ back. IsFinishRefusal design.entry back.1) }
 {
     finished_design_is_same();
     shapes_stay_as_many();
@@ -128,7 +128,7 @@ fn wires_for<A: Allocator + Copy, P: Progress>(
 ) -> Result<Vec<Vec<Wire, A>, A>, FinishFault<A>>
     requires { library.now ≡ design.now.library }
     ensures found { IfOk result (λ lists. AreFinishing design.now (map (λ wires. wires.items) lists.items)) }
-    ensures refused { IfErr result (λ fault. IsRefusal design.now fault) }
+    ensures refused { IfErr result (λ fault. IsFinishRefusal design.now fault) }
 {
     no_wires_by_net();
     design_has_one_flat();

@@ -1,21 +1,21 @@
 //! Wires that are found for a design and judged.
 
 ghost use Rattle.std.specs.Prelude.{◌≡◌, ◌≢◌, ◌<◌, ◌≤◌, ◌^◌, [], All, AllPairs, length, IfOk};
-ghost use Rattle.leg_flat.specs.Flat.{IsFlatOf};
-ghost use Rattle.leg_finish.specs.Refusal.{ComesToSearch};
+ghost use Rattle.leg_rules.specs.Metal.Flat.{IsFlatOf};
+ghost use Rattle.leg_rules.specs.Finish.Refusal.{ComesToSearch};
 ghost use Rattle.leg_finish.specs.Steps.OpenNets.{AreOpenNets};
 ghost use Rattle.leg_finish.specs.Steps.Places.{ArePlacesIn};
-ghost use Rattle.leg_finish.specs.Steps.Found.{IsFinding};
+ghost use Rattle.leg_finish.specs.Steps.SearchResult.{IsFinding};
 
 use crate::grid_lattice::{GridLattice, parts_of};
 use crate::groups::OpenNet;
 use crate::judge::is_finished;
 use crate::layout::lay_out;
 use crate::to_join::nets_to_join;
-use leg_block::{Design, Wire};
+use leg_design_records::{Design, Wire};
+use leg_finish_search::{Budget, Negotiated, Progress, negotiate};
 use leg_flat::Flat;
-use leg_grid::{Grid, slots_beside};
-use leg_ripup::{Budget, Negotiated, Progress, negotiate};
+use leg_route_grid::{Grid, slots_beside};
 use std::alloc::{AllocError, Allocator};
 
 /// What a search comes to.

@@ -1,12 +1,12 @@
 //! The grid of a design as the lattice on which nets are routed together.
 
 ghost use Rattle.std.specs.Prelude.{◌≡◌, ◌<◌, ℕ, All, length, IfOk, OnOk};
-ghost use Rattle.leg_grid.specs.Grid.{slot_total};
+ghost use Rattle.leg_route_grid.specs.Steps.Grid.{slot_total};
 
-use leg_block::Design;
-use leg_cells::{Direction, Layer};
-use leg_grid::{Grid, Slot, SlotAccess, grid_is_sound, square};
-use leg_ripup::{Element, GridPoint, Lattice, Part};
+use leg_design_records::Design;
+use leg_finish_search::{Element, GridPoint, Lattice, Part};
+use leg_lib_records::{Direction, Layer};
+use leg_route_grid::{Grid, Slot, SlotAccess, grid_is_sound, square};
 use std::alloc::{AllocError, Allocator};
 
 /// A grid, and to which nets each of its nodes and steps is open.
@@ -19,7 +19,7 @@ pub(crate) struct GridLattice<'s, 'g, 'a, A: Allocator + Copy> {
 
 impl<'s, 'g, 'a, A: Allocator + Copy> Lattice for GridLattice<'s, 'g, 'a, A> {
     ghost use Rattle.std.specs.Prelude.{length};
-    ghost use Rattle.leg_grid.specs.Grid.{slot_total};
+    ghost use Rattle.leg_route_grid.specs.Steps.Grid.{slot_total};
 
     ghost size_of = { λ l. slot_total l.grid.now };
 

@@ -4,7 +4,7 @@ ghost use Rattle.std.specs.Prelude.{◌↔◌, ◌<◌, IsTrue, All, length, IfO
 ghost use Rattle.leg_finish.specs.Steps.GroupSlots.{IsJoinedAs, AreSlotsOf};
 
 use leg_flat::Shape;
-use leg_grid::{BoxedSlots, Grid, add_slots_in};
+use leg_route_grid::{BoxedSlots, Grid, add_slots_in};
 use std::alloc::{AllocError, Allocator};
 
 /// Whether the piece is one that is joined to this first one, or one that isn't.

@@ -1,14 +1,14 @@
 //! Which pieces of nets are joined already, and which nets are open.
 
 ghost use Rattle.std.specs.Prelude.{◌≡◌, ◌≢◌, ◌↔◌, ◌<◌, ◌≤◌, ◌+◌, ◌^◌, Any, length, IsTrue, IfOk, OnOk};
-ghost use Rattle.leg_block.specs.declared.limits.TheConstants.{PART_LIMIT};
-ghost use Rattle.leg_block.specs.Records.{DesignContents};
+ghost use Rattle.leg_design_records.specs.declared.limits.TheConstants.{PART_LIMIT};
+ghost use Rattle.leg_design_records.specs.Records.{DesignModel};
 ghost use Rattle.leg_wire.specs.NetShapes.{AreNumbersOf};
 ghost use Rattle.leg_finish.specs.Steps.OpenNets.{AreOpenNets, AreOpenNetsBelow};
 
-use leg_block::Design;
-use leg_cells::Items;
+use leg_design_records::Design;
 use leg_flat::Flat;
+use leg_lib_records::Items;
 use leg_wire::laws::joined_both_ways;
 use leg_wire::{groups_among, numbers_by_net};
 use std::alloc::{AllocError, Allocator};
@@ -40,7 +40,7 @@ fn push_if_open<A: Allocator + Copy>(
 ) -> Result<(), AllocError>
     requires net { net < length flat.now.pieces }
     requires shapes { AreNumbersOf flat.now.shapes net shapes }
-    ensures { OnOk result ((design : DesignContents) → net < length design.nets
+    ensures { OnOk result ((design : DesignModel) → net < length design.nets
         → AreOpenNetsBelow net design flat.now found.old.items → AreOpenNetsBelow (net + 1) design flat.now found.new.items) }
 {
     joined_both_ways();

@@ -1,12 +1,12 @@
 //! A flat that grows by the wires of nets.
 
 ghost use Rattle.std.specs.Prelude.{◌≡◌, ◌<◌, false, All, length, OnOk};
-ghost use Rattle.leg_block.specs.WellFormedNets.{IsWire};
-ghost use Rattle.leg_grown.specs.Growth.{Grows, of_net};
+ghost use Rattle.leg_design_records.specs.WellFormedNets.{IsWire};
+ghost use Rattle.leg_route_laws.specs.Growth.{Grows, of_net};
 
-use leg_block::{Design, Wire};
+use leg_design_records::{Design, Wire};
 use leg_flat::{Flat, FlatFault};
-use leg_grown::laws::growth_goes_on;
+use leg_route_laws::laws::growth_goes_on;
 use std::alloc::Allocator;
 
 /// Adds the wires to the net, one after another. `TooMany` is returned where the flat would have too many shapes.

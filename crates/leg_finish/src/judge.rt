@@ -1,11 +1,11 @@
 //! Whether anything is wrong with a flat that has grown.
 
 ghost use Rattle.std.specs.Prelude.{◌≡◌, ◌↔◌, ◌≤◌, ◌^◌, IsTrue, length, IfOk};
-ghost use Rattle.leg_block.specs.declared.limits.TheConstants.{PART_LIMIT};
-ghost use Rattle.leg_finish.specs.Steps.Judged.{HasNoMetalFault};
+ghost use Rattle.leg_design_records.specs.declared.limits.TheConstants.{PART_LIMIT};
+ghost use Rattle.leg_finish.specs.Steps.Judgement.{HasNoMetalFault};
 
 use crate::groups::open_nets;
-use leg_block::Design;
+use leg_design_records::Design;
 use leg_flat::Flat;
 use leg_wire::spacing_faults;
 use std::alloc::{AllocError, Allocator};

@@ -2,16 +2,16 @@
 
 ghost use Rattle.std.specs.Prelude.{◌≡◌, ◌<◌, ◌≤◌, [], IsTrue, length, map, replicate, IfOk, IfSome};
 ghost use Rattle.leg_finish.specs.Steps.OpenNets.{AreOpenNets};
-ghost use Rattle.leg_finish.specs.Steps.Judged.{IsLaidOut, IsMoreLaid};
+ghost use Rattle.leg_finish.specs.Steps.Judgement.{IsLaidOut, IsMoreLaid};
 
 use crate::groups::OpenNet;
 use crate::grow::add_wires;
 use crate::wires::wires_of_walks;
-use leg_block::{Design, Wire};
-use leg_cells::Items;
+use leg_design_records::{Design, Wire};
 use leg_flat::{Flat, FlatFault};
-use leg_grid::Grid;
-use leg_grown::laws::{growth_goes_on, more_wires_by_net, no_wires_by_net};
+use leg_lib_records::Items;
+use leg_route_grid::Grid;
+use leg_route_laws::laws::{growth_goes_on, more_wires_by_net, no_wires_by_net};
 use std::alloc::{AllocError, Allocator};
 
 /// As many empty lists.

@@ -20,6 +20,6 @@ mod wires;
 
 pub use fault::FinishFault;
 pub use finishing::{finish, finish_within};
-pub use leg_ripup::{Budget, Progress};
+pub use leg_finish_search::{Budget, Progress};
 pub use one_net::first_unreachable_piece;
 pub use totals::WireTotals;

@@ -1,15 +1,15 @@
 //! The first piece of one net that cannot be reached.
 
 ghost use Rattle.std.specs.Prelude.{◌≡◌, ◌≢◌, All, Contains, MatchOption, IfOk};
-ghost use Rattle.leg_flat.specs.Flat.{IsFlatOf};
-ghost use Rattle.leg_grid.specs.GridSize.{IsGridTooLarge};
-ghost use Rattle.leg_finish.specs.Reach.{IsFirstOfNetIfAny};
+ghost use Rattle.leg_rules.specs.Metal.Flat.{IsFlatOf};
+ghost use Rattle.leg_rules.specs.Route.GridSize.{IsGridTooLarge};
+ghost use Rattle.leg_rules.specs.Finish.Reach.{IsFirstOfNetIfAny};
 
 use crate::groups::{OpenNet, open_nets};
 use crate::reach::unreachable_piece_of;
-use leg_block::Design;
+use leg_design_records::Design;
 use leg_flat::Flat;
-use leg_grid::Grid;
+use leg_route_grid::Grid;
 use std::alloc::{AllocError, Allocator};
 
 /// The net of this number among these.

@@ -1,21 +1,23 @@
 //! The first piece that cannot be reached.
 
 ghost use Rattle.std.specs.Prelude.{◌≡◌, ◌↔◌, ◌<◌, [], IsTrue, Some, slice_get, All, length, IfOk};
-ghost use Rattle.leg_walk.specs.Marks.{AreUnseen};
-ghost use Rattle.leg_grid.specs.Grid.{slot_total};
-ghost use Rattle.leg_grid.specs.Bound.{AreBoxed};
-ghost use Rattle.leg_grid.specs.Told.{TellsSlots};
-ghost use Rattle.leg_finish.specs.Reach.{IsUnreachable, IsFirstOfNetIfAny};
+ghost use Rattle.leg_route_search.specs.Steps.FreshMarks.{AreUnseen};
+ghost use Rattle.leg_route_grid.specs.Steps.Grid.{slot_total};
+ghost use Rattle.leg_route_grid.specs.Steps.WalkBounds.{AreBoxed};
+ghost use Rattle.leg_route_grid.specs.Steps.AccessTable.{IsAccessTable};
+ghost use Rattle.leg_rules.specs.Finish.Reach.{IsUnreachable, IsFirstOfNetIfAny};
 ghost use Rattle.leg_finish.specs.Steps.OpenNets.{IsOpenWith, AreOpenNets};
-ghost use Rattle.leg_finish.specs.Steps.Reached.{HasNoWay, IsFirstUnreachableIfAny};
+ghost use Rattle.leg_finish.specs.Steps.Reach.{HasNoWay, IsFirstUnreachableIfAny};
 
 use crate::group_slots::group_slots;
 use crate::groups::OpenNet;
-use leg_block::Design;
+use leg_design_records::Design;
 use leg_flat::Flat;
-use leg_grid::laws::{nodes_have_numbers, searches_walk_as_nodes};
-use leg_grid::{BoxedSlots, Grid, NetGraph, SlotAccess, grid_is_sound, hulls_of, slots_beside};
-use leg_walk::{Mark, shortest, unseen_marks};
+use leg_route_grid::laws::{nodes_have_numbers, searches_walk_as_nodes};
+use leg_route_grid::{
+    BoxedSlots, Grid, NetGraph, SlotAccess, grid_is_sound, hulls_of, slots_beside,
+};
+use leg_route_search::{Mark, shortest, unseen_marks};
 use leg_wire::laws::{joined_both_ways, joined_onward};
 use std::alloc::{AllocError, Allocator};
 
@@ -31,7 +33,7 @@ fn has_no_way<A: Allocator + Copy>(
     marks: &mut [Mark],
     touched: &mut Vec<u32, A>,
 ) -> Result<bool, AllocError>
-    requires told { TellsSlots grid.now flat.now slots.now }
+    requires told { IsAccessTable grid.now flat.now slots.now }
     requires starts_within { All (λ n. n < slot_total grid.now) starts.now.slots.items }
     requires ends_within { All (λ n. n < slot_total grid.now) ends.now.slots.items }
     requires starts_boxed { AreBoxed grid.now starts.now.boxes.items starts.now.slots.items }
@@ -78,7 +80,7 @@ fn is_unreachable<A: Allocator + Copy>(
     marks: &mut [Mark],
     touched: &mut Vec<u32, A>,
 ) -> Result<bool, AllocError>
-    requires told { TellsSlots grid.now flat.now slots.now }
+    requires told { IsAccessTable grid.now flat.now slots.now }
     requires is_open { IsOpenWith grid.now.design flat.now net.now }
     requires least { slice_get net.now.firsts first ≡ Some first }
     requires count { length marks.old ≡ slot_total grid.now }
@@ -113,7 +115,7 @@ fn unreachable_piece<A: Allocator + Copy>(
     marks: &mut [Mark],
     touched: &mut Vec<u32, A>,
 ) -> Result<Option<u32>, AllocError>
-    requires told { TellsSlots grid.now flat.now slots.now }
+    requires told { IsAccessTable grid.now flat.now slots.now }
     requires is_open { IsOpenWith grid.now.design flat.now net.now }
     requires count { length marks.old ≡ slot_total grid.now }
     requires unseen { AreUnseen marks.old }

@@ -1,15 +1,15 @@
 //! The nodes of open nets, group by group.
 
 ghost use Rattle.std.specs.Prelude.{◌≡◌, ◌<◌, ℕ, All, length, IfOk, OnOk};
-ghost use Rattle.leg_grid.specs.Grid.{slot_total};
-ghost use Rattle.leg_ripup.specs.Slots.{AreSlots, AreSlotLists};
+ghost use Rattle.leg_route_grid.specs.Steps.Grid.{slot_total};
+ghost use Rattle.leg_finish_search.specs.Slots.{AreSlots, AreSlotLists};
 
 use crate::group_slots::group_slots;
 use crate::groups::OpenNet;
-use leg_cells::Items;
+use leg_finish_search::NetToJoin;
 use leg_flat::Flat;
-use leg_grid::{Grid, SlotAccess};
-use leg_ripup::NetToJoin;
+use leg_lib_records::Items;
+use leg_route_grid::{Grid, SlotAccess};
 use std::alloc::{AllocError, Allocator};
 
 /// The nets with their groups, and of each group the nodes that are open to the net.

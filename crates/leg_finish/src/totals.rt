@@ -2,10 +2,10 @@
 
 ghost use Rattle.std.specs.Prelude.{◌≡◌, ◌+◌, ◌<◌, ◌≤◌, ◌*◌, ◌^◌, ◌-ℤ◌, cond, length, sum_by, count_by, unsigned_abs};
 ghost use Rattle.leg_geom.specs.declared.limits.TheConstants.{COORDINATE_LIMIT};
-ghost use Rattle.leg_block.specs.declared.limits.TheConstants.{PART_LIMIT};
-ghost use Rattle.leg_finish.specs.Wires.{wire_length, is_via};
+ghost use Rattle.leg_design_records.specs.declared.limits.TheConstants.{PART_LIMIT};
+ghost use Rattle.leg_rules.specs.Finish.Wires.{wire_length, is_via};
 
-use leg_block::Wire;
+use leg_design_records::Wire;
 use leg_geom::Point;
 use std::alloc::Allocator;
 

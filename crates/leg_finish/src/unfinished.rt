@@ -2,10 +2,10 @@
 
 ghost use Rattle.std.specs.Prelude.{◌≡◌, length, IfOk, IfErr};
 ghost use Rattle.std.specs.List.{AllZip};
-ghost use Rattle.leg_flat.specs.Flat.{FlatSaid, IsFlatOf};
-ghost use Rattle.leg_grid.specs.declared.limits.TheConstants.{GREATEST_GRID};
-ghost use Rattle.leg_grid.specs.GridSize.{IsGridBeyond};
-ghost use Rattle.leg_finish.specs.Refusal.{IsRefusal};
+ghost use Rattle.leg_rules.specs.Metal.Flat.{FlatModel, IsFlatOf};
+ghost use Rattle.leg_rules.specs.declared.grid_limits.TheConstants.{GREATEST_GRID};
+ghost use Rattle.leg_rules.specs.Route.GridSize.{IsGridBeyond};
+ghost use Rattle.leg_finish.specs.Refusal.{IsFinishRefusal};
 ghost use Rattle.leg_finish.specs.Steps.OpenNets.{AreOpenNets};
 ghost use Rattle.leg_finish.specs.Steps.Places.{ArePlacesIn, IsNetAt};
 
@@ -13,9 +13,9 @@ use crate::clean_flat::clean_flat;
 use crate::fault::FinishFault;
 use crate::groups::OpenNet;
 use crate::reach::first_unreachable;
-use leg_block::Design;
-use leg_cells::{Items, Library};
-use leg_grid::Grid;
+use leg_design_records::Design;
+use leg_lib_records::{Items, Library};
+use leg_route_grid::Grid;
 use std::alloc::{AllocError, Allocator};
 
 /// The numbers of the nets of these places.
@@ -47,10 +47,10 @@ fn cause_of<A: Allocator + Copy>(
     requires library { library.now ≡ design.now.library }
     requires of_design { grid.now.design ≡ design.now }
     requires fits { ¬ IsGridBeyond GREATEST_GRID design.now }
-    requires nets { (flat : FlatSaid) → IsFlatOf design.now flat → AreOpenNets design.now flat nets.now }
+    requires nets { (flat : FlatModel) → IsFlatOf design.now flat → AreOpenNets design.now flat nets.now }
     requires left { ArePlacesIn (length nets.now) left.now }
-    ensures cause { IfOk result (λ fault. IsRefusal design.now fault) }
-    ensures refused { IfErr result (λ fault. IsRefusal design.now fault) }
+    ensures cause { IfOk result (λ fault. IsFinishRefusal design.now fault) }
+    ensures refused { IfErr result (λ fault. IsFinishRefusal design.now fault) }
 {
     let flat = clean_flat(alloc, library, design)?;
     let unreachable = first_unreachable(alloc, grid, design, &flat, nets)?;
@@ -73,9 +73,9 @@ pub(crate) fn why_unfinished<A: Allocator + Copy>(
     requires library { library.now ≡ design.now.library }
     requires of_design { grid.now.design ≡ design.now }
     requires fits { ¬ IsGridBeyond GREATEST_GRID design.now }
-    requires nets { (flat : FlatSaid) → IsFlatOf design.now flat → AreOpenNets design.now flat nets.now }
+    requires nets { (flat : FlatModel) → IsFlatOf design.now flat → AreOpenNets design.now flat nets.now }
     requires left { ArePlacesIn (length nets.now) left.now }
-    ensures { IsRefusal design.now result }
+    ensures { IsFinishRefusal design.now result }
 {
     match cause_of(alloc, library, design, grid, nets, left) {
         Ok(fault) => fault,

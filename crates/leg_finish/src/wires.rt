@@ -1,11 +1,11 @@
 //! The wires of walks.
 
 ghost use Rattle.std.specs.Prelude.{◌≡◌, false, All, IfOk, IfSome};
-ghost use Rattle.leg_block.specs.WellFormedNets.{IsWire};
+ghost use Rattle.leg_design_records.specs.WellFormedNets.{IsWire};
 
-use leg_block::{Design, Wire};
-use leg_cells::Items;
-use leg_grid::{Grid, is_walk, nodes_of, wires_of};
+use leg_design_records::{Design, Wire};
+use leg_lib_records::Items;
+use leg_route_grid::{Grid, is_walk, nodes_of, wires_of};
 use std::alloc::{AllocError, Allocator};
 
 /// The wires of a walk, given by the numbers of its slots. None where it is no walk over the grid.

@@ -4,14 +4,14 @@ use Rattle.std.specs.List.{range_with_len}
 use Rattle.std.proofs.lemmas.List.{length-map}
 use Rattle.std.proofs.lemmas.List.Elements.{All-map}
 use Rattle.std.proofs.lemmas.List.FromFn.{length-range_with_len, length-map-range_with_len}
-use Rattle.leg_cells.specs.Scale.{OneForOne}
-use Rattle.leg_block.specs.declared.limits.TheConstants.{PART_LIMIT}
-use Rattle.leg_block.specs.Records.{DesignContents}
-use Rattle.leg_block.specs.WellFormedNets.{HasNets}
-use Rattle.leg_flat.specs.declared.piece.Piece.{Piece}
-use Rattle.leg_flat.specs.declared.piece.Piece.TheVariants.{Term, Wire}
-use Rattle.leg_flat.specs.Nets.{regular_entry, special_entry, entry_wires, terminals_of, wires_of, pieces_of}
-use Rattle.leg_flat.specs.Flat.{ArePieces}
+use Rattle.leg_lib_records.specs.Scale.{OneForOne}
+use Rattle.leg_design_records.specs.declared.limits.TheConstants.{PART_LIMIT}
+use Rattle.leg_design_records.specs.Records.{DesignModel}
+use Rattle.leg_design_records.specs.WellFormedNets.{HasNets}
+use Rattle.leg_rules.specs.declared.piece.Piece.{Piece}
+use Rattle.leg_rules.specs.declared.piece.Piece.TheVariants.{Term, Wire}
+use Rattle.leg_rules.specs.Metal.Nets.{regular_entry, special_entry, entry_wires, terminals_of, wires_of, pieces_of}
+use Rattle.leg_flat.specs.Limits.{ArePieces}
 use Rattle.leg_flat.specs.Steps.Places.{net_numbers}
 use Rattle.leg_flat.proofs.NetSizes.{few_wires}
 use Rattle.leg_flat.proofs.MetalSizes.{terminals_few}
@@ -23,7 +23,7 @@ same_length R [] (y ∷ ys) one = absurd one
 same_length R (x ∷ xs) [] one = absurd one
 same_length R (x ∷ xs) (y ∷ ys) one = omega (arith, same_length R xs ys one.1)
 
-module _ (design : DesignContents) (has : HasNets design) where
+module _ (design : DesignModel) (has : HasNets design) where
   few_pieces : (n : ℕ) → length (pieces_of design n) ≤ 2 * PART_LIMIT
   unfolding pieces_of wires_of
   few_pieces n =

@@ -4,10 +4,10 @@ use Rattle.std.specs.List.{range_with_len}
 use Rattle.std.proofs.lemmas.List.{length-append, length-map, get_or-append-add, append-nil}
 use Rattle.std.proofs.lemmas.List.FromFn.{length-map-range_with_len, get_or-map-range_with_len}
 use Rattle.std.proofs.lemmas.Option.{slice_get-get_or, slice_get-map, same_Some, none-some}
-use Rattle.leg_block.specs.declared.records.Terminal.{Terminal}
-use Rattle.leg_flat.specs.declared.piece.Piece.{Piece}
-use Rattle.leg_flat.specs.declared.piece.Piece.TheVariants.{Term, Wire}
-use Rattle.leg_flat.specs.Flat.{pieces_with}
+use Rattle.leg_design_records.specs.declared.records.Terminal.{Terminal}
+use Rattle.leg_rules.specs.declared.piece.Piece.{Piece}
+use Rattle.leg_rules.specs.declared.piece.Piece.TheVariants.{Term, Wire}
+use Rattle.leg_rules.specs.Metal.Flat.{pieces_with}
 
 abbrev last_piece : List Piece → Option Piece
 last_piece pieces = slice_get pieces (length pieces - 1)
@@ -58,7 +58,3 @@ wires_by_wire terminals (suc m) last is =
 pub wires_by_terminal : (terminals : List Terminal) (wires : ℕ) (terminal : Terminal) → last_piece (pieces_with terminals wires) ≡ Some (Term terminal) → 0 ≡ wires
 wires_by_terminal terminals zero terminal is = refl
 wires_by_terminal terminals (suc m) terminal is = absurd (differ terminal m (sym (same_Some (Wire m) (Term terminal) (sym (last_is_wire terminals m) ∙ is))))
-
-pub wires_by_none : (terminals : List Terminal) (wires : ℕ) → last_piece (pieces_with terminals wires) ≡ None → 0 ≡ wires
-wires_by_none terminals zero is = refl
-wires_by_none terminals (suc m) is = absurd (none-some (Wire m) (sym is ∙ last_is_wire terminals m))

@@ -1,6 +1,6 @@
 -- Outlines and the rectangles that they are
 mod Outlines
-mod OutlineLines
+pub mod OutlineLines
 -- Nets by their numbers
 mod NetIndexes
 mod NetNumbers
@@ -9,14 +9,14 @@ mod NetOfTerminal
 -- The pieces of nets, and where terminals are
 mod PieceTables
 mod PlacesAmong
-mod PlacesAdded
+mod MorePlaces
 mod NetTerminals
 mod NetSizes
 mod NetPlaces
-mod NetMade
-mod NetDone
+mod NetPieces
+mod AllNets
 -- The metal of a design, shape by shape
-mod MetalAdded
+mod MoreMetal
 mod MetalWalks
 mod MetalOwners
 mod MetalKnown
@@ -30,7 +30,7 @@ mod MetalRects
 mod SomeFlat
 -- Laws: numbers of nets and of pieces
 mod EntryNames
-mod Given
+mod ListPlaces
 mod PiecePlaces
 mod MetalCases
 mod MetalPieces
@@ -39,10 +39,10 @@ mod PieceMetal
 mod MetalSources
 mod LoneTerminals
 -- Limits
-mod Counted
+mod Counts
 mod ShapeCounts
 mod FlatWithin
-mod GotElements
+mod Elements
 -- What the proofs of other crates cite
 pub mod OneFlat
 pub mod Parts

@@ -2,34 +2,34 @@
 use Rattle.std.proofs.Common.{◌≡◌, ℕ, ◌+◌, ◌⊎◌, inl, inr, List, length, map, slice_get, Contains, Option, None, Some, refl, sym, ap, ◌∙◌, subst, zero-add, add-zero, arith}
 use Rattle.std.proofs.lemmas.List.Elements.{Contains-append_cases}
 use Rattle.leg_geom.specs.declared.place.Place.{Place}
-use Rattle.leg_cells.specs.Records as library
-use Rattle.leg_block.specs.declared.records.Component.{Component}
-use Rattle.leg_block.specs.declared.records.Terminal.{Terminal}
-use Rattle.leg_block.specs.declared.records.Terminal.TheVariants.{Comp, Pin}
-use Rattle.leg_block.specs.declared.records.Wire as records
-use Rattle.leg_block.specs.Records.{DesignContents, BlockageSaid}
-use Rattle.leg_block.specs.WellFormedNets.{HasNets}
-use Rattle.leg_flat.specs.declared.owner.Owner.TheVariants.{Obs}
-use Rattle.leg_flat.specs.declared.piece.Piece.TheVariants.{Wire}
-use Rattle.leg_flat.specs.Nets.{number_of_special, terminals_of, wires_of, regular_entry, special_entry, entry_wires}
-use Rattle.leg_flat.specs.Metal.{OnLayer, Metal, belonging, drawn, pins_metal, component_metal, components_metal, ports_outlines, design_pins_metal, blockage_metal, blockages_metal, wire_outlines, wires_metal, nets_metal, specials_metal, metal_parts, metal_of}
-use Rattle.leg_flat.specs.Pieces.{IsOfTerminal, IsOfPiece, of_piece}
+use Rattle.leg_lib_records.specs.Records as library
+use Rattle.leg_design_records.specs.declared.records.Component.{Component}
+use Rattle.leg_design_records.specs.declared.records.Terminal.{Terminal}
+use Rattle.leg_design_records.specs.declared.records.Terminal.TheVariants.{Comp, Pin}
+use Rattle.leg_design_records.specs.declared.records.Wire as records
+use Rattle.leg_design_records.specs.Records.{DesignModel, BlockageModel}
+use Rattle.leg_design_records.specs.WellFormedNets.{HasNets}
+use Rattle.leg_rules.specs.declared.owner.Owner.TheVariants.{Obs}
+use Rattle.leg_rules.specs.declared.piece.Piece.TheVariants.{Wire}
+use Rattle.leg_rules.specs.Metal.Nets.{number_of_special, terminals_of, wires_of, regular_entry, special_entry, entry_wires}
+use Rattle.leg_rules.specs.Metal.Metal.{OnLayer, Metal, belonging, drawn, pins_metal, component_metal, components_metal, ports_outlines, design_pins_metal, blockage_metal, blockages_metal, wire_outlines, wires_metal, nets_metal, specials_metal, metal_parts, metal_of}
+use Rattle.leg_rules.specs.Metal.Pieces.{IsOfTerminal, IsMetalOfPiece, of_piece}
 use Rattle.leg_flat.specs.Sources.{IsOfComponentObstruction, of_obstruction, IsOfBlockage, of_blockage, of_terminal_shape}
 use Rattle.leg_flat.proofs.NetOf.{contains_at}
-use Rattle.leg_flat.proofs.NetDone.{special_of}
+use Rattle.leg_flat.proofs.AllNets.{special_of}
 use Rattle.leg_flat.proofs.MetalWalks.{pin_metal, pins_walk, one_component, components_walk, design_pin_metal, design_pins_walk, rect_on, one_blockage, blockages_walk, wire_metal, wires_walk, net_metal, nets_walk, one_special, specials_walk}
-use Rattle.leg_flat.proofs.Given.{comes, given, given_at}
+use Rattle.leg_flat.proofs.ListPlaces.{comes, given, given_at}
 use Rattle.leg_flat.proofs.Parts.{nothing_in, by_part}
 use Rattle.leg_flat.proofs.PiecePlaces.{regular_wire, special_wire}
 
 -- What holds of each obstruction of a component, of each rectangle of a blockage, of each shape of a terminal and of each shape of
 -- a wire, holds of all metal.
-module _ (design : DesignContents) (has : HasNets design) (Q : Metal → Type 0)
+module _ (design : DesignModel) (has : HasNets design) (Q : Metal → Type 0)
     (obstruction : (c : ℕ) (shape : OnLayer) → IsOfComponentObstruction design c shape → Q (of_obstruction c shape))
     (blockage : (k : ℕ) (shape : OnLayer) → IsOfBlockage design k shape → Q (of_blockage k shape))
     (terminal : (t : Terminal) (shape : OnLayer) → IsOfTerminal design t shape → Q (of_terminal_shape design t shape))
-    (wire : (n w : ℕ) (shape : OnLayer) → IsOfPiece design n (Wire w) shape → Q (of_piece n (length (terminals_of design n) + w) (Wire w) shape)) where
-  of_pins : (c : ℕ) (component : Component) (place : Place) (master : library.MasterSaid) (m : Metal) → slice_get design.components c ≡ Some component → component.place ≡ Some place → slice_get design.library.masters component.master ≡ Some master → Contains (pins_metal design c place master.size 0 master.pins) m → Q m
+    (wire : (n w : ℕ) (shape : OnLayer) → IsMetalOfPiece design n (Wire w) shape → Q (of_piece n (length (terminals_of design n) + w) (Wire w) shape)) where
+  of_pins : (c : ℕ) (component : Component) (place : Place) (master : library.MasterModel) (m : Metal) → slice_get design.components c ≡ Some component → component.place ≡ Some place → slice_get design.library.masters component.master ≡ Some master → Contains (pins_metal design c place master.size 0 master.pins) m → Q m
   of_pins c component place master m at placed is there =
       let it = given_at (pin_metal design c place master.size) master.pins _ m (pins_walk design c place master.size 0 master.pins) there in
       let from = comes _ (drawn place master.size it.x.shapes) m it.given in
@@ -47,7 +47,7 @@ module _ (design : DesignContents) (has : HasNets design) (Q : Metal → Type 0)
 
   of_component : (c : ℕ) (component : Component) (m : Metal) → slice_get design.components c ≡ Some component → Contains (one_component design c component) m → Q m
   of_component c component m at there = by component.place refl (slice_get design.library.masters component.master) refl there where
-    by : (place : Option Place) → component.place ≡ place → (master : Option library.MasterSaid) → slice_get design.library.masters component.master ≡ master → Contains (component_metal design c place master) m → Q m
+    by : (place : Option Place) → component.place ≡ place → (master : Option library.MasterModel) → slice_get design.library.masters component.master ≡ master → Contains (component_metal design c place master) m → Q m
     by None placed None is there = absurd (nothing_in m there)
     by None placed (Some master) is there = absurd (nothing_in m there)
     by (Some place) placed None is there = absurd (nothing_in m there)
@@ -83,7 +83,7 @@ module _ (design : DesignContents) (has : HasNets design) (Q : Metal → Type 0)
       let shape = contains_at (ports_outlines it.x.ports) from.k from.x from.there in
       subst Q from.is (terminal (Pin it.i) from.x (it.x, it.there, shape))
 
-  of_blockage_at : (k : ℕ) (said : BlockageSaid) (m : Metal) → slice_get design.blockages k ≡ Some said → Contains (one_blockage k said) m → Q m
+  of_blockage_at : (k : ℕ) (said : BlockageModel) (m : Metal) → slice_get design.blockages k ≡ Some said → Contains (one_blockage k said) m → Q m
   of_blockage_at k said m at there = by said.layer refl there where
     by : (layer : Option ℕ) → said.layer ≡ layer → Contains (blockage_metal k layer said.rects) m → Q m
     by None is there = absurd (nothing_in m there)

@@ -2,17 +2,17 @@
 use Rattle.std.proofs.Common.{◌≡◌, ◌↔◌, ℕ, ℤ, List, [], ◌∷◌, ◌++◌, Result, Ok, Err, OnOk, w64, to_z, of_z, refl, ◌∙◌, arith}
 use Rattle.std.proofs.lemmas.Int.{ints, to_z-of_z}
 use Rattle.leg_lex.specs.Number.{IsNumber}
-use Rattle.leg_geom.specs.Plane.{Spot, Sides, IsRect, HasPoint}
-use Rattle.leg_cells.specs.Measure.{Lengths, IsExtent}
-use Rattle.leg_block.specs.declared.records.Wire.TheVariants.{Segment}
-use Rattle.leg_block.specs.Records.{DesignContents}
-use Rattle.leg_flat.specs.declared.shape.Shape.{Shape}
-use Rattle.leg_flat.specs.Outline.{HasPointOf}
-use Rattle.leg_flat.specs.Outline.Outline.{Line}
-use Rattle.leg_flat.specs.Metal.{Belonging, belonging, wire_outlines}
+use Rattle.leg_geom.specs.Plane.{PointModel, RectModel, IsRect, HasPoint}
+use Rattle.leg_lib_records.specs.Measure.{ExtentModel, IsExtent}
+use Rattle.leg_design_records.specs.declared.records.Wire.TheVariants.{Segment}
+use Rattle.leg_design_records.specs.Records.{DesignModel}
+use Rattle.leg_rules.specs.declared.shape.Shape.{Shape}
+use Rattle.leg_rules.specs.Metal.Outline.{HasPointOf}
+use Rattle.leg_rules.specs.Metal.Outline.Outline.{Line}
+use Rattle.leg_rules.specs.Metal.Metal.{Belonging, belonging, wire_outlines}
 use Rattle.leg_flat.specs.Steps.Bounds.{IsLineWithin}
 use Rattle.leg_flat.specs.Steps.AddedMetal.{AddsMetal}
-use Rattle.leg_flat.proofs.MetalAdded.{adds_one}
+use Rattle.leg_flat.proofs.MoreMetal.{adds_one}
 
 -- what follows where there is no refusal
 pub on_ok : {T E : Type 0} (r : Result T E) (P Q : Type 0) → (P → Q) → OnOk r P → OnOk r Q
@@ -22,17 +22,17 @@ on_ok (Err e) P Q follows p = tt
 pub kept_number : (z : ℤ) → IsNumber z → to_z w64 (of_z w64 z) ≡ z
 kept_number z n = grind (arith, ints, to_z-of_z)
 
-same_size : (w h : ℤ) (size : Lengths) → w ≡ size.width → h ≡ size.height → record { width = w; height = h } ≡ size
+same_size : (w h : ℤ) (size : ExtentModel) → w ≡ size.width → h ≡ size.height → record { width = w; height = h } ≡ size
 same_size w h size e f = rw (e, f) refl
 
-pub kept_size : (w h : ℤ) (size : Lengths) → w ≡ size.width → h ≡ size.height → IsExtent size → record { width = to_z w64 (of_z w64 w); height = to_z w64 (of_z w64 h) } ≡ size
+pub kept_size : (w h : ℤ) (size : ExtentModel) → w ≡ size.width → h ≡ size.height → IsExtent size → record { width = to_z w64 (of_z w64 w); height = to_z w64 (of_z w64 h) } ≡ size
 kept_size w h size e f is =
     let width : IsNumber w = rw e is.width in
     let height : IsNumber h = rw f is.height in
     same_size _ _ size (kept_number w width ∙ e) (kept_number h height ∙ f)
 
 -- a segment is one shape
-pub segment_adds : (design : DesignContents) (layer : ℕ) (from to : Spot) (width ext_from ext_to : ℤ) (belongs : Belonging) (s after : List Shape) (rect : Sides) → IsRect rect → IsLineWithin from to width ext_from ext_to → ((p : Spot) → HasPoint rect p ↔ HasPointOf (Line from to (to_z w64 (of_z w64 width)) (to_z w64 (of_z w64 ext_from)) (to_z w64 (of_z w64 ext_to))) p) → after ≡ s ++ record { layer = layer; rect = rect; owner = belongs.owner; component = belongs.component; piece = belongs.piece } ∷ [] → AddsMetal (belonging belongs (wire_outlines design (Segment layer from to width ext_from ext_to))) s after
+pub segment_adds : (design : DesignModel) (layer : ℕ) (from to : PointModel) (width ext_from ext_to : ℤ) (belongs : Belonging) (s after : List Shape) (rect : RectModel) → IsRect rect → IsLineWithin from to width ext_from ext_to → ((p : PointModel) → HasPoint rect p ↔ HasPointOf (Line from to (to_z w64 (of_z w64 width)) (to_z w64 (of_z w64 ext_from)) (to_z w64 (of_z w64 ext_to))) p) → after ≡ s ++ record { layer = layer; rect = rect; owner = belongs.owner; component = belongs.component; piece = belongs.piece } ∷ [] → AddsMetal (belonging belongs (wire_outlines design (Segment layer from to width ext_from ext_to))) s after
 segment_adds design layer from to width ext_from ext_to belongs s after rect proper is points grown =
     let e = kept_number width is.wide.within in
     let f = kept_number ext_from is.before.within in

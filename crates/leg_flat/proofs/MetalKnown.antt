@@ -4,16 +4,16 @@ use Rattle.std.proofs.lemmas.List.Elements.{All-append}
 use Rattle.std.proofs.lemmas.Option.{slice_get_within, get_or_from_slice_get}
 use Rattle.leg_lex.specs.declared.limits.TheConstants.{NUMBER_LIMIT}
 use Rattle.leg_lex.specs.Number.{IsNumber}
-use Rattle.leg_geom.specs.Plane.{Sides}
+use Rattle.leg_geom.specs.Plane.{RectModel}
 use Rattle.leg_geom.specs.declared.place.Place.{Place}
-use Rattle.leg_cells.specs.declared.records.Shape.{Shape}
-use Rattle.leg_cells.specs.Records.{Contents, ViaSaid}
-use Rattle.leg_block.specs.declared.records.Status.{Status}
-use Rattle.leg_block.specs.declared.records.Status.TheVariants.{Unplaced, Placed, Fixed, Cover}
-use Rattle.leg_block.specs.Records.{DesignContents, PortSaid}
-use Rattle.leg_block.specs.WellFormedParts.{IsPlaced, IsArea, IsMetalShape, IsDesignVia, IsPort}
-use Rattle.leg_block.specs.WellFormed.{IsWellFormed}
-use Rattle.leg_cells.specs.Sound.{AreWithin, AreShapesWithin, IsSoundVia, IsSound}
+use Rattle.leg_lib_records.specs.declared.records.Shape.{Shape}
+use Rattle.leg_lib_records.specs.Records.{LibraryModel, ViaModel}
+use Rattle.leg_design_records.specs.declared.records.Status.{Status}
+use Rattle.leg_design_records.specs.declared.records.Status.TheVariants.{Unplaced, Placed, Fixed, Cover}
+use Rattle.leg_design_records.specs.Records.{DesignModel, PortModel}
+use Rattle.leg_design_records.specs.WellFormedParts.{IsPlaced, IsArea, IsMetalShape, IsDesignVia, IsPort}
+use Rattle.leg_design_records.specs.WellFormed.{IsWellFormed}
+use Rattle.leg_lib_records.specs.Sound.{AreWithin, AreShapesWithin, IsSoundVia, IsSound}
 use Rattle.leg_flat.specs.Steps.Bounds.{IsSumWithin, IsDrawnWithin}
 use Rattle.leg_flat.specs.Steps.AddedMetal.{AreDrawnWithin, IsPlaceWithin, IsPortWithin}
 
@@ -34,7 +34,7 @@ drawn_of_sums s w = record { x1 = w.x1; y1 = w.y1; x2 = w.x2; y2 = w.y2 }
 drawn_of_numbers : (s : Shape) → AreWithin NUMBER_LIMIT s.rect → IsDrawnWithin s.rect
 drawn_of_numbers s w = record { x1 = omega arith; y1 = omega arith; x2 = omega arith; y2 = omega arith }
 
-pub drawn_of_area : (r : Sides) → IsArea r → IsDrawnWithin r
+pub drawn_of_area : (r : RectModel) → IsArea r → IsDrawnWithin r
 drawn_of_area r a = record {
   x1 = sum_of_number r.x1 a.x1;
   y1 = sum_of_number r.y1 a.y1;
@@ -42,23 +42,23 @@ drawn_of_area r a = record {
   y2 = sum_of_number r.y2 a.y2;
 }
 
-drawn_of_metal : (library : Contents) (s : Shape) → IsMetalShape library s → IsDrawnWithin s.rect
+drawn_of_metal : (library : LibraryModel) (s : Shape) → IsMetalShape library s → IsDrawnWithin s.rect
 drawn_of_metal library s m = drawn_of_area s.rect m.rect
 
 -- shapes of a macro
 pub master_drawn : (shapes : List Shape) → AreShapesWithin (2 * NUMBER_LIMIT) shapes → AreDrawnWithin shapes
 master_drawn shapes all = all_follow (λ s. AreWithin (2 * NUMBER_LIMIT) s.rect) (λ s. IsDrawnWithin s.rect) drawn_of_sums shapes all
 
-library_via_drawn : (via : ViaSaid) → IsSoundVia via → AreDrawnWithin via.shapes
+library_via_drawn : (via : ViaModel) → IsSoundVia via → AreDrawnWithin via.shapes
 library_via_drawn via all = all_follow (λ s. AreWithin NUMBER_LIMIT s.rect) (λ s. IsDrawnWithin s.rect) drawn_of_numbers via.shapes all
 
-design_via_drawn : (library : Contents) (via : ViaSaid) → IsDesignVia library via → AreDrawnWithin via.shapes
+design_via_drawn : (library : LibraryModel) (via : ViaModel) → IsDesignVia library via → AreDrawnWithin via.shapes
 design_via_drawn library via is = all_follow (IsMetalShape library) (λ s. IsDrawnWithin s.rect) (drawn_of_metal library) via.shapes is.shapes
 
 -- shapes of a via, of the library or of the design
-pub via_drawn : (design : DesignContents) (number : ℕ) (via : ViaSaid) → IsSound design.library → IsWellFormed design → slice_get (design.library.vias ++ design.vias) number ≡ Some via → AreDrawnWithin via.shapes
+pub via_drawn : (design : DesignModel) (number : ℕ) (via : ViaModel) → IsSound design.library → IsWellFormed design → slice_get (design.library.vias ++ design.vias) number ≡ Some via → AreDrawnWithin via.shapes
 via_drawn design number via sound proper is =
-    let drawn = λ (v : ViaSaid). AreDrawnWithin v.shapes in
+    let drawn = λ (v : ViaModel). AreDrawnWithin v.shapes in
     all_at drawn (design.library.vias ++ design.vias) number via is
     (All-append drawn design.library.vias design.vias
     (all_follow IsSoundVia drawn library_via_drawn design.library.vias sound.vias)
@@ -71,7 +71,7 @@ placed_within Placed (Some place) is = is
 placed_within Fixed (Some place) is = is
 placed_within Cover (Some place) is = is
 
-pub port_within : (library : Contents) (port : PortSaid) → IsPort library port → IsPortWithin port
+pub port_within : (library : LibraryModel) (port : PortModel) → IsPort library port → IsPortWithin port
 port_within library port is = record {
   place = placed_within port.status port.place is.placed;
   shapes = all_follow (IsMetalShape library) (λ s. IsDrawnWithin s.rect) (drawn_of_metal library) port.shapes is.shapes;

@@ -1,29 +1,29 @@
 -- Metal of a net is a shape of the piece whose number it has.
 use Rattle.std.proofs.Common.{◌≡◌, ℕ, ◌+◌, length, slice_get, Contains, Option, None, Some, refl}
 use Rattle.std.proofs.lemmas.Option.{slice_get_within}
-use Rattle.leg_cells.specs.declared.records.Supply.{Supply}
-use Rattle.leg_cells.specs.declared.records.Supply.TheVariants.{NoSupply, Power, Ground}
-use Rattle.leg_cells.specs.Records as library
-use Rattle.leg_block.specs.declared.records.Terminal.{Terminal}
-use Rattle.leg_block.specs.declared.records.Terminal.TheVariants.{Comp, Pin}
-use Rattle.leg_block.specs.declared.records.Wire as records
-use Rattle.leg_block.specs.Records.{DesignContents}
-use Rattle.leg_block.specs.WellFormed.{IsWellFormed}
-use Rattle.leg_block.specs.WellFormedNets.{HasNets}
-use Rattle.leg_flat.specs.declared.owner.Owner.TheVariants.{Net}
-use Rattle.leg_flat.specs.declared.piece.Piece.TheVariants.{Term, Wire}
-use Rattle.leg_flat.specs.Nets.{terminals_of, wires_of}
-use Rattle.leg_flat.specs.Owner.{net_of, owner_by_use, master_pin, lone_owner, owner_of, piece_of}
-use Rattle.leg_flat.specs.Metal.{OnLayer, Metal, of_terminal, wire_outlines, metal_of}
-use Rattle.leg_flat.specs.Pieces.{IsOfTerminal, terminal_component, HasItsPiece}
-use Rattle.leg_flat.proofs.NetDone.{net_in}
+use Rattle.leg_lib_records.specs.declared.records.Supply.{Supply}
+use Rattle.leg_lib_records.specs.declared.records.Supply.TheVariants.{NoSupply, Power, Ground}
+use Rattle.leg_lib_records.specs.Records as library
+use Rattle.leg_design_records.specs.declared.records.Terminal.{Terminal}
+use Rattle.leg_design_records.specs.declared.records.Terminal.TheVariants.{Comp, Pin}
+use Rattle.leg_design_records.specs.declared.records.Wire as records
+use Rattle.leg_design_records.specs.Records.{DesignModel}
+use Rattle.leg_design_records.specs.WellFormed.{IsWellFormed}
+use Rattle.leg_design_records.specs.WellFormedNets.{HasNets}
+use Rattle.leg_rules.specs.declared.owner.Owner.TheVariants.{Net}
+use Rattle.leg_rules.specs.declared.piece.Piece.TheVariants.{Term, Wire}
+use Rattle.leg_rules.specs.Metal.Nets.{terminals_of, wires_of}
+use Rattle.leg_rules.specs.Metal.Owner.{net_of, owner_by_use, master_pin, lone_owner, owner_of, piece_of}
+use Rattle.leg_rules.specs.Metal.Metal.{OnLayer, Metal, of_terminal, wire_outlines, metal_of}
+use Rattle.leg_rules.specs.Metal.Pieces.{IsOfTerminal, terminal_component, HasItsPiece}
+use Rattle.leg_flat.proofs.AllNets.{net_in}
 use Rattle.leg_flat.proofs.PlacesAmong.{has_place}
 use Rattle.leg_flat.proofs.MetalCases.{each_metal}
 use Rattle.leg_flat.proofs.PiecePlaces.{at_place, terminal_piece, wire_piece}
 
-module _ (design : DesignContents) (has : HasNets design) where
+module _ (design : DesignModel) (has : HasNets design) where
   -- metal of a terminal in no net
-  by_use : (metal : OnLayer) (component : Option ℕ) (t : Terminal) (pin : Option library.MasterPinSaid) → HasItsPiece design (record { metal = metal; belongs = record { owner = owner_by_use t pin; component = component; piece = None } })
+  by_use : (metal : OnLayer) (component : Option ℕ) (t : Terminal) (pin : Option library.MasterPinModel) → HasItsPiece design (record { metal = metal; belongs = record { owner = owner_by_use t pin; component = component; piece = None } })
   by_use metal component t None = refl
   by_use metal component t (Some pin) = by pin.supply refl where
     by : (supply : Supply) → pin.supply ≡ supply → HasItsPiece design (record { metal = metal; belongs = record { owner = owner_by_use t (Some pin); component = component; piece = None } })
@@ -68,7 +68,7 @@ module _ (design : DesignContents) (has : HasNets design) where
     },
   )
 
-pub metal_has : (design : DesignContents) → IsWellFormed design → (m : Metal) → Contains (metal_of design) m → HasItsPiece design m
+pub metal_has : (design : DesignModel) → IsWellFormed design → (m : Metal) → Contains (metal_of design) m → HasItsPiece design m
 metal_has design proper =
     each_metal design proper.nets (HasItsPiece design)
     (λ c shape is. refl)

@@ -2,24 +2,24 @@
 use Rattle.std.proofs.Common.{◌≡◌, ℕ, suc, Bool, true, false, List, [], ◌∷◌, ◌++◌, map, Option, None, Some, slice_get, All, refl}
 use Rattle.std.proofs.lemmas.List.Elements.{All-nil, All-cons, All-head, All-tail, All-same, All-append, All-map}
 use Rattle.leg_lex.specs.Number.{IsNumber}
-use Rattle.leg_geom.specs.Plane.{Spot, Sides}
+use Rattle.leg_geom.specs.Plane.{PointModel, RectModel}
 use Rattle.leg_geom.specs.declared.place.Place.{Place}
-use Rattle.leg_cells.specs.declared.records.Shape.{Shape}
-use Rattle.leg_cells.specs.Measure.{Lengths, IsProper}
-use Rattle.leg_cells.specs.Records.{Contents, ViaSaid, MasterPinSaid, MasterSaid}
-use Rattle.leg_cells.specs.Sound.{IsSoundMaster, IsSound}
-use Rattle.leg_block.specs.declared.records.Wire.{Wire}
-use Rattle.leg_block.specs.declared.records.Wire.TheVariants.{Segment, ViaAt, Patch}
-use Rattle.leg_block.specs.Records.{DesignContents, PortSaid, PinSaid}
-use Rattle.leg_block.specs.WellFormedParts.{IsPosition, IsArea, IsComponent, IsMetalShape, IsDesignVia, IsPort, IsPin, IsBlockage}
-use Rattle.leg_block.specs.WellFormedNets.{IsWire, IsNet}
-use Rattle.leg_block.specs.WellFormed.{IsWellFormed}
-use Rattle.leg_flat.specs.Nets.{number_of_special}
-use Rattle.leg_flat.specs.Outline.Outline.{Shifted}
-use Rattle.leg_flat.specs.Metal.{OnLayer, Belonging, Metal, belonging, drawn, no_size, master_metal, component_metal, components_metal, port_outlines, design_pins_metal, blockage_metal, blockages_metal, via_outlines, wire_outlines, wires_metal, nets_metal, specials_metal, metal_parts, metal_of}
+use Rattle.leg_lib_records.specs.declared.records.Shape.{Shape}
+use Rattle.leg_lib_records.specs.Measure.{ExtentModel, IsProper}
+use Rattle.leg_lib_records.specs.Records.{LibraryModel, ViaModel, MasterPinModel, MasterModel}
+use Rattle.leg_lib_records.specs.Sound.{IsSoundMaster, IsSound}
+use Rattle.leg_design_records.specs.declared.records.Wire.{Wire}
+use Rattle.leg_design_records.specs.declared.records.Wire.TheVariants.{Segment, ViaAt, Patch}
+use Rattle.leg_design_records.specs.Records.{DesignModel, PortModel, PinModel}
+use Rattle.leg_design_records.specs.WellFormedParts.{IsPosition, IsArea, IsComponent, IsMetalShape, IsDesignVia, IsPort, IsPin, IsBlockage}
+use Rattle.leg_design_records.specs.WellFormedNets.{IsWire, IsNet}
+use Rattle.leg_design_records.specs.WellFormed.{IsWellFormed}
+use Rattle.leg_rules.specs.Metal.Nets.{number_of_special}
+use Rattle.leg_rules.specs.Metal.Outline.Outline.{Shifted}
+use Rattle.leg_rules.specs.Metal.Metal.{OnLayer, Belonging, Metal, belonging, drawn, no_size, master_metal, component_metal, components_metal, port_outlines, design_pins_metal, blockage_metal, blockages_metal, via_outlines, wire_outlines, wires_metal, nets_metal, specials_metal, metal_parts, metal_of}
 use Rattle.leg_flat.specs.ProperLibrary.{AreProperShapes, IsProperMaster, IsProperLibrary}
 use Rattle.leg_flat.specs.Steps.AddedMetal.{AreDrawnWithin, IsPlaceWithin}
-use Rattle.leg_flat.proofs.MetalAdded.{walk}
+use Rattle.leg_flat.proofs.MoreMetal.{walk}
 use Rattle.leg_flat.proofs.Parts.{all_parts}
 use Rattle.leg_flat.proofs.MetalWalks.{pin_metal, pins_walk, one_component, components_walk, design_pin_metal, design_pins_walk, one_blockage, blockages_walk, wire_metal, wires_walk, net_metal, nets_walk, one_special, specials_walk, port_drawn, ports_drawn_walk}
 use Rattle.leg_flat.proofs.MetalKnown.{all_at, all_follow, master_drawn, via_drawn, placed_within, port_within, drawn_of_area}
@@ -53,42 +53,42 @@ one_rect : (metal : OnLayer) → IsRectOn metal → All IsRectOn (metal ∷ [])
 one_rect metal is = All-cons IsRectOn metal [] is (All-nil IsRectOn)
 
 -- a macro that can be drawn
-record IsMasterOfBoxes (master : MasterSaid) : Type 0 where
+record IsMasterOfBoxes (master : MasterModel) : Type 0 where
   pub sound : IsSoundMaster master
   pub proper : IsProperMaster master
 
-metal_proper : (library : Contents) (shapes : List Shape) → All (IsMetalShape library) shapes → AreProperShapes shapes
+metal_proper : (library : LibraryModel) (shapes : List Shape) → All (IsMetalShape library) shapes → AreProperShapes shapes
 metal_proper library shapes all = all_follow (IsMetalShape library) (λ s. IsProper s.rect) (λ s is. is.rect.proper) shapes all
 
-blockage_rects : (k : ℕ) (layer : Option ℕ) (rects : List Sides) → All IsArea rects → All IsRectMetal (blockage_metal k layer rects)
+blockage_rects : (k : ℕ) (layer : Option ℕ) (rects : List RectModel) → All IsArea rects → All IsRectMetal (blockage_metal k layer rects)
 blockage_rects k None rects are = All-nil IsRectMetal
 blockage_rects k (Some layer) rects are =
     belonging_rects _ _ (All-map IsRectOn _ rects (all_follow IsArea _ (λ r is. rectangle_has r is) rects are))
 
 module _ (images : ArePlacedImages) where
-  drawn_rects : (place : Place) (size : Lengths) (shapes : List Shape) → IsPosition place.at → IsNumber size.width → IsNumber size.height → AreBoxes shapes → All IsRectOn (drawn place size shapes)
+  drawn_rects : (place : Place) (size : ExtentModel) (shapes : List Shape) → IsPosition place.at → IsNumber size.width → IsNumber size.height → AreBoxes shapes → All IsRectOn (drawn place size shapes)
   drawn_rects place size shapes there wide high boxes =
       All-map IsRectOn _ shapes (all_follow (λ (s : Shape). IsBox s.rect) _ (λ s is. drawn_has images place size s.rect there wide high is) shapes boxes)
 
-  shifted_rects : (at : Spot) (shapes : List Shape) → IsPosition at → AreBoxes shapes → All IsRectOn (map (λ s. record { layer = s.layer; outline = Shifted at s.rect }) shapes)
+  shifted_rects : (at : PointModel) (shapes : List Shape) → IsPosition at → AreBoxes shapes → All IsRectOn (map (λ s. record { layer = s.layer; outline = Shifted at s.rect }) shapes)
   shifted_rects at shapes there boxes =
       All-map IsRectOn _ shapes (all_follow (λ (s : Shape). IsBox s.rect) _ (λ s is. shifted_has images at s.rect there is) shapes boxes)
 
-  pins_rects : (design : DesignContents) (c : ℕ) (place : Place) (master : MasterSaid) → IsPosition place.at → IsMasterOfBoxes master → All IsRectMetal (walk (pin_metal design c place master.size) 0 master.pins)
+  pins_rects : (design : DesignModel) (c : ℕ) (place : Place) (master : MasterModel) → IsPosition place.at → IsMasterOfBoxes master → All IsRectMetal (walk (pin_metal design c place master.size) 0 master.pins)
   pins_rects design c place master there is =
-      All-walk (λ (pin : MasterPinSaid). AreBoxes pin.shapes) IsRectMetal (pin_metal design c place master.size)
+      All-walk (λ (pin : MasterPinModel). AreBoxes pin.shapes) IsRectMetal (pin_metal design c place master.size)
       (λ k pin boxes. belonging_rects _ _ (drawn_rects place master.size pin.shapes there is.proper.size.width is.proper.size.height boxes))
       0 master.pins
       (λ k d less. are_boxes _ (master_drawn _ (is.sound.pins k d less)) (is.proper.pins k d less))
 
-  master_rects : (design : DesignContents) (c : ℕ) (place : Place) (master : MasterSaid) → IsPosition place.at → IsMasterOfBoxes master → All IsRectMetal (master_metal design c place master)
+  master_rects : (design : DesignModel) (c : ℕ) (place : Place) (master : MasterModel) → IsPosition place.at → IsMasterOfBoxes master → All IsRectMetal (master_metal design c place master)
   master_rects design c place master there is =
       let obstructions = are_boxes master.obstructions (master_drawn master.obstructions is.sound.obstructions) is.proper.obstructions in
       All-append IsRectMetal _ _
       (All-same IsRectMetal _ _ (pins_walk design c place master.size 0 master.pins) (pins_rects design c place master there is))
       (belonging_rects _ _ (drawn_rects place master.size master.obstructions there is.proper.size.width is.proper.size.height obstructions))
 
-  component_rects : (design : DesignContents) (c : ℕ) (place : Option Place) (master : Option MasterSaid) → IsPlaceWithin place → ((m : MasterSaid) → master ≡ Some m → IsMasterOfBoxes m) → All IsRectMetal (component_metal design c place master)
+  component_rects : (design : DesignModel) (c : ℕ) (place : Option Place) (master : Option MasterModel) → IsPlaceWithin place → ((m : MasterModel) → master ≡ Some m → IsMasterOfBoxes m) → All IsRectMetal (component_metal design c place master)
   component_rects design c None None there known = All-nil IsRectMetal
   component_rects design c None (Some m) there known = All-nil IsRectMetal
   component_rects design c (Some place) None there known = All-nil IsRectMetal
@@ -98,12 +98,12 @@ module _ (images : ArePlacedImages) where
   port_rects None shapes there boxes = All-nil IsRectOn
   port_rects (Some place) shapes there boxes = drawn_rects place no_size shapes there zero_number zero_number boxes
 
-  via_rects : (via : Option ViaSaid) (number : ℕ) (at : Spot) → IsPosition at → ((v : ViaSaid) → via ≡ Some v → AreBoxes v.shapes) → All IsRectOn (via_outlines via (ViaAt number at))
+  via_rects : (via : Option ViaModel) (number : ℕ) (at : PointModel) → IsPosition at → ((v : ViaModel) → via ≡ Some v → AreBoxes v.shapes) → All IsRectOn (via_outlines via (ViaAt number at))
   via_rects None number at there known = All-nil IsRectOn
   via_rects (Some v) number at there known = shifted_rects at v.shapes there (known v refl)
 
-  module _ (design : DesignContents) (sound : IsSound design.library) (proper : IsProperLibrary design.library) (well : IsWellFormed design) where
-    master_of_boxes : (number : ℕ) (master : MasterSaid) → slice_get design.library.masters number ≡ Some master → IsMasterOfBoxes master
+  module _ (design : DesignModel) (sound : IsSound design.library) (proper : IsProperLibrary design.library) (well : IsWellFormed design) where
+    master_of_boxes : (number : ℕ) (master : MasterModel) → slice_get design.library.masters number ≡ Some master → IsMasterOfBoxes master
     master_of_boxes number master there = record {
       sound = all_at IsSoundMaster design.library.masters number master there sound.masters;
       proper = all_at IsProperMaster design.library.masters number master there proper.masters;
@@ -116,12 +116,12 @@ module _ (images : ArePlacedImages) where
         (λ c component is. component_rects design c component.place (slice_get design.library.masters component.master) (placed_within component.status component.place is.placed) (master_of_boxes component.master))
         0 design.components well.components.each)
 
-    one_port_rects : (port : PortSaid) → IsPort design.library port → All IsRectOn (port_outlines port.place port.shapes)
+    one_port_rects : (port : PortModel) → IsPort design.library port → All IsRectOn (port_outlines port.place port.shapes)
     one_port_rects port is =
         let known = port_within design.library port is in
         port_rects port.place port.shapes known.place (are_boxes port.shapes known.shapes (metal_proper design.library port.shapes is.shapes))
 
-    one_pin_rects : (p : ℕ) (pin : PinSaid) → IsPin design.library pin → All IsRectMetal (design_pin_metal design p pin)
+    one_pin_rects : (p : ℕ) (pin : PinModel) → IsPin design.library pin → All IsRectMetal (design_pin_metal design p pin)
     one_pin_rects p pin is =
         belonging_rects _ _
         (All-same IsRectOn _ _ (ports_drawn_walk 0 pin.ports)
@@ -140,9 +140,9 @@ module _ (images : ArePlacedImages) where
         0 design.blockages well.blockages.each)
 
     -- shapes of a via, of the library or of the design
-    via_proper : (number : ℕ) (via : ViaSaid) → slice_get (design.library.vias ++ design.vias) number ≡ Some via → AreProperShapes via.shapes
+    via_proper : (number : ℕ) (via : ViaModel) → slice_get (design.library.vias ++ design.vias) number ≡ Some via → AreProperShapes via.shapes
     via_proper number via there =
-        let are = λ (v : ViaSaid). AreProperShapes v.shapes in
+        let are = λ (v : ViaModel). AreProperShapes v.shapes in
         all_at are (design.library.vias ++ design.vias) number via there
         (All-append are design.library.vias design.vias proper.vias
         (all_follow (IsDesignVia design.library) are (λ v is. metal_proper design.library v.shapes is.shapes) design.vias well.vias.each))

@@ -3,29 +3,29 @@ use Rattle.std.proofs.Common.{◌≡◌, ℕ, true, ◌++◌, slice_get, Contain
 use Rattle.std.proofs.lemmas.Bool.{false≢true}
 use Rattle.std.proofs.lemmas.List.Elements.{Contains-append_left, Contains-append_right}
 use Rattle.leg_lex.specs.NameLookup.{place_of}
-use Rattle.leg_block.specs.declared.records.Terminal.{Terminal}
-use Rattle.leg_block.specs.Terminals.{is_among}
-use Rattle.leg_block.specs.Records.{DesignContents, NetSaid, net_names}
-use Rattle.leg_block.specs.WellFormedNets.{HasNets}
-use Rattle.leg_block.proofs.SameTerminal.{among_contains}
-use Rattle.leg_flat.specs.Nets.{number_of_special}
-use Rattle.leg_flat.specs.Owner.{listing_place, net_of}
+use Rattle.leg_design_records.specs.declared.records.Terminal.{Terminal}
+use Rattle.leg_design_records.specs.Terminals.{is_among}
+use Rattle.leg_design_records.specs.Records.{DesignModel, NetModel, net_names}
+use Rattle.leg_design_records.specs.WellFormedNets.{HasNets}
+use Rattle.leg_design_records.proofs.SameTerminal.{among_contains}
+use Rattle.leg_rules.specs.Metal.Nets.{number_of_special}
+use Rattle.leg_rules.specs.Metal.Owner.{listing_place, net_of}
 use Rattle.leg_flat.proofs.NetOf.{listed_at, not_listed_at, contains_at, name_place, one_of_name}
 
-module _ (design : DesignContents) (has : HasNets design) (t : Terminal) where
+module _ (design : DesignModel) (has : HasNets design) (t : Terminal) where
   -- entries that list the terminal, in one section or in both, have one name
-  regular : (k : ℕ) (net : NetSaid) → slice_get design.nets k ≡ Some net → Contains (design.nets ++ design.special) net
+  regular : (k : ℕ) (net : NetModel) → slice_get design.nets k ≡ Some net → Contains (design.nets ++ design.special) net
   regular k net there = Contains-append_left design.nets design.special net (contains_at design.nets k net there)
 
-  special : (k : ℕ) (net : NetSaid) → slice_get design.special k ≡ Some net → Contains (design.nets ++ design.special) net
+  special : (k : ℕ) (net : NetModel) → slice_get design.special k ≡ Some net → Contains (design.nets ++ design.special) net
   special k net there = Contains-append_right design.nets design.special net (contains_at design.special k net there)
 
-  one_name : (a b : NetSaid) → Contains (design.nets ++ design.special) a → Contains (design.nets ++ design.special) b → is_among t a.terminals ≡ true → is_among t b.terminals ≡ true → a.name ≡ b.name
+  one_name : (a b : NetModel) → Contains (design.nets ++ design.special) a → Contains (design.nets ++ design.special) b → is_among t a.terminals ≡ true → is_among t b.terminals ≡ true → a.name ≡ b.name
   one_name a b there here lists too =
       has.one_net a b t there here (among_contains t a.terminals lists) (among_contains t b.terminals too)
 
   -- a terminal that an entry of NETS lists is in its net
-  pub in_regular : (n : ℕ) (net : NetSaid) → slice_get design.nets n ≡ Some net → is_among t net.terminals ≡ true → net_of design t ≡ Some n
+  pub in_regular : (n : ℕ) (net : NetModel) → slice_get design.nets n ≡ Some net → is_among t net.terminals ≡ true → net_of design t ≡ Some n
   unfolding net_of
   in_regular n net there lists = by (listing_place t design.nets) refl where
     by : (o : Option ℕ) → listing_place t design.nets ≡ o → net_of design t ≡ Some n
@@ -37,7 +37,7 @@ module _ (design : DesignContents) (has : HasNets design) (t : Terminal) where
         rw (found, place) refl
 
   -- a terminal that an entry of SPECIALNETS lists is in the net that the entry is of
-  pub in_special : (k : ℕ) (net : NetSaid) → slice_get design.special k ≡ Some net → is_among t net.terminals ≡ true → net_of design t ≡ Some (number_of_special design k net)
+  pub in_special : (k : ℕ) (net : NetModel) → slice_get design.special k ≡ Some net → is_among t net.terminals ≡ true → net_of design t ≡ Some (number_of_special design k net)
   unfolding net_of
   in_special k net there lists = by (listing_place t design.nets) refl (listing_place t design.special) refl where
     by : (o : Option ℕ) → listing_place t design.nets ≡ o → (p : Option ℕ) → listing_place t design.special ≡ p → net_of design t ≡ Some (number_of_special design k net)

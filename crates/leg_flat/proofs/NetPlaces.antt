@@ -3,15 +3,15 @@ use Rattle.std.proofs.Common.{◌≡◌, ℕ, zero, suc, ◌+◌, ◌<◌, ◌==
 use Rattle.std.proofs.lemmas.Bool.{true≢false}
 use Rattle.std.proofs.lemmas.Bool.Decides.{nat_tests}
 use Rattle.std.proofs.lemmas.List.Folds.{list_any-append}
-use Rattle.leg_block.specs.declared.records.Terminal.{Terminal}
-use Rattle.leg_block.specs.Terminals.{is_same_terminal, is_among}
-use Rattle.leg_block.specs.Records.{DesignContents}
-use Rattle.leg_block.specs.WellFormedNets.{HasNets}
-use Rattle.leg_flat.specs.Nets.{special_entry, regular_entry, entry_terminals, terminals_of}
-use Rattle.leg_flat.specs.Owner.{net_of, place_among}
+use Rattle.leg_design_records.specs.declared.records.Terminal.{Terminal}
+use Rattle.leg_design_records.specs.Terminals.{is_same_terminal, is_among}
+use Rattle.leg_design_records.specs.Records.{DesignModel}
+use Rattle.leg_design_records.specs.WellFormedNets.{HasNets}
+use Rattle.leg_rules.specs.Metal.Nets.{special_entry, regular_entry, entry_terminals, terminals_of}
+use Rattle.leg_rules.specs.Metal.Owner.{net_of, place_among}
 use Rattle.leg_flat.specs.Steps.PlacesBelow.{place_below}
 use Rattle.leg_flat.proofs.PlacesAmong.{placed_among}
-use Rattle.leg_flat.proofs.PlacesAdded.{among_filter}
+use Rattle.leg_flat.proofs.MorePlaces.{among_filter}
 use Rattle.leg_flat.proofs.NetTerminals.{regular_in, special_in}
 
 -- what passes is among the terminals
@@ -21,7 +21,7 @@ filter_among t p ts among = by (is_among t ts) refl where
   by true is = refl
   by false other = absurd (true≢false (sym among ∙ among_filter t p ts other))
 
-module _ (design : DesignContents) (has : HasNets design) where
+module _ (design : DesignModel) (has : HasNets design) where
   -- a terminal of a net is in the net
   pub in_net : (n : ℕ) (t : Terminal) → is_among t (terminals_of design n) ≡ true → net_of design t ≡ Some n
   unfolding terminals_of

@@ -1,11 +1,11 @@
--- Lines of metal: the interval along one and the interval across it make its rectangle.
+-- Lines of metal, and segments of the grid: the interval along one and the interval across it make its rectangle.
 use Rattle.std.proofs.Common.{◌≡◌, ◌≢◌, ◌↔◌, ◌⊎◌, inl, inr, ℤ, ◌+ℤ◌, ◌-ℤ◌, ◌<ℤ◌, Option, None, Some, w64, to_z, of_z, refl, ◌∙◌, arith}
 use Rattle.std.specs.Option.{IsSome, SomeIff}
 use Rattle.std.proofs.lemmas.Int.{ints, to_z-of_z}
-use Rattle.leg_geom.specs.Plane.{Spot, Sides, IsCoordinate, IsRect, HasPoint}
+use Rattle.leg_geom.specs.Plane.{PointModel, RectModel, IsCoordinate, IsRect, HasPoint}
 use Rattle.leg_geom.specs.Line.{Interval}
 use Rattle.leg_geom.specs.Steps.Intervals.{IsSpan, HasNumber}
-use Rattle.leg_flat.specs.Outline.{IsAlong, IsAcross, IsOfHorizontal, IsOfVertical}
+use Rattle.leg_rules.specs.Metal.Outline.{IsAlong, IsAcross, IsOfHorizontal, IsOfVertical}
 
 abbrev pub ends : ℤ → ℤ → Interval
 ends low high = record { low = low; high = high }
@@ -42,13 +42,13 @@ along_down from to ext_from ext_to low high down l h z = (
       record { above = grind (arith, ints); below = grind (arith, ints) },
 )
 
-abbrev spot : ℤ → ℤ → Spot
+abbrev spot : ℤ → ℤ → PointModel
 spot x y = record { x = x; y = y }
 
 pub same_spot : (x y u v : ℤ) → x ≡ u → y ≡ v → spot x y ≡ spot u v
 same_spot x y u v e f = cc
 
-pub horizontal_points : (from to : Spot) (width ext_from ext_to : ℤ) (r : Sides) → from ≢ to → from.y ≡ to.y → RunsAlong from.x to.x ext_from ext_to (ends r.x1 r.x2) → RunsAcross from.y width (ends r.y1 r.y2) → (p : Spot) → HasPoint r p ↔ (IsOfHorizontal from to width ext_from ext_to p ⊎ IsOfVertical from to width ext_from ext_to p)
+pub horizontal_points : (from to : PointModel) (width ext_from ext_to : ℤ) (r : RectModel) → from ≢ to → from.y ≡ to.y → RunsAlong from.x to.x ext_from ext_to (ends r.x1 r.x2) → RunsAcross from.y width (ends r.y1 r.y2) → (p : PointModel) → HasPoint r p ↔ (IsOfHorizontal from to width ext_from ext_to p ⊎ IsOfVertical from to width ext_from ext_to p)
 horizontal_points from to width ext_from ext_to r long level along across p = (
   λ m. inl (record {
     level = level;
@@ -64,7 +64,7 @@ horizontal_points from to width ext_from ext_to r long level along across p = (
   ],
 )
 
-pub vertical_points : (from to : Spot) (width ext_from ext_to : ℤ) (r : Sides) → from.x ≡ to.x → from.y ≢ to.y → RunsAcross from.x width (ends r.x1 r.x2) → RunsAlong from.y to.y ext_from ext_to (ends r.y1 r.y2) → (p : Spot) → HasPoint r p ↔ (IsOfHorizontal from to width ext_from ext_to p ⊎ IsOfVertical from to width ext_from ext_to p)
+pub vertical_points : (from to : PointModel) (width ext_from ext_to : ℤ) (r : RectModel) → from.x ≡ to.x → from.y ≢ to.y → RunsAcross from.x width (ends r.x1 r.x2) → RunsAlong from.y to.y ext_from ext_to (ends r.y1 r.y2) → (p : PointModel) → HasPoint r p ↔ (IsOfHorizontal from to width ext_from ext_to p ⊎ IsOfVertical from to width ext_from ext_to p)
 vertical_points from to width ext_from ext_to r upright long across along p = (
   λ m. inr (record {
     upright = upright;
@@ -85,37 +85,37 @@ pub kept : (z v : ℤ) → z ≡ v → IsCoordinate v → to_z w64 (of_z w64 z) 
 kept z v e near = grind (arith, ints, to_z-of_z)
 
 -- the rectangle of an interval along x and one along y
-abbrev sides : ℤ → ℤ → ℤ → ℤ → Sides
+abbrev sides : ℤ → ℤ → ℤ → ℤ → RectModel
 sides x1 y1 x2 y2 = record { x1 = x1; y1 = y1; x2 = x2; y2 = y2 }
 
-abbrev pub sides_of : Interval → Interval → Sides
+abbrev pub sides_of : Interval → Interval → RectModel
 sides_of x y = sides x.low y.low x.high y.high
 
 pub IsRect-sides_of : (x y : Interval) → IsSpan x → IsSpan y → IsRect (sides_of x y)
 IsRect-sides_of x y wide high = record { x1 = wide.low; y1 = high.low; x2 = wide.high; y2 = high.high; wide = wide.long; high = high.long }
 
 -- the same from registers
-abbrev kept_sides : Interval → Interval → Sides
+abbrev kept_sides : Interval → Interval → RectModel
 kept_sides x y = sides (to_z w64 (of_z w64 x.low)) (to_z w64 (of_z w64 y.low)) (to_z w64 (of_z w64 x.high)) (to_z w64 (of_z w64 y.high))
 
-same_sides : (x1 y1 x2 y2 u1 v1 u2 v2 : ℤ) → x1 ≡ u1 → y1 ≡ v1 → x2 ≡ u2 → y2 ≡ v2 → sides x1 y1 x2 y2 ≡ sides u1 v1 u2 v2
+pub same_sides : (x1 y1 x2 y2 u1 v1 u2 v2 : ℤ) → x1 ≡ u1 → y1 ≡ v1 → x2 ≡ u2 → y2 ≡ v2 → sides x1 y1 x2 y2 ≡ sides u1 v1 u2 v2
 same_sides x1 y1 x2 y2 u1 v1 u2 v2 e f g h = cc
 
 kept_sides-is : (x y : Interval) → IsSpan x → IsSpan y → kept_sides x y ≡ sides_of x y
 kept_sides-is x y wide high = same_sides _ _ _ _ _ _ _ _ (kept x.low _ refl wide.low) (kept y.low _ refl high.low) (kept x.high _ refl wide.high) (kept y.high _ refl high.high)
 
-there_where : {T : Type 0} (made : Option T) (P : Type 0) (v : T) → SomeIff made P v → P → IsSome made
+pub there_where : {T : Type 0} (made : Option T) (P : Type 0) (v : T) → SomeIff made P v → P → IsSome made
 there_where None P v says p = absurd (says p)
 there_where (Some x) P v says p = refl
 
-which : {T : Type 0} (made : Option T) (P : Type 0) (v r : T) → SomeIff made P v → made ≡ Some r → r ≡ v
+pub which : {T : Type 0} (made : Option T) (P : Type 0) (v r : T) → SomeIff made P v → made ≡ Some r → r ≡ v
 which None P v r says is = cc
 which (Some x) P v r says is = let same = says.1 in cc
 
 -- what is made just where the rectangle is one, is there where both intervals have length
-pub is_made : (made : Option Sides) (x y : Interval) → IsSpan x → IsSpan y → SomeIff made (IsRect (kept_sides x y)) (kept_sides x y) → IsSome made
+pub is_made : (made : Option RectModel) (x y : Interval) → IsSpan x → IsSpan y → SomeIff made (IsRect (kept_sides x y)) (kept_sides x y) → IsSome made
 is_made made x y wide high says = there_where made _ _ says (rw (kept_sides-is x y wide high) (IsRect-sides_of x y wide high))
 
 -- and is that rectangle
-pub made_is : (made : Option Sides) (r : Sides) (x y : Interval) → IsSpan x → IsSpan y → SomeIff made (IsRect (kept_sides x y)) (kept_sides x y) → made ≡ Some r → r ≡ sides_of x y
+pub made_is : (made : Option RectModel) (r : RectModel) (x y : Interval) → IsSpan x → IsSpan y → SomeIff made (IsRect (kept_sides x y)) (kept_sides x y) → made ≡ Some r → r ≡ sides_of x y
 made_is made r x y wide high says is = which made _ _ r says is ∙ kept_sides-is x y wide high

@@ -1,26 +1,26 @@
 -- Each shape of a piece is metal with the numbers of its net and of the piece.
 use Rattle.std.proofs.Common.{◌≡◌, ℕ, ◌+◌, ◌⊎◌, inl, inr, List, ◌++◌, length, map, slice_get, Contains, Option, None, Some, refl, sym, ap, ◌∙◌, subst, arith}
 use Rattle.std.proofs.lemmas.List.Elements.{Contains-append_left, Contains-append_right}
-use Rattle.leg_block.specs.declared.records.Terminal.{Terminal}
-use Rattle.leg_block.specs.declared.records.Terminal.TheVariants.{Comp, Pin}
-use Rattle.leg_block.specs.declared.records.Wire as records
-use Rattle.leg_block.specs.Records.{DesignContents, NetSaid}
-use Rattle.leg_block.specs.WellFormed.{IsWellFormed}
-use Rattle.leg_block.specs.WellFormedNets.{HasNets}
-use Rattle.leg_block.proofs.SameTerminal.{among_from}
-use Rattle.leg_flat.specs.declared.owner.Owner.TheVariants.{Net, Obs, Blocking}
-use Rattle.leg_flat.specs.declared.piece.Piece.{Piece}
-use Rattle.leg_flat.specs.declared.piece.Piece.TheVariants.{Term, Wire}
-use Rattle.leg_flat.specs.Nets.{terminals_of, pieces_of, regular_entry, special_entry, entry_wires}
-use Rattle.leg_flat.specs.Owner.{net_of, owner_of, piece_of}
-use Rattle.leg_flat.specs.Metal.{OnLayer, Belonging, Metal, belonging, drawn, of_terminal, pins_metal, components_metal, ports_outlines, design_pins_metal, blockages_metal, wire_outlines, wires_metal, nets_metal, specials_metal, metal_parts, metal_of}
-use Rattle.leg_flat.specs.Pieces.{IsOfTerminal, IsOfPiece, terminal_component, of_piece}
+use Rattle.leg_design_records.specs.declared.records.Terminal.{Terminal}
+use Rattle.leg_design_records.specs.declared.records.Terminal.TheVariants.{Comp, Pin}
+use Rattle.leg_design_records.specs.declared.records.Wire as records
+use Rattle.leg_design_records.specs.Records.{DesignModel, NetModel}
+use Rattle.leg_design_records.specs.WellFormed.{IsWellFormed}
+use Rattle.leg_design_records.specs.WellFormedNets.{HasNets}
+use Rattle.leg_design_records.proofs.SameTerminal.{among_from}
+use Rattle.leg_rules.specs.declared.owner.Owner.TheVariants.{Net, Obs, Blocking}
+use Rattle.leg_rules.specs.declared.piece.Piece.{Piece}
+use Rattle.leg_rules.specs.declared.piece.Piece.TheVariants.{Term, Wire}
+use Rattle.leg_rules.specs.Metal.Nets.{terminals_of, pieces_of, regular_entry, special_entry, entry_wires}
+use Rattle.leg_rules.specs.Metal.Owner.{net_of, owner_of, piece_of}
+use Rattle.leg_rules.specs.Metal.Metal.{OnLayer, Belonging, Metal, belonging, drawn, of_terminal, pins_metal, components_metal, ports_outlines, design_pins_metal, blockages_metal, wire_outlines, wires_metal, nets_metal, specials_metal, metal_parts, metal_of}
+use Rattle.leg_rules.specs.Metal.Pieces.{IsOfTerminal, IsMetalOfPiece, terminal_component, of_piece}
 use Rattle.leg_flat.specs.Sources.{IsOfComponentObstruction, of_obstruction, IsOfBlockage, of_blockage}
 use Rattle.leg_flat.proofs.NetOf.{contains_at}
 use Rattle.leg_flat.proofs.NetTerminals.{special_is}
 use Rattle.leg_flat.proofs.NetPlaces.{in_net}
 use Rattle.leg_flat.proofs.MetalWalks.{pin_metal, pins_walk, one_component, components_walk, design_pin_metal, design_pins_walk, rect_on, one_blockage, blockages_walk, wire_metal, wires_walk, net_metal, nets_walk, one_special, specials_walk}
-use Rattle.leg_flat.proofs.Given.{InSecond, goes, gives, gives_at}
+use Rattle.leg_flat.proofs.ListPlaces.{InSecond, goes, gives, gives_at}
 use Rattle.leg_flat.proofs.Parts.{from_part}
 use Rattle.leg_flat.proofs.PiecePlaces.{IsTerminalPiece, IsWirePiece, piece_cases, wire_cases}
 use Rattle.leg_flat.proofs.TerminalsOnce.{place_is}
@@ -29,7 +29,7 @@ abbrev with_belonging : Belonging → OnLayer → Metal
 with_belonging belongs m = record { metal = m; belongs = belongs }
 
 -- the metal of each part of a design is its metal
-module _ (design : DesignContents) (m : Metal) where
+module _ (design : DesignModel) (m : Metal) where
   from_components : Contains (components_metal design 0 design.components) m → Contains (metal_of design) m
   unfolding metal_of
   from_components c = from_part (metal_parts design) 0 _ m refl c
@@ -50,7 +50,7 @@ module _ (design : DesignContents) (m : Metal) where
   unfolding metal_of
   from_specials c = from_part (metal_parts design) 4 _ m refl c
 
-module _ (design : DesignContents) where
+module _ (design : DesignModel) where
   -- a terminal's shapes are metal
   pub terminal_metal : (t : Terminal) (metal : OnLayer) → IsOfTerminal design t metal → Contains (metal_of design) (record { metal = metal; belongs = of_terminal design (terminal_component t) t })
   terminal_metal (Comp c k) metal is =
@@ -114,7 +114,7 @@ module _ (design : DesignContents) where
     m : Metal
     m = with_belonging (of_wire n (length (terminals_of design n) + j)) metal
 
-    by : (o : Option NetSaid) → regular_entry design n ≡ o → Contains (metal_of design) m
+    by : (o : Option NetModel) → regular_entry design n ≡ o → Contains (metal_of design) m
     by None none =
         let e : ◌≡◌ {A = Option records.Wire} None (Some wire) = rw none at at in
         absurd (let f : ⊥ = cc in f)
@@ -132,7 +132,7 @@ module _ (design : DesignContents) where
     m : Metal
     m = with_belonging (of_wire n k) metal
 
-    by : (o : Option NetSaid) → special_entry design n ≡ o → Contains (metal_of design) m
+    by : (o : Option NetModel) → special_entry design n ≡ o → Contains (metal_of design) m
     by None none =
         let e : ◌≡◌ {A = Option records.Wire} None (Some wire) = ap (λ o. slice_get (entry_wires o) j) (sym none) ∙ at in
         absurd (let f : ⊥ = cc in f)
@@ -151,9 +151,9 @@ module _ (design : DesignContents) where
       let net : net_of design t ≡ Some n = in_net design has n t (among_from t (terminals_of design n) (contains_at (terminals_of design n) k t at)) in
       rw (net, place_is design has n k t at) refl
 
-pub piece_has : (design : DesignContents) → IsWellFormed design → (n k : ℕ) (piece : Piece) (metal : OnLayer) → slice_get (pieces_of design n) k ≡ Some piece → IsOfPiece design n piece metal → Contains (metal_of design) (of_piece n k piece metal)
+pub piece_has : (design : DesignModel) → IsWellFormed design → (n k : ℕ) (piece : Piece) (metal : OnLayer) → slice_get (pieces_of design n) k ≡ Some piece → IsMetalOfPiece design n piece metal → Contains (metal_of design) (of_piece n k piece metal)
 piece_has design proper n k piece metal at draws = by (piece_cases design n k piece at) where
-  wire : (j : ℕ) → k ≡ length (terminals_of design n) + j → IsOfPiece design n (Wire j) metal → Contains (metal_of design) (of_piece n k (Wire j) metal)
+  wire : (j : ℕ) → k ≡ length (terminals_of design n) + j → IsMetalOfPiece design n (Wire j) metal → Contains (metal_of design) (of_piece n k (Wire j) metal)
   wire j place (it, there, draws) = rw place (which (wire_cases design n j it there)) where
     which : (slice_get (entry_wires (regular_entry design n)) j ≡ Some it) ⊎ InSecond (entry_wires (regular_entry design n)) (entry_wires (special_entry design n)) j it → Contains (metal_of design) (of_piece n (length (terminals_of design n) + j) (Wire j) metal)
     which (inl regular) = regular_wire_metal design n j it metal regular draws
@@ -163,9 +163,9 @@ piece_has design proper n k piece metal at draws = by (piece_cases design n k pi
 
   by : IsTerminalPiece design n k piece ⊎ IsWirePiece design n k piece → Contains (metal_of design) (of_piece n k piece metal)
   by (inl it) =
-      let of_t : IsOfTerminal design it.terminal metal = subst (λ p. IsOfPiece design n p metal) it.is draws in
+      let of_t : IsOfTerminal design it.terminal metal = subst (λ p. IsMetalOfPiece design n p metal) it.is draws in
       let told : Contains (metal_of design) (of_piece n k (Term it.terminal) metal) = subst (λ b. Contains (metal_of design) (record { metal = metal; belongs = b })) (terminal_of_net design proper.nets n k it.terminal it.there) (terminal_metal design it.terminal metal of_t) in
       subst (λ p. Contains (metal_of design) (of_piece n k p metal)) (sym it.is) told
   by (inr it) =
-      let of_w : IsOfPiece design n (Wire it.j) metal = subst (λ p. IsOfPiece design n p metal) it.is draws in
+      let of_w : IsMetalOfPiece design n (Wire it.j) metal = subst (λ p. IsMetalOfPiece design n p metal) it.is draws in
       subst (λ p. Contains (metal_of design) (of_piece n k p metal)) (sym it.is) (wire it.j it.place of_w)

@@ -4,16 +4,16 @@ use Rattle.std.specs.List.{range_with_len}
 use Rattle.std.proofs.lemmas.List.{length-map}
 use Rattle.std.proofs.lemmas.List.FromFn.{get_or-range_with_len, length-range_with_len}
 use Rattle.std.proofs.lemmas.Option.{slice_get_within, slice_get-map, slice_get-get_or}
-use Rattle.leg_block.specs.declared.records.Terminal.{Terminal}
-use Rattle.leg_block.specs.declared.records.Wire as records
-use Rattle.leg_block.specs.Terminals.{is_same_terminal}
-use Rattle.leg_block.specs.Records.{DesignContents}
-use Rattle.leg_block.proofs.SameTerminal.{same_is}
-use Rattle.leg_flat.specs.declared.piece.Piece.{Piece}
-use Rattle.leg_flat.specs.declared.piece.Piece.TheVariants.{Term, Wire}
-use Rattle.leg_flat.specs.Nets.{terminals_of, wires_of, pieces_of, regular_entry, special_entry, entry_wires}
-use Rattle.leg_flat.specs.Owner.{place_among}
-use Rattle.leg_flat.proofs.Given.{get_first, get_second, InSecond, get_cases}
+use Rattle.leg_design_records.specs.declared.records.Terminal.{Terminal}
+use Rattle.leg_design_records.specs.declared.records.Wire as records
+use Rattle.leg_design_records.specs.Terminals.{is_same_terminal}
+use Rattle.leg_design_records.specs.Records.{DesignModel}
+use Rattle.leg_design_records.proofs.SameTerminal.{same_is}
+use Rattle.leg_rules.specs.declared.piece.Piece.{Piece}
+use Rattle.leg_rules.specs.declared.piece.Piece.TheVariants.{Term, Wire}
+use Rattle.leg_rules.specs.Metal.Nets.{terminals_of, wires_of, pieces_of, regular_entry, special_entry, entry_wires}
+use Rattle.leg_rules.specs.Metal.Owner.{place_among}
+use Rattle.leg_flat.proofs.ListPlaces.{get_first, get_second, InSecond, get_cases}
 
 -- a terminal's place among others has it
 pub at_place : (t : Terminal) (ts : List Terminal) (k : ℕ) → place_among t ts ≡ Some k → slice_get ts k ≡ Some t
@@ -33,7 +33,7 @@ at_place t (u ∷ ts) k is = by (at_place t ts) (is_same_terminal t u) refl (pla
       rw place (rest j at)
 
 -- the terminal of a piece
-pub terminal_piece : (design : DesignContents) (n k : ℕ) (t : Terminal) → slice_get (terminals_of design n) k ≡ Some t → slice_get (pieces_of design n) k ≡ Some (Term t)
+pub terminal_piece : (design : DesignModel) (n k : ℕ) (t : Terminal) → slice_get (terminals_of design n) k ≡ Some t → slice_get (pieces_of design n) k ≡ Some (Term t)
 unfolding pieces_of
 terminal_piece design n k t at =
     get_first (map Term (terminals_of design n)) (map Wire (range_with_len 0 (length (wires_of design n)))) k (Term t)
@@ -45,7 +45,7 @@ counted n k less =
     ∙ ap Some (get_or-range_with_len 0 n k 0 less ∙ zero-add k)
 
 -- the wire of a piece
-pub wire_piece : (design : DesignContents) (n j : ℕ) → j < length (wires_of design n) → slice_get (pieces_of design n) (length (terminals_of design n) + j) ≡ Some (Wire j)
+pub wire_piece : (design : DesignModel) (n j : ℕ) → j < length (wires_of design n) → slice_get (pieces_of design n) (length (terminals_of design n) + j) ≡ Some (Wire j)
 unfolding pieces_of
 wire_piece design n j less =
     let wires = map Wire (range_with_len 0 (length (wires_of design n))) in
@@ -56,12 +56,12 @@ wire_piece design n j less =
     ∙ rw (counted (length (wires_of design n)) j less) refl
 
 -- a piece is a terminal at its place, or a wire behind the terminals
-pub record IsTerminalPiece (design : DesignContents) (n k : ℕ) (piece : Piece) : Type 0 where
+pub record IsTerminalPiece (design : DesignModel) (n k : ℕ) (piece : Piece) : Type 0 where
   pub terminal : Terminal
   pub is : piece ≡ Term terminal
   pub there : slice_get (terminals_of design n) k ≡ Some terminal
 
-pub record IsWirePiece (design : DesignContents) (n k : ℕ) (piece : Piece) : Type 0 where
+pub record IsWirePiece (design : DesignModel) (n k : ℕ) (piece : Piece) : Type 0 where
   pub j : ℕ
   pub is : piece ≡ Wire j
   pub place : k ≡ length (terminals_of design n) + j
@@ -77,7 +77,7 @@ numbered n k j at =
     let e : ◌≡◌ {A = Option ℕ} (Some j) (Some k) = sym at ∙ counted n k less in
     cc
 
-pub piece_cases : (design : DesignContents) (n k : ℕ) (piece : Piece) → slice_get (pieces_of design n) k ≡ Some piece → IsTerminalPiece design n k piece ⊎ IsWirePiece design n k piece
+pub piece_cases : (design : DesignModel) (n k : ℕ) (piece : Piece) → slice_get (pieces_of design n) k ≡ Some piece → IsTerminalPiece design n k piece ⊎ IsWirePiece design n k piece
 unfolding pieces_of
 piece_cases design n k piece at = by (get_cases (map Term (terminals_of design n)) wires k piece at) where
   wires : List Piece
@@ -97,14 +97,14 @@ piece_cases design n k piece at = by (get_cases (map Term (terminals_of design n
       })
 
 -- wires of the entry of NETS, and those behind them
-pub regular_wire : (design : DesignContents) (n i : ℕ) (wire : records.Wire) → slice_get (entry_wires (regular_entry design n)) i ≡ Some wire → slice_get (wires_of design n) i ≡ Some wire
+pub regular_wire : (design : DesignModel) (n i : ℕ) (wire : records.Wire) → slice_get (entry_wires (regular_entry design n)) i ≡ Some wire → slice_get (wires_of design n) i ≡ Some wire
 unfolding wires_of
 regular_wire design n i wire at = get_first (entry_wires (regular_entry design n)) (entry_wires (special_entry design n)) i wire at
 
-pub special_wire : (design : DesignContents) (n i : ℕ) (wire : records.Wire) → slice_get (entry_wires (special_entry design n)) i ≡ Some wire → slice_get (wires_of design n) (length (entry_wires (regular_entry design n)) + i) ≡ Some wire
+pub special_wire : (design : DesignModel) (n i : ℕ) (wire : records.Wire) → slice_get (entry_wires (special_entry design n)) i ≡ Some wire → slice_get (wires_of design n) (length (entry_wires (regular_entry design n)) + i) ≡ Some wire
 unfolding wires_of
 special_wire design n i wire at = get_second (entry_wires (regular_entry design n)) (entry_wires (special_entry design n)) i ∙ at
 
-pub wire_cases : (design : DesignContents) (n j : ℕ) (wire : records.Wire) → slice_get (wires_of design n) j ≡ Some wire → (slice_get (entry_wires (regular_entry design n)) j ≡ Some wire) ⊎ InSecond (entry_wires (regular_entry design n)) (entry_wires (special_entry design n)) j wire
+pub wire_cases : (design : DesignModel) (n j : ℕ) (wire : records.Wire) → slice_get (wires_of design n) j ≡ Some wire → (slice_get (entry_wires (regular_entry design n)) j ≡ Some wire) ⊎ InSecond (entry_wires (regular_entry design n)) (entry_wires (special_entry design n)) j wire
 unfolding wires_of
 wire_cases design n j wire at = get_cases (entry_wires (regular_entry design n)) (entry_wires (special_entry design n)) j wire at

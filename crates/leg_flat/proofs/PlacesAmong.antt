@@ -1,10 +1,10 @@
 -- Where terminals are among the pieces of a net.
 use Rattle.std.proofs.Common.{◌≡◌, ℕ, suc, ◌+◌, Bool, true, false, cond, not, List, [], ◌∷◌, ◌++◌, length, Option, None, Some, is_none, option_map, refl, sym, ap, ◌∙◌, arith}
 use Rattle.std.proofs.lemmas.Bool.{false≢true, true≢false}
-use Rattle.leg_block.specs.declared.records.Terminal.{Terminal}
-use Rattle.leg_block.specs.Terminals.{is_same_terminal, is_among}
-use Rattle.leg_block.proofs.SameTerminal.{same_is, same_itself}
-use Rattle.leg_flat.specs.Owner.{place_among}
+use Rattle.leg_design_records.specs.declared.records.Terminal.{Terminal}
+use Rattle.leg_design_records.specs.Terminals.{is_same_terminal, is_among}
+use Rattle.leg_design_records.proofs.SameTerminal.{same_is, same_itself}
+use Rattle.leg_rules.specs.Metal.Owner.{place_among}
 use Rattle.leg_flat.specs.Steps.PlacesBelow.{or_else, with_pieces}
 
 -- a terminal has a place among others just where it is among them

@@ -2,14 +2,14 @@
 use Rattle.std.proofs.Common.{List, [], ◌∷◌, All, length, map, refl, ◌+◌}
 use Rattle.std.specs.List.{range_with_len}
 use Rattle.std.proofs.lemmas.List.Elements.{All-head, All-tail}
-use Rattle.leg_cells.specs.Scale.{OneForOne}
-use Rattle.leg_cells.specs.Sound.{IsSound}
-use Rattle.leg_block.specs.Records.{DesignContents}
-use Rattle.leg_block.specs.WellFormed.{IsWellFormed}
-use Rattle.leg_flat.specs.declared.shape.Shape.{Shape}
-use Rattle.leg_flat.specs.Metal.{Metal, metal_of}
-use Rattle.leg_flat.specs.Nets.{pieces_of}
-use Rattle.leg_flat.specs.Flat.{FlatSaid, IsShapeOf, IsFlatOf}
+use Rattle.leg_lib_records.specs.Scale.{OneForOne}
+use Rattle.leg_lib_records.specs.Sound.{IsSound}
+use Rattle.leg_design_records.specs.Records.{DesignModel}
+use Rattle.leg_design_records.specs.WellFormed.{IsWellFormed}
+use Rattle.leg_rules.specs.declared.shape.Shape.{Shape}
+use Rattle.leg_rules.specs.Metal.Metal.{Metal, metal_of}
+use Rattle.leg_rules.specs.Metal.Nets.{pieces_of}
+use Rattle.leg_rules.specs.Metal.Flat.{FlatModel, IsShapeOf, IsFlatOf}
 use Rattle.leg_flat.specs.ProperLibrary.{IsProperLibrary}
 use Rattle.leg_flat.proofs.OutlineRects.{ArePlacedImages}
 use Rattle.leg_flat.proofs.MetalRects.{IsRectMetal, metal_rects}
@@ -38,7 +38,7 @@ shapes_for (m ∷ metal) all =
     let rest = shapes_for metal (All-tail IsRectMetal m metal all) in
     record { shapes = shape_of m first ∷ rest.shapes; each = (shape_is m first, rest.each) }
 
-pub some_flat : ArePlacedImages → (design : DesignContents) → IsSound design.library → IsProperLibrary design.library → IsWellFormed design → (flat : FlatSaid) × IsFlatOf design flat
+pub some_flat : ArePlacedImages → (design : DesignModel) → IsSound design.library → IsProperLibrary design.library → IsWellFormed design → (flat : FlatModel) × IsFlatOf design flat
 some_flat images design sound proper well =
     let has = shapes_for (metal_of design) (metal_rects images design sound proper well) in (
       record { shapes = has.shapes; pieces = map (pieces_of design) (range_with_len 0 (length design.nets + length design.special)) },

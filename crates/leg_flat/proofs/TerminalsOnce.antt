@@ -5,18 +5,18 @@ use Rattle.std.proofs.lemmas.Bool.Decides.{nat_tests}
 use Rattle.std.proofs.lemmas.List.Elements.{filter_passes}
 use Rattle.std.proofs.lemmas.List.Kept.{AllPairs-filter}
 use Rattle.std.proofs.lemmas.Option.{slice_get_within, get_or_from_slice_get}
-use Rattle.leg_block.specs.declared.records.Terminal.{Terminal}
-use Rattle.leg_block.specs.Terminals.{is_among}
-use Rattle.leg_block.specs.Records.{DesignContents, NetSaid}
-use Rattle.leg_block.specs.WellFormedNets.{HasNets, IsNet}
-use Rattle.leg_block.proofs.SameTerminal.{among_from}
-use Rattle.leg_flat.specs.Nets.{regular_entry, special_entry, entry_terminals, terminals_of}
-use Rattle.leg_flat.specs.Owner.{place_among}
+use Rattle.leg_design_records.specs.declared.records.Terminal.{Terminal}
+use Rattle.leg_design_records.specs.Terminals.{is_among}
+use Rattle.leg_design_records.specs.Records.{DesignModel, NetModel}
+use Rattle.leg_design_records.specs.WellFormedNets.{HasNets, IsNet}
+use Rattle.leg_design_records.proofs.SameTerminal.{among_from}
+use Rattle.leg_rules.specs.Metal.Nets.{regular_entry, special_entry, entry_terminals, terminals_of}
+use Rattle.leg_rules.specs.Metal.Owner.{place_among}
 use Rattle.leg_flat.proofs.NetOf.{contains_at}
 use Rattle.leg_flat.proofs.NetTerminals.{special_is}
 use Rattle.leg_flat.proofs.PlacesAmong.{has_place}
 use Rattle.leg_flat.proofs.MetalKnown.{all_at}
-use Rattle.leg_flat.proofs.Given.{InSecond, get_cases}
+use Rattle.leg_flat.proofs.ListPlaces.{InSecond, get_cases}
 use Rattle.leg_flat.proofs.PiecePlaces.{at_place}
 
 -- an element stands at one place
@@ -34,16 +34,16 @@ once_at ts once i j t at too = by (nat_lt i j) refl (nat_lt j i) refl where
 no_terminals : AllPairs (λ t u. t ≢ u) (entry_terminals None)
 no_terminals i j d less within = absurd (let e : ⊥ = omega (arith, less, within) in e)
 
-module _ (design : DesignContents) (has : HasNets design) (n : ℕ) where
+module _ (design : DesignModel) (has : HasNets design) (n : ℕ) where
   regular_once : AllPairs (λ t u. t ≢ u) (entry_terminals (regular_entry design n))
   regular_once = by (regular_entry design n) refl where
-    by : (o : Option NetSaid) → regular_entry design n ≡ o → AllPairs (λ t u. t ≢ u) (entry_terminals o)
+    by : (o : Option NetModel) → regular_entry design n ≡ o → AllPairs (λ t u. t ≢ u) (entry_terminals o)
     by None none = no_terminals
     by (Some net) is = (all_at (IsNet design false) design.nets n net is has.nets.each).once
 
   special_once : AllPairs (λ t u. t ≢ u) (entry_terminals (special_entry design n))
   special_once = by (special_entry design n) refl where
-    by : (o : Option NetSaid) → special_entry design n ≡ o → AllPairs (λ t u. t ≢ u) (entry_terminals o)
+    by : (o : Option NetModel) → special_entry design n ≡ o → AllPairs (λ t u. t ≢ u) (entry_terminals o)
     by None none = no_terminals
     by (Some net) is =
         let of = special_is design has n net is in

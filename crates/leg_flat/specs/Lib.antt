@@ -1,10 +1,4 @@
-pub mod Nets
-pub mod Owner
-pub mod Outline
-pub mod Metal
-pub mod Pieces
 pub mod Sources
-pub mod Flat
+pub mod Limits
 pub mod ProperLibrary
-pub mod MoreWires
 pub mod Steps

@@ -1,23 +1,23 @@
 //! Flat designs.
 
 ghost use Rattle.std.specs.Prelude.{◌≡◌, ◌↔◌, ◌<◌, ◌≤◌, length, Some, IfOk, IfErr, option_map, slice_get};
-ghost use Rattle.leg_cells.specs.Scale.{OneForOne};
-ghost use Rattle.leg_block.specs.declared.limits.TheConstants.{PART_LIMIT};
+ghost use Rattle.leg_lib_records.specs.Scale.{OneForOne};
+ghost use Rattle.leg_design_records.specs.declared.limits.TheConstants.{PART_LIMIT};
 ghost use Rattle.leg_flat.specs.declared.fault.FlatFault.TheVariants.{TooMany};
-ghost use Rattle.leg_flat.specs.Metal.{metal_of};
+ghost use Rattle.leg_rules.specs.Metal.Metal.{metal_of};
 ghost use Rattle.leg_flat.specs.Steps.Places.{AreNetsOf};
-ghost use Rattle.leg_flat.specs.Flat.{IsShapeOf, IsFlatOf, IsWithin};
+ghost use Rattle.leg_flat.specs.Limits.{IsWithinLimits};
+ghost use Rattle.leg_rules.specs.Metal.Flat.{IsShapeOf, IsFlatOf};
 
 use crate::fault::FlatFault;
 use crate::metal::{add_blockages, add_components, add_design_pins};
 use crate::metal_count::shape_count;
 use crate::metal_wires::{add_nets, add_specials};
 use crate::nets::{Nets, nets_of};
-use crate::piece::Piece;
-use crate::shape::Shape;
-use leg_block::laws::design_is_sound;
-use leg_block::{Design, PART_LIMIT};
-use leg_cells::{Items, Library};
+use leg_design_records::laws::design_is_sound;
+use leg_design_records::{Design, PART_LIMIT};
+use leg_lib_records::{Items, Library};
+use leg_rules::{Piece, Shape};
 use std::alloc::{AllocError, Allocator};
 use std::marker::Model;
 
@@ -29,13 +29,14 @@ pub struct Flat<A: Allocator> {
 }
 
 impl<A: Allocator> Model for Flat<A> {
-    ghost use Rattle.leg_flat.specs.Flat.{FlatSaid, IsWithin};
+    ghost use Rattle.leg_flat.specs.Limits.{IsWithinLimits};
+    ghost use Rattle.leg_rules.specs.Metal.Flat.{FlatModel};
 
-    ghost Value = { FlatSaid };
+    ghost Value = { FlatModel };
 
     ghost view = { λ f. record { shapes = f.shapes.items; pieces = f.pieces.items } };
 
-    ghost invariant = { λ f. IsWithin (record { shapes = f.shapes.items; pieces = f.pieces.items }) };
+    ghost invariant = { λ f. IsWithinLimits (record { shapes = f.shapes.items; pieces = f.pieces.items }) };
 }
 
 impl<A: Allocator + Copy> Flat<A> {
@@ -44,7 +45,7 @@ impl<A: Allocator + Copy> Flat<A> {
     /// `SPECIALNETS`. A via has the rectangles of its definition, in their order.
     pub fn shapes(&self) -> &[Shape]
         ensures is { result.now ≡ self.now.shapes }
-        ensures proper { IsWithin self.now }
+        ensures proper { IsWithinLimits self.now }
     {
         self.shapes.as_slice()
     }
@@ -53,7 +54,7 @@ impl<A: Allocator + Copy> Flat<A> {
     /// sections has two entries and one number, so there may be fewer nets; the number left over has no pieces.
     pub fn net_count(&self) -> u32
         ensures is { result ≡ length self.now.pieces }
-        ensures proper { IsWithin self.now }
+        ensures proper { IsWithinLimits self.now }
     {
         self.pieces.len() as u32
     }
@@ -71,7 +72,7 @@ impl<A: Allocator + Copy> Flat<A> {
     pub fn pieces_of_net(&self, net: u32) -> u32
         requires { net < length self.now.pieces }
         ensures is { option_map length (slice_get self.now.pieces net) ≡ Some result }
-        ensures proper { IsWithin self.now }
+        ensures proper { IsWithinLimits self.now }
     {
         self.pieces[net as usize].as_slice().len() as u32
     }

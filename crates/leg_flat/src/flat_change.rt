@@ -1,15 +1,15 @@
 //! Changes of a flat: a net that gets a wire.
 
 ghost use Rattle.std.specs.Prelude.{◌≡◌, ◌↔◌, ◌+◌, ◌^◌, ◌<◌, ◌≤◌, ℕ, List, false, length, IfOk, IfErr, OnOk, OnErr};
-ghost use Rattle.leg_cells.specs.Scale.{OneForOne};
-ghost use Rattle.leg_cells.specs.Sound.{IsSound};
-ghost use Rattle.leg_block.specs.declared.limits.TheConstants.{PART_LIMIT};
-ghost use Rattle.leg_block.specs.declared.records.Terminal.{Terminal};
-ghost use Rattle.leg_block.specs.WellFormedNets.{IsWire};
+ghost use Rattle.leg_lib_records.specs.Scale.{OneForOne};
+ghost use Rattle.leg_lib_records.specs.Sound.{IsSound};
+ghost use Rattle.leg_design_records.specs.declared.limits.TheConstants.{PART_LIMIT};
+ghost use Rattle.leg_design_records.specs.declared.records.Terminal.{Terminal};
+ghost use Rattle.leg_design_records.specs.WellFormedNets.{IsWire};
 ghost use Rattle.leg_flat.specs.declared.fault.FlatFault.TheVariants.{TooMany};
-ghost use Rattle.leg_flat.specs.Metal.{wire_outlines};
-ghost use Rattle.leg_flat.specs.Flat.{IsShapeOf, pieces_with};
-ghost use Rattle.leg_flat.specs.MoreWires.{wire_metal, HasOneMoreWire};
+ghost use Rattle.leg_rules.specs.Metal.Metal.{wire_outlines};
+ghost use Rattle.leg_rules.specs.Metal.Flat.{IsShapeOf, pieces_with};
+ghost use Rattle.leg_rules.specs.Metal.MoreWires.{wire_metal, HasOneMoreWire};
 ghost use Rattle.leg_flat.specs.Steps.AddedMetal.{IsWireWithin};
 
 use crate::fault::FlatFault;
@@ -17,12 +17,10 @@ use crate::flat::Flat;
 use crate::metal_count::wire_shapes;
 use crate::metal_parts::Belongs;
 use crate::metal_wires::add_wire;
-use crate::owner::Owner;
-use crate::piece::Piece;
-use crate::shape::Shape;
-use leg_block::laws::design_is_sound;
-use leg_block::{Design, PART_LIMIT, Wire};
-use leg_cells::Library;
+use leg_design_records::laws::design_is_sound;
+use leg_design_records::{Design, PART_LIMIT, Wire};
+use leg_lib_records::Library;
+use leg_rules::{Owner, Piece, Shape};
 use std::alloc::{AllocError, Allocator};
 
 impl<A: Allocator + Copy> Flat<A> {

@@ -1,22 +1,21 @@
 //! The metal of the components of a design, of its pins and of its blockages.
 
 ghost use Rattle.std.specs.Prelude.{◌≡◌, All, OnOk, None, Some, map, option_map, slice_get};
-ghost use Rattle.leg_block.specs.Records.{DesignContents, blockage_said};
-ghost use Rattle.leg_block.specs.WellFormedParts.{IsArea, IsPosition};
-ghost use Rattle.leg_flat.specs.declared.owner.Owner.TheVariants.{Obs};
-ghost use Rattle.leg_cells.specs.Sound.{IsSoundMaster, IsSound};
-ghost use Rattle.leg_flat.specs.Outline.Outline.{Rectangle};
-ghost use Rattle.leg_flat.specs.Metal.{belonging, drawn, pins_metal, component_metal, components_metal, port_outlines, ports_outlines, design_pins_metal, blockage_metal, blockages_metal};
+ghost use Rattle.leg_design_records.specs.Records.{DesignModel, blockage_said};
+ghost use Rattle.leg_design_records.specs.WellFormedParts.{IsArea, IsPosition};
+ghost use Rattle.leg_rules.specs.declared.owner.Owner.TheVariants.{Obs};
+ghost use Rattle.leg_lib_records.specs.Sound.{IsSoundMaster, IsSound};
+ghost use Rattle.leg_rules.specs.Metal.Outline.Outline.{Rectangle};
+ghost use Rattle.leg_rules.specs.Metal.Metal.{belonging, drawn, pins_metal, component_metal, components_metal, port_outlines, ports_outlines, design_pins_metal, blockage_metal, blockages_metal};
 ghost use Rattle.leg_flat.specs.Steps.Places.{AreNetsOf};
 ghost use Rattle.leg_flat.specs.Steps.AddedMetal.{AddsMetal, IsPlaceWithin, IsPortWithin, master_of};
 
 use crate::metal_parts::{Belongs, add_drawn, add_shape, of_component_pin, of_design_pin};
 use crate::nets::Nets;
-use crate::owner::Owner;
-use crate::shape::Shape;
-use leg_block::{Blockage, Component, Design, Port};
-use leg_cells::Master;
+use leg_design_records::{Blockage, Component, Design, Port};
 use leg_geom::{Place, Rect};
+use leg_lib_records::Master;
+use leg_rules::{Owner, Shape};
 use std::alloc::{AllocError, Allocator};
 
 /// Adds the pins of a component of this macro.
@@ -29,7 +28,7 @@ fn add_pins<A: Allocator + Copy>(
 ) -> Result<(), AllocError>
     requires at { IsPosition place.now.at }
     requires within { IsSoundMaster master.now }
-    ensures { (design : DesignContents) → AreNetsOf design nets.now → master_of design component ≡ Some master.now
+    ensures { (design : DesignModel) → AreNetsOf design nets.now → master_of design component ≡ Some master.now
         → OnOk result (AddsMetal (pins_metal design component place.now master.now.size 0 master.now.pins) shapes.old.items shapes.new.items) }
 {
     let (width, height) = (master.size.width(), master.size.height());

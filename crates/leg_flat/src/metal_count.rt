@@ -2,16 +2,16 @@
 
 ghost use Rattle.std.specs.Prelude.{◌≡◌, ◌↔◌, ◌<◌, ℕ, length, IsTrue, slice_get};
 ghost use Rattle.leg_geom.specs.declared.place.Place.{Place};
-ghost use Rattle.leg_cells.specs.Measure.{Lengths};
-ghost use Rattle.leg_block.specs.Records.{DesignContents, blockage_said};
-ghost use Rattle.leg_block.specs.declared.limits.TheConstants.{PART_LIMIT};
-ghost use Rattle.leg_flat.specs.Metal.{wire_outlines, wires_metal, port_outlines, ports_outlines, pins_metal, component_metal, components_metal, design_pins_metal, blockage_metal, blockages_metal, nets_metal, specials_metal, metal_of};
+ghost use Rattle.leg_lib_records.specs.Measure.{ExtentModel};
+ghost use Rattle.leg_design_records.specs.Records.{DesignModel, blockage_said};
+ghost use Rattle.leg_design_records.specs.declared.limits.TheConstants.{PART_LIMIT};
+ghost use Rattle.leg_rules.specs.Metal.Metal.{wire_outlines, wires_metal, port_outlines, ports_outlines, pins_metal, component_metal, components_metal, design_pins_metal, blockage_metal, blockages_metal, nets_metal, specials_metal, metal_of};
 ghost use Rattle.leg_flat.specs.Steps.ShapeCount.{counted};
 
 use crate::metal::master_numbered;
 use crate::metal_wires::via_numbered;
-use leg_block::{Blockage, Component, Design, Net, PART_LIMIT, Port, Wire};
-use leg_cells::MasterPin;
+use leg_design_records::{Blockage, Component, Design, Net, PART_LIMIT, Port, Wire};
+use leg_lib_records::MasterPin;
 use std::alloc::Allocator;
 
 /// Adds, saturating at one above the limit.
@@ -23,7 +23,7 @@ fn counted(before: u64, more: usize) -> u64
 
 /// The shapes of pins of a macro, more than before.
 fn count_pins<A: Allocator>(before: u64, pins: &[MasterPin<'_, A>]) -> u64
-    ensures { (design : DesignContents) (c : ℕ) (place : Place) (size : Lengths) → result ≡ counted before (length (pins_metal design c place size 0 pins.now)) }
+    ensures { (design : DesignModel) (c : ℕ) (place : Place) (size : ExtentModel) → result ≡ counted before (length (pins_metal design c place size 0 pins.now)) }
 {
     let mut count = counted(before, 0);
     for pin in pins {

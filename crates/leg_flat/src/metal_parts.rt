@@ -2,23 +2,22 @@
 
 ghost use Rattle.std.specs.Prelude.{◌≡◌, ◌++◌, ◌∷◌, [], map, OnOk, None, Some, slice_get};
 ghost use Rattle.leg_lex.specs.Number.{IsNumber};
-ghost use Rattle.leg_cells.specs.Records as library;
-ghost use Rattle.leg_block.specs.declared.records.Terminal.TheVariants.{Comp, Pin};
-ghost use Rattle.leg_block.specs.Records.{DesignContents};
-ghost use Rattle.leg_block.specs.WellFormedParts.{IsPosition};
-ghost use Rattle.leg_flat.specs.Outline.Outline.{Shifted};
-ghost use Rattle.leg_flat.specs.Owner.{owner_by_use, lone_owner};
-ghost use Rattle.leg_flat.specs.Metal.{belonging, drawn, of_terminal};
+ghost use Rattle.leg_lib_records.specs.Records as library;
+ghost use Rattle.leg_design_records.specs.declared.records.Terminal.TheVariants.{Comp, Pin};
+ghost use Rattle.leg_design_records.specs.Records.{DesignModel};
+ghost use Rattle.leg_design_records.specs.WellFormedParts.{IsPosition};
+ghost use Rattle.leg_rules.specs.Metal.Outline.Outline.{Shifted};
+ghost use Rattle.leg_rules.specs.Metal.Owner.{owner_by_use, lone_owner};
+ghost use Rattle.leg_rules.specs.Metal.Metal.{belonging, drawn, of_terminal};
 ghost use Rattle.leg_flat.specs.Steps.Places.{AreNetsOf};
 ghost use Rattle.leg_flat.specs.Steps.AddedMetal.{AddsMetal, AreDrawnWithin, master_of};
 
 use crate::nets::Nets;
 use crate::outline::{drawn_rect, shifted_rect};
-use crate::owner::Owner;
-use crate::shape::Shape;
-use leg_block::Terminal;
-use leg_cells::Supply;
+use leg_design_records::Terminal;
 use leg_geom::{Place, Point, Rect};
+use leg_lib_records::Supply;
+use leg_rules::{Owner, Shape};
 use std::alloc::{AllocError, Allocator};
 use std::marker::Model;
 
@@ -31,7 +30,7 @@ pub(crate) struct Belongs {
 }
 
 impl Model for Belongs {
-    ghost use Rattle.leg_flat.specs.Metal.{Belonging};
+    ghost use Rattle.leg_rules.specs.Metal.Metal.{Belonging};
 
     ghost Value = { Belonging };
 
@@ -42,7 +41,7 @@ impl Model for Belongs {
 
 /// Whose a pin of a component is that is in no net.
 fn owner_by_use(terminal: Terminal, supply: Supply) -> Owner
-    ensures { (pin : library.MasterPinSaid) → pin.supply ≡ supply → result ≡ owner_by_use terminal (Some pin) }
+    ensures { (pin : library.MasterPinModel) → pin.supply ≡ supply → result ≡ owner_by_use terminal (Some pin) }
 {
     match supply {
         Supply::NoSupply => Owner::Lone(terminal),
@@ -58,7 +57,7 @@ fn of_terminal<A: Allocator + Copy>(
     terminal: Terminal,
     lone: Owner,
 ) -> Belongs
-    ensures { (design : DesignContents) → AreNetsOf design nets.now → lone ≡ lone_owner design terminal
+    ensures { (design : DesignModel) → AreNetsOf design nets.now → lone ≡ lone_owner design terminal
         → result ≡ of_terminal design component terminal }
 {
     match nets.place_of(&terminal) {
@@ -82,7 +81,7 @@ pub(crate) fn of_component_pin<A: Allocator + Copy>(
     pin: usize,
     supply: Supply,
 ) -> Belongs
-    ensures { (design : DesignContents) (master : library.MasterSaid) (said : library.MasterPinSaid) → AreNetsOf design nets.now
+    ensures { (design : DesignModel) (master : library.MasterModel) (said : library.MasterPinModel) → AreNetsOf design nets.now
         → master_of design component ≡ Some master → slice_get master.pins pin ≡ Some said → said.supply ≡ supply
         → result ≡ of_terminal design (Some component) (Comp component pin) }
 {
@@ -93,7 +92,7 @@ pub(crate) fn of_component_pin<A: Allocator + Copy>(
 
 /// What the metal of a pin of the design belongs to.
 pub(crate) fn of_design_pin<A: Allocator + Copy>(nets: &Nets<A>, pin: u32) -> Belongs
-    ensures { (design : DesignContents) → AreNetsOf design nets.now → result ≡ of_terminal design None (Pin pin) }
+    ensures { (design : DesignModel) → AreNetsOf design nets.now → result ≡ of_terminal design None (Pin pin) }
 {
     let terminal = Terminal::Pin(pin);
     of_terminal(nets, None, terminal, Owner::Lone(terminal))
@@ -124,7 +123,7 @@ pub(crate) fn add_drawn<A: Allocator + Copy>(
     place: &Place,
     width: i64,
     height: i64,
-    box_shapes: &[leg_cells::Shape],
+    box_shapes: &[leg_lib_records::Shape],
     belongs: &Belongs,
 ) -> Result<(), AllocError>
     requires at { IsPosition place.now.at }
@@ -144,7 +143,7 @@ pub(crate) fn add_drawn<A: Allocator + Copy>(
 pub(crate) fn add_shifted<A: Allocator + Copy>(
     shapes: &mut Vec<Shape, A>,
     at: &Point,
-    point_shapes: &[leg_cells::Shape],
+    point_shapes: &[leg_lib_records::Shape],
     belongs: &Belongs,
 ) -> Result<(), AllocError>
     requires at { IsPosition at.now }

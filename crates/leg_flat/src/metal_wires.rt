@@ -1,23 +1,22 @@
 //! The metal of the wires of a design.
 
 ghost use Rattle.std.specs.Prelude.{◌≡◌, ◌+◌, ◌++◌, ◌<◌, ◌^◌, length, All, OnOk, option_map, slice_get};
-ghost use Rattle.leg_block.specs.declared.records.Wire.TheVariants.{ViaAt};
-ghost use Rattle.leg_block.specs.WellFormed.{IsWellFormed};
-ghost use Rattle.leg_block.specs.WellFormedParts.{IsPosition};
-ghost use Rattle.leg_cells.specs.Sound.{IsSound};
-ghost use Rattle.leg_flat.specs.Metal.{belonging, wire_outlines, wires_metal, nets_metal, specials_metal};
-ghost use Rattle.leg_flat.specs.Nets.{entry_wires, regular_entry};
+ghost use Rattle.leg_design_records.specs.declared.records.Wire.TheVariants.{ViaAt};
+ghost use Rattle.leg_design_records.specs.WellFormed.{IsWellFormed};
+ghost use Rattle.leg_design_records.specs.WellFormedParts.{IsPosition};
+ghost use Rattle.leg_lib_records.specs.Sound.{IsSound};
+ghost use Rattle.leg_rules.specs.Metal.Metal.{belonging, wire_outlines, wires_metal, nets_metal, specials_metal};
+ghost use Rattle.leg_rules.specs.Metal.Nets.{entry_wires, regular_entry};
 ghost use Rattle.leg_flat.specs.Steps.Places.{AreNetsOf};
 ghost use Rattle.leg_flat.specs.Steps.AddedMetal.{AddsMetal, IsWireWithin};
 
 use crate::metal_parts::{Belongs, add_shape, add_shifted};
 use crate::nets::Nets;
 use crate::outline::{line_rect, shifted_rect};
-use crate::owner::Owner;
-use crate::shape::Shape;
-use leg_block::{Design, Wire};
-use leg_cells::Via;
+use leg_design_records::{Design, Wire};
 use leg_geom::Point;
+use leg_lib_records::Via;
+use leg_rules::{Owner, Shape};
 use std::alloc::{AllocError, Allocator};
 
 /// The via of this number: those of the library count first.

@@ -2,11 +2,11 @@
 
 ghost use Rattle.std.specs.Prelude.{◌≡◌, ◌<◌, length, option_map, IfOk};
 ghost use Rattle.leg_lex.specs.NameLookup.{AreApart};
-ghost use Rattle.leg_block.specs.Records.{net_names};
-ghost use Rattle.leg_block.specs.WellFormedNets.{HasNets};
-ghost use Rattle.leg_flat.specs.Nets.{number_of_special, regular_entry, special_named, special_alone, special_entry};
+ghost use Rattle.leg_design_records.specs.Records.{net_names};
+ghost use Rattle.leg_design_records.specs.WellFormedNets.{HasNets};
+ghost use Rattle.leg_rules.specs.Metal.Nets.{number_of_special, regular_entry, special_named, special_alone, special_entry};
 
-use leg_block::{Design, Net};
+use leg_design_records::{Design, Net};
 use leg_lex::Names;
 use std::alloc::{AllocError, Allocator};
 use std::marker::Model;
@@ -21,9 +21,9 @@ pub(crate) struct NetIndex<'d, 'a, A: Allocator + Copy> {
 
 impl<'d, 'a, A: Allocator + Copy> Model for NetIndex<'d, 'a, A> {
     ghost use Rattle.std.specs.Prelude.{◌≡◌};
-    ghost use Rattle.leg_block.specs.Records.{DesignContents, net_names};
+    ghost use Rattle.leg_design_records.specs.Records.{DesignModel, net_names};
 
-    ghost Value = { DesignContents };
+    ghost Value = { DesignModel };
 
     ghost view = { λ s. s.design.now };
 

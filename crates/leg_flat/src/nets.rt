@@ -2,18 +2,18 @@
 
 ghost use Rattle.std.specs.Prelude.{◌≡◌, ◌≢◌, ℕ, ◌<◌, ◌^◌, suc, ◌+◌, ◌++◌, ◌∷◌, [], length, map, Some, option_map, All, AllPairs, IfOk, OnOk, slice_get};
 ghost use Rattle.std.specs.List.{range_with_len};
-ghost use Rattle.leg_block.specs.declared.records.Terminal.{Terminal};
-ghost use Rattle.leg_flat.specs.declared.piece.Piece.TheVariants.{Term, Wire};
-ghost use Rattle.leg_flat.specs.Nets.{entry_terminals, entry_wires, terminals_of, pieces_of};
-ghost use Rattle.leg_flat.specs.Flat.{ArePieces};
+ghost use Rattle.leg_design_records.specs.declared.records.Terminal.{Terminal};
+ghost use Rattle.leg_rules.specs.declared.piece.Piece.TheVariants.{Term, Wire};
+ghost use Rattle.leg_rules.specs.Metal.Nets.{entry_terminals, entry_wires, terminals_of, pieces_of};
+ghost use Rattle.leg_flat.specs.Limits.{ArePieces};
 ghost use Rattle.leg_flat.specs.Steps.Places.{AreSpecialNumbers, AreNetsOf, place_in};
 ghost use Rattle.leg_flat.specs.Steps.PlacesBelow.{place_below, ArePiecesAdded};
 
 use crate::net_index::NetIndex;
-use crate::piece::Piece;
 use crate::piece_numbers::PieceNumbers;
-use leg_block::{Design, Net, Terminal};
-use leg_cells::Items;
+use leg_design_records::{Design, Net, Terminal};
+use leg_lib_records::Items;
+use leg_rules::Piece;
 use std::alloc::{AllocError, Allocator};
 use std::marker::Model;
 
@@ -28,9 +28,9 @@ pub(crate) struct Nets<A: Allocator + Copy> {
 }
 
 impl<A: Allocator + Copy> Model for Nets<A> {
-    ghost use Rattle.leg_flat.specs.Steps.Places.{NetsSaid};
+    ghost use Rattle.leg_flat.specs.Steps.Places.{NetsModel};
 
-    ghost Value = { NetsSaid };
+    ghost Value = { NetsModel };
 
     ghost view = { λ s. record { pieces = s.pieces.items; counts = s.counts.items; placed = s.places; special = s.special.items } };
 }

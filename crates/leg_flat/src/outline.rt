@@ -2,12 +2,12 @@
 
 ghost use Rattle.std.specs.Prelude.{◌≢◌, ◌↔◌, ℤ};
 ghost use Rattle.leg_lex.specs.Number.{IsNumber};
-ghost use Rattle.leg_geom.specs.Plane.{Spot, IsRect, HasPoint};
+ghost use Rattle.leg_geom.specs.Plane.{PointModel, IsRect, HasPoint};
 ghost use Rattle.leg_geom.specs.Steps.Intervals.{IsSpan, HasNumber};
-ghost use Rattle.leg_block.specs.WellFormedParts.{IsPosition};
-ghost use Rattle.leg_flat.specs.Outline.{IsAlong, IsAcross, HasPointOf};
-ghost use Rattle.leg_flat.specs.Outline.Outline.{Drawn, Line, Shifted};
-ghost use Rattle.leg_flat.specs.Steps.Bounds.{IsReach, IsWidthWithin, IsLineWithin, IsDrawnWithin};
+ghost use Rattle.leg_design_records.specs.WellFormedParts.{IsPosition};
+ghost use Rattle.leg_rules.specs.Metal.Outline.{IsAlong, IsAcross, HasPointOf};
+ghost use Rattle.leg_rules.specs.Metal.Outline.Outline.{Drawn, Line, Shifted};
+ghost use Rattle.leg_flat.specs.Steps.Bounds.{IsMetalReach, IsWidthWithin, IsLineWithin, IsDrawnWithin};
 
 use leg_geom::{Orient, Place, Point, Rect};
 
@@ -16,8 +16,8 @@ fn line_ends(from: i64, to: i64, ext_from: i64, ext_to: i64) -> (i64, i64)
     requires from { IsNumber from }
     requires to { IsNumber to }
     requires differ { from ≢ to }
-    requires ext_from { IsReach ext_from }
-    requires ext_to { IsReach ext_to }
+    requires ext_from { IsMetalReach ext_from }
+    requires ext_to { IsMetalReach ext_to }
     ensures span { IsSpan (record { low = result.0; high = result.1 }) }
     ensures along { (z : ℤ) → HasNumber (record { low = result.0; high = result.1 }) z ↔ IsAlong from to ext_from ext_to z }
 {
@@ -42,7 +42,7 @@ fn line_sides(line: i64, width: i64) -> (i64, i64)
 /// The rectangle of a line of this width between two points, with how far it reaches past each.
 pub(crate) fn line_rect(from: &Point, to: &Point, width: i64, ext_from: i64, ext_to: i64) -> Rect
     requires { IsLineWithin from.now to.now width ext_from ext_to }
-    ensures points { (p : Spot) → HasPoint result p ↔ HasPointOf (Line from.now to.now width ext_from ext_to) p }
+    ensures points { (p : PointModel) → HasPoint result p ↔ HasPointOf (Line from.now to.now width ext_from ext_to) p }
     ensures proper { IsRect result }
 {
     if from.y() == to.y() {
@@ -60,7 +60,7 @@ pub(crate) fn line_rect(from: &Point, to: &Point, width: i64, ext_from: i64, ext
 pub(crate) fn shifted_rect(at: &Point, rect: &Rect) -> Rect
     requires at { IsPosition at.now }
     requires rect { IsDrawnWithin rect.now }
-    ensures points { (p : Spot) → HasPoint result p ↔ HasPointOf (Shifted at.now rect.now) p }
+    ensures points { (p : PointModel) → HasPoint result p ↔ HasPointOf (Shifted at.now rect.now) p }
     ensures proper { IsRect result }
 {
     // Orientation N leaves a rectangle as it is, whatever the size of its box.
@@ -77,7 +77,7 @@ pub(crate) fn drawn_rect(place: &Place, width: i64, height: i64, rect: &Rect) ->
     requires width { IsNumber width }
     requires height { IsNumber height }
     requires rect { IsDrawnWithin rect.now }
-    ensures points { (p : Spot) → HasPoint result p ↔ HasPointOf (Drawn place.now (record { width = width; height = height }) rect.now) p }
+    ensures points { (p : PointModel) → HasPoint result p ↔ HasPointOf (Drawn place.now (record { width = width; height = height }) rect.now) p }
     ensures proper { IsRect result }
 {
     place.rect(width, height, rect)

@@ -1,11 +1,11 @@
 //! Which piece of which net a terminal is.
 
 ghost use Rattle.std.specs.Prelude.{◌≡◌, cond, None, Some, OnOk};
-ghost use Rattle.leg_block.specs.declared.records.Terminal.{Terminal};
-ghost use Rattle.leg_block.specs.Terminals.{is_same_terminal};
+ghost use Rattle.leg_design_records.specs.declared.records.Terminal.{Terminal};
+ghost use Rattle.leg_design_records.specs.Terminals.{is_same_terminal};
 ghost use Rattle.leg_flat.specs.Steps.Places.{place_in};
 
-use leg_block::Terminal;
+use leg_design_records::Terminal;
 use std::alloc::{AllocError, Allocator};
 use std::collections::HashMap;
 use std::hash::{BuildHasherDefault, FoldHasher};
@@ -20,7 +20,7 @@ pub(crate) struct PieceNumbers<A: Allocator> {
 
 impl<A: Allocator> Model for PieceNumbers<A> {
     ghost use Rattle.std.specs.Prelude.{ℕ, List};
-    ghost use Rattle.leg_block.specs.declared.records.Terminal.{Terminal};
+    ghost use Rattle.leg_design_records.specs.declared.records.Terminal.{Terminal};
 
     ghost Value = { List (Terminal × (ℕ × ℕ)) };
 

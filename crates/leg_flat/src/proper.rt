@@ -4,7 +4,7 @@
 ghost use Rattle.std.specs.Prelude.{All};
 ghost use Rattle.leg_flat.specs.ProperLibrary.{AreProperShapes, IsProperMaster, IsProperLibrary};
 
-use leg_cells::{Library, Master, MasterPin, Shape, Via};
+use leg_lib_records::{Library, Master, MasterPin, Shape, Via};
 use std::alloc::Allocator;
 
 /// Each of the shapes has area.

@@ -1,26 +1,26 @@
 -- Rectangles by their two intervals.
 use Rattle.std.proofs.Common.{◌↔◌, ℕ, arith}
 use Rattle.std.proofs.lemmas.Int.{ints}
-use Rattle.leg_geom.specs.Plane.{Sides, IsRect, ShareSquare, SharePoint, HasAllPoints}
+use Rattle.leg_geom.specs.Plane.{RectModel, IsRect, ShareSquare, SharePoint, HasAllPoints}
 use Rattle.leg_geom.specs.Line.{Interval}
 use Rattle.leg_geom.specs.Steps.Intervals.{IsSpan, ShareNumber, ShareStep, HasAllNumbers, IsGap}
 use Rattle.leg_geom.specs.Gap.{IsXGap, IsYGap}
 
 -- a rectangle along each axis
-abbrev pub x_ends : Sides → Interval
+abbrev pub x_ends : RectModel → Interval
 x_ends r = record { low = r.x1; high = r.x2 }
 
-abbrev pub y_ends : Sides → Interval
+abbrev pub y_ends : RectModel → Interval
 y_ends r = record { low = r.y1; high = r.y2 }
 
-pub IsSpan-x_ends : (r : Sides) → IsRect r → IsSpan (x_ends r)
+pub IsSpan-x_ends : (r : RectModel) → IsRect r → IsSpan (x_ends r)
 IsSpan-x_ends r p = record { low = p.x1; high = p.x2; long = p.wide }
 
-pub IsSpan-y_ends : (r : Sides) → IsRect r → IsSpan (y_ends r)
+pub IsSpan-y_ends : (r : RectModel) → IsRect r → IsSpan (y_ends r)
 IsSpan-y_ends r p = record { low = p.y1; high = p.y2; long = p.high }
 
 -- rectangles share a unit square just where their intervals share a step along each axis
-pub ShareSquare-steps : (a b : Sides) → (ShareStep (x_ends a) (x_ends b) × ShareStep (y_ends a) (y_ends b)) ↔ ShareSquare a b
+pub ShareSquare-steps : (a b : RectModel) → (ShareStep (x_ends a) (x_ends b) × ShareStep (y_ends a) (y_ends b)) ↔ ShareSquare a b
 ShareSquare-steps a b = (
   λ s. record {
     square = record { x = s.0.step; y = s.1.step };
@@ -42,7 +42,7 @@ ShareSquare-steps a b = (
 )
 
 -- rectangles share a point just where their intervals share a number along each axis
-pub SharePoint-numbers : (a b : Sides) → (ShareNumber (x_ends a) (x_ends b) × ShareNumber (y_ends a) (y_ends b)) ↔ SharePoint a b
+pub SharePoint-numbers : (a b : RectModel) → (ShareNumber (x_ends a) (x_ends b) × ShareNumber (y_ends a) (y_ends b)) ↔ SharePoint a b
 SharePoint-numbers a b = (
   λ s. record {
     point = record { x = s.0.number; y = s.1.number };
@@ -65,7 +65,7 @@ SharePoint-numbers a b = (
 
 -- a rectangle has all points of a second one just where its intervals have all numbers of that one's; the second has
 -- area, since any rectangle has all points of one with no points
-pub HasAllPoints-numbers : (a b : Sides) → IsRect b → (HasAllNumbers (x_ends a) (x_ends b) × HasAllNumbers (y_ends a) (y_ends b)) ↔ HasAllPoints a b
+pub HasAllPoints-numbers : (a b : RectModel) → IsRect b → (HasAllNumbers (x_ends a) (x_ends b) × HasAllNumbers (y_ends a) (y_ends b)) ↔ HasAllPoints a b
 HasAllPoints-numbers a b r = (
   λ s p m.
       let x = s.0 p.x (record { above = m.left; below = m.right }) in
@@ -82,7 +82,7 @@ HasAllPoints-numbers a b r = (
 )
 
 -- the gap of two rectangles along an axis is that of their intervals
-pub IsXGap-ends : (a b : Sides) (n : ℕ) → IsRect a → IsRect b → IsGap (x_ends a) (x_ends b) n → IsXGap a b n
+pub IsXGap-ends : (a b : RectModel) (n : ℕ) → IsRect a → IsRect b → IsGap (x_ends a) (x_ends b) n → IsXGap a b n
 IsXGap-ends a b n ra rb g = record {
   p = record { x = g.p; y = a.y1 };
   q = record { x = g.q; y = b.y1 };
@@ -92,7 +92,7 @@ IsXGap-ends a b n ra rb g = record {
   least = λ s t m k. g.least s.x t.x (record { above = m.left; below = m.right }) (record { above = k.left; below = k.right });
 }
 
-pub IsYGap-ends : (a b : Sides) (n : ℕ) → IsRect a → IsRect b → IsGap (y_ends a) (y_ends b) n → IsYGap a b n
+pub IsYGap-ends : (a b : RectModel) (n : ℕ) → IsRect a → IsRect b → IsGap (y_ends a) (y_ends b) n → IsYGap a b n
 IsYGap-ends a b n ra rb g = record {
   p = record { x = a.x1; y = g.p };
   q = record { x = b.x1; y = g.q };

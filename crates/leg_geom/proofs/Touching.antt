@@ -1,21 +1,21 @@
 -- Rectangles that have two points in common share a step along one of the axes.
 use Rattle.std.proofs.Common.{◌≡◌, ◌≢◌, pos, ◌<ℤ◌, ◌+ℤ◌, ◌⊎◌, inl, inr, ap, arith}
 use Rattle.std.proofs.lemmas.Int.{ints, by_lt_z}
-use Rattle.leg_geom.specs.Plane.{Spot, Sides, HasPoint, SharePoint, ShareTwoPoints}
+use Rattle.leg_geom.specs.Plane.{PointModel, RectModel, HasPoint, SharePoint, ShareTwoPoints}
 use Rattle.leg_geom.specs.Steps.Intervals.{HasNumber, ShareStep}
 use Rattle.leg_geom.proofs.Points.{spot, same_spot}
 use Rattle.leg_geom.proofs.Axes.{x_ends, y_ends}
 use Rattle.leg_geom.proofs.Intervals.{ShareStep-numbers}
 
 -- two points that differ do so along x or along y
-x_differs : (p q : Spot) → p.x <ℤ q.x → p ≢ q
-x_differs p q h e = let f : p.x ≡ q.x = ap (λ (s : Spot). s.x) e in omega (arith, ints)
+x_differs : (p q : PointModel) → p.x <ℤ q.x → p ≢ q
+x_differs p q h e = let f : p.x ≡ q.x = ap (λ (s : PointModel). s.x) e in omega (arith, ints)
 
-y_differs : (p q : Spot) → p.y <ℤ q.y → p ≢ q
-y_differs p q h e = let f : p.y ≡ q.y = ap (λ (s : Spot). s.y) e in omega (arith, ints)
+y_differs : (p q : PointModel) → p.y <ℤ q.y → p ≢ q
+y_differs p q h e = let f : p.y ≡ q.y = ap (λ (s : PointModel). s.y) e in omega (arith, ints)
 
 -- a common point, and a common step along x: the two ends of that step, at the height of the point
-pub ShareTwoPoints-x : (a b : Sides) → SharePoint a b → ShareStep (x_ends a) (x_ends b) → ShareTwoPoints a b
+pub ShareTwoPoints-x : (a b : RectModel) → SharePoint a b → ShareStep (x_ends a) (x_ends b) → ShareTwoPoints a b
 ShareTwoPoints-x a b s t =
     let at_a = s.in_a in
     let at_b = s.in_b in
@@ -31,7 +31,7 @@ ShareTwoPoints-x a b s t =
       q_in_b = record { left = omega (arith, ints); right = omega (arith, ints); bottom = at_b.bottom; top = at_b.top };
     }
 
-pub ShareTwoPoints-y : (a b : Sides) → SharePoint a b → ShareStep (y_ends a) (y_ends b) → ShareTwoPoints a b
+pub ShareTwoPoints-y : (a b : RectModel) → SharePoint a b → ShareStep (y_ends a) (y_ends b) → ShareTwoPoints a b
 ShareTwoPoints-y a b s t =
     let at_a = s.in_a in
     let at_b = s.in_b in
@@ -47,14 +47,14 @@ ShareTwoPoints-y a b s t =
       q_in_b = record { left = at_b.left; right = at_b.right; bottom = omega (arith, ints); top = omega (arith, ints) };
     }
 
-x_number : (r : Sides) (p : Spot) → HasPoint r p → HasNumber (x_ends r) p.x
+x_number : (r : RectModel) (p : PointModel) → HasPoint r p → HasNumber (x_ends r) p.x
 x_number r p m = record { above = m.left; below = m.right }
 
-y_number : (r : Sides) (p : Spot) → HasPoint r p → HasNumber (y_ends r) p.y
+y_number : (r : RectModel) (p : PointModel) → HasPoint r p → HasNumber (y_ends r) p.y
 y_number r p m = record { above = m.bottom; below = m.top }
 
 -- between two common points there is a common step along x, or else along y
-pub ShareTwoPoints-step : (a b : Sides) → ShareTwoPoints a b → ShareStep (x_ends a) (x_ends b) ⊎ ShareStep (y_ends a) (y_ends b)
+pub ShareTwoPoints-step : (a b : RectModel) → ShareTwoPoints a b → ShareStep (x_ends a) (x_ends b) ⊎ ShareStep (y_ends a) (y_ends b)
 ShareTwoPoints-step a b s =
     let pa = s.p_in_a in
     let pb = s.p_in_b in

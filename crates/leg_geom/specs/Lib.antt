@@ -3,3 +3,4 @@ pub mod Gap
 pub mod Line
 pub mod Orientation
 pub mod Steps
+pub mod Pairs

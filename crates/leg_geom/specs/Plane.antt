@@ -4,12 +4,12 @@ use Rattle.std.specs.Int.{int_div_euclid}
 use Rattle.leg_geom.specs.declared.limits.TheConstants.{COORDINATE_LIMIT}
 
 -- a point of the lattice
-pub record Spot : Type 0 where
+pub record PointModel : Type 0 where
   pub x : ℤ
   pub y : ℤ
 
 -- a rectangle by its lower left and its upper right corner
-pub record Sides : Type 0 where
+pub record RectModel : Type 0 where
   pub x1 : ℤ
   pub y1 : ℤ
   pub x2 : ℤ
@@ -20,12 +20,12 @@ abbrev pub IsCoordinate : ℤ → Type 0
 IsCoordinate z = unsigned_abs z ≤ COORDINATE_LIMIT
 
 -- both coordinates of a point are within the limit
-pub record IsSpot (p : Spot) : Type 0 where
+pub record IsSpot (p : PointModel) : Type 0 where
   pub x : IsCoordinate p.x
   pub y : IsCoordinate p.y
 
 -- a rectangle has area, and its corners are within the limit
-pub record IsRect (r : Sides) : Type 0 where
+pub record IsRect (r : RectModel) : Type 0 where
   pub x1 : IsCoordinate r.x1
   pub y1 : IsCoordinate r.y1
   pub x2 : IsCoordinate r.x2
@@ -34,35 +34,35 @@ pub record IsRect (r : Sides) : Type 0 where
   pub high : r.y1 <ℤ r.y2
 
 -- the point lies in the rectangle, whose border belongs to it
-pub record HasPoint (r : Sides) (p : Spot) : Type 0 where
+pub record HasPoint (r : RectModel) (p : PointModel) : Type 0 where
   pub left : r.x1 ≤ℤ p.x
   pub right : p.x ≤ℤ r.x2
   pub bottom : r.y1 ≤ℤ p.y
   pub top : p.y ≤ℤ r.y2
 
 -- the unit square whose lower left corner is the point lies in the rectangle
-pub record HasSquare (r : Sides) (p : Spot) : Type 0 where
+pub record HasSquare (r : RectModel) (p : PointModel) : Type 0 where
   pub left : r.x1 ≤ℤ p.x
   pub right : p.x <ℤ r.x2
   pub bottom : r.y1 ≤ℤ p.y
   pub top : p.y <ℤ r.y2
 
 -- some unit square lies in both rectangles
-pub record ShareSquare (a b : Sides) : Type 0 where
-  pub square : Spot
+pub record ShareSquare (a b : RectModel) : Type 0 where
+  pub square : PointModel
   pub in_a : HasSquare a square
   pub in_b : HasSquare b square
 
 -- some point lies in both rectangles
-pub record SharePoint (a b : Sides) : Type 0 where
-  pub point : Spot
+pub record SharePoint (a b : RectModel) : Type 0 where
+  pub point : PointModel
   pub in_a : HasPoint a point
   pub in_b : HasPoint b point
 
 -- two different points lie in both rectangles
-pub record ShareTwoPoints (a b : Sides) : Type 0 where
-  pub p : Spot
-  pub q : Spot
+pub record ShareTwoPoints (a b : RectModel) : Type 0 where
+  pub p : PointModel
+  pub q : PointModel
   pub differ : p ≢ q
   pub p_in_a : HasPoint a p
   pub p_in_b : HasPoint b p
@@ -70,8 +70,8 @@ pub record ShareTwoPoints (a b : Sides) : Type 0 where
   pub q_in_b : HasPoint b q
 
 -- each point of the second rectangle is one of the first
-abbrev pub HasAllPoints : Sides → Sides → Type 0
-HasAllPoints a b = (p : Spot) → HasPoint b p → HasPoint a p
+abbrev pub HasAllPoints : RectModel → RectModel → Type 0
+HasAllPoints a b = (p : PointModel) → HasPoint b p → HasPoint a p
 
 -- the number is halfway between two others, rounded down: twice the number is their sum, or one less
 pub record IsHalfway (a b half : ℤ) : Type 0 where
@@ -79,7 +79,7 @@ pub record IsHalfway (a b half : ℤ) : Type 0 where
   pub near : (a +ℤ b) ≤ℤ (half +ℤ half +ℤ pos 1)
 
 -- the point is the rectangle's centre, each coordinate rounded down
-pub record IsCentre (r : Sides) (p : Spot) : Type 0 where
+pub record IsCentre (r : RectModel) (p : PointModel) : Type 0 where
   pub x : IsHalfway r.x1 r.x2 p.x
   pub y : IsHalfway r.y1 r.y2 p.y
 
@@ -88,5 +88,5 @@ abbrev pub halfway : ℤ → ℤ → ℤ
 halfway a b = int_div_euclid (a +ℤ b) (pos 2)
 
 -- the centre of a rectangle
-abbrev pub centre : Sides → Spot
+abbrev pub centre : RectModel → PointModel
 centre r = record { x = halfway r.x1 r.x2; y = halfway r.y1 r.y2 }

@@ -14,9 +14,9 @@ pub struct Point {
 }
 
 impl Model for Point {
-    ghost use Rattle.leg_geom.specs.Plane.{Spot, IsSpot};
+    ghost use Rattle.leg_geom.specs.Plane.{PointModel, IsSpot};
 
-    ghost Value = { Spot };
+    ghost Value = { PointModel };
 
     ghost view = { λ p. record { x = p.x; y = p.y } };
 

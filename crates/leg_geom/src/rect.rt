@@ -18,9 +18,9 @@ pub struct Rect {
 }
 
 impl Model for Rect {
-    ghost use Rattle.leg_geom.specs.Plane.{Sides, IsRect};
+    ghost use Rattle.leg_geom.specs.Plane.{RectModel, IsRect};
 
-    ghost Value = { Sides };
+    ghost Value = { RectModel };
 
     ghost view = { λ r. record { x1 = r.x.low; y1 = r.y.low; x2 = r.x.high; y2 = r.y.high } };
 

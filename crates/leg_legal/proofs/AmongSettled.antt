@@ -2,27 +2,27 @@
 use Rattle.std.proofs.Common.{◌≡◌, ℕ, List, [], ◌∷◌, ◌++◌, Some, slice_get, sym, ◌∙◌, inl, inr, arith}
 use Rattle.std.proofs.lemmas.Bool.{cases_eq}
 use Rattle.std.proofs.lemmas.Option.{same_Some, none-some}
-use Rattle.leg_geom.specs.Plane.{Sides, ShareSquare}
+use Rattle.leg_geom.specs.Plane.{RectModel, ShareSquare}
 use Rattle.leg_geom.specs.declared.place.Place.{Place}
 use Rattle.leg_geom.proofs.Gaps.{ShareSquare-symmetric}
-use Rattle.leg_block.specs.Records.{DesignContents}
-use Rattle.leg_block.specs.declared.fault.Fault.{Fault}
-use Rattle.leg_block.specs.declared.fault.Fault.TheVariants.{Unplaced, Outside, OffSite, Overlap, Blocked, Short, TooNear, OpenNet}
-use Rattle.leg_block.specs.declared.records.Component.{Component}
-use Rattle.leg_place.specs.Box.{placed_box, StandsIn}
-use Rattle.leg_place.specs.Faults.{IsUnplaced, IsOutside, IsBlocked, Holds}
-use Rattle.leg_place.specs.Faults.Holds.{unplaced, outside, off_site, overlap, blocked}
-use Rattle.leg_place.specs.Sites.{IsOffSite}
-use Rattle.leg_block.specs.Movable.{IsMovable}
-use Rattle.leg_sites.specs.declared.candidate.Candidate.{Candidate}
-use Rattle.leg_legal.specs.Free.{IsSettled, IsFree}
-use Rattle.leg_legal.specs.Run.{placed_at, moved_to}
+use Rattle.leg_design_records.specs.Records.{DesignModel}
+use Rattle.leg_design_records.specs.declared.fault.Fault.{Fault}
+use Rattle.leg_design_records.specs.declared.fault.Fault.TheVariants.{Unplaced, Outside, OffSite, Overlap, Blocked, Short, TooNear, OpenNet}
+use Rattle.leg_design_records.specs.declared.records.Component.{Component}
+use Rattle.leg_rules.specs.Placement.Box.{placed_box, HasBox}
+use Rattle.leg_rules.specs.Placement.Violations.{IsUnplaced, IsOutside, IsBlocked, IsPlacementViolation}
+use Rattle.leg_rules.specs.Placement.Violations.IsPlacementViolation.{unplaced, outside, off_site, overlap, blocked}
+use Rattle.leg_rules.specs.Placement.Sites.{IsOffSite}
+use Rattle.leg_design_records.specs.Movable.{IsMovable}
+use Rattle.leg_rules.specs.declared.position.Candidate.{Candidate}
+use Rattle.leg_rules.specs.Legalise.Free.{IsSettled, IsFree}
+use Rattle.leg_rules.specs.Legalise.Run.{placed_at, moved_to}
 use Rattle.leg_legal.proofs.Elements.{contains_at}
-use Rattle.leg_legal.proofs.MovedTo.{elsewhere, is_here, box_here, box_elsewhere, movable_before, settled_before, taken_before}
+use Rattle.leg_legal.proofs.OneMove.{elsewhere, is_here, box_here, box_elsewhere, movable_before, settled_before, taken_before}
 use Rattle.leg_legal.proofs.OnRow.{HasSoundRows, stands_on_row}
 
 -- a violation concerns only components that are settled
-abbrev pub ConcernsSettled : DesignContents → List ℕ → Fault → Type 0
+abbrev pub ConcernsSettled : DesignModel → List ℕ → Fault → Type 0
 ConcernsSettled design done (Unplaced c) = IsSettled design done c
 ConcernsSettled design done (Outside c) = IsSettled design done c
 ConcernsSettled design done (OffSite c) = IsSettled design done c
@@ -33,14 +33,14 @@ ConcernsSettled design done (TooNear a b) = ⊥
 ConcernsSettled design done (OpenNet n k) = ⊥
 
 -- no violation holds among them
-pub record NoneSettled (design : DesignContents) (done : List ℕ) : Type 0 where
-  pub none : (fault : Fault) → Holds design.library design fault → ConcernsSettled design done fault → ⊥
+pub record NoneSettled (design : DesignModel) (done : List ℕ) : Type 0 where
+  pub none : (fault : Fault) → IsPlacementViolation design.library design fault → ConcernsSettled design done fault → ⊥
 
 -- one more component takes a free position
-module _ (now : DesignContents) (sound : HasSoundRows now) (done : List ℕ) (c : ℕ) (component : Component) (place : Place)
+module _ (now : DesignModel) (sound : HasSoundRows now) (done : List ℕ) (c : ℕ) (component : Component) (place : Place)
     (at : slice_get now.components c ≡ Some component) (movable : IsMovable now c)
     (position : Candidate) (free : IsFree now done c position place) (before : NoneSettled now done) where
-  abbrev after : DesignContents
+  abbrev after : DesignModel
   after = moved_to now c component place
 
   abbrev more : List ℕ
@@ -76,7 +76,7 @@ module _ (now : DesignContents) (sound : HasSoundRows now) (done : List ℕ) (c 
       (rw (same_master, same_number, same_place) (stands_on_row now sound c position place free.stands))
 
   -- no other settled component shares a unit square with it
-  alone_here : (d : ℕ) (box other : Sides) → (d ≡ c → ⊥) → IsSettled after more d → StandsIn now.library after c box → StandsIn now.library after d other → ShareSquare other box → ⊥
+  alone_here : (d : ℕ) (box other : RectModel) → (d ≡ c → ⊥) → IsSettled after more d → HasBox now.library after c box → HasBox now.library after d other → ShareSquare other box → ⊥
   alone_here d box other apart settled stands_c stands_d shared =
       let is : box ≡ placed_box free.stands.master.size place = box_here now c component place at free.stands.master box is_master stands_c in
       free.clear.alone other (taken_before now c component place at movable done d other apart settled stands_d) (rw is at shared)
@@ -87,7 +87,7 @@ module _ (now : DesignContents) (sound : HasSoundRows now) (done : List ℕ) (c 
       let is : h.box ≡ placed_box free.stands.master.size place = box_here now c component place at free.stands.master h.box is_master h.stands in
       free.clear.alone h.rect (inr h.blocks) (rw is at (ShareSquare-symmetric h.box h.rect h.shared))
 
-  none_after : (fault : Fault) → Holds now.library after fault → ConcernsSettled after more fault → ⊥
+  none_after : (fault : Fault) → IsPlacementViolation now.library after fault → ConcernsSettled after more fault → ⊥
   none_after v (unplaced {c = d} h) settled =
       elim (cases_eq d c) [
         | inl same ↦ placed_here (rw same at h)

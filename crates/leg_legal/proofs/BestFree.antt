@@ -5,29 +5,30 @@ use Rattle.std.specs.Cmp.{both_ways}
 use Rattle.std.proofs.lemmas.Bool.{cases_lt, cases_eq, cases_order, false≢true}
 use Rattle.std.proofs.lemmas.Int.{ints, by_lt_z}
 use Rattle.std.proofs.lemmas.Option.{same_Some, slice_get_within}
-use Rattle.leg_geom.specs.Plane.{Sides, ShareSquare}
+use Rattle.leg_geom.specs.Plane.{RectModel, ShareSquare}
 use Rattle.leg_geom.proofs.Gaps.{ShareSquare-symmetric}
 use Rattle.leg_geom.specs.declared.orient.Orient.{Orient}
 use Rattle.leg_geom.specs.declared.place.Place.{Place}
-use Rattle.leg_cells.specs.declared.records.Site.{Site}
-use Rattle.leg_cells.specs.Measure.{Lengths, HasArea, IsExtent}
-use Rattle.leg_cells.specs.Records.{MasterSaid}
-use Rattle.leg_block.specs.Records.{DesignContents, placement_rects}
-use Rattle.leg_block.specs.declared.records.Row.{Row}
-use Rattle.leg_place.specs.Box.{placed_box, StandsIn}
-use Rattle.leg_sites.specs.BestPosition.{IsTurned, IsNoWorse, IsBestOf, IsBetterOf}
-use Rattle.leg_sites.specs.Known.{IsClear}
-use Rattle.leg_sites.specs.declared.candidate.Candidate.{Candidate}
-use Rattle.leg_sites.proofs.BestSoFar.{no_worse_itself, best_of_both, best_of_same}
-use Rattle.leg_sites.proofs.MacroPlaces.{some_sites}
-use Rattle.leg_block.specs.Movable.{IsMovable}
-use Rattle.leg_legal.specs.Start.{start_of, distance}
-use Rattle.leg_legal.specs.Standing.{orient_of, Takes, StandsAt}
-use Rattle.leg_legal.specs.Free.{IsSettled, IsTaken, IsFree, TakesBest}
-use Rattle.leg_legal.specs.Refusals.{HasRowFor}
+use Rattle.leg_lib_records.specs.declared.records.Site.{Site}
+use Rattle.leg_lib_records.specs.Measure.{ExtentModel, HasArea, IsExtent}
+use Rattle.leg_lib_records.specs.Records.{MasterModel}
+use Rattle.leg_design_records.specs.Records.{DesignModel, placement_rects}
+use Rattle.leg_design_records.specs.declared.records.Row.{Row}
+use Rattle.leg_rules.specs.Placement.Box.{placed_box, HasBox}
+use Rattle.leg_legal_sites.specs.Steps.BestPosition.{IsBestOf, IsBetterOf}
+use Rattle.leg_rules.specs.Legalise.Preference.{IsTurned, IsNoWorse}
+use Rattle.leg_rules.specs.Legalise.Clear.{IsClear}
+use Rattle.leg_rules.specs.declared.position.Candidate.{Candidate}
+use Rattle.leg_legal_sites.proofs.BestSoFar.{no_worse_itself, best_of_both, best_of_same}
+use Rattle.leg_legal_sites.proofs.MacroPlaces.{some_sites}
+use Rattle.leg_design_records.specs.Movable.{IsMovable}
+use Rattle.leg_rules.specs.Legalise.Start.{start_of, distance}
+use Rattle.leg_rules.specs.Legalise.Places.{orient_of, Takes, IsPlacedOn}
+use Rattle.leg_rules.specs.Legalise.Free.{IsSettled, IsTaken, IsFree, TakesBest}
+use Rattle.leg_rules.specs.Legalise.Refusals.{HasRowFor}
 use Rattle.leg_legal.specs.FreePlaces.{HasMacroSizes}
 use Rattle.leg_legal.proofs.Elements.{all_at, contains_at}
-use Rattle.leg_block.proofs.MovableOrNot.{movable_or_not}
+use Rattle.leg_design_records.proofs.MovableOrNot.{movable_or_not}
 use Rattle.leg_legal.proofs.OnRow.{HasSoundRows}
 use Rattle.leg_legal.proofs.BestSeat.{same_many}
 use Rattle.leg_legal.proofs.OneRun.{one_orient}
@@ -138,18 +139,18 @@ best_below P each (suc end) =
     )
 
 -- Whether a box is clear
-module _ (design : DesignContents) (done : List ℕ) where
+module _ (design : DesignModel) (done : List ℕ) where
   settled_or_not : (d : ℕ) → HoldsOrNot (IsSettled design done d)
   settled_or_not d = either_or_not (never_or_not (movable_or_not design d)) (contains_or_not done d)
 
   -- component d is settled and shares a unit square with the box
-  record IsInTheWay (box : Sides) (d : ℕ) : Type 0 where
+  record IsInTheWay (box : RectModel) (d : ℕ) : Type 0 where
     settled : IsSettled design done d
-    other : Sides
-    stands : StandsIn design.library design d other
+    other : RectModel
+    stands : HasBox design.library design d other
     shared : ShareSquare other box
 
-  in_the_way_or_not : (box : Sides) (d : ℕ) → HoldsOrNot (IsInTheWay box d)
+  in_the_way_or_not : (box : RectModel) (d : ℕ) → HoldsOrNot (IsInTheWay box d)
   in_the_way_or_not box d =
       elim (settled_or_not d) [
         | inr never ↦ inr (λ w. never w.settled)
@@ -162,7 +163,7 @@ module _ (design : DesignContents) (done : List ℕ) where
         ]
       ]
 
-  pub clear_or_not : (box : Sides) → HoldsOrNot (IsClear design.die (IsTaken design done) box)
+  pub clear_or_not : (box : RectModel) → HoldsOrNot (IsClear design.die (IsTaken design done) box)
   clear_or_not box =
       elim (missing_or_all design.die box) [
         | inl missing ↦ inr (λ c. missing.outside (c.inside missing.square missing.inside))
@@ -174,9 +175,9 @@ module _ (design : DesignContents) (done : List ℕ) where
           ]
         ]
       ] where
-        none_shares : (box : Sides) → ((d : ℕ) × (d < length design.components) × IsInTheWay box d → ⊥)
-            → ((rect : Sides) × Contains (placement_rects design.blockages) rect × ShareSquare box rect → ⊥)
-            → (other : Sides) → IsTaken design done other → ShareSquare other box → ⊥
+        none_shares : (box : RectModel) → ((d : ℕ) × (d < length design.components) × IsInTheWay box d → ⊥)
+            → ((rect : RectModel) × Contains (placement_rects design.blockages) rect × ShareSquare box rect → ⊥)
+            → (other : RectModel) → IsTaken design done other → ShareSquare other box → ⊥
         none_shares box none never other (inl taken) shared =
             none (
               taken.d,
@@ -186,12 +187,12 @@ module _ (design : DesignContents) (done : List ℕ) where
         none_shares box none never other (inr blocks) shared = never (other, blocks, ShareSquare-symmetric other box shared)
 
 -- the positions of a movable component
-module _ (design : DesignContents) (sound : HasSoundRows design) (sized : HasMacroSizes design.library) (done : List ℕ) (c : ℕ) (m : IsMovable design c) where
+module _ (design : DesignModel) (sound : HasSoundRows design) (sized : HasMacroSizes design.library) (done : List ℕ) (c : ℕ) (m : IsMovable design c) where
   has_area : HasArea m.master.size
-  has_area = (all_at (λ (x : MasterSaid). IsExtent x.size) design.library.masters m.component.master m.master sized m.is_master).area
+  has_area = (all_at (λ (x : MasterModel). IsExtent x.size) design.library.masters m.component.master m.master sized m.is_master).area
 
   -- what any of them has to do with the component
-  module _ (k : Candidate) (place : Place) (s : StandsAt design c k place) where
+  module _ (k : Candidate) (place : Place) (s : IsPlacedOn design c k place) where
     s_component : s.component ≡ m.component
     s_component = same_Some s.component m.component (sym s.there ∙ m.there)
 
@@ -217,7 +218,7 @@ module _ (design : DesignContents) (sound : HasSoundRows design) (sized : HasMac
 
   -- where its macro fits some row
   module _ (h : HasRowFor design m.master.size m.number) where
-    abbrev size : Lengths
+    abbrev size : ExtentModel
     size = h.site.size
 
     abbrev many : ℕ
@@ -229,7 +230,7 @@ module _ (design : DesignContents) (sound : HasSoundRows design) (sized : HasMac
     some : 1 ≤ many
     some = some_sites h.row h.site.size m.master.size many area has_area h.fits.wide h.fits.high
 
-    module _ (k : Candidate) (place : Place) (s : StandsAt design c k place) where
+    module _ (k : Candidate) (place : Place) (s : IsPlacedOn design c k place) where
       s_site : s.site ≡ h.site
       s_site =
           let told : slice_get design.library.sites m.number ≡ Some s.site = rw (s_number k place s) at s.is_site in
@@ -261,7 +262,7 @@ module _ (design : DesignContents) (sound : HasSoundRows design) (sized : HasMac
       position_there : Candidate
       position_there = record { distance = distance place_there.at (start_of design.die m.component.place); turned = flag.0; row = number; first = first }
 
-      stands_there : StandsAt design c position_there place_there
+      stands_there : IsPlacedOn design c position_there place_there
       unfolding position_there place_there
       stands_there = record {
         component = m.component;
@@ -285,7 +286,7 @@ module _ (design : DesignContents) (sound : HasSoundRows design) (sized : HasMac
       }
 
       -- no other position of the row begins there
-      module _ (k : Candidate) (place : Place) (s : StandsAt design c k place) (at_row : k.row ≡ number) (at_first : k.first ≡ first) where
+      module _ (k : Candidate) (place : Place) (s : IsPlacedOn design c k place) (at_row : k.row ≡ number) (at_first : k.first ≡ first) where
         s_row : s.row ≡ row
         s_row = same_Some s.row row (sym s.is_row ∙ ap (slice_get design.rows) at_row ∙ is_row)
 
@@ -314,7 +315,7 @@ module _ (design : DesignContents) (sound : HasSoundRows design) (sized : HasMac
         unfolding position_there
         s_position = λ i. record { distance = s_distance i; turned = s_turned i; row = at_row i; first = at_first i }
 
-        s_clear : (P : Sides → Type 0) → P (placed_box s.master.size place) → P (placed_box m.master.size place_there)
+        s_clear : (P : RectModel → Type 0) → P (placed_box s.master.size place) → P (placed_box m.master.size place_there)
         s_clear P p =
             let same : placed_box s.master.size place ≡ placed_box m.master.size place_there = λ i. placed_box (s_master k place s i).size (s_place i) in
             subst P same p
@@ -327,7 +328,7 @@ module _ (design : DesignContents) (sound : HasSoundRows design) (sized : HasMac
       free : IsFree design done c k place
 
     module _ (number : ℕ) (row : Row) (is_row : slice_get design.rows number ≡ Some row) where
-      row_of : (k : Candidate) (place : Place) (s : StandsAt design c k place) → k.row ≡ number → s.row ≡ row
+      row_of : (k : Candidate) (place : Place) (s : IsPlacedOn design c k place) → k.row ≡ number → s.row ≡ row
       row_of k place s at_row = same_Some s.row row (sym s.is_row ∙ ap (slice_get design.rows) at_row ∙ is_row)
 
       at_place : (same : row.site ≡ m.number) (first : ℕ) (within : pos (first + many) ≤ℤ row.count)

@@ -6,33 +6,35 @@ use Rattle.std.proofs.lemmas.Bool.{cases_lt, cases_eq}
 use Rattle.std.proofs.lemmas.Int.{ints, by_lt_z}
 use Rattle.std.proofs.lemmas.Option.{same_Some, slice_get-get_or, slice_get_within}
 use Rattle.leg_lex.specs.Number.{IsNumber}
-use Rattle.leg_geom.specs.Plane.{Sides}
+use Rattle.leg_geom.specs.Plane.{RectModel}
 use Rattle.leg_geom.specs.Gap.{apart}
 use Rattle.leg_geom.specs.declared.orient.Orient.{Orient}
 use Rattle.leg_geom.specs.declared.place.Place.{Place}
-use Rattle.leg_cells.specs.declared.records.Site.{Site}
-use Rattle.leg_cells.specs.Measure.{Lengths, HasArea, IsExtent}
-use Rattle.leg_cells.specs.Records.{MasterSaid}
-use Rattle.leg_block.specs.Records.{DesignContents}
-use Rattle.leg_block.specs.Rows.{is_upright}
-use Rattle.leg_block.specs.WellFormedParts.{IsPosition, IsRow}
-use Rattle.leg_block.specs.WellFormed.{IsWellFormed}
-use Rattle.leg_block.specs.declared.records.Row.{Row}
-use Rattle.leg_block.specs.declared.records.Component.{Component}
-use Rattle.leg_place.specs.Box.{placed_box}
-use Rattle.leg_sites.specs.declared.stretch.Stretch.{Stretch}
-use Rattle.leg_sites.specs.declared.candidate.Candidate.{Candidate}
-use Rattle.leg_sites.specs.declared.candidate.Wanted.{Wanted}
-use Rattle.leg_sites.specs.Stretches.{IsFreeSite, AreFreeSites}
-use Rattle.leg_sites.specs.Known.{IsClear, IsKnown}
-use Rattle.leg_sites.specs.FreeRows.{RowLists, AreKnown, IsOfItsSite}
-use Rattle.leg_sites.specs.BestPosition.{IsTurned, AreReady, IsCandidate, IsNoWorse}
-use Rattle.leg_sites.proofs.MacroBoxes.{fitting_upright}
-use Rattle.leg_sites.proofs.MacroPlaces.{free_just_where_macro_clear}
-use Rattle.leg_block.specs.Movable.{IsMovable}
-use Rattle.leg_legal.specs.Start.{start_of, distance}
-use Rattle.leg_legal.specs.Standing.{orient_of, Takes}
-use Rattle.leg_legal.specs.Refusals.{FitsSites, HasRowFor, IsUnsuited}
+use Rattle.leg_lib_records.specs.declared.records.Site.{Site}
+use Rattle.leg_lib_records.specs.Measure.{ExtentModel, HasArea, IsExtent}
+use Rattle.leg_lib_records.specs.Records.{MasterModel}
+use Rattle.leg_design_records.specs.Records.{DesignModel}
+use Rattle.leg_design_records.specs.Rows.{is_upright}
+use Rattle.leg_design_records.specs.WellFormedParts.{IsPosition, IsRow}
+use Rattle.leg_design_records.specs.WellFormed.{IsWellFormed}
+use Rattle.leg_design_records.specs.declared.records.Row.{Row}
+use Rattle.leg_design_records.specs.declared.records.Component.{Component}
+use Rattle.leg_rules.specs.Placement.Box.{placed_box}
+use Rattle.leg_legal_sites.specs.declared.stretch.Stretch.{Stretch}
+use Rattle.leg_rules.specs.declared.position.Candidate.{Candidate}
+use Rattle.leg_legal_sites.specs.declared.candidate.Wanted.{Wanted}
+use Rattle.leg_legal_sites.specs.Steps.Stretches.{IsFreeSite, AreFreeSites}
+use Rattle.leg_legal_sites.specs.Steps.ClearSites.{IsKnown}
+use Rattle.leg_rules.specs.Legalise.Clear.{IsClear}
+use Rattle.leg_legal_sites.specs.Steps.FreeLists.{RowLists, AreFreeLists, IsOfItsSite}
+use Rattle.leg_legal_sites.specs.Steps.BestPosition.{AreReady, IsCandidate}
+use Rattle.leg_rules.specs.Legalise.Preference.{IsTurned, IsNoWorse}
+use Rattle.leg_legal_sites.proofs.MacroBoxes.{fitting_upright}
+use Rattle.leg_legal_sites.proofs.MacroPlaces.{free_just_where_macro_clear}
+use Rattle.leg_design_records.specs.Movable.{IsMovable}
+use Rattle.leg_rules.specs.Legalise.Start.{start_of, distance}
+use Rattle.leg_rules.specs.Legalise.Places.{orient_of, Takes}
+use Rattle.leg_rules.specs.Legalise.Refusals.{FitsSites, HasRowFor, IsUnsuited}
 use Rattle.leg_legal.specs.Steps.Seats.{IsWantedOf, IsFreeOf, IsBestPlace}
 use Rattle.leg_legal.proofs.Elements.{all_at}
 use Rattle.leg_legal.proofs.OnRow.{takes_fits}
@@ -52,7 +54,7 @@ same_many j k n some same =
       step a b n below = mul-le-mul_right n (omega arith)
 
 -- What a macro fits that isn't known not to fit
-module _ (site size : Lengths) (area : HasArea site) (has_area : HasArea size) where
+module _ (site size : ExtentModel) (area : HasArea site) (has_area : HasArea size) where
   pub fits_stable : ((FitsSites site size → ⊥) → ⊥) → FitsSites site size
   fits_stable never =
       by_lt_z size.height site.height
@@ -76,9 +78,9 @@ module _ (site size : Lengths) (area : HasArea site) (has_area : HasArea size) w
       omega (arith, ints, has_area.wide, parts, product)
 
 -- what a movable component asks that isn't unsuited
-module _ (design : DesignContents) (c : ℕ) (m : IsMovable design c) (suited : IsUnsuited design c → ⊥)
+module _ (design : DesignModel) (c : ℕ) (m : IsMovable design c) (suited : IsUnsuited design c → ⊥)
     (component : Component) (there : slice_get design.components c ≡ Some component)
-    (master : MasterSaid) (is_master : slice_get design.library.masters component.master ≡ Some master) (number : ℕ) (same : master.site ≡ Some number) where
+    (master : MasterModel) (is_master : slice_get design.library.masters component.master ≡ Some master) (number : ℕ) (same : master.site ≡ Some number) where
   misfit_none : (HasRowFor design master.size number → ⊥) → ⊥
   misfit_none none =
       let alike : m.master ≡ master = told design c component master number there is_master same m in
@@ -115,14 +117,14 @@ module _ (design : DesignContents) (c : ℕ) (m : IsMovable design c) (suited : 
       })
 
 -- sites are as wide as the component that asks takes them to be
-pub of_its_site : (design : DesignContents) (c : ℕ) (wanted : Wanted) → IsWantedOf design c wanted → IsOfItsSite design wanted
+pub of_its_site : (design : DesignModel) (c : ℕ) (wanted : Wanted) → IsWantedOf design c wanted → IsOfItsSite design wanted
 of_its_site design c wanted asks site there =
     let one : site ≡ asks.site = same_Some site asks.site (sym there ∙ asks.is_site) in
     ap (λ (s : Site). s.size.width) one ∙ sym asks.site_width
 
 -- a component that asks, at the lists that boxes have left
-module _ (design : DesignContents) (proper : IsWellFormed design) (c : ℕ) (wanted : Wanted) (asks : IsWantedOf design c wanted)
-    (boxes : List Sides) (free : RowLists) (known : AreKnown design boxes free) where
+module _ (design : DesignModel) (proper : IsWellFormed design) (c : ℕ) (wanted : Wanted) (asks : IsWantedOf design c wanted)
+    (boxes : List RectModel) (free : RowLists) (known : AreFreeLists design boxes free) where
   abbrev n : ℕ
   n = unsigned_abs asks.site.size.width
 

@@ -2,11 +2,11 @@
 use Rattle.std.proofs.Common.{◌≡◌, ◌≢◌, ℕ, ◌<◌, List, length, inl, inr, refl, sym, ap, subst, ◌∙◌, arith}
 use Rattle.std.proofs.lemmas.Bool.{cases_eq}
 use Rattle.std.proofs.lemmas.Option.{slice_get_within}
-use Rattle.leg_block.specs.Records.{DesignContents}
-use Rattle.leg_block.specs.declared.fault.Fault.{Fault}
-use Rattle.leg_block.specs.declared.fault.Fault.TheVariants.{Overlap, Short}
-use Rattle.leg_block.specs.Violation.{kind_number, numbers_of, ComesBefore, IsListOf}
-use Rattle.leg_place.specs.Faults.{Holds}
+use Rattle.leg_design_records.specs.Records.{DesignModel}
+use Rattle.leg_design_records.specs.declared.fault.Fault.{Fault}
+use Rattle.leg_design_records.specs.declared.fault.Fault.TheVariants.{Overlap, Short}
+use Rattle.leg_design_records.specs.Violation.{kind_number, numbers_of, ComesBefore, IsListOf}
+use Rattle.leg_rules.specs.Placement.Violations.{IsPlacementViolation}
 use Rattle.leg_place.specs.Steps.ComponentFault.{fault_of}
 use Rattle.leg_place.proofs.PlaceFaults.{kind_below, component_below, overlap_there}
 use Rattle.leg_place.proofs.ComponentFaults.{ComponentKind, number_of_kind, overlap_kind, of_component, is_of_component, is_overlap, component_or_overlap, kind_or_none}
@@ -24,7 +24,7 @@ module _ (v w : Fault) (kinds : kind_number v ≡ kind_number w) where
 by_kind : (v w : Fault) → kind_number v < kind_number w → ComesBefore v w
 by_kind v w below = record { kind = omega arith; first = λ same. absurd (omega arith); second = λ same firsts. absurd (omega arith) }
 
-module _ (design : DesignContents) (P : Fault → Type 0) (holds : (fault : Fault) → P fault → Holds design.library design fault) (each : (fault : Fault) → HoldsOrNot (P fault)) where
+module _ (design : DesignModel) (P : Fault → Type 0) (holds : (fault : Fault) → P fault → IsPlacementViolation design.library design fault) (each : (fault : Fault) → HoldsOrNot (P fault)) where
   abbrev count : ℕ
   count = length design.components
 
@@ -88,7 +88,7 @@ module _ (design : DesignContents) (P : Fault → Type 0) (holds : (fault : Faul
   overlap_below fault is p =
       let first = (numbers_of fault).0 in
       let second = (numbers_of fault).1 in
-      let h : Holds design.library design (Overlap first second) = subst (Holds design.library design) (is_overlap fault is) (holds fault p) in
+      let h : IsPlacementViolation design.library design (Overlap first second) = subst (IsPlacementViolation design.library design) (is_overlap fault is) (holds fault p) in
       let o = overlap_there design.library design first second h in
       slice_get_within design.components second o.stands_b.component o.stands_b.there
 

@@ -1,29 +1,29 @@
 -- Whether a violation of placement holds, and whether it concerns only components that stay.
-use Rattle.leg_block.specs.Movable.{IsMovable}
+use Rattle.leg_design_records.specs.Movable.{IsMovable}
 use Rattle.std.proofs.Common.{◌≡◌, ℕ, Option, None, Some, slice_get, Contains, inl, inr, refl, sym, ◌∙◌, arith}
 use Rattle.std.proofs.lemmas.Option.{same_Some, none-some}
-use Rattle.leg_geom.specs.Plane.{Sides, ShareSquare}
+use Rattle.leg_geom.specs.Plane.{RectModel, ShareSquare}
 use Rattle.leg_geom.specs.declared.place.Place.{Place}
-use Rattle.leg_cells.specs.Records.{MasterSaid}
-use Rattle.leg_block.specs.Records.{DesignContents, placement_rects}
-use Rattle.leg_block.specs.declared.records.Component.{Component}
-use Rattle.leg_block.specs.declared.fault.Fault.{Fault}
-use Rattle.leg_block.specs.declared.fault.Fault.TheVariants.{Unplaced, Outside, OffSite, Overlap, Blocked, Short, TooNear, OpenNet}
-use Rattle.leg_place.specs.Box.{box_of, StandsIn}
-use Rattle.leg_place.specs.Faults.{IsUnplaced, IsOutside, DoOverlap, IsBlocked, Holds}
-use Rattle.leg_place.specs.Faults.Holds.{unplaced, outside, off_site, overlap, blocked}
-use Rattle.leg_place.specs.Sites.{IsOnRow, IsOffSite}
+use Rattle.leg_lib_records.specs.Records.{MasterModel}
+use Rattle.leg_design_records.specs.Records.{DesignModel, placement_rects}
+use Rattle.leg_design_records.specs.declared.records.Component.{Component}
+use Rattle.leg_design_records.specs.declared.fault.Fault.{Fault}
+use Rattle.leg_design_records.specs.declared.fault.Fault.TheVariants.{Unplaced, Outside, OffSite, Overlap, Blocked, Short, TooNear, OpenNet}
+use Rattle.leg_rules.specs.Placement.Box.{box_of, HasBox}
+use Rattle.leg_rules.specs.Placement.Violations.{IsUnplaced, IsOutside, DoOverlap, IsBlocked, IsPlacementViolation}
+use Rattle.leg_rules.specs.Placement.Violations.IsPlacementViolation.{unplaced, outside, off_site, overlap, blocked}
+use Rattle.leg_rules.specs.Placement.Sites.{IsOnRow, IsOffSite}
 use Rattle.leg_place.proofs.PlaceFaults.{kind_below, unplaced_there, outside_there, off_site_there, overlap_there, blocked_there}
-use Rattle.leg_legal.specs.Refusals.{ConcernsStaying, HoldsOfStaying}
+use Rattle.leg_rules.specs.Legalise.Refusals.{ConcernsStaying, HoldsOfStaying}
 use Rattle.leg_legal.proofs.OnRow.{HasSoundRows}
-use Rattle.leg_block.proofs.MovableOrNot.{movable_or_not}
+use Rattle.leg_design_records.proofs.MovableOrNot.{movable_or_not}
 use Rattle.leg_legal.proofs.Decisions.{HoldsOrNot, by_other, both_or_not, never_or_not, less_or_not, some_or_not, there_or_not}
 use Rattle.leg_legal.proofs.Squares.{share_or_not, missing_or_all}
 use Rattle.leg_legal.proofs.RowTests.{some_element, on_row_or_not}
 
-module _ (design : DesignContents) where
+module _ (design : DesignModel) where
   -- a component is in a box, or in none
-  pub box_or_not : (c : ℕ) → HoldsOrNot ((box : Sides) × StandsIn design.library design c box)
+  pub box_or_not : (c : ℕ) → HoldsOrNot ((box : RectModel) × HasBox design.library design c box)
   box_or_not c =
       elim (there_or_not design.components c) [
         | inr none ↦ inr (λ (box, s). none (s.component, s.there))
@@ -34,7 +34,7 @@ module _ (design : DesignContents) where
       ]
 
   -- and in one alone
-  pub one_box : (c : ℕ) (a b : Sides) → StandsIn design.library design c a → StandsIn design.library design c b → a ≡ b
+  pub one_box : (c : ℕ) (a b : RectModel) → HasBox design.library design c a → HasBox design.library design c b → a ≡ b
   one_box c a b s t =
       let same : s.component ≡ t.component = same_Some s.component t.component (sym s.there ∙ t.there) in
       same_Some a b (sym (rw same at s.placed) ∙ t.placed)
@@ -82,7 +82,7 @@ module _ (design : DesignContents) where
       ]
 
   -- a rectangle of a placement blockage shares a unit square with the box, or none does
-  pub meets_or_not : (box : Sides) → HoldsOrNot ((rect : Sides) × Contains (placement_rects design.blockages) rect × ShareSquare box rect)
+  pub meets_or_not : (box : RectModel) → HoldsOrNot ((rect : RectModel) × Contains (placement_rects design.blockages) rect × ShareSquare box rect)
   meets_or_not box = some_element (ShareSquare box) (placement_rects design.blockages) (λ rect has. share_or_not box rect)
 
   blocked_or_not : (c : ℕ) → HoldsOrNot (IsBlocked design.library design c)
@@ -107,7 +107,7 @@ module _ (design : DesignContents) where
           | inr none ↦ inr (λ o. none (o.component, o.there))
           | inl (component, there) ↦ placed component there
         ] where
-          on_some_row : (component : Component) (place : Place) (master : MasterSaid) (number : ℕ) → slice_get design.components c ≡ Some component
+          on_some_row : (component : Component) (place : Place) (master : MasterModel) (number : ℕ) → slice_get design.components c ≡ Some component
               → component.place ≡ Some place → slice_get design.library.masters component.master ≡ Some master → master.site ≡ Some number
               → HoldsOrNot (IsOffSite design.library design c)
           on_some_row component place master number there placed is_master site =
@@ -131,7 +131,7 @@ module _ (design : DesignContents) where
                     o.none row has (rw (master_is, number_is, place_is) on))
               ]
 
-          sited : (component : Component) (place : Place) (master : MasterSaid) → slice_get design.components c ≡ Some component
+          sited : (component : Component) (place : Place) (master : MasterModel) → slice_get design.components c ≡ Some component
               → component.place ≡ Some place → slice_get design.library.masters component.master ≡ Some master → HoldsOrNot (IsOffSite design.library design c)
           sited component place master there is is_master =
               elim (some_or_not master.site) [
@@ -161,7 +161,7 @@ module _ (design : DesignContents) where
               ]
 
     -- a violation of placement holds or not
-    pub holds_or_not : (fault : Fault) → HoldsOrNot (Holds design.library design fault)
+    pub holds_or_not : (fault : Fault) → HoldsOrNot (IsPlacementViolation design.library design fault)
     holds_or_not (Unplaced c) = by_other (λ h. unplaced h) (unplaced_there design.library design c) (unplaced_or_not c)
     holds_or_not (Outside c) = by_other (λ h. outside h) (outside_there design.library design c) (outside_or_not c)
     holds_or_not (OffSite c) = by_other (λ h. off_site h) (off_site_there design.library design c) (off_site_or_not c)

@@ -4,34 +4,34 @@ use Rattle.std.proofs.lemmas.Bool.{cases_lt, false≢true}
 use Rattle.std.proofs.lemmas.Int.{ints}
 use Rattle.std.proofs.lemmas.List.{get_or_append_left}
 use Rattle.std.proofs.lemmas.Option.{same_Some}
-use Rattle.leg_geom.specs.Plane.{Spot, Sides}
+use Rattle.leg_geom.specs.Plane.{PointModel, RectModel}
 use Rattle.leg_geom.specs.declared.place.Place.{Place}
-use Rattle.leg_cells.specs.Measure.{Lengths, HasArea, IsExtent}
-use Rattle.leg_cells.specs.Records.{MasterSaid}
-use Rattle.leg_cells.specs.Sound.{IsSound}
-use Rattle.leg_block.specs.Records.{DesignContents}
-use Rattle.leg_block.specs.WellFormed.{IsWellFormed}
-use Rattle.leg_block.specs.WellFormedParts.{IsRow}
-use Rattle.leg_block.specs.declared.records.Row.{Row}
-use Rattle.leg_place.specs.Box.{placed_box}
-use Rattle.leg_place.specs.Sites.{IsOnSites}
+use Rattle.leg_lib_records.specs.Measure.{ExtentModel, HasArea, IsExtent}
+use Rattle.leg_lib_records.specs.Records.{MasterModel}
+use Rattle.leg_lib_records.specs.Sound.{IsSound}
+use Rattle.leg_design_records.specs.Records.{DesignModel}
+use Rattle.leg_design_records.specs.WellFormed.{IsWellFormed}
+use Rattle.leg_design_records.specs.WellFormedParts.{IsRow}
+use Rattle.leg_design_records.specs.declared.records.Row.{Row}
+use Rattle.leg_rules.specs.Placement.Box.{placed_box}
+use Rattle.leg_rules.specs.Placement.Sites.{IsOnSites}
 use Rattle.leg_place.proofs.OnSites.{IsWide, IsLevel, IsEdge, product_up, edge_is, level_from_on_sites, left_from_on_sites, right_from_on_sites}
-use Rattle.leg_sites.specs.BestPosition.{IsTurned}
-use Rattle.leg_sites.proofs.MacroBoxes.{upright_box, fitting_upright}
-use Rattle.leg_block.specs.Movable.{MayMove, IsMovable}
-use Rattle.leg_legal.specs.Start.{start_of, distance}
-use Rattle.leg_legal.specs.Standing.{orient_of}
-use Rattle.leg_legal.specs.Refusals.{IsStuck}
+use Rattle.leg_rules.specs.Legalise.Preference.{IsTurned}
+use Rattle.leg_legal_sites.proofs.MacroBoxes.{upright_box, fitting_upright}
+use Rattle.leg_design_records.specs.Movable.{MayMove, IsMovable}
+use Rattle.leg_rules.specs.Legalise.Start.{start_of, distance}
+use Rattle.leg_rules.specs.Legalise.Places.{orient_of}
+use Rattle.leg_rules.specs.Legalise.Refusals.{IsStuck}
 use Rattle.leg_legal.specs.FreePlaces.{HasMacroSizes, IsFreePlace, HasFreePosition}
 use Rattle.leg_legal.proofs.Elements.{all_at}
 use Rattle.leg_legal.proofs.OnRow.{HasSoundRows, stands_on_row}
-use Rattle.leg_legal.proofs.SoFar.{AreMovable, IsSoFar, so_far}
+use Rattle.leg_legal.proofs.RunSoFar.{AreMovable, IsSoFar, so_far}
 use Rattle.leg_legal.proofs.TheOrder.{order_movable}
 use Rattle.leg_legal.proofs.Decisions.{HoldsOrNot}
 use Rattle.leg_legal.proofs.Orientations.{turned_or_not}
 
 -- a box of this width and height from a point on is at the edges of some sites
-pub record IsAtSites (row : Row) (site size : Lengths) (at : Spot) : Type 0 where
+pub record IsAtSites (row : Row) (site size : ExtentModel) (at : PointModel) : Type 0 where
   pub first : ℕ
   pub many : ℕ
   pub some : 1 ≤ many
@@ -40,19 +40,19 @@ pub record IsAtSites (row : Row) (site size : Lengths) (at : Spot) : Type 0 wher
   pub within : pos (first + many) ≤ℤ row.count
   pub is : at ≡ record { x = row.at.x +ℤ pos first *ℤ site.width; y = row.at.y }
 
-module _ (row : Row) (site size : Lengths) (area : HasArea site) (has_area : HasArea size) (at : Spot) (box : Sides)
+module _ (row : Row) (site size : ExtentModel) (area : HasArea site) (has_area : HasArea size) (at : PointModel) (box : RectModel)
     (box_is : box ≡ record { x1 = at.x; y1 = at.y; x2 = at.x +ℤ size.width; y2 = at.y +ℤ size.height }) (on : IsOnSites row site box) where
   x1_is : box.x1 ≡ at.x
-  x1_is = ap (λ (b : Sides). b.x1) box_is
+  x1_is = ap (λ (b : RectModel). b.x1) box_is
 
   y1_is : box.y1 ≡ at.y
-  y1_is = ap (λ (b : Sides). b.y1) box_is
+  y1_is = ap (λ (b : RectModel). b.y1) box_is
 
   x2_is : box.x2 ≡ at.x +ℤ size.width
-  x2_is = ap (λ (b : Sides). b.x2) box_is
+  x2_is = ap (λ (b : RectModel). b.x2) box_is
 
   y2_is : box.y2 ≡ at.y +ℤ size.height
-  y2_is = ap (λ (b : Sides). b.y2) box_is
+  y2_is = ap (λ (b : RectModel). b.y2) box_is
 
   proper : IsWide box
   proper = record { wide = omega (arith, ints, x1_is, x2_is, has_area.wide); high = omega (arith, ints, y1_is, y2_is, has_area.high) }
@@ -107,7 +107,7 @@ pub flag_of : {P : Type 0} → HoldsOrNot P → (flag : Bool) × (IsTrue flag �
 flag_of (inl p) = (true, (λ t. p, λ q. refl))
 flag_of (inr never) = (false, (λ t. absurd (false≢true t), λ p. absurd (never p)))
 
-module _ (design : DesignContents) (sound : HasSoundRows design) (sized : HasMacroSizes design.library) (done : List ℕ) (c number : ℕ) (place : Place) where
+module _ (design : DesignModel) (sound : HasSoundRows design) (sized : HasMacroSizes design.library) (done : List ℕ) (c number : ℕ) (place : Place) where
   -- a place on sites of a row is at some position of it
   module _ (f : IsFreePlace design done c number place) where
     is_row : IsRow design.library f.row
@@ -117,7 +117,7 @@ module _ (design : DesignContents) (sound : HasSoundRows design) (sized : HasMac
     area = (all_at (λ s. IsExtent s.size) design.library.sites f.movable.number f.on_row.site sound.sites f.on_row.there).area
 
     has_area : HasArea f.movable.master.size
-    has_area = (all_at (λ (m : MasterSaid). IsExtent m.size) design.library.masters f.movable.component.master f.movable.master sized f.movable.is_master).area
+    has_area = (all_at (λ (m : MasterModel). IsExtent m.size) design.library.masters f.movable.component.master f.movable.master sized f.movable.is_master).area
 
     box_is : placed_box f.movable.master.size place ≡ record { x1 = place.at.x; y1 = place.at.y; x2 = place.at.x +ℤ f.movable.master.size.width; y2 = place.at.y +ℤ f.movable.master.size.height }
     box_is =
@@ -189,14 +189,14 @@ module _ (design : DesignContents) (sound : HasSoundRows design) (sized : HasMac
       }
 
 -- the law, of a design whose parts have sizes
-pub free_places : (design : DesignContents) → IsWellFormed design → IsSound design.library → HasMacroSizes design.library
+pub free_places : (design : DesignModel) → IsWellFormed design → IsSound design.library → HasMacroSizes design.library
     → (done : List ℕ) (c number : ℕ) (place : Place) → IsMovable design c → IsFreePlace design done c number place ↔ HasFreePosition design done c number place
 free_places design proper sound sized done c number place movable =
     let rows : HasSoundRows design = record { sites = sound.sites; rows = proper.rows } in
     (position_of_place design rows sized done c number place, place_of_position design rows sized done c number place movable)
 
 -- movable components, no two alike, are so without those at the end
-pub front_movable : (design : DesignContents) (xs ys : List ℕ) → AreMovable design (xs ++ ys) → AreMovable design xs
+pub front_movable : (design : DesignModel) (xs ys : List ℕ) → AreMovable design (xs ++ ys) → AreMovable design xs
 front_movable design xs ys are = record {
   each = λ k d within.
       let is : get_or (xs ++ ys) k d ≡ get_or xs k d = get_or_append_left xs ys d k within in
@@ -208,16 +208,16 @@ front_movable design xs ys are = record {
 }
 
 -- what a run leaves as it is: rows, sites and sizes of macros
-module _ (before : DesignContents) (proper : IsWellFormed before) (sound : IsSound before.library) (sized : HasMacroSizes before.library)
-    (done : List ℕ) (now : DesignContents) (so : IsSoFar before done now) where
+module _ (before : DesignModel) (proper : IsWellFormed before) (sound : IsSound before.library) (sized : HasMacroSizes before.library)
+    (done : List ℕ) (now : DesignModel) (so : IsSoFar before done now) where
   pub rows_now : HasSoundRows now
   rows_now = so.sound (record { sites = sound.sites; rows = proper.rows })
 
   pub sizes_now : HasMacroSizes now.library
-  sizes_now = subst (λ (d : DesignContents). HasMacroSizes d.library) (sym so.rest) sized
+  sizes_now = subst (λ (d : DesignModel). HasMacroSizes d.library) (sym so.rest) sized
 
 -- for a component that is without room no place is free
-pub no_free_place : (design : DesignContents) → IsWellFormed design → IsSound design.library → HasMacroSizes design.library
+pub no_free_place : (design : DesignModel) → IsWellFormed design → IsSound design.library → HasMacroSizes design.library
     → (c : ℕ) (stuck : IsStuck design c) (number : ℕ) (place : Place) → IsFreePlace stuck.now stuck.done c number place → ⊥
 no_free_place design proper sound sized c stuck number place f =
     let are : AreMovable design (stuck.done ++ c ∷ stuck.rest) = order_movable design (stuck.done ++ c ∷ stuck.rest) stuck.is_order in

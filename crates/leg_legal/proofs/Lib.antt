@@ -2,9 +2,9 @@
 mod Elements
 mod OnRow
 -- The theorem of the run
-mod MovedTo
+mod OneMove
 mod AmongSettled
-mod SoFar
+mod RunSoFar
 mod TheOrder
 mod TheRun
 -- The order of taking
@@ -14,14 +14,14 @@ mod StayingFaults
 mod SiteMarks
 mod Misfits
 -- Places that are taken
-mod PlacedAll
+mod AfterPlaces
 mod MovedDistances
 mod Totals
 -- The best place of a component
 mod BestSeat
 -- The loop over the components
-mod UnderWay
-mod Chosen
+mod RunBoxes
+mod Choices
 -- One outcome
 mod OneRun
 -- Positions by unit squares

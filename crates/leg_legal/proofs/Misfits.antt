@@ -5,17 +5,17 @@ use Rattle.std.proofs.Math.Nat.{mul-mod_left, mod-eq-sub-div-mul, div-mul-le_sel
 use Rattle.std.proofs.lemmas.Bool.{false≢true, cases_lt, eqb-true, eq-eqb}
 use Rattle.std.proofs.lemmas.Int.{ints}
 use Rattle.std.proofs.lemmas.Option.{same_Some, none-some, slice_get_within}
-use Rattle.leg_cells.specs.Records.{MasterSaid}
-use Rattle.leg_cells.specs.declared.records.Site.{Site}
-use Rattle.leg_cells.specs.Measure.{Lengths, HasArea}
-use Rattle.leg_block.specs.Records.{DesignContents}
-use Rattle.leg_block.specs.declared.records.Component.{Component}
-use Rattle.leg_block.specs.Movable.{IsMovable}
-use Rattle.leg_legal.specs.Refusals.{FitsSites, HasRowFor, IsUnsuited, IsLeastUnsuited, AreSuited}
+use Rattle.leg_lib_records.specs.Records.{MasterModel}
+use Rattle.leg_lib_records.specs.declared.records.Site.{Site}
+use Rattle.leg_lib_records.specs.Measure.{ExtentModel, HasArea}
+use Rattle.leg_design_records.specs.Records.{DesignModel}
+use Rattle.leg_design_records.specs.declared.records.Component.{Component}
+use Rattle.leg_design_records.specs.Movable.{IsMovable}
+use Rattle.leg_rules.specs.Legalise.Refusals.{FitsSites, HasRowFor, IsUnsuited, IsLeastUnsuited, AreSuited}
 use Rattle.leg_legal.specs.Steps.SiteMarks.{HasRow}
 
 -- a width is a number of sites just where nothing is left over
-module _ (site size : Lengths) (area : HasArea site) (has_area : HasArea size) where
+module _ (site size : ExtentModel) (area : HasArea site) (has_area : HasArea size) where
   abbrev n : ℕ
   n = unsigned_abs site.width
 
@@ -44,7 +44,7 @@ module _ (site size : Lengths) (area : HasArea site) (has_area : HasArea size) w
   )
 
 -- a macro can stand on some row, by its site
-module _ (design : DesignContents) (size : Lengths) (number : ℕ) where
+module _ (design : DesignModel) (size : ExtentModel) (number : ℕ) where
   pub no_row_beyond : length design.library.sites ≤ number → HasRowFor design size number → ⊥
   no_row_beyond beyond h = omega (arith, beyond, slice_get_within design.library.sites number h.site h.is_site)
 
@@ -59,14 +59,14 @@ module _ (design : DesignContents) (size : Lengths) (number : ℕ) where
     )
 
 -- a movable component's macro has a site
-pub has_site : (design : DesignContents) (c : ℕ) (component : Component) (master : MasterSaid) → slice_get design.components c ≡ Some component → slice_get design.library.masters component.master ≡ Some master → IsMovable design c → master.site ≡ None → ⊥
+pub has_site : (design : DesignModel) (c : ℕ) (component : Component) (master : MasterModel) → slice_get design.components c ≡ Some component → slice_get design.library.masters component.master ≡ Some master → IsMovable design c → master.site ≡ None → ⊥
 has_site design c component master there is_master m none =
     let one : m.component ≡ component = same_Some m.component component (sym m.there ∙ there) in
     let same : m.master ≡ master = same_Some m.master master (sym (rw one at m.is_master) ∙ is_master) in
     none-some m.number (sym none ∙ (rw same at m.site))
 
 -- whether a component is unsuited, by its macro
-module _ (design : DesignContents) (c : ℕ) (component : Component) (master : MasterSaid) (number : ℕ)
+module _ (design : DesignModel) (c : ℕ) (component : Component) (master : MasterModel) (number : ℕ)
     (there : slice_get design.components c ≡ Some component) (is_master : slice_get design.library.masters component.master ≡ Some master) (site : master.site ≡ Some number) where
   pub told : (m : IsMovable design c) → m.master ≡ master
   told m =
@@ -98,21 +98,21 @@ module _ (design : DesignContents) (c : ℕ) (component : Component) (master : M
   )
 
 -- no component below end is unsuited
-abbrev pub NoneUnsuitedBelow : DesignContents → ℕ → Type 0
+abbrev pub NoneUnsuitedBelow : DesignModel → ℕ → Type 0
 NoneUnsuitedBelow design end = (c : ℕ) → c < end → IsUnsuited design c → ⊥
 
-pub none_unsuited_more : (design : DesignContents) (i : ℕ) → (IsUnsuited design i → ⊥) → NoneUnsuitedBelow design i → NoneUnsuitedBelow design (i + 1)
+pub none_unsuited_more : (design : DesignModel) (i : ℕ) → (IsUnsuited design i → ⊥) → NoneUnsuitedBelow design i → NoneUnsuitedBelow design (i + 1)
 none_unsuited_more design i here none c below u =
     elim (cases_lt c i) [
       | inl earlier ↦ none c earlier u
       | inr late ↦ let is : c ≡ i = omega arith in here (rw is at u)
     ]
 
-pub all_suited : (design : DesignContents) → NoneUnsuitedBelow design (length design.components) → AreSuited design
+pub all_suited : (design : DesignModel) → NoneUnsuitedBelow design (length design.components) → AreSuited design
 all_suited design none c u = none c (slice_get_within design.components c u.movable.component u.movable.there) u
 
-at_least : (design : DesignContents) (c d : ℕ) → NoneUnsuitedBelow design c → IsUnsuited design d → c ≤ d
+at_least : (design : DesignModel) (c d : ℕ) → NoneUnsuitedBelow design c → IsUnsuited design d → c ≤ d
 at_least design c d none u = elim (cases_lt d c) [ inl below ↦ absurd (none d below u) | inr above ↦ above ]
 
-pub least_is : (design : DesignContents) (c : ℕ) → NoneUnsuitedBelow design c → IsUnsuited design c → IsLeastUnsuited design c
+pub least_is : (design : DesignModel) (c : ℕ) → NoneUnsuitedBelow design c → IsUnsuited design c → IsLeastUnsuited design c
 least_is design c none u = record { unsuited = u; least = λ d v. at_least design c d none v }

@@ -6,25 +6,25 @@ use Rattle.std.proofs.lemmas.Int.{ints}
 use Rattle.std.proofs.lemmas.List.{length-set, length-replicate, get_or-replicate}
 use Rattle.std.proofs.lemmas.List.Elements.{All-set}
 use Rattle.std.proofs.lemmas.Option.{same_Some, slice_get-get_or, slice_get_within}
-use Rattle.leg_geom.specs.Plane.{Spot, Sides}
+use Rattle.leg_geom.specs.Plane.{PointModel, RectModel}
 use Rattle.leg_geom.specs.declared.place.Place.{Place}
-use Rattle.leg_block.specs.Records.{DesignContents}
-use Rattle.leg_block.specs.declared.records.Component.{Component}
+use Rattle.leg_design_records.specs.Records.{DesignModel}
+use Rattle.leg_design_records.specs.declared.records.Component.{Component}
 use Rattle.leg_legal.specs.declared.taken.Taken.{Taken}
-use Rattle.leg_legal.specs.Run.{placed_at, moved_to}
-use Rattle.leg_legal.specs.Start.{start_of, distance, distance_to, moved_by}
-use Rattle.leg_legal.specs.Steps.Distances.{IsDistance, AreDistances}
-use Rattle.leg_legal.specs.Steps.PlacedAll.{placed_one}
+use Rattle.leg_rules.specs.Legalise.Run.{placed_at, moved_to}
+use Rattle.leg_rules.specs.Legalise.Start.{start_of, distance, distance_to, moved_by}
+use Rattle.leg_legal.specs.Steps.Distances.{IsMoveDistance, AreDistances}
+use Rattle.leg_legal.specs.Steps.AfterPlaces.{placed_one}
 use Rattle.leg_legal.proofs.Elements.{set_same, set_other}
-use Rattle.leg_legal.proofs.MovedTo.{is_here, elsewhere}
-use Rattle.leg_legal.proofs.PlacedAll.{placed_there}
+use Rattle.leg_legal.proofs.OneMove.{is_here, elsewhere}
+use Rattle.leg_legal.proofs.AfterPlaces.{placed_there}
 
 -- a point is no way from itself
-none_apart : (p : Spot) → distance p p ≡ 0
+none_apart : (p : PointModel) → distance p p ≡ 0
 none_apart p = omega (arith, ints)
 
 -- what keeps its place doesn't move
-at_start : (die : Sides) (place : Option Place) → distance_to (start_of die place) place ≡ 0
+at_start : (die : RectModel) (place : Option Place) → distance_to (start_of die place) place ≡ 0
 at_start die None = refl
 at_start die (Some place) = none_apart place.at
 
@@ -34,7 +34,7 @@ in_replicate n i z below =
     slice_get-get_or (replicate n z) i z (omega (arith, length-replicate n z)) ∙ ap Some (get_or-replicate n i z z below)
 
 -- no component has moved yet
-pub none_moved : (design : DesignContents) (each : List ℤ) → each ≡ replicate (length design.components) (pos 0) → AreDistances design design each
+pub none_moved : (design : DesignModel) (each : List ℤ) → each ≡ replicate (length design.components) (pos 0) → AreDistances design design each
 none_moved design each is = rw is (record {
   count = length-replicate (length design.components) (pos 0);
   distances = λ c old new at_old at_new.
@@ -48,9 +48,9 @@ none_moved design each is = rw is (record {
 })
 
 -- one more component takes its place
-module _ (before now : DesignContents) (each : List ℤ) (taken : Taken) (component : Component) (z : ℤ)
+module _ (before now : DesignModel) (each : List ℤ) (taken : Taken) (component : Component) (z : ℤ)
     (at : slice_get before.components taken.number ≡ Some component)
-    (is : z ≡ pos (distance taken.place.at (start_of before.die component.place))) (within : IsDistance z)
+    (is : z ≡ pos (distance taken.place.at (start_of before.die component.place))) (within : IsMoveDistance z)
     (count : length now.components ≡ length before.components) (known : AreDistances before now each) where
   below : taken.number < length before.components
   below = slice_get_within before.components taken.number component at
@@ -82,7 +82,7 @@ module _ (before now : DesignContents) (each : List ℤ) (taken : Taken) (compon
           | inl same ↦ rw same (distance_here old new (rw same at at_old) (rw same at at_new))
           | inr apart ↦ distance_elsewhere c old new apart at_old at_new
         ];
-    within = All-set IsDistance each taken.number z within known.within;
+    within = All-set IsMoveDistance each taken.number z within known.within;
   }
 
   pub one_more : AreDistances before (placed_one now taken) (set each taken.number z)

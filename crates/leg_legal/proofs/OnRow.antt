@@ -5,17 +5,17 @@ use Rattle.std.proofs.Math.Nat.{mul-le-mul_left}
 use Rattle.std.proofs.lemmas.Int.{ints}
 use Rattle.leg_geom.specs.declared.orient.Orient.{Orient}
 use Rattle.leg_geom.specs.declared.place.Place.{Place}
-use Rattle.leg_cells.specs.Measure.{Lengths, HasArea, IsExtent}
-use Rattle.leg_block.specs.Records.{DesignContents}
-use Rattle.leg_block.specs.WellFormedParts.{IsRow}
-use Rattle.leg_place.specs.Sites.{Fits, IsOnRow}
-use Rattle.leg_sites.specs.declared.candidate.Candidate.{Candidate}
-use Rattle.leg_sites.proofs.MacroBoxes.{macro_on_sites, fitting_upright}
-use Rattle.leg_legal.specs.Standing.{orient_of, Takes, StandsAt}
+use Rattle.leg_lib_records.specs.Measure.{ExtentModel, HasArea, IsExtent}
+use Rattle.leg_design_records.specs.Records.{DesignModel}
+use Rattle.leg_design_records.specs.WellFormedParts.{IsRow}
+use Rattle.leg_rules.specs.Placement.Sites.{Fits, IsOnRow}
+use Rattle.leg_rules.specs.declared.position.Candidate.{Candidate}
+use Rattle.leg_legal_sites.proofs.MacroBoxes.{macro_on_sites, fitting_upright}
+use Rattle.leg_rules.specs.Legalise.Places.{orient_of, Takes, IsPlacedOn}
 use Rattle.leg_legal.proofs.Elements.{all_at}
 
 -- the sites of the library have area, and rows are as a design has them
-pub record HasSoundRows (design : DesignContents) : Type 0 where
+pub record HasSoundRows (design : DesignModel) : Type 0 where
   pub sites : All (λ site. IsExtent site.size) design.library.sites
   pub rows : All (IsRow design.library) design.rows
 
@@ -26,7 +26,7 @@ takes_fits row symmetric (Some old) orient (inl kept) = rw kept.1 kept.0
 takes_fits row symmetric (Some old) orient (inr changed) = inl changed.1
 
 -- a macro as high as a site and as wide as some of them has area
-pub area_of_sites : (site size : Lengths) (many : ℕ) → HasArea site → 1 ≤ many → size.width ≡ pos many *ℤ site.width → size.height ≡ site.height → HasArea size
+pub area_of_sites : (site size : ExtentModel) (many : ℕ) → HasArea site → 1 ≤ many → size.width ≡ pos many *ℤ site.width → size.height ≡ site.height → HasArea size
 area_of_sites site size many area some wide high =
     let n : ℕ = unsigned_abs site.width in
     let width : site.width ≡ pos n = omega (arith, ints, area.wide) in
@@ -35,8 +35,8 @@ area_of_sites site size many area some wide high =
     let product : pos many *ℤ site.width ≡ pos (many * n) = rw width (pos-*ℤ-pos many n) in
     record { wide = omega (arith, ints, wide, product, least, some); high = omega (arith, ints, high, area.high) }
 
-module _ (design : DesignContents) (sound : HasSoundRows design) (c : ℕ) (position : Candidate) (place : Place)
-    (stands : StandsAt design c position place) where
+module _ (design : DesignModel) (sound : HasSoundRows design) (c : ℕ) (position : Candidate) (place : Place)
+    (stands : IsPlacedOn design c position place) where
   fits : Fits stands.row.orient stands.master.y_symmetric place.orient
   fits = takes_fits stands.row.orient stands.master.y_symmetric (orient_of stands.component.place) place.orient stands.takes
 

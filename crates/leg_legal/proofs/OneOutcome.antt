@@ -4,36 +4,37 @@ use Rattle.std.proofs.lemmas.List.{same_lists}
 use Rattle.std.proofs.lemmas.List.Elements.{All-head, Contains-push_cases}
 use Rattle.std.proofs.lemmas.Option.{same_Some, get_or_from_slice_get}
 use Rattle.leg_sweep.proofs.Lists.{Contains-nil}
-use Rattle.leg_geom.specs.Plane.{Sides}
+use Rattle.leg_geom.specs.Plane.{RectModel}
 use Rattle.leg_geom.specs.declared.place.Place.{Place}
-use Rattle.leg_block.specs.Records.{DesignContents}
-use Rattle.leg_block.specs.declared.fault.Fault.{Fault}
-use Rattle.leg_block.specs.Violation.{IsListOf}
-use Rattle.leg_block.specs.declared.records.Component.{Component}
-use Rattle.leg_place.specs.Box.{StandsIn}
-use Rattle.leg_place.specs.Faults.{Holds, IsLegallyPlaced}
-use Rattle.leg_place.specs.Faults.Holds.{unplaced, outside, off_site, overlap, blocked}
-use Rattle.leg_sites.specs.declared.candidate.Candidate.{Candidate}
+use Rattle.leg_design_records.specs.Records.{DesignModel}
+use Rattle.leg_design_records.specs.declared.fault.Fault.{Fault}
+use Rattle.leg_design_records.specs.Violation.{IsListOf}
+use Rattle.leg_design_records.specs.declared.records.Component.{Component}
+use Rattle.leg_rules.specs.Placement.Box.{HasBox}
+use Rattle.leg_rules.specs.Placement.Violations.{IsPlacementViolation, IsLegallyPlaced}
+use Rattle.leg_rules.specs.Placement.Violations.IsPlacementViolation.{unplaced, outside, off_site, overlap, blocked}
+use Rattle.leg_rules.specs.declared.position.Candidate.{Candidate}
 use Rattle.leg_legal.specs.declared.fault.LegalFault.{LegalFault}
 use Rattle.leg_legal.specs.declared.fault.LegalFault.TheVariants.{FixedIllegal, NoSite, NoRoom, Memory}
-use Rattle.leg_block.specs.Movable.{IsMovable}
-use Rattle.leg_legal.specs.Start.{moved_by}
-use Rattle.leg_legal.specs.Standing.{StandsAt}
-use Rattle.leg_legal.specs.Run.{Run, IsRunOfAll, IsLegalised}
-use Rattle.leg_legal.specs.Run.Run.{none, one}
-use Rattle.leg_legal.specs.SameButForPlaces.{IsSameButForPlaces}
-use Rattle.leg_legal.specs.Moves.{total_of, greatest_of, AreMoves}
-use Rattle.leg_legal.specs.Refusals.{ConcernsStaying, HoldsOfStaying, NoneStaying, HasRowFor, IsLeastUnsuited, AreSuited, IsStuck, IsRefusal}
+use Rattle.leg_design_records.specs.Movable.{IsMovable}
+use Rattle.leg_rules.specs.Legalise.Start.{moved_by}
+use Rattle.leg_rules.specs.Legalise.Places.{IsPlacedOn}
+use Rattle.leg_rules.specs.Legalise.Run.{LegaliseRun, IsRunOfAll, IsLegalised}
+use Rattle.leg_rules.specs.Legalise.Run.LegaliseRun.{none, one}
+use Rattle.leg_rules.specs.Legalise.SameButForPlaces.{IsSameButForPlaces}
+use Rattle.leg_rules.specs.Legalise.Moves.{total_of, greatest_of, AreMoves}
+use Rattle.leg_legal.specs.Refusals.{IsLegaliseRefusal}
+use Rattle.leg_rules.specs.Legalise.Refusals.{ConcernsStaying, HoldsOfStaying, NoneStaying, HasRowFor, IsLeastUnsuited, AreSuited, IsStuck}
 use Rattle.leg_legal.proofs.Elements.{contains_at}
-use Rattle.leg_legal.proofs.SoFar.{AreMovable, IsSoFar, so_far, earlier_movable, last_fresh}
-use Rattle.leg_legal.proofs.PlacedAll.{there_is}
+use Rattle.leg_legal.proofs.RunSoFar.{AreMovable, IsSoFar, so_far, earlier_movable, last_fresh}
+use Rattle.leg_legal.proofs.AfterPlaces.{there_is}
 use Rattle.leg_legal.proofs.TheOrder.{order_unique, order_movable}
 use Rattle.leg_legal.proofs.TheRun.{run_same}
 use Rattle.leg_legal.proofs.OneList.{one_list}
 use Rattle.leg_legal.proofs.OneRun.{meets, one_run, HasTaken, turn_in}
 
 -- what comes of a design is one
-pub one_design : (before a b : DesignContents) → IsLegalised before a → IsLegalised before b → a ≡ b
+pub one_design : (before a b : DesignModel) → IsLegalised before a → IsLegalised before b → a ≡ b
 one_design before a b (inl kept) (inl also) = kept.1 ∙ sym also.1
 one_design before a b (inl kept) (inr anew) = absurd (anew.0 kept.0)
 one_design before a b (inr anew) (inl kept) = absurd (anew.0 kept.0)
@@ -42,7 +43,7 @@ one_design before a b (inr anew) (inr also) =
     (order_unique before anew.1.order also.1.order anew.1.is_order also.1.is_order)
 
 -- and so is how far components have moved
-module _ (before after : DesignContents) (count : length after.components ≡ length before.components)
+module _ (before after : DesignModel) (count : length after.components ≡ length before.components)
     (each others : List ℤ) (total sum greatest most : ℤ)
     (are : AreMoves before after each total greatest) (also : AreMoves before after others sum most) where
   told : (k : ℕ) → k < length before.components → (list : List ℤ) (all far : ℤ) → AreMoves before after list all far
@@ -69,20 +70,20 @@ module _ (before after : DesignContents) (count : length after.components ≡ le
   )
 
 -- a list of violations of components that stay, not empty, has one
-pub some_staying : (design : DesignContents) (faults : List Fault) → IsListOf (HoldsOfStaying design) faults → faults ≢ [] → NoneStaying design → ⊥
+pub some_staying : (design : DesignModel) (faults : List Fault) → IsListOf (HoldsOfStaying design) faults → faults ≢ [] → NoneStaying design → ⊥
 some_staying design [] list some staying = some refl
 some_staying design (v ∷ vs) list some staying = staying v (All-head (HoldsOfStaying design) v vs list.each)
 
 -- a violation of components that stay holds whatever the others do
-module _ (before : DesignContents) (components : List Component)
+module _ (before : DesignModel) (components : List Component)
     (stays : (c : ℕ) → (IsMovable before c → ⊥) → slice_get components c ≡ slice_get before.components c) where
-  abbrev others_moved : DesignContents
+  abbrev others_moved : DesignModel
   others_moved = record before { components = components }
 
-  stands_still : (c : ℕ) (box : Sides) → (IsMovable before c → ⊥) → StandsIn before.library before c box → StandsIn before.library others_moved c box
+  stands_still : (c : ℕ) (box : RectModel) → (IsMovable before c → ⊥) → HasBox before.library before c box → HasBox before.library others_moved c box
   stands_still c box still s = record { component = s.component; there = stays c still ∙ s.there; placed = s.placed }
 
-  holds_still : (v : Fault) → Holds before.library before v → ConcernsStaying before v → Holds before.library (record before { components = components }) v
+  holds_still : (v : Fault) → IsPlacementViolation before.library before v → ConcernsStaying before v → IsPlacementViolation before.library (record before { components = components }) v
   holds_still v (unplaced {c = c} h) still = unplaced (record { component = h.component; there = stays c still ∙ h.there; unplaced = h.unplaced })
   holds_still v (outside {c = c} h) still =
       outside (record { box = h.box; stands = stands_still c h.box still h.stands; square = h.square; inside = h.inside; outside = h.outside })
@@ -110,16 +111,16 @@ module _ (before : DesignContents) (components : List Component)
   holds_still v (blocked h) still = absurd (still h.movable)
 
 -- so a design with such a violation is not legally placed by moving others
-never_legal : (before after : DesignContents) → IsSameButForPlaces before after → IsLegallyPlaced after → NoneStaying before
+never_legal : (before after : DesignModel) → IsSameButForPlaces before after → IsLegallyPlaced after → NoneStaying before
 never_legal before after same legal v h =
     legal v
-    (subst (λ (d : DesignContents). Holds d.library d v) (sym same.rest)
+    (subst (λ (d : DesignModel). IsPlacementViolation d.library d v) (sym same.rest)
     (holds_still before after.components same.stays v h.holds h.staying))
 
 -- a movable component that stands on sites fits a row, wherever others are
-row_of_standing : (before : DesignContents) (components : List Component) (c : ℕ) (position : Candidate) (place : Place)
+row_of_standing : (before : DesignModel) (components : List Component) (c : ℕ) (position : Candidate) (place : Place)
     → slice_get components c ≡ slice_get before.components c → (m : IsMovable before c)
-    → StandsAt (record before { components = components }) c position place → HasRowFor before m.master.size m.number
+    → IsPlacedOn (record before { components = components }) c position place → HasRowFor before m.master.size m.number
 row_of_standing before components c position place waits m s =
     let component : s.component ≡ m.component = same_Some s.component m.component (sym s.there ∙ waits ∙ m.there) in
     let is_master : slice_get before.library.masters m.component.master ≡ Some s.master = rw component at s.is_master in
@@ -135,7 +136,7 @@ row_of_standing before components c position place waits m s =
     }
 
 -- so each component of a run fits one
-all_taken_fit : (before : DesignContents) (done : List ℕ) (now : DesignContents) → Run before done now → AreMovable before done
+all_taken_fit : (before : DesignModel) (done : List ℕ) (now : DesignModel) → LegaliseRun before done now → AreMovable before done
     → (c : ℕ) (m : IsMovable before c) → Contains done c → HasRowFor before m.master.size m.number
 all_taken_fit before _ _ none are c m has = absurd (Contains-nil c has)
 all_taken_fit before _ _ (one {done = done} {now = now} {c = d} {place = place} run there takes) are c m has =
@@ -144,30 +145,30 @@ all_taken_fit before _ _ (one {done = done} {now = now} {c = d} {place = place} 
       | inl in_front ↦ all_taken_fit before done now run earlier c m in_front
       | inr here ↦
           let fresh : Contains done c → ⊥ = rw here at (last_fresh before done d are) in
-          let stands : StandsAt now c takes.position place = rw here at takes.free.stands in
+          let stands : IsPlacedOn now c takes.position place = rw here at takes.free.stands in
           let so : IsSoFar before done now = so_far before done now run earlier in
           row_of_standing before now.components c takes.position place (so.waiting c fresh) m (rw so.rest at stands)
     ]
 
 -- where all movable components have taken their places, each fits a row
-run_suited : (before after : DesignContents) → IsRunOfAll before after → AreSuited before
+run_suited : (before after : DesignModel) → IsRunOfAll before after → AreSuited before
 run_suited before after all c unsuited =
     unsuited.misfit
     (all_taken_fit before all.order after all.run (order_movable before all.order all.is_order) c unsuited.movable (all.is_order.all c unsuited.movable))
 
 -- and none was without room
-module _ (before : DesignContents) (c : ℕ) (stuck : IsStuck before c) where
+module _ (before : DesignModel) (c : ℕ) (stuck : IsStuck before c) where
   not_taken : HasTaken before stuck.done c → ⊥
   not_taken taken =
       let same : taken.now ≡ stuck.now = one_run before stuck.done stuck.done taken.now stuck.now taken.run stuck.run refl in
       stuck.full taken.takes.position taken.place (rw same at taken.takes.free)
 
-  run_not_stuck : (after : DesignContents) → IsRunOfAll before after → ⊥
+  run_not_stuck : (after : DesignModel) → IsRunOfAll before after → ⊥
   run_not_stuck after all =
       not_taken (turn_in before all.order after all.run stuck.done c stuck.rest (order_unique before all.order (stuck.done ++ c ∷ stuck.rest) all.is_order stuck.is_order))
 
 -- one component is the first without room
-one_stuck : (before : DesignContents) (c d : ℕ) → IsStuck before c → IsStuck before d → c ≡ d
+one_stuck : (before : DesignModel) (c d : ℕ) → IsStuck before c → IsStuck before d → c ≡ d
 one_stuck before c d stuck also =
     let orders : stuck.done ++ c ∷ stuck.rest ≡ also.done ++ d ∷ also.rest =
     order_unique before (stuck.done ++ c ∷ stuck.rest) (also.done ++ d ∷ also.rest) stuck.is_order also.is_order in
@@ -177,12 +178,12 @@ one_stuck before c d stuck also =
       | inr (inr late) ↦ absurd (not_taken before d also (turn_in before stuck.done stuck.now stuck.run also.done d late.rest late.is))
     ]
 
-one_unsuited : (design : DesignContents) (c d : ℕ) → IsLeastUnsuited design c → IsLeastUnsuited design d → c ≡ d
+one_unsuited : (design : DesignModel) (c d : ℕ) → IsLeastUnsuited design c → IsLeastUnsuited design d → c ≡ d
 one_unsuited design c d least also = omega (arith, least.least d also.unsuited, also.least c least.unsuited)
 
-module _ {A : Type 0} (design : DesignContents) where
+module _ {A : Type 0} (design : DesignModel) where
   -- two causes of refusal are the same, byte for byte
-  pub one_cause : (fault other : LegalFault A) → IsRefusal design fault → IsRefusal design other → fault ≢ Memory → other ≢ Memory → fault ≡ other
+  pub one_cause : (fault other : LegalFault A) → IsLegaliseRefusal design fault → IsLegaliseRefusal design other → fault ≢ Memory → other ≢ Memory → fault ≡ other
   one_cause Memory other p q told also = absurd (told refl)
   one_cause fault Memory p q told also = absurd (also refl)
   one_cause (FixedIllegal xs) (FixedIllegal ys) p q told also = ap FixedIllegal (one_list (HoldsOfStaying design) xs ys p.0 q.0)
@@ -196,7 +197,7 @@ module _ {A : Type 0} (design : DesignContents) where
   one_cause (NoRoom c) (NoRoom d) p q told also = ap NoRoom (one_stuck design c d p.2 q.2)
 
   -- a design that is refused is not legalised
-  pub no_outcome : (after : DesignContents) (fault : LegalFault A) → IsRefusal design fault → fault ≢ Memory → IsLegalised design after → IsLegallyPlaced after → ⊥
+  pub no_outcome : (after : DesignModel) (fault : LegalFault A) → IsLegaliseRefusal design fault → fault ≢ Memory → IsLegalised design after → IsLegallyPlaced after → ⊥
   no_outcome after Memory p told made legal = told refl
   no_outcome after (FixedIllegal faults) p told (inl kept) legal = some_staying design faults p.0 p.1 (λ v h. kept.0 v h.holds)
   no_outcome after (FixedIllegal faults) p told (inr anew) legal =

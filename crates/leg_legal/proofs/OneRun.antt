@@ -4,14 +4,14 @@ use Rattle.std.specs.Cmp.{both_ways}
 use Rattle.std.proofs.lemmas.Option.{same_Some}
 use Rattle.leg_geom.specs.declared.orient.Orient.{Orient}
 use Rattle.leg_geom.specs.declared.place.Place.{Place}
-use Rattle.leg_block.specs.Records.{DesignContents}
-use Rattle.leg_block.specs.declared.records.Component.{Component}
-use Rattle.leg_sites.specs.declared.candidate.Candidate.{Candidate}
-use Rattle.leg_sites.specs.BestPosition.{IsNoWorse}
-use Rattle.leg_legal.specs.Standing.{orient_of, Takes, StandsAt}
-use Rattle.leg_legal.specs.Free.{TakesBest}
-use Rattle.leg_legal.specs.Run.{moved_to, Run}
-use Rattle.leg_legal.specs.Run.Run.{none, one}
+use Rattle.leg_design_records.specs.Records.{DesignModel}
+use Rattle.leg_design_records.specs.declared.records.Component.{Component}
+use Rattle.leg_rules.specs.declared.position.Candidate.{Candidate}
+use Rattle.leg_rules.specs.Legalise.Preference.{IsNoWorse}
+use Rattle.leg_rules.specs.Legalise.Places.{orient_of, Takes, IsPlacedOn}
+use Rattle.leg_rules.specs.Legalise.Free.{TakesBest}
+use Rattle.leg_rules.specs.Legalise.Run.{moved_to, LegaliseRun}
+use Rattle.leg_rules.specs.Legalise.Run.LegaliseRun.{none, one}
 
 -- of two positions of which neither is worse there is one
 same_position : (a b : Candidate) → IsNoWorse a b → IsNoWorse b a → a ≡ b
@@ -31,7 +31,7 @@ one_orient row symmetric (Some old) a b (inr s) (inl t) = absurd (s.0 t.0)
 one_orient row symmetric (Some old) a b (inr s) (inr t) = s.1 ∙ sym t.1
 
 -- a component has one place at a position
-module _ (design : DesignContents) (c : ℕ) (position : Candidate) (a b : Place) (s : StandsAt design c position a) (t : StandsAt design c position b) where
+module _ (design : DesignModel) (c : ℕ) (position : Candidate) (a b : Place) (s : IsPlacedOn design c position a) (t : IsPlacedOn design c position b) where
   one_component : t.component ≡ s.component
   one_component = same_Some t.component s.component (sym t.there ∙ s.there)
 
@@ -60,10 +60,10 @@ module _ (design : DesignContents) (c : ℕ) (position : Candidate) (a b : Place
   place_at = λ i. record { at = one_spot i; orient = one_turn i }
 
 -- and one best place
-best_place : (design : DesignContents) (done : List ℕ) (c : ℕ) (a b : Place) → TakesBest design done c a → TakesBest design done c b → a ≡ b
+best_place : (design : DesignModel) (done : List ℕ) (c : ℕ) (a b : Place) → TakesBest design done c a → TakesBest design done c b → a ≡ b
 best_place design done c a b s t =
     let same : t.position ≡ s.position = same_position t.position s.position (t.best s.position a s.free) (s.best t.position b t.free) in
-    let stands : StandsAt design c s.position b = rw same at t.free.stands in
+    let stands : IsPlacedOn design c s.position b = rw same at t.free.stands in
     place_at design c s.position a b s.free.stands stands
 
 -- where an element stands of one of two equal lists, and where one does of the other
@@ -109,7 +109,7 @@ module _ {X : Type 0} where
       omega arith
 
 -- two steps from one design
-module _ (now other : DesignContents) (done others : List ℕ) (c d : ℕ) (component old : Component) (place new : Place)
+module _ (now other : DesignModel) (done others : List ℕ) (c d : ℕ) (component old : Component) (place new : Place)
     (there : slice_get now.components c ≡ Some component) (is : slice_get other.components d ≡ Some old)
     (takes : TakesBest now done c place) (also : TakesBest other others d new) where
   one_step : other ≡ now → others ≡ done → d ≡ c → moved_to now c component place ≡ moved_to other d old new
@@ -121,7 +121,7 @@ module _ (now other : DesignContents) (done others : List ℕ) (c d : ℕ) (comp
       λ i. moved_to (sym designs i) (sym numbers i) (components i) (places i)
 
 -- a run of one list comes to one design
-pub one_run : (before : DesignContents) (xs ys : List ℕ) (a b : DesignContents) → Run before xs a → Run before ys b → xs ≡ ys → a ≡ b
+pub one_run : (before : DesignModel) (xs ys : List ℕ) (a b : DesignModel) → LegaliseRun before xs a → LegaliseRun before ys b → xs ≡ ys → a ≡ b
 one_run before _ _ _ _ none none same = refl
 one_run before _ _ _ _ none (one {done = ys} {c = d} also is best) same = absurd (no_end ys d [] same)
 one_run before _ _ _ _ (one {done = xs} {c = c} run there takes) none same = absurd (no_end xs c [] (sym same))
@@ -131,13 +131,13 @@ one_run before _ _ _ _ (one {done = xs} {now = now} {c = c} {component = x} {pla
     one_step now other xs ys c d x y p q there is takes best (sym designs) (sym ends.0) (sym ends.1)
 
 -- the turn of a component in a run: those before it have taken their places, and it has taken its own
-pub record HasTaken (before : DesignContents) (done : List ℕ) (c : ℕ) : Type 0 where
-  pub now : DesignContents
-  pub run : Run before done now
+pub record HasTaken (before : DesignModel) (done : List ℕ) (c : ℕ) : Type 0 where
+  pub now : DesignModel
+  pub run : LegaliseRun before done now
   pub place : Place
   pub takes : TakesBest now done c place
 
-pub turn_in : (before : DesignContents) (xs : List ℕ) (after : DesignContents) → Run before xs after
+pub turn_in : (before : DesignModel) (xs : List ℕ) (after : DesignModel) → LegaliseRun before xs after
     → (done : List ℕ) (c : ℕ) (rest : List ℕ) → xs ≡ done ++ c ∷ rest → HasTaken before done c
 turn_in before _ _ none done c rest is = absurd (no_end done c rest is)
 turn_in before _ _ (one {done = earlier} {now = now} {c = d} {place = place} run there takes) done c rest is =

@@ -2,14 +2,14 @@
 use Rattle.std.proofs.Common.{◌≡◌, ◌==◌, ℕ, ℤ, if◌then◌else◌, Bool, Option, None, Some, inl, inr, refl, sym, ap, subst, ◌∙◌, arith}
 use Rattle.std.proofs.lemmas.Bool.{cases_eq}
 use Rattle.std.proofs.lemmas.Int.{ints}
-use Rattle.leg_geom.specs.Plane.{Spot}
+use Rattle.leg_geom.specs.Plane.{PointModel}
 use Rattle.leg_geom.specs.declared.orient.Orient.{Orient}
 use Rattle.leg_geom.specs.declared.orient.Orient.TheVariants.{N, S, W, E, FN, FS, FW, FE}
 use Rattle.leg_geom.specs.Orientation.{IsMirrored}
-use Rattle.leg_place.specs.Sites.{Fits}
-use Rattle.leg_sites.specs.BestPosition.{IsTurned}
-use Rattle.leg_sites.proofs.Mirrors.{mirrored_once}
-use Rattle.leg_legal.specs.Standing.{Takes}
+use Rattle.leg_rules.specs.Placement.Sites.{Fits}
+use Rattle.leg_rules.specs.Legalise.Preference.{IsTurned}
+use Rattle.leg_place.proofs.Mirrors.{mirrored_once}
+use Rattle.leg_rules.specs.Legalise.Places.{Takes}
 use Rattle.leg_legal.proofs.Decisions.{HoldsOrNot, never_or_not, both_or_not, either_or_not, true_or_not}
 
 -- orientations by numbers
@@ -55,7 +55,7 @@ mirror FS = S
 mirror FW = W
 mirror FE = E
 
-abbrev spot_at : ℤ → ℤ → Spot
+abbrev spot_at : ℤ → ℤ → PointModel
 spot_at x y = record { x = x; y = y }
 
 spot : {x u y v : ℤ} → x ≡ u → y ≡ v → spot_at x y ≡ spot_at u v

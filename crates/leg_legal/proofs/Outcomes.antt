@@ -6,29 +6,29 @@ use Rattle.std.proofs.lemmas.Int.{ints, by_lt_z}
 use Rattle.std.proofs.lemmas.List.Elements.{All-head, All-contains, Contains-append_right}
 use Rattle.std.proofs.lemmas.Option.{slice_get_within}
 use Rattle.leg_sweep.proofs.Lists.{Contains-nil, Contains-here}
-use Rattle.leg_cells.specs.Measure.{IsExtent, HasArea}
-use Rattle.leg_cells.specs.Records.{MasterSaid}
-use Rattle.leg_cells.specs.Sound.{IsSound}
-use Rattle.leg_block.specs.Records.{DesignContents}
-use Rattle.leg_block.specs.WellFormed.{IsWellFormed}
-use Rattle.leg_block.specs.Violation.{IsListOf}
-use Rattle.leg_block.specs.declared.fault.Fault.{Fault}
-use Rattle.leg_place.specs.Faults.{Holds, IsLegallyPlaced}
+use Rattle.leg_lib_records.specs.Measure.{IsExtent, HasArea}
+use Rattle.leg_lib_records.specs.Records.{MasterModel}
+use Rattle.leg_lib_records.specs.Sound.{IsSound}
+use Rattle.leg_design_records.specs.Records.{DesignModel}
+use Rattle.leg_design_records.specs.WellFormed.{IsWellFormed}
+use Rattle.leg_design_records.specs.Violation.{IsListOf}
+use Rattle.leg_design_records.specs.declared.fault.Fault.{Fault}
+use Rattle.leg_rules.specs.Placement.Violations.{IsPlacementViolation, IsLegallyPlaced}
 use Rattle.leg_legal.specs.declared.fault.LegalFault.TheVariants.{FixedIllegal, NoSite, NoRoom}
-use Rattle.leg_block.specs.Movable.{IsMovable}
-use Rattle.leg_legal.specs.Start.{start_of}
-use Rattle.leg_legal.specs.Turns.{Turn, IsEarlier, HasTurn, IsTakenBefore, IsOrderOfTaking}
-use Rattle.leg_legal.specs.Run.{moved_to, Run}
-use Rattle.leg_legal.specs.Run.Run.{none, one}
-use Rattle.leg_legal.specs.Refusals.{HoldsOfStaying, NoneStaying, IsUnsuited, IsLeastUnsuited, AreSuited}
+use Rattle.leg_design_records.specs.Movable.{IsMovable}
+use Rattle.leg_rules.specs.Legalise.Start.{start_of}
+use Rattle.leg_rules.specs.Legalise.Turns.{Turn, IsEarlier, HasTurn, IsTakenBefore, IsOrderOfTaking}
+use Rattle.leg_rules.specs.Legalise.Run.{moved_to, LegaliseRun}
+use Rattle.leg_rules.specs.Legalise.Run.LegaliseRun.{none, one}
+use Rattle.leg_rules.specs.Legalise.Refusals.{HoldsOfStaying, NoneStaying, IsUnsuited, IsLeastUnsuited, AreSuited}
 use Rattle.leg_legal.specs.FreePlaces.{HasMacroSizes}
 use Rattle.leg_legal.specs.Outcome.{HasOutcome}
-use Rattle.leg_legal.specs.Steps.Taking.{IsStuckAt}
+use Rattle.leg_legal.specs.Steps.Boxes.{IsStuckAt}
 use Rattle.leg_legal.proofs.Elements.{all_at}
 use Rattle.leg_legal.proofs.OnRow.{HasSoundRows}
-use Rattle.leg_block.proofs.MovableOrNot.{movable_or_not}
+use Rattle.leg_design_records.proofs.MovableOrNot.{movable_or_not}
 use Rattle.leg_legal.proofs.Misfits.{told, numbered}
-use Rattle.leg_legal.proofs.SoFar.{AreMovable, IsSoFar, so_far}
+use Rattle.leg_legal.proofs.RunSoFar.{AreMovable, IsSoFar, so_far}
 use Rattle.leg_legal.proofs.TheOrder.{taken_before_trans, order_movable}
 use Rattle.leg_legal.proofs.TheRun.{run_legal}
 use Rattle.leg_legal.proofs.FreePlaces.{front_movable, rows_now, sizes_now}
@@ -79,7 +79,7 @@ earlier_or a b apart =
         number = λ same alike. below;
       }
 
-module _ (design : DesignContents) where
+module _ (design : DesignModel) where
   abbrev turn_of : (c : ℕ) → IsMovable design c → Turn
   turn_of c m = record { width = m.master.size.width; x = (start_of design.die m.component.place).x; number = c }
 
@@ -140,10 +140,10 @@ module _ (design : DesignContents) where
       )
 
 -- the components take their places one after the other, up to one for which none is free
-module _ (before : DesignContents) (proper : IsWellFormed before) (sound : IsSound before.library) (sized : HasMacroSizes before.library)
+module _ (before : DesignModel) (proper : IsWellFormed before) (sound : IsSound before.library) (sized : HasMacroSizes before.library)
     (order : List ℕ) (is_order : IsOrderOfTaking before order) where
-  run_on : (done rest : List ℕ) (now : DesignContents) → order ≡ done ++ rest → Run before done now
-      → ((after : DesignContents) × Run before order after) ⊎ ((c : ℕ) × IsStuckAt before order c)
+  run_on : (done rest : List ℕ) (now : DesignModel) → order ≡ done ++ rest → LegaliseRun before done now
+      → ((after : DesignModel) × LegaliseRun before order after) ⊎ ((c : ℕ) × IsStuckAt before order c)
   run_on done [] now is run = inl (now, (let all : order ≡ done = is ∙ append-nil done in rw all run))
   run_on done (c ∷ rest) now is run =
       let are : AreMovable before (done ++ c ∷ rest) = rw is at (order_movable before order is_order) in
@@ -157,12 +157,12 @@ module _ (before : DesignContents) (proper : IsWellFormed before) (sound : IsSou
         movable_at : (done : List ℕ) (c : ℕ) (rest : List ℕ) → AreMovable before (done ++ c ∷ rest) → IsMovable before c
         movable_at done c rest are = All-contains (IsMovable before) (done ++ c ∷ rest) c are.each (Contains-append_right done (c ∷ rest) c (Contains-here c rest))
 
-module _ (design : DesignContents) (proper : IsWellFormed design) (sound : IsSound design.library) (sized : HasMacroSizes design.library) where
+module _ (design : DesignModel) (proper : IsWellFormed design) (sound : IsSound design.library) (sized : HasMacroSizes design.library) where
   rows : HasSoundRows design
   rows = record { sites = sound.sites; rows = proper.rows }
 
-  macro_area : (m : ℕ) (master : MasterSaid) → slice_get design.library.masters m ≡ Some master → HasArea master.size
-  macro_area m master is = (all_at (λ (x : MasterSaid). IsExtent x.size) design.library.masters m master sized is).area
+  macro_area : (m : ℕ) (master : MasterModel) → slice_get design.library.masters m ≡ Some master → HasArea master.size
+  macro_area m master is = (all_at (λ (x : MasterModel). IsExtent x.size) design.library.masters m master sized is).area
 
   -- a component is unsuited or not
   unsuited_or_not : (c : ℕ) → HoldsOrNot (IsUnsuited design c)
@@ -194,19 +194,19 @@ module _ (design : DesignContents) (proper : IsWellFormed design) (sound : IsSou
         )
       ]
 
-  legal_from_none : (faults : List Fault) → IsListOf (Holds design.library design) faults → HoldsOrNot (IsLegallyPlaced design)
+  legal_from_none : (faults : List Fault) → IsListOf (IsPlacementViolation design.library design) faults → HoldsOrNot (IsLegallyPlaced design)
   legal_from_none [] list = inl (λ fault holds. Contains-nil fault (list.all fault holds))
-  legal_from_none (fault ∷ faults) list = inr (λ legal. legal fault (All-head (Holds design.library design) fault faults list.each))
+  legal_from_none (fault ∷ faults) list = inr (λ legal. legal fault (All-head (IsPlacementViolation design.library design) fault faults list.each))
 
   legal_or_not : HoldsOrNot (IsLegallyPlaced design)
   legal_or_not =
-      let found = list_of design (Holds design.library design) (λ fault h. h) (holds_or_not design rows) in
+      let found = list_of design (IsPlacementViolation design.library design) (λ fault h. h) (holds_or_not design rows) in
       legal_from_none found.0 found.1
 
   module _ {A : Type 0} where
     module _ (illegal : IsLegallyPlaced design → ⊥) (staying : NoneStaying design) where
       by_run : (order : List ℕ) → IsOrderOfTaking design order → AreSuited design
-          → ((after : DesignContents) × Run design order after) ⊎ ((c : ℕ) × IsStuckAt design order c) → HasOutcome A design
+          → ((after : DesignModel) × LegaliseRun design order after) ⊎ ((c : ℕ) × IsStuckAt design order c) → HasOutcome A design
       by_run order is_order suited (inl (after, run)) = inl (record {
         after = after;
         legal = run_legal design after order is_order run rows staying;

@@ -4,18 +4,18 @@ use Rattle.std.proofs.Common.{◌≡◌, ℕ, ◌+◌, ◌<◌, ℤ, pos, ◌+�
 use Rattle.std.proofs.lemmas.Bool.{cases_eq}
 use Rattle.std.proofs.lemmas.Int.{ints, by_lt_z}
 use Rattle.std.proofs.lemmas.Option.{same_Some, slice_get_read, slice_get_within}
-use Rattle.leg_geom.specs.Plane.{Sides}
+use Rattle.leg_geom.specs.Plane.{RectModel}
 use Rattle.leg_geom.specs.declared.place.Place.{Place}
-use Rattle.leg_cells.specs.declared.records.Site.{Site}
-use Rattle.leg_cells.specs.Measure.{Lengths, HasArea, IsExtent}
-use Rattle.leg_cells.specs.Records.{MasterSaid}
-use Rattle.leg_block.specs.Records.{DesignContents}
-use Rattle.leg_block.specs.WellFormedParts.{IsRow}
-use Rattle.leg_block.specs.declared.records.Row.{Row}
-use Rattle.leg_place.specs.Box.{placed_box}
-use Rattle.leg_place.specs.Sites.{IsOnSites, IsOnRow}
+use Rattle.leg_lib_records.specs.declared.records.Site.{Site}
+use Rattle.leg_lib_records.specs.Measure.{ExtentModel, HasArea, IsExtent}
+use Rattle.leg_lib_records.specs.Records.{MasterModel}
+use Rattle.leg_design_records.specs.Records.{DesignModel}
+use Rattle.leg_design_records.specs.WellFormedParts.{IsRow}
+use Rattle.leg_design_records.specs.declared.records.Row.{Row}
+use Rattle.leg_rules.specs.Placement.Box.{placed_box}
+use Rattle.leg_rules.specs.Placement.Sites.{IsOnSites, IsOnRow}
 use Rattle.leg_place.proofs.OnSites.{IsEdge, on_sites_from_edges, level_from_on_sites, left_from_on_sites, right_from_on_sites, IsWide}
-use Rattle.leg_legal.specs.Refusals.{FitsSites, HasRowFor}
+use Rattle.leg_rules.specs.Legalise.Refusals.{FitsSites, HasRowFor}
 use Rattle.leg_legal.proofs.Elements.{all_at, contains_at}
 use Rattle.leg_legal.proofs.OnRow.{HasSoundRows}
 use Rattle.leg_legal.proofs.Misfits.{fits_from_rest, rest_from_fits, no_row_unfit}
@@ -51,7 +51,7 @@ some_element {X} P xs each = by_other there back (some_below (StandsThere P xs) 
   back s = let at = number_of xs s.0 s.1 in (at.0, slice_get_within xs at.0 s.0 at.1, (s.0, at.1, s.2))
 
 -- a site of the row begins or ends at this x, or none does
-edge_or_not : (row : Row) (size : Lengths) (x : ℤ) → HoldsOrNot (IsEdge row size x)
+edge_or_not : (row : Row) (size : ExtentModel) (x : ℤ) → HoldsOrNot (IsEdge row size x)
 edge_or_not row size x =
     by_other
     (λ s. record { k = s.0; is = s.2.0; within = s.2.1 })
@@ -67,7 +67,7 @@ edge_or_not row size x =
           ])
 
 -- a box is on sites of the row or not
-module _ (row : Row) (size : Lengths) (area : HasArea size) (some : pos 1 ≤ℤ row.count) (box : Sides) where
+module _ (row : Row) (size : ExtentModel) (area : HasArea size) (some : pos 1 ≤ℤ row.count) (box : RectModel) where
   -- one without a unit square is on none
   on_none : (box.x2 ≤ℤ box.x1) ⊎ (box.y2 ≤ℤ box.y1) → IsOnSites row size box
   on_none empty = record {
@@ -107,11 +107,11 @@ module _ (row : Row) (size : Lengths) (area : HasArea size) (some : pos 1 ≤ℤ
               ]
             ]
 
-module _ (design : DesignContents) (sound : HasSoundRows design) where
+module _ (design : DesignModel) (sound : HasSoundRows design) where
   site_area : (number : ℕ) (site : Site) → slice_get design.library.sites number ≡ Some site → HasArea site.size
   site_area number site is = (all_at (λ s. IsExtent s.size) design.library.sites number site sound.sites is).area
 
-  pub on_row_or_not : (master : MasterSaid) (number : ℕ) (place : Place) (row : Row) → Contains design.rows row → HoldsOrNot (IsOnRow design.library master number place row)
+  pub on_row_or_not : (master : MasterModel) (number : ℕ) (place : Place) (row : Row) → Contains design.rows row → HoldsOrNot (IsOnRow design.library master number place row)
   on_row_or_not master number place row has =
       elim (cases_eq row.site number) [
         | inr differ ↦ inr (λ on. differ on.same)
@@ -130,8 +130,8 @@ module _ (design : DesignContents) (sound : HasSoundRows design) where
       ]
 
   -- a macro of this size fits some row or not
-  module _ (size : Lengths) (has_area : HasArea size) where
-    fits_sites_or_not : (site : Lengths) → HasArea site → HoldsOrNot (FitsSites site size)
+  module _ (size : ExtentModel) (has_area : HasArea size) where
+    fits_sites_or_not : (site : ExtentModel) → HasArea site → HoldsOrNot (FitsSites site size)
     fits_sites_or_not site area =
         elim (same_or_not size.height site.height) [
           | inr differ ↦ inr (λ fits. differ fits.high)

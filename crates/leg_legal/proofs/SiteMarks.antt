@@ -4,8 +4,8 @@ use Rattle.std.proofs.Math.ListN.{replicate}
 use Rattle.std.proofs.lemmas.Bool.{false≢true, cases_lt, cases_eq}
 use Rattle.std.proofs.lemmas.List.{length-set, length-replicate, get_or-replicate}
 use Rattle.std.proofs.lemmas.Option.{same_Some, slice_get-get_or, slice_get_within, slice_get_read, get_or_from_slice_get}
-use Rattle.leg_block.specs.Records.{DesignContents}
-use Rattle.leg_block.specs.declared.records.Row.{Row}
+use Rattle.leg_design_records.specs.Records.{DesignModel}
+use Rattle.leg_design_records.specs.declared.records.Row.{Row}
 use Rattle.leg_legal.specs.Steps.SiteMarks.{HasRow, HasRowBelow, AreSiteMarksBelow, AreSiteMarks}
 use Rattle.leg_legal.proofs.Elements.{set_same, set_other, contains_at}
 
@@ -16,7 +16,7 @@ none_set n number at =
     let is : get_or (replicate n false) number true ≡ false = get_or-replicate n number false true (omega (arith, below, length-replicate n false)) in
     false≢true (sym is ∙ get_or_from_slice_get (replicate n false) number true true at)
 
-module _ (design : DesignContents) where
+module _ (design : DesignModel) where
   pub marks_of_none : (marks : List Bool) → marks ≡ replicate (length design.library.sites) false → AreSiteMarksBelow design 0 marks
   marks_of_none marks is = rw is (record {
     count = length-replicate (length design.library.sites) false;

@@ -1,7 +1,7 @@
 -- Whether two rectangles share a unit square, and whether one has all those of the other.
 use Rattle.std.proofs.Common.{◌⊎◌, ℤ, ◌≤ℤ◌, ◌<ℤ◌, ◌-ℤ◌, pos, inl, inr, arith}
 use Rattle.std.proofs.lemmas.Int.{ints, by_lt_z}
-use Rattle.leg_geom.specs.Plane.{Spot, Sides, HasSquare, ShareSquare}
+use Rattle.leg_geom.specs.Plane.{PointModel, RectModel, HasSquare, ShareSquare}
 use Rattle.leg_legal.proofs.Decisions.{HoldsOrNot}
 
 -- a number lies in both of two intervals
@@ -25,7 +25,7 @@ in_both_or_not a b c d =
     (λ past. inr (λ (x, is). omega (arith, ints, past, is.first, is.above))))
     (λ empty. inr (λ (x, is). omega (arith, ints, empty, is.first, is.below))))
 
-pub share_or_not : (a b : Sides) → HoldsOrNot (ShareSquare a b)
+pub share_or_not : (a b : RectModel) → HoldsOrNot (ShareSquare a b)
 share_or_not a b =
     elim (in_both_or_not a.x1 a.x2 b.x1 b.x2) [
       | inr never ↦ inr (λ s. never (s.square.x, record { first = s.in_a.left; below = s.in_a.right; second = s.in_b.left; above = s.in_b.right }))
@@ -40,12 +40,12 @@ share_or_not a b =
     ]
 
 -- a unit square of the box that isn't one of the die
-pub record IsMissing (die box : Sides) : Type 0 where
-  pub square : Spot
+pub record IsMissing (die box : RectModel) : Type 0 where
+  pub square : PointModel
   pub inside : HasSquare box square
   pub outside : HasSquare die square → ⊥
 
-pub missing_or_all : (die box : Sides) → IsMissing die box ⊎ ((square : Spot) → HasSquare box square → HasSquare die square)
+pub missing_or_all : (die box : RectModel) → IsMissing die box ⊎ ((square : PointModel) → HasSquare box square → HasSquare die square)
 missing_or_all die box =
     by_lt_z box.x1 box.x2
     (λ wide. by_lt_z box.y1 box.y2

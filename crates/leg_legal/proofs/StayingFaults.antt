@@ -4,14 +4,14 @@ use Rattle.std.proofs.lemmas.Bool.{cases_lt, false≢true}
 use Rattle.std.proofs.lemmas.List.{length_push, get_or_push, get_or_append_left}
 use Rattle.std.proofs.lemmas.List.Elements.{All-weaker}
 use Rattle.std.proofs.lemmas.Option.{same_Some, slice_get_within, slice_get-get_or}
-use Rattle.leg_block.specs.Records.{DesignContents}
-use Rattle.leg_block.specs.declared.fault.Fault.{Fault}
-use Rattle.leg_block.specs.Violation.{IsListOf}
-use Rattle.leg_place.specs.Faults.{Holds}
-use Rattle.leg_place.specs.Faults.Holds.{unplaced, outside, off_site, overlap, blocked}
-use Rattle.leg_place.specs.Among.{TellsMarked, HoldsAmong}
-use Rattle.leg_block.specs.Movable.{IsMovable}
-use Rattle.leg_legal.specs.Refusals.{ConcernsStaying, HoldsOfStaying}
+use Rattle.leg_design_records.specs.Records.{DesignModel}
+use Rattle.leg_design_records.specs.declared.fault.Fault.{Fault}
+use Rattle.leg_design_records.specs.Violation.{IsListOf}
+use Rattle.leg_rules.specs.Placement.Violations.{IsPlacementViolation}
+use Rattle.leg_rules.specs.Placement.Violations.IsPlacementViolation.{unplaced, outside, off_site, overlap, blocked}
+use Rattle.leg_place.specs.Among.{NamesOnlyMarked, HoldsAmong}
+use Rattle.leg_design_records.specs.Movable.{IsMovable}
+use Rattle.leg_rules.specs.Legalise.Refusals.{ConcernsStaying, HoldsOfStaying}
 use Rattle.leg_legal.specs.Steps.Marks.{AreMarksBelow}
 
 -- a mark of a component that isn't movable
@@ -37,7 +37,7 @@ told_at_end marks m i count test = (
   λ stays. get_last marks m i count ∙ ap Some (test.1 stays),
 )
 
-module _ (design : DesignContents) where
+module _ (design : DesignModel) where
   pub marks_none : (marks : List Bool) → marks ≡ [] → AreMarksBelow design 0 marks
   marks_none marks is = rw is (record { count = refl; each = λ c below. absurd (omega (arith, below)) })
 
@@ -57,7 +57,7 @@ module _ (design : DesignContents) where
 
   -- where the marks tell which components stay, a violation tells marked ones alone just where it concerns only such
   module _ (marks : List Bool) (are : AreMarksBelow design (length design.components) marks) where
-    staying_of : (v : Fault) → Holds design.library design v → TellsMarked marks v → ConcernsStaying design v
+    staying_of : (v : Fault) → IsPlacementViolation design.library design v → NamesOnlyMarked marks v → ConcernsStaying design v
     staying_of v (unplaced {c = c} h) told = (are.each c (slice_get_within design.components c h.component h.there)).0 told
     staying_of v (outside {c = c} h) told = (are.each c (slice_get_within design.components c h.stands.component h.stands.there)).0 told
     staying_of v (off_site {c = c} h) told = (are.each c (slice_get_within design.components c h.component h.there)).0 told
@@ -67,7 +67,7 @@ module _ (design : DesignContents) where
     )
     staying_of v (blocked {c = c} h) told = (are.each c (slice_get_within design.components c h.stands.component h.stands.there)).0 told
 
-    marked_of : (v : Fault) → Holds design.library design v → ConcernsStaying design v → TellsMarked marks v
+    marked_of : (v : Fault) → IsPlacementViolation design.library design v → ConcernsStaying design v → NamesOnlyMarked marks v
     marked_of v (unplaced {c = c} h) stays = (are.each c (slice_get_within design.components c h.component h.there)).1 stays
     marked_of v (outside {c = c} h) stays = (are.each c (slice_get_within design.components c h.stands.component h.stands.there)).1 stays
     marked_of v (off_site {c = c} h) stays = (are.each c (slice_get_within design.components c h.component h.there)).1 stays

@@ -3,16 +3,16 @@ use Rattle.std.proofs.Common.{◌≡◌, ℕ, List, slice_get, refl, sym, ap, �
 use Rattle.std.proofs.lemmas.Int.{ints}
 use Rattle.std.proofs.lemmas.Option.{same_Some}
 use Rattle.leg_sweep.proofs.Lists.{same_rising}
-use Rattle.leg_block.specs.Records.{DesignContents}
-use Rattle.leg_block.specs.declared.records.Component.{Component}
-use Rattle.leg_block.specs.Movable.{IsMovable}
-use Rattle.leg_legal.specs.Start.{start_of}
-use Rattle.leg_legal.specs.Turns.{Turn, IsEarlier, HasTurn, IsTakenBefore, IsOrderOfTaking}
-use Rattle.leg_legal.proofs.SoFar.{AreMovable}
+use Rattle.leg_design_records.specs.Records.{DesignModel}
+use Rattle.leg_design_records.specs.declared.records.Component.{Component}
+use Rattle.leg_design_records.specs.Movable.{IsMovable}
+use Rattle.leg_rules.specs.Legalise.Start.{start_of}
+use Rattle.leg_rules.specs.Legalise.Turns.{Turn, IsEarlier, HasTurn, IsTakenBefore, IsOrderOfTaking}
+use Rattle.leg_legal.proofs.RunSoFar.{AreMovable}
 use Rattle.std.proofs.lemmas.List.Elements.{All-contains}
 
 -- a component has one turn
-one_turn : (design : DesignContents) (c : ℕ) (a b : Turn) → HasTurn design c a → HasTurn design c b → a ≡ b
+one_turn : (design : DesignModel) (c : ℕ) (a b : Turn) → HasTurn design c a → HasTurn design c b → a ≡ b
 one_turn design c a b has_a has_b =
     let same : has_a.component ≡ has_b.component = same_Some has_a.component has_b.component (sym has_a.there ∙ has_b.there) in
     let alike : has_a.master ≡ has_b.master =
@@ -39,7 +39,7 @@ earlier_trans a b c e f = record {
       omega (arith, e.number first first_x, f.number second second_x);
 }
 
-module _ (design : DesignContents) where
+module _ (design : DesignModel) where
   pub never_before_itself : (c : ℕ) → IsTakenBefore design c c → ⊥
   never_before_itself c t =
       let same : t.turn_c ≡ t.turn_d = one_turn design c t.turn_c t.turn_d t.has_c t.has_d in

@@ -3,30 +3,30 @@ use Rattle.std.proofs.Common.{◌≡◌, ℕ, List, Option, None, Some, refl, sy
 use Rattle.std.proofs.lemmas.List.Elements.{All-contains}
 use Rattle.std.proofs.lemmas.Option.{same_Some}
 use Rattle.leg_geom.specs.declared.place.Place.{Place}
-use Rattle.leg_block.specs.Records.{DesignContents}
-use Rattle.leg_block.specs.WellFormedParts.{IsPlaced, IsComponent}
-use Rattle.leg_block.specs.WellFormed.{IsWellFormed}
-use Rattle.leg_block.specs.declared.fault.Fault.{Fault}
-use Rattle.leg_block.specs.declared.fault.Fault.TheVariants.{Unplaced}
-use Rattle.leg_block.specs.declared.records.Status.{Status}
-use Rattle.leg_block.specs.declared.records.Status.TheVariants as status
-use Rattle.leg_block.specs.declared.records.Component.{Component}
-use Rattle.leg_place.specs.Faults.{Holds, IsLegallyPlaced}
-use Rattle.leg_place.specs.Faults.Holds.{unplaced, outside, off_site, overlap, blocked}
-use Rattle.leg_block.specs.Movable.{MayMove, IsMovable}
-use Rattle.leg_legal.specs.Free.{IsSettled}
-use Rattle.leg_legal.specs.Turns.{IsOrderOfTaking}
-use Rattle.leg_legal.specs.Run.{Run, IsLegalised}
-use Rattle.leg_legal.specs.SameButForPlaces.{IsPlacedAnew, IsSameButForPlaces}
-use Rattle.leg_legal.specs.Refusals.{NoneStaying}
+use Rattle.leg_design_records.specs.Records.{DesignModel}
+use Rattle.leg_design_records.specs.WellFormedParts.{IsPlaced, IsComponent}
+use Rattle.leg_design_records.specs.WellFormed.{IsWellFormed}
+use Rattle.leg_design_records.specs.declared.fault.Fault.{Fault}
+use Rattle.leg_design_records.specs.declared.fault.Fault.TheVariants.{Unplaced}
+use Rattle.leg_design_records.specs.declared.records.Status.{Status}
+use Rattle.leg_design_records.specs.declared.records.Status.TheVariants as status
+use Rattle.leg_design_records.specs.declared.records.Component.{Component}
+use Rattle.leg_rules.specs.Placement.Violations.{IsPlacementViolation, IsLegallyPlaced}
+use Rattle.leg_rules.specs.Placement.Violations.IsPlacementViolation.{unplaced, outside, off_site, overlap, blocked}
+use Rattle.leg_design_records.specs.Movable.{MayMove, IsMovable}
+use Rattle.leg_rules.specs.Legalise.Free.{IsSettled}
+use Rattle.leg_rules.specs.Legalise.Turns.{IsOrderOfTaking}
+use Rattle.leg_rules.specs.Legalise.Run.{LegaliseRun, IsLegalised}
+use Rattle.leg_rules.specs.Legalise.SameButForPlaces.{IsPlacedAnew, IsSameButForPlaces}
+use Rattle.leg_rules.specs.Legalise.Refusals.{NoneStaying}
 use Rattle.leg_legal.proofs.Elements.{all_at}
-use Rattle.leg_block.proofs.MovableOrNot.{movable_or_not}
+use Rattle.leg_design_records.proofs.MovableOrNot.{movable_or_not}
 use Rattle.leg_legal.proofs.OnRow.{HasSoundRows}
 use Rattle.leg_legal.proofs.AmongSettled.{ConcernsSettled}
-use Rattle.leg_legal.proofs.SoFar.{IsSoFar, so_far, none_settled}
+use Rattle.leg_legal.proofs.RunSoFar.{IsSoFar, so_far, none_settled}
 use Rattle.leg_legal.proofs.TheOrder.{order_movable}
 
-module _ (before after : DesignContents) (order : List ℕ) (is_order : IsOrderOfTaking before order) (run : Run before order after) where
+module _ (before after : DesignModel) (order : List ℕ) (is_order : IsOrderOfTaking before order) (run : LegaliseRun before order after) where
   abbrev so : IsSoFar before order after
   so = so_far before order after run (order_movable before order is_order)
 
@@ -38,7 +38,7 @@ module _ (before after : DesignContents) (order : List ℕ) (is_order : IsOrderO
         | inr stays ↦ inl stays
       ]
 
-  all_concerned : (fault : Fault) → Holds after.library after fault → ConcernsSettled after order fault
+  all_concerned : (fault : Fault) → IsPlacementViolation after.library after fault → ConcernsSettled after order fault
   all_concerned v (unplaced {c = c} h) = all_settled c
   all_concerned v (outside {c = c} h) = all_settled c
   all_concerned v (off_site {c = c} h) = all_settled c
@@ -69,7 +69,7 @@ is_placed component status.Fixed place s p may placed some = absurd may
 is_placed component status.Cover place s p may placed some = absurd may
 
 -- a legally placed design is the same as itself: its movable components are PLACED
-pub legal_same : (design : DesignContents) → IsWellFormed design → IsLegallyPlaced design → IsSameButForPlaces design design
+pub legal_same : (design : DesignModel) → IsWellFormed design → IsLegallyPlaced design → IsSameButForPlaces design design
 legal_same design proper legal = record {
   rest = refl;
   count = refl;
@@ -83,17 +83,3 @@ legal_same design proper legal = record {
       (λ none. legal (Unplaced c) (unplaced (record { component = old; there = was; unplaced = none }))) in
       rw same anew;
 }
-
--- what the legaliser does gives a legally placed design, and the same but for places
-module _ (before after : DesignContents) (done : IsLegalised before after) where
-  pub legalised_legal : HasSoundRows before → NoneStaying before → IsLegallyPlaced after
-  legalised_legal sound staying = elim done [
-    | inl legal ↦ rw legal.1 legal.0
-    | inr anew ↦ run_legal before after anew.1.order anew.1.is_order anew.1.run sound staying
-  ]
-
-  pub legalised_same : IsWellFormed before → IsSameButForPlaces before after
-  legalised_same proper = elim done [
-    | inl legal ↦ rw legal.1 (legal_same before proper legal.0)
-    | inr anew ↦ run_same before after anew.1.order anew.1.is_order anew.1.run
-  ]

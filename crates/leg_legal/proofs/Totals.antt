@@ -3,9 +3,9 @@ use Rattle.std.proofs.Common.{◌≡◌, ℕ, zero, suc, ◌+◌, ◌*◌, ◌<�
 use Rattle.std.specs.Int.{int_max}
 use Rattle.std.proofs.lemmas.Int.{ints, clamps, to_z-of_z}
 use Rattle.leg_geom.specs.declared.limits.TheConstants.{COORDINATE_LIMIT}
-use Rattle.leg_block.specs.declared.limits.TheConstants.{ENTRY_LIMIT}
-use Rattle.leg_legal.specs.Moves.{total_of, greatest_of}
-use Rattle.leg_legal.specs.Steps.Distances.{IsDistance}
+use Rattle.leg_design_records.specs.declared.limits.TheConstants.{ENTRY_LIMIT}
+use Rattle.leg_rules.specs.Legalise.Moves.{total_of, greatest_of}
+use Rattle.leg_legal.specs.Steps.Distances.{IsMoveDistance}
 
 max_in_turn : (a b c : ℤ) → int_max a (int_max b c) ≡ int_max (int_max a b) c
 max_in_turn a b c = omega (arith, ints, clamps)
@@ -29,11 +29,11 @@ greatest_more (z ∷ zs) (suc i) d below =
     ap (int_max z) (greatest_more zs i d (omega arith)) ∙ max_in_turn z (greatest_of (take i zs)) (get_or zs i d)
 
 -- a distance fits the type
-pub kept : (z : ℤ) → IsDistance z → to_z w64 (of_z w64 z) ≡ z
+pub kept : (z : ℤ) → IsMoveDistance z → to_z w64 (of_z w64 z) ≡ z
 kept z within = grind (arith, ints, to_z-of_z)
 
 -- the next distance of the list to the sum of those before it
-module _ (zs : List ℤ) (i : ℕ) (total : ℤ) (each : All IsDistance zs) (few : length zs ≤ ENTRY_LIMIT) (below : i < length zs)
+module _ (zs : List ℤ) (i : ℕ) (total : ℤ) (each : All IsMoveDistance zs) (few : length zs ≤ ENTRY_LIMIT) (below : i < length zs)
     (is : total ≡ total_of (take i zs)) (least : pos 0 ≤ℤ total) (most : total ≤ℤ pos (4 * COORDINATE_LIMIT * i)) where
   abbrev next : ℤ
   next = get_or zs i (pos 0)
@@ -41,7 +41,7 @@ module _ (zs : List ℤ) (i : ℕ) (total : ℤ) (each : All IsDistance zs) (few
   abbrev sum : ℤ
   sum = total +ℤ to_z w64 (of_z w64 next)
 
-  within : IsDistance next
+  within : IsMoveDistance next
   within = each i (pos 0) below
 
   sum_is : sum ≡ total +ℤ next

@@ -14,14 +14,14 @@ use Rattle.std.proofs.lemmas.List.Sorted.{ranks_by, sorted_far, All-permutation,
 use Rattle.std.proofs.lemmas.Map.Keys.{IsDistinct-from_apart, apart_from_distinct, IsDistinct-IsPermutation}
 use Rattle.std.proofs.lemmas.Option.{same_Some, slice_get_within}
 use Rattle.leg_sweep.proofs.Lists.{Contains-map, AllPairs-map_where}
-use Rattle.leg_block.specs.Records.{DesignContents}
-use Rattle.leg_cells.specs.Records.{MasterSaid}
-use Rattle.leg_block.specs.declared.records.Component.{Component}
+use Rattle.leg_design_records.specs.Records.{DesignModel}
+use Rattle.leg_lib_records.specs.Records.{MasterModel}
+use Rattle.leg_design_records.specs.declared.records.Component.{Component}
 use Rattle.leg_legal.specs.declared.turns.TurnKey.{TurnKey}
-use Rattle.leg_block.specs.Movable.{IsMovable}
-use Rattle.leg_legal.specs.Start.{start_of}
-use Rattle.leg_legal.specs.Turns.{Turn, HasTurn, IsEarlier, IsTakenBefore}
-use Rattle.leg_legal.specs.Steps.TurnKeys.{IsKeyOf, numbers, AreKeysBelow, AreInOrder}
+use Rattle.leg_design_records.specs.Movable.{IsMovable}
+use Rattle.leg_rules.specs.Legalise.Start.{start_of}
+use Rattle.leg_rules.specs.Legalise.Turns.{Turn, HasTurn, IsEarlier, IsTakenBefore}
+use Rattle.leg_legal.specs.Steps.TurnKeys.{IsTurnKeyOf, numbers, AreTurnKeysBelow, AreInOrder}
 
 abbrev pub key_cmp : TurnKey → TurnKey → Ordering
 key_cmp a b = ordering_then (int_cmp a.narrow b.narrow) (ordering_then (int_cmp a.x b.x) (nat_cmp a.number b.number))
@@ -44,15 +44,15 @@ below_from_test a b not_above differ = record {
   number = λ same alike. grind (arith, ints, nat_tests);
 }
 
-module _ (design : DesignContents) where
-  turn_of : (key : TurnKey) → IsKeyOf design key → Turn
+module _ (design : DesignModel) where
+  turn_of : (key : TurnKey) → IsTurnKeyOf design key → Turn
   turn_of key is = record { width = is.movable.master.size.width; x = (start_of design.die is.movable.component.place).x; number = key.number }
 
-  has_turn : (key : TurnKey) (is : IsKeyOf design key) → HasTurn design key.number (turn_of key is)
+  has_turn : (key : TurnKey) (is : IsTurnKeyOf design key) → HasTurn design key.number (turn_of key is)
   unfolding turn_of
   has_turn key is = record { component = is.movable.component; there = is.movable.there; master = is.movable.master; is_master = is.movable.is_master; is = refl }
 
-  earlier_from_below : (a b : TurnKey) (is_a : IsKeyOf design a) (is_b : IsKeyOf design b) → IsBelow a b → IsEarlier (turn_of a is_a) (turn_of b is_b)
+  earlier_from_below : (a b : TurnKey) (is_a : IsTurnKeyOf design a) (is_b : IsTurnKeyOf design b) → IsBelow a b → IsEarlier (turn_of a is_a) (turn_of b is_b)
   unfolding turn_of
   earlier_from_below a b is_a is_b below = record {
     width = omega (arith, ints, is_a.narrow, is_b.narrow, below.narrow);
@@ -65,7 +65,7 @@ module _ (design : DesignContents) where
         below.number alike x;
   }
 
-  taken_before : (a b : TurnKey) → IsKeyOf design a → IsKeyOf design b → IsBelow a b → IsTakenBefore design a.number b.number
+  taken_before : (a b : TurnKey) → IsTurnKeyOf design a → IsTurnKeyOf design b → IsBelow a b → IsTakenBefore design a.number b.number
   taken_before a b is_a is_b below = record {
     turn_c = turn_of a is_a;
     turn_d = turn_of b is_b;
@@ -75,29 +75,29 @@ module _ (design : DesignContents) where
   }
 
   -- the key of a component, by what is read of it
-  pub key_of_movable : (c : ℕ) (m : IsMovable design c) (component : Component) (master : MasterSaid) (narrow x : ℤ) → slice_get design.components c ≡ Some component → slice_get design.library.masters component.master ≡ Some master → narrow ≡ pos 0 -ℤ master.size.width → x ≡ (start_of design.die component.place).x → IsKeyOf design (record { narrow = narrow; x = x; number = c })
+  pub key_of_movable : (c : ℕ) (m : IsMovable design c) (component : Component) (master : MasterModel) (narrow x : ℤ) → slice_get design.components c ≡ Some component → slice_get design.library.masters component.master ≡ Some master → narrow ≡ pos 0 -ℤ master.size.width → x ≡ (start_of design.die component.place).x → IsTurnKeyOf design (record { narrow = narrow; x = x; number = c })
   key_of_movable c m component master narrow x there is_master narrow_is x_is =
       let one : component ≡ m.component = same_Some component m.component (sym there ∙ m.there) in
       let told : slice_get design.library.masters m.component.master ≡ Some master = rw one at is_master in
       let same : master ≡ m.master = same_Some master m.master (sym told ∙ m.is_master) in
       record {
         movable = m;
-        narrow = narrow_is ∙ ap (λ (y : MasterSaid). pos 0 -ℤ y.size.width) same;
+        narrow = narrow_is ∙ ap (λ (y : MasterModel). pos 0 -ℤ y.size.width) same;
         x = x_is ∙ ap (λ (y : Component). (start_of design.die y.place).x) one;
       }
 
-  pub keys_none : AreKeysBelow design 0 []
+  pub keys_none : AreTurnKeysBelow design 0 []
   keys_none = record {
-    each = All-nil (IsKeyOf design);
+    each = All-nil (IsTurnKeyOf design);
     below = All-nil (λ key. key.number < 0);
     all = λ c below m. absurd (omega arith);
     rising = λ i j d order within. absurd (omega arith);
   }
 
   -- the key of one more component
-  pub keys_more : (keys : List TurnKey) (i : ℕ) (key : TurnKey) → IsKeyOf design key → key.number ≡ i → AreKeysBelow design i keys → AreKeysBelow design (i + 1) (keys ++ key ∷ [])
+  pub keys_more : (keys : List TurnKey) (i : ℕ) (key : TurnKey) → IsTurnKeyOf design key → key.number ≡ i → AreTurnKeysBelow design i keys → AreTurnKeysBelow design (i + 1) (keys ++ key ∷ [])
   keys_more keys i key is number done = record {
-    each = All-push (IsKeyOf design) keys key done.each is;
+    each = All-push (IsTurnKeyOf design) keys key done.each is;
     below =
         All-push (λ k. k.number < i + 1) keys key
         (All-weaker (λ k. k.number < i) (λ k. k.number < i + 1) (λ k below. omega arith) keys done.below) (omega (arith, number));
@@ -112,7 +112,7 @@ module _ (design : DesignContents) where
   }
 
   -- none for a component that isn't movable
-  pub keys_skip : (keys : List TurnKey) (i : ℕ) → (IsMovable design i → ⊥) → AreKeysBelow design i keys → AreKeysBelow design (i + 1) keys
+  pub keys_skip : (keys : List TurnKey) (i : ℕ) → (IsMovable design i → ⊥) → AreTurnKeysBelow design i keys → AreTurnKeysBelow design (i + 1) keys
   keys_skip keys i stays done = record {
     each = done.each;
     below = All-weaker (λ k. k.number < i) (λ k. k.number < i + 1) (λ k below. omega arith) keys done.below;
@@ -124,7 +124,7 @@ module _ (design : DesignContents) where
   }
 
   -- the keys once they are sorted
-  pub order_from_sort : (keys sorted : List TurnKey) → AreKeysBelow design (length design.components) keys → IsPermutation keys sorted → IsSorted key_cmp sorted → AreInOrder design sorted
+  pub order_from_sort : (keys sorted : List TurnKey) → AreTurnKeysBelow design (length design.components) keys → IsPermutation keys sorted → IsSorted key_cmp sorted → AreInOrder design sorted
   order_from_sort keys sorted are moved up =
       let alike : TurnKey → TurnKey → Bool = λ a b. eqb a.number b.number in
       let start : IsDistinct alike keys =
@@ -132,7 +132,7 @@ module _ (design : DesignContents) where
       let rise = are.rising i j d order within in
       ne_eqb (get_or keys i d).number (get_or keys j d).number (λ same. omega arith)) in
       let apart = IsDistinct-IsPermutation alike (λ a b. nat_eq_equiv.symm a.number b.number) keys sorted moved start in
-      let each : All (IsKeyOf design) sorted = All-permutation (IsKeyOf design) keys sorted moved are.each in
+      let each : All (IsTurnKeyOf design) sorted = All-permutation (IsTurnKeyOf design) keys sorted moved are.each in
       let rising : AllPairs IsBelow sorted = λ i j d order within.
       below_from_test (get_or sorted i d) (get_or sorted j d)
       (sorted_far (λ x y. is_lt (key_cmp x y)) (ranks_by key_cmp_total (λ x. x)) sorted up i j d (omega arith) within)
@@ -140,8 +140,8 @@ module _ (design : DesignContents) where
       record {
         each = each;
         order = record {
-          in_order = AllPairs-map_where IsBelow (IsTakenBefore design) (λ k. k.number) (IsKeyOf design) taken_before sorted each rising;
-          each = All-map (IsMovable design) (λ (k : TurnKey). k.number) sorted (All-weaker (IsKeyOf design) (λ k. IsMovable design k.number) (λ k is. is.movable) sorted each);
+          in_order = AllPairs-map_where IsBelow (IsTakenBefore design) (λ k. k.number) (IsTurnKeyOf design) taken_before sorted each rising;
+          each = All-map (IsMovable design) (λ (k : TurnKey). k.number) sorted (All-weaker (IsTurnKeyOf design) (λ k. IsMovable design k.number) (λ k is. is.movable) sorted each);
           all = λ c m.
               Contains-permutation (numbers keys) (numbers sorted) c (IsPermutation-map (λ (k : TurnKey). k.number) keys sorted moved)
               (are.all c (slice_get_within design.components c m.component m.there) m);

@@ -1,11 +1,4 @@
-pub mod Start
-pub mod Standing
-pub mod Free
 pub mod FreePlaces
-pub mod Turns
-pub mod Run
-pub mod SameButForPlaces
-pub mod Moves
 pub mod Refusals
 pub mod Outcome
 pub mod Steps

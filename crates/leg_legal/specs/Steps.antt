@@ -1,9 +1,9 @@
--- Intermediate state of the code. Only private contracts cite it.
+-- Intermediate state of the code, and what crates of one algorithm know of one another. No promise of a command rests on it.
 pub mod TurnKeys
 pub mod Marks
 pub mod SiteMarks
-pub mod PlacedAll
+pub mod AfterPlaces
 pub mod Distances
 pub mod Seats
-pub mod Taking
-pub mod Chosen
+pub mod Boxes
+pub mod Choices

@@ -1,13 +1,13 @@
 //! Placement blockages, which leave no room for movable components.
 
 ghost use Rattle.std.specs.Prelude.{[], ◌++◌, List, length, OnOk};
-ghost use Rattle.leg_geom.specs.Plane.{Sides};
-ghost use Rattle.leg_sites.specs.FreeRows.{AreKnown};
-ghost use Rattle.leg_legal.specs.Steps.Taking.{KnowStaying, KnowTaken};
+ghost use Rattle.leg_geom.specs.Plane.{RectModel};
+ghost use Rattle.leg_legal_sites.specs.Steps.FreeLists.{AreFreeLists};
+ghost use Rattle.leg_legal.specs.Steps.Boxes.{KnowStaying, KnowTaken};
 
-use leg_block::{Blockage, Design};
+use leg_design_records::{Blockage, Design};
 use leg_geom::Rect;
-use leg_sites::FreeRows;
+use leg_legal_sites::FreeRows;
 use std::alloc::{AllocError, Allocator};
 
 /// Takes these rectangles away.
@@ -16,8 +16,8 @@ fn take_rects<A: Allocator + Copy>(
     free: &mut FreeRows<A>,
     rects: &[Rect],
 ) -> Result<(), AllocError>
-    requires { (boxes : List Sides) × AreKnown design.now boxes free.old }
-    ensures { OnOk result ((boxes : List Sides) → AreKnown design.now boxes free.old → AreKnown design.now (boxes ++ rects.now) free.new) }
+    requires { (boxes : List RectModel) × AreFreeLists design.now boxes free.old }
+    ensures { OnOk result ((boxes : List RectModel) → AreFreeLists design.now boxes free.old → AreFreeLists design.now (boxes ++ rects.now) free.new) }
 {
     for rect in rects {
         free.take_box(design, rect)?;

@@ -2,24 +2,24 @@
 
 ghost use Rattle.std.specs.Prelude.{◌≡◌, ◌≤◌, ℤ, pos, All, IfOk, length, replicate};
 ghost use Rattle.std.specs.Int.{int_max};
-ghost use Rattle.leg_block.specs.declared.limits.TheConstants.{ENTRY_LIMIT};
-ghost use Rattle.leg_legal.specs.Moves.{AreMoves, total_of, greatest_of};
-ghost use Rattle.leg_legal.specs.Start.{distance};
-ghost use Rattle.leg_legal.specs.Steps.Distances.{IsDistance, AreDistances};
-ghost use Rattle.leg_legal.specs.Steps.PlacedAll.{CanTake, placed_all};
+ghost use Rattle.leg_design_records.specs.declared.limits.TheConstants.{ENTRY_LIMIT};
+ghost use Rattle.leg_rules.specs.Legalise.Moves.{AreMoves, total_of, greatest_of};
+ghost use Rattle.leg_rules.specs.Legalise.Start.{distance};
+ghost use Rattle.leg_legal.specs.Steps.Distances.{IsMoveDistance, AreDistances};
+ghost use Rattle.leg_legal.specs.Steps.AfterPlaces.{CanTake, placed_all};
 
 use crate::moves::Moves;
 use crate::taken::Taken;
 use crate::turns::start_of;
-use leg_block::Design;
-use leg_cells::Items;
+use leg_design_records::Design;
 use leg_geom::Point;
+use leg_lib_records::Items;
 use std::alloc::{AllocError, Allocator};
 
 /// How far two points are apart along x and along y together.
 fn distance(p: &Point, q: &Point) -> i64
     ensures is { result ≡ pos (distance p.now q.now) }
-    ensures within { IsDistance result }
+    ensures within { IsMoveDistance result }
 {
     (p.x().abs_diff(q.x()) + p.y().abs_diff(q.y())) as i64
 }
@@ -65,7 +65,7 @@ fn distances_of<A: Allocator + Copy>(
 
 /// The sum of distances.
 fn total_of(distances: &[i64]) -> i64
-    requires each { All IsDistance distances.now }
+    requires each { All IsMoveDistance distances.now }
     requires few { length distances.now ≤ ENTRY_LIMIT }
     ensures { result ≡ total_of distances.now }
 {

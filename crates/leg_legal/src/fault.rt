@@ -3,8 +3,8 @@
 ghost use Rattle.std.specs.Prelude.{◌≡◌};
 ghost use Rattle.leg_legal.specs.declared.fault.LegalFault.TheVariants.{Memory};
 
-use leg_block::Fault;
-use leg_cells::Items;
+use leg_design_records::Fault;
+use leg_lib_records::Items;
 use std::alloc::{AllocError, AllocFailed, Allocator};
 
 /// The cause for which a design isn't legalised (lefdef's own rules). Of several, the first in this order is reported,

@@ -1,14 +1,15 @@
 //! Legalising a design.
 
 ghost use Rattle.std.specs.Prelude.{◌≡◌, IfOk, IfErr};
-ghost use Rattle.leg_cells.specs.Sound.{IsSound};
-ghost use Rattle.leg_block.specs.WellFormed.{IsWellFormed};
-ghost use Rattle.leg_place.specs.Faults.{IsLegallyPlaced};
-ghost use Rattle.leg_legal.specs.Run.{IsLegalised};
-ghost use Rattle.leg_legal.specs.SameButForPlaces.{IsSameButForPlaces};
-ghost use Rattle.leg_legal.specs.Moves.{AreMoves};
-ghost use Rattle.leg_legal.specs.Refusals.{AreSuited, IsRefusal};
-ghost use Rattle.leg_legal.specs.Steps.Chosen.{AreRun, IsRunFault, AreChosen};
+ghost use Rattle.leg_lib_records.specs.Sound.{IsSound};
+ghost use Rattle.leg_design_records.specs.WellFormed.{IsWellFormed};
+ghost use Rattle.leg_rules.specs.Placement.Violations.{IsLegallyPlaced};
+ghost use Rattle.leg_rules.specs.Legalise.Run.{IsLegalised};
+ghost use Rattle.leg_rules.specs.Legalise.SameButForPlaces.{IsSameButForPlaces};
+ghost use Rattle.leg_rules.specs.Legalise.Moves.{AreMoves};
+ghost use Rattle.leg_legal.specs.Refusals.{IsLegaliseRefusal};
+ghost use Rattle.leg_rules.specs.Legalise.Refusals.{AreSuited};
+ghost use Rattle.leg_legal.specs.Steps.Choices.{AreRun, IsRunFault, AreChosen};
 
 use crate::blockages::take_blockages;
 use crate::distances::moves_of;
@@ -19,11 +20,11 @@ use crate::taken::{Taken, with_places};
 use crate::taking::{take_in_turn, take_staying};
 use crate::turns::order_of_taking;
 use crate::unsuited::least_unsuited;
-use leg_block::Design;
-use leg_block::laws::design_is_sound;
-use leg_cells::{Items, Library};
+use leg_design_records::Design;
+use leg_design_records::laws::design_is_sound;
+use leg_legal_sites::FreeRows;
+use leg_lib_records::{Items, Library};
 use leg_place::is_placed;
-use leg_sites::FreeRows;
 use std::alloc::Allocator;
 
 /// The design with each movable component on its best free position, and how far the components have moved (lefdef's
@@ -48,7 +49,7 @@ pub fn legalise<'a, A: Allocator + Copy>(
     ensures run { IfOk result (λ done. IsLegalised design.entry done.0) }
     ensures moves { IfOk result (λ done. AreMoves design.entry done.0 done.1.per_component done.1.total done.1.greatest) }
     ensures unchanged { IfErr result (λ back. back.0 ≡ design.entry) }
-    ensures refused { IfErr result (λ back. IsRefusal design.entry back.1) }
+    ensures refused { IfErr result (λ back. IsLegaliseRefusal design.entry back.1) }
 {
     let taken = match chosen_places(alloc, library, &design) {
         Ok(taken) => taken,
@@ -68,7 +69,7 @@ fn chosen_places<A: Allocator + Copy>(
 ) -> Result<Vec<Taken, A>, LegalFault<A>>
     requires { library.now ≡ design.now.library }
     ensures chosen { IfOk result (λ taken. AreChosen design.now taken.items) }
-    ensures refused { IfErr result (IsRefusal design.now) }
+    ensures refused { IfErr result (IsLegaliseRefusal design.now) }
 {
     design_is_sound(design);
     let placed = is_placed(alloc, library, design)?;
@@ -89,7 +90,7 @@ fn places_of<A: Allocator + Copy>(
     requires proper { IsWellFormed design.now }
     requires sound { IsSound design.now.library }
     ensures chosen { IfOk result (λ taken. AreChosen design.now taken.items) }
-    ensures refused { IfErr result (IsRefusal design.now) }
+    ensures refused { IfErr result (IsLegaliseRefusal design.now) }
 {
     let staying = staying_faults(alloc, library, design)?;
     if !staying.as_slice().is_empty() {

@@ -1,6 +1,6 @@
 //! How far components have moved.
 
-use leg_cells::Items;
+use leg_lib_records::Items;
 use std::alloc::Allocator;
 
 /// How far the components of a design have moved from where they started, in database units along x and along y together.

@@ -2,20 +2,20 @@
 
 ghost use Rattle.std.specs.Prelude.{◌≡◌, ℕ, pos, ◌/◌, ◌≤ℤ◌, ◌+ℤ◌, ◌*ℤ◌, List, unsigned_abs, IfSome};
 ghost use Rattle.leg_lex.specs.Number.{IsNumber};
-ghost use Rattle.leg_geom.specs.Plane.{Sides};
-ghost use Rattle.leg_cells.specs.Measure.{IsExtent};
-ghost use Rattle.leg_block.specs.WellFormedParts.{IsPosition};
-ghost use Rattle.leg_sites.specs.FreeRows.{AreKnown};
-ghost use Rattle.leg_block.specs.Movable.{IsMovable};
-ghost use Rattle.leg_legal.specs.Standing.{orient_of, Takes};
-ghost use Rattle.leg_legal.specs.Refusals.{IsUnsuited};
+ghost use Rattle.leg_geom.specs.Plane.{RectModel};
+ghost use Rattle.leg_lib_records.specs.Measure.{IsExtent};
+ghost use Rattle.leg_design_records.specs.WellFormedParts.{IsPosition};
+ghost use Rattle.leg_legal_sites.specs.Steps.FreeLists.{AreFreeLists};
+ghost use Rattle.leg_design_records.specs.Movable.{IsMovable};
+ghost use Rattle.leg_rules.specs.Legalise.Places.{orient_of, Takes};
+ghost use Rattle.leg_rules.specs.Legalise.Refusals.{IsUnsuited};
 ghost use Rattle.leg_legal.specs.Steps.Seats.{IsWantedOf, IsBestPlace, AreToBeAsked};
 
 use crate::turns::start_of;
-use leg_block::{Design, Row};
-use leg_cells::{Extent, Master};
+use leg_design_records::{Design, Row};
 use leg_geom::{Orient, Place, Point};
-use leg_sites::{Candidate, FreeRows, Wanted, fits};
+use leg_legal_sites::{Candidate, FreeRows, Wanted, fits};
+use leg_lib_records::{Extent, Master};
 use std::alloc::Allocator;
 
 /// The orientation that a component has, if it is placed.
@@ -112,7 +112,7 @@ pub(crate) fn best_place<A: Allocator + Copy>(
     wanted: &Wanted,
 ) -> Option<Place>
     requires { AreToBeAsked design.now free.now wanted.now }
-    ensures best { (c : ℕ) (boxes : List Sides) → IsWantedOf design.now c wanted.now → AreKnown design.now boxes free.now → IsBestPlace design.now boxes c result }
+    ensures best { (c : ℕ) (boxes : List RectModel) → IsWantedOf design.now c wanted.now → AreFreeLists design.now boxes free.now → IsBestPlace design.now boxes c result }
     ensures position { IfSome result (λ place. IsPosition place.at) }
 {
     let rows = design.rows();

@@ -1,9 +1,9 @@
 //! That macros have sizes, as their type states.
 
 ghost use Rattle.std.specs.Prelude.{All};
-ghost use Rattle.leg_cells.specs.Measure.{IsExtent};
+ghost use Rattle.leg_lib_records.specs.Measure.{IsExtent};
 
-use leg_cells::Master;
+use leg_lib_records::Master;
 use std::alloc::Allocator;
 
 /// Each of the macros has a width and a height. It does nothing: of a size that is read it is known.

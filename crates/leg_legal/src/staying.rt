@@ -1,12 +1,12 @@
 //! The violations that concern only components that stay.
 
 ghost use Rattle.std.specs.Prelude.{◌≡◌, length, IfOk};
-ghost use Rattle.leg_block.specs.Violation.{IsListOf};
-ghost use Rattle.leg_legal.specs.Refusals.{HoldsOfStaying};
+ghost use Rattle.leg_design_records.specs.Violation.{IsListOf};
+ghost use Rattle.leg_rules.specs.Legalise.Refusals.{HoldsOfStaying};
 ghost use Rattle.leg_legal.specs.Steps.Marks.{AreMarksBelow};
 
-use leg_block::{Design, Fault};
-use leg_cells::Library;
+use leg_design_records::{Design, Fault};
+use leg_lib_records::Library;
 use leg_place::place_faults_among;
 use std::alloc::{AllocError, Allocator};
 

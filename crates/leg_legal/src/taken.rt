@@ -1,9 +1,9 @@
 //! Places that components take.
 
 ghost use Rattle.std.specs.Prelude.{◌≡◌, All};
-ghost use Rattle.leg_legal.specs.Steps.PlacedAll.{CanTake, placed_all};
+ghost use Rattle.leg_legal.specs.Steps.AfterPlaces.{CanTake, placed_all};
 
-use leg_block::Design;
+use leg_design_records::Design;
 use leg_geom::Place;
 use std::alloc::Allocator;
 

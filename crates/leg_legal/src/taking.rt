@@ -1,25 +1,25 @@
 //! The loop over the components that take their places.
 
 ghost use Rattle.std.specs.Prelude.{◌≡◌, ◌+◌, ◌<◌, [], List, length, IfOk, IfErr, OnOk, slice_get, Some};
-ghost use Rattle.leg_geom.specs.Plane.{Sides};
-ghost use Rattle.leg_cells.specs.Records.{MasterSaid};
-ghost use Rattle.leg_block.specs.WellFormedParts.{IsPosition};
-ghost use Rattle.leg_block.specs.declared.records.Component.{Component};
-ghost use Rattle.leg_place.specs.Box.{placed_box};
-ghost use Rattle.leg_sites.specs.FreeRows.{AreKnown};
-ghost use Rattle.leg_block.specs.Movable.{IsMovable};
-ghost use Rattle.leg_legal.specs.Refusals.{IsUnsuited, AreSuited};
+ghost use Rattle.leg_geom.specs.Plane.{RectModel};
+ghost use Rattle.leg_lib_records.specs.Records.{MasterModel};
+ghost use Rattle.leg_design_records.specs.WellFormedParts.{IsPosition};
+ghost use Rattle.leg_design_records.specs.declared.records.Component.{Component};
+ghost use Rattle.leg_rules.specs.Placement.Box.{placed_box};
+ghost use Rattle.leg_legal_sites.specs.Steps.FreeLists.{AreFreeLists};
+ghost use Rattle.leg_design_records.specs.Movable.{IsMovable};
+ghost use Rattle.leg_rules.specs.Legalise.Refusals.{IsUnsuited, AreSuited};
 ghost use Rattle.leg_legal.specs.Steps.TurnKeys.{AreInOrder, numbers};
-ghost use Rattle.leg_legal.specs.Steps.Taking.{KnowStaying, KnowTaken, IsSeated, IsSeatFault, AreAllTaken, IsTakingFault};
+ghost use Rattle.leg_legal.specs.Steps.Boxes.{KnowStaying, KnowTaken, IsSeated, IsSeatFault, AreAllTaken, IsTakingFault};
 
 use crate::fault::LegalFault;
 use crate::seats::{best_place, wanted_of};
 use crate::taken::Taken;
 use crate::turns::TurnKey;
-use leg_block::Design;
+use leg_design_records::Design;
 use leg_geom::{Place, Rect};
+use leg_legal_sites::FreeRows;
 use leg_place::{box_of, placed_size};
-use leg_sites::FreeRows;
 use std::alloc::{AllocError, Allocator};
 
 /// Takes the box of the component away, if it stays and has a place.
@@ -46,7 +46,7 @@ pub(crate) fn take_staying<A: Allocator + Copy>(
     design: &Design<'_, A>,
     free: &mut FreeRows<A>,
 ) -> Result<(), AllocError>
-    requires { AreKnown design.now [] free.old }
+    requires { AreFreeLists design.now [] free.old }
     ensures { OnOk result (KnowStaying design.now (length design.now.components) free.new) }
 {
     for i in 0..design.components().len() {
@@ -59,7 +59,7 @@ pub(crate) fn take_staying<A: Allocator + Copy>(
 fn box_at<A: Allocator + Copy>(design: &Design<'_, A>, number: usize, place: &Place) -> Rect
     requires movable { IsMovable design.now number }
     requires position { IsPosition place.now.at }
-    ensures { (component : Component) (master : MasterSaid) → slice_get design.now.components number ≡ Some component
+    ensures { (component : Component) (master : MasterModel) → slice_get design.now.components number ≡ Some component
         → slice_get design.now.library.masters component.master ≡ Some master → result ≡ placed_box master.size place.now }
 {
     let component = &design.components()[number];
@@ -75,10 +75,10 @@ fn seat<A: Allocator + Copy>(
 ) -> Result<Place, LegalFault<A>>
     requires movable { IsMovable design.now number }
     requires suited { ¬ IsUnsuited design.now number }
-    requires known { (boxes : List Sides) × AreKnown design.now boxes free.old }
-    ensures seated { IfOk result (λ place. (boxes : List Sides) → AreKnown design.now boxes free.old → IsSeated design.now boxes number place free.new) }
+    requires known { (boxes : List RectModel) × AreFreeLists design.now boxes free.old }
+    ensures seated { IfOk result (λ place. (boxes : List RectModel) → AreFreeLists design.now boxes free.old → IsSeated design.now boxes number place free.new) }
     ensures position { IfOk result (λ place. IsPosition place.at) }
-    ensures refused { IfErr result (λ fault. (boxes : List Sides) → AreKnown design.now boxes free.old → IsSeatFault design.now boxes number fault) }
+    ensures refused { IfErr result (λ fault. (boxes : List RectModel) → AreFreeLists design.now boxes free.old → IsSeatFault design.now boxes number fault) }
 {
     let wanted = wanted_of(design, number as usize);
     match best_place(design, free, &wanted) {

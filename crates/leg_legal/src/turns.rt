@@ -1,13 +1,13 @@
 //! The order in which movable components are taken.
 
 ghost use Rattle.std.specs.Prelude.{◌≡◌, pos, ◌-ℤ◌, length, IfOk};
-ghost use Rattle.leg_block.specs.Movable.{IsMovable};
-ghost use Rattle.leg_legal.specs.Start.{start_of};
-ghost use Rattle.leg_legal.specs.Steps.TurnKeys.{IsKeyOf, AreKeysBelow, AreInOrder};
+ghost use Rattle.leg_design_records.specs.Movable.{IsMovable};
+ghost use Rattle.leg_rules.specs.Legalise.Start.{start_of};
+ghost use Rattle.leg_legal.specs.Steps.TurnKeys.{IsTurnKeyOf, AreTurnKeysBelow, AreInOrder};
 
-use leg_block::Design;
-use leg_cells::Extent;
+use leg_design_records::Design;
 use leg_geom::{Place, Point};
+use leg_lib_records::Extent;
 use std::alloc::{AllocError, Allocator};
 
 /// What movable components are ordered by: the wider macro first, then the lower x of the start, then file order.
@@ -45,7 +45,7 @@ fn key_of(size: &Extent, start: &Point, number: u32) -> TurnKey
 /// The key of a movable component.
 fn turn_key<A: Allocator + Copy>(design: &Design<'_, A>, number: usize) -> TurnKey
     requires { IsMovable design.now number }
-    ensures is { IsKeyOf design.now result }
+    ensures is { IsTurnKeyOf design.now result }
     ensures number { result.number ≡ number }
 {
     let component = &design.components()[number];
@@ -62,7 +62,7 @@ fn turn_keys<A: Allocator + Copy>(
     alloc: A,
     design: &Design<'_, A>,
 ) -> Result<Vec<TurnKey, A>, AllocError>
-    ensures { IfOk result (λ keys. AreKeysBelow design.now (length design.now.components) keys.items) }
+    ensures { IfOk result (λ keys. AreTurnKeysBelow design.now (length design.now.components) keys.items) }
 {
     let mut keys = Vec::new(alloc);
     for i in 0..design.components().len() {

@@ -2,10 +2,10 @@
 
 ghost use Rattle.std.specs.Prelude.{◌↔◌, IsTrue, MatchOption, IfOk};
 ghost use Rattle.leg_legal.specs.Steps.SiteMarks.{AreSiteMarks};
-ghost use Rattle.leg_legal.specs.Refusals.{FitsSites, HasRowFor, IsUnsuited, IsLeastUnsuited, AreSuited};
+ghost use Rattle.leg_rules.specs.Legalise.Refusals.{FitsSites, HasRowFor, IsUnsuited, IsLeastUnsuited, AreSuited};
 
-use leg_block::Design;
-use leg_cells::Extent;
+use leg_design_records::Design;
+use leg_lib_records::Extent;
 use std::alloc::{AllocError, Allocator};
 
 /// Whether a macro of this size is as high as a site, and as wide as a number of them.

@@ -2,7 +2,7 @@
 use Rattle.std.proofs.Common.{◌≡◌, ℕ, Bool, true, false, List, [], ◌∷◌, drop, None, Some, refl, sym}
 use Rattle.std.proofs.lemmas.Bool.{true≢false}
 use Rattle.leg_lex.specs.Words.{Words, is_keyword, is_at, next_at, keyword_at}
-use Rattle.leg_lex.proofs.Said.{rest_is}
+use Rattle.leg_lex.proofs.Parts.{rest_is}
 
 -- A keyword that stands there is read,
 pub read_past : (keyword : List ℕ) (words : Words) (x : Unit {0}) (rest : Words) → keyword_at keyword words ≡ Some (x, rest) → rest ≡ drop 1 words

@@ -12,18 +12,18 @@ mod Decimals
 mod Exact
 mod Units
 -- Loops over words
-mod Skipped
+mod OptionalKeyword
 mod Marks
 mod WordsAt
-mod Asked
+mod StatementSearch
 -- What the proofs of other crates cite
-pub mod Said
+pub mod Parts
 pub mod Gives
 pub mod Until
-pub mod Over
+pub mod EachElement
 pub mod Shorter
 pub mod Keywords
-pub mod Passed
+pub mod ReadPast
 pub mod Statements
 pub mod NameLookup
-pub mod Saying
+pub mod Denotations

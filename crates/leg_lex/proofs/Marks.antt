@@ -4,7 +4,7 @@ use Rattle.std.specs.Str.{bytes_eq}
 use Rattle.std.specs.List.{slice_split}
 use Rattle.leg_lex.specs.Words.{Words, ◌>>=◌}
 use Rattle.leg_lex.specs.Statements.{up_to}
-use Rattle.leg_lex.proofs.Said.{made_is, rest_is}
+use Rattle.leg_lex.proofs.Parts.{made_is, rest_is}
 
 -- the word is this mark
 abbrev pub is_this : ℕ → List ℕ → Bool

@@ -66,16 +66,16 @@ place_of_push name (first ∷ names) none other =
       by rest false here false new = rw (here, rest, new) refl
 
 -- the name stands at the place i, and not before it
-pub record StandsAt (name : List ℕ) (names : List (List ℕ)) (i : ℕ) : Type 0 where
+pub record IsPlacedOn (name : List ℕ) (names : List (List ℕ)) (i : ℕ) : Type 0 where
   pub within : i < length names
   pub there : (d : List ℕ) → get_or names i d ≡ name
   pub first : (k : ℕ) (d : List ℕ) → k < i → get_or names k d ≢ name
 
 -- A place that is found is the name's.
-pub place_stands : (name : List ℕ) (names : List (List ℕ)) (i : ℕ) → place_of name names ≡ Some i → StandsAt name names i
+pub place_stands : (name : List ℕ) (names : List (List ℕ)) (i : ℕ) → place_of name names ≡ Some i → IsPlacedOn name names i
 place_stands name [] i found = absurd (let f : ⊥ = cc in f)
 place_stands name (first ∷ names) i found = by (place_stands name names) (bytes_eq name first) refl (place_of name names) refl where
-  by : ((k : ℕ) → place_of name names ≡ Some k → StandsAt name names k) → (here : Bool) → bytes_eq name first ≡ here → (o : Option ℕ) → place_of name names ≡ o → StandsAt name (first ∷ names) i
+  by : ((k : ℕ) → place_of name names ≡ Some k → IsPlacedOn name names k) → (here : Bool) → bytes_eq name first ≡ here → (o : Option ℕ) → place_of name names ≡ o → IsPlacedOn name (first ∷ names) i
   by rest true here o is =
       let zeroth : i ≡ 0 = cc (place_first name first names here) in
       rw zeroth (record {

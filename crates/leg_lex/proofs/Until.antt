@@ -3,7 +3,7 @@
 use Rattle.std.proofs.Common.{◌≡◌, ℕ, zero, suc, ◌<◌, ◌≤◌, Bool, true, false, if◌then◌else◌, length, Option, None, Some, refl, sym, ◌∙◌, arith}
 use Rattle.leg_lex.specs.Words.{Words, ◌>>=◌}
 use Rattle.leg_lex.specs.Until.{steps, until}
-use Rattle.leg_lex.proofs.Said.{made_is, rest_is}
+use Rattle.leg_lex.proofs.Parts.{made_is, rest_is}
 
 -- where something is said, fewer than n words are left
 pub record Below {Y : Type 0} (n : ℕ) (said : Option (Y × Words)) : Type 0 where

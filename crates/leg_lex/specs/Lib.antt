@@ -8,6 +8,6 @@ pub mod Until
 pub mod Statements
 pub mod Past
 pub mod NameLookup
-pub mod Say
+pub mod Denotes
 pub mod Keyword
 pub mod Steps

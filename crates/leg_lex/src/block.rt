@@ -9,7 +9,7 @@ use crate::read_fault::{FaultKind, Keyword, Need, ReadFault};
 use std::alloc::{AllocError, Allocator};
 
 /// The statement of this keyword, if there is one. A second one is `Unexpected`.
-#[tactic(auto, using(crate::proofs::Asked::passed_over, crate::proofs::Asked::found_first))]
+#[tactic(auto, using(crate::proofs::StatementSearch::passed_over, crate::proofs::StatementSearch::found_first))]
 pub fn only<'t, 'a>(
     statements: &[Cursor<'t, 'a>],
     keyword: &[u8],
@@ -50,7 +50,7 @@ pub fn the<'t, 'a>(
 }
 
 /// The head of a statement and its clauses, each without the `+` that it begins with.
-#[tactic(auto, using(crate::proofs::Asked::clause_shorter, crate::proofs::Asked::last_clause))]
+#[tactic(auto, using(crate::proofs::StatementSearch::clause_shorter, crate::proofs::StatementSearch::last_clause))]
 pub fn clauses<'t, 'a, A: Allocator + Copy>(
     alloc: A,
     statement: &Cursor<'t, 'a>,

@@ -1,4 +1,4 @@
-//! Lengths of a LEF, and what they are in database units. Nothing is rounded.
+//! ExtentModel of a LEF, and what they are in database units. Nothing is rounded.
 
 ghost use Rattle.std.specs.Prelude.{◌≡◌, ◌≤◌, pos, unsigned_abs};
 ghost use Rattle.leg_lex.specs.Number.{AreUnits};

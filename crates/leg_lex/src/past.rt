@@ -11,7 +11,7 @@ use crate::read_fault::ReadFault;
 
 impl<'t, 'a> Cursor<'t, 'a> {
     /// Reads past everything up to this keyword, and the keyword.
-    #[tactic(auto, using(crate::proofs::Passed::keyword_later, crate::proofs::Passed::keyword_nowhere, crate::proofs::Passed::next_shorter))]
+    #[tactic(auto, using(crate::proofs::ReadPast::keyword_later, crate::proofs::ReadPast::keyword_nowhere, crate::proofs::ReadPast::next_shorter))]
     pub fn past_keyword(&mut self, keyword: &[u8]) -> Result<(), ReadFault>
         ensures reads { Reads (λ x. x) result self.new (past (keyword_at keyword.now) self.old) }
         ensures no_memory { IfErr result (λ fault. fault.kind ≢ Memory) }
@@ -23,7 +23,7 @@ impl<'t, 'a> Cursor<'t, 'a> {
     }
 
     /// Reads past everything up to this keyword, and the keyword; where it doesn't appear, everything.
-    #[tactic(auto, using(crate::proofs::Skipped::skipped_on, crate::proofs::Skipped::skipped_here, crate::proofs::Skipped::skipped_all, crate::proofs::Skipped::skip_shorter))]
+    #[tactic(auto, using(crate::proofs::OptionalKeyword::skipped_on, crate::proofs::OptionalKeyword::skipped_here, crate::proofs::OptionalKeyword::skipped_all, crate::proofs::OptionalKeyword::skip_shorter))]
     pub fn skip_past(&mut self, keyword: &[u8])
         ensures { self.new ≡ after_first (is_keyword keyword.now) self.old }
     {
@@ -34,7 +34,7 @@ impl<'t, 'a> Cursor<'t, 'a> {
     }
 
     /// Reads past everything up to `END` and this keyword, and these two.
-    #[tactic(auto, using(crate::proofs::Passed::past_later, crate::proofs::Passed::past_nowhere, crate::proofs::Passed::next_shorter))]
+    #[tactic(auto, using(crate::proofs::ReadPast::past_later, crate::proofs::ReadPast::past_nowhere, crate::proofs::ReadPast::next_shorter))]
     pub fn past_end(&mut self, keyword: &[u8]) -> Result<(), ReadFault>
         ensures reads { Reads (λ x. x) result self.new (past (end_at keyword.now) self.old) }
         ensures no_memory { IfErr result (λ fault. fault.kind ≢ Memory) }
@@ -46,7 +46,7 @@ impl<'t, 'a> Cursor<'t, 'a> {
     }
 
     /// Reads past everything up to `END` and this name, and these two.
-    #[tactic(auto, using(crate::proofs::Passed::past_later, crate::proofs::Passed::past_nowhere, crate::proofs::Passed::next_shorter))]
+    #[tactic(auto, using(crate::proofs::ReadPast::past_later, crate::proofs::ReadPast::past_nowhere, crate::proofs::ReadPast::next_shorter))]
     pub fn past_end_of(&mut self, name: &[u8]) -> Result<(), ReadFault>
         ensures reads { Reads (λ x. x) result self.new (past (end_of name.now) self.old) }
         ensures no_memory { IfErr result (λ fault. fault.kind ≢ Memory) }

@@ -3,7 +3,7 @@
 ghost use Rattle.std.specs.Prelude.{◌≢◌, ◌<◌, length, IfOk, IfErr};
 ghost use Rattle.leg_lex.specs.declared.limits.TheConstants.{TEXT_LIMIT};
 ghost use Rattle.leg_lex.specs.declared.read_fault.FaultKind.TheVariants.{Memory};
-ghost use Rattle.leg_lex.specs.Say.{HasWords, HasNoWords};
+ghost use Rattle.leg_lex.specs.Denotes.{HasWords, HasNoWords};
 
 use crate::read_fault::ReadFault;
 use crate::words::Words;

@@ -6,9 +6,9 @@ use Rattle.leg_lex.proofs.Until as loops
 use Rattle.leg_lex.proofs.Until.{Below, Shortens, below_some, below_bind, below_more, below_if}
 use Rattle.leg_lex.proofs.Shorter.{next_below, keyword_below, name_below, end_below, end_of_below}
 use Rattle.leg_lex.proofs.Statements.{statement_below}
-use Rattle.leg_lex.proofs.Passed.{past_below}
-use Rattle.leg_cells.specs.Records.{RawContents}
-use Rattle.leg_lib.specs.Form.{past_named, past_lef_section, past_lef_extension, past_statement, past_lef_form, lef_form_at, at_last}
+use Rattle.leg_lex.proofs.ReadPast.{past_below}
+use Rattle.leg_lib_records.specs.Records.{RawLibraryModel}
+use Rattle.leg_grammar.specs.Lef.Form.{past_named, past_lef_section, past_lef_extension, past_statement, past_lef_form, lef_form_at, at_last}
 use Rattle.leg_lib.proofs.Layers.{with_layer_below}
 use Rattle.leg_lib.proofs.Vias.{with_via_below}
 use Rattle.leg_lib.proofs.Sites.{with_site_below}
@@ -57,7 +57,7 @@ form_shortens library words =
     (below_if (is_at (codes "MACRO") words) (with_macro_below library words)
     (below_bind (omega arith) (past_form_below words) (λ form less. below_some library form.1 less)))))
 
-pub form_shorter : (library next : RawContents) (words rest : Words) → lef_form_at library words ≡ Some (next, rest) → length rest < length words
+pub form_shorter : (library next : RawLibraryModel) (words rest : Words) → lef_form_at library words ≡ Some (next, rest) → length rest < length words
 form_shorter library next words rest said = (form_shortens library words).left next rest said
 
 -- where another form stands
@@ -74,14 +74,14 @@ last_at_word [] there = refl
 last_at_word (word ∷ words) there = there
 
 -- one more form
-pub forms_on : (library next : RawContents) (words rest : Words) → lef_form_at library words ≡ Some (next, rest) → at_last words ≡ false → until at_last lef_form_at library words ≡ until at_last lef_form_at next rest
+pub forms_on : (library next : RawLibraryModel) (words rest : Words) → lef_form_at library words ≡ Some (next, rest) → at_last words ≡ false → until at_last lef_form_at library words ≡ until at_last lef_form_at next rest
 forms_on library next words rest said more =
     loops.goes_on at_last lef_form_at form_shortens library next words rest more said
 
 -- no more forms
-pub forms_end : (library : RawContents) (words : Words) → at_last words ≡ true → until at_last lef_form_at library words ≡ Some (library, words)
+pub forms_end : (library : RawLibraryModel) (words : Words) → at_last words ≡ true → until at_last lef_form_at library words ≡ Some (library, words)
 forms_end library words stops = loops.ends at_last lef_form_at library words stops
 
 -- what stands there is no form
-pub forms_fail : (library : RawContents) (words : Words) → lef_form_at library words ≡ None → at_last words ≡ false → until at_last lef_form_at library words ≡ None
+pub forms_fail : (library : RawLibraryModel) (words : Words) → lef_form_at library words ≡ None → at_last words ≡ false → until at_last lef_form_at library words ≡ None
 forms_fail library words said more = loops.fails at_last lef_form_at library words more said

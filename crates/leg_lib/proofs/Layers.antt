@@ -8,8 +8,8 @@ use Rattle.leg_lex.specs.NameLookup.{place_of}
 use Rattle.leg_lex.proofs.Until.{Below, below_none, below_some, below_bind, below_ask, below_if}
 use Rattle.leg_lex.proofs.Shorter.{keyword_below, name_below, end_of_below}
 use Rattle.leg_lex.proofs.Statements.{statements_below}
-use Rattle.leg_cells.specs.Records.{RawContents, raw_layer_names}
-use Rattle.leg_lib.specs.Layer.{has_one_word, is_table, kind_in, spacing_of, layer_at, with_layer}
+use Rattle.leg_lib_records.specs.Records.{RawLibraryModel, raw_layer_names}
+use Rattle.leg_grammar.specs.Lef.Layer.{has_one_word, is_table, kind_in, spacing_of, layer_at, with_layer}
 
 -- a statement of two words has one word after its keyword
 pub two_words : (statement : Words) → length statement ≡ 2 → has_one_word statement ≡ true
@@ -63,7 +63,7 @@ layer_below words =
     below_some (record { name = name.0; kind = kind; spacing = spacing }) end.1 last))))))
 
 -- A layer's form takes a word.
-pub with_layer_below : (library : RawContents) (words : Words) → Below (length words) (with_layer library words)
+pub with_layer_below : (library : RawLibraryModel) (words : Words) → Below (length words) (with_layer library words)
 unfolding with_layer
 with_layer_below library words =
     below_bind (omega arith) (layer_below words) (λ layer less.

@@ -7,7 +7,7 @@ mod Vias
 mod Sites
 mod Forms
 -- Macros
-mod Drawn
+mod DrawnShapes
 mod Pins
 mod MacroForms
 -- Texts one after the other

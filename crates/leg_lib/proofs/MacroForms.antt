@@ -6,18 +6,18 @@ use Rattle.leg_lex.specs.Words.{Words, is_keyword, is_word, is_at, next_at, keyw
 use Rattle.leg_lex.specs.Until.{until}
 use Rattle.leg_lex.specs.Statements.{at_end}
 use Rattle.leg_lex.specs.NameLookup.{place_of}
-use Rattle.leg_lex.proofs.Said.{made_is, rest_is}
+use Rattle.leg_lex.proofs.Parts.{made_is, rest_is}
 use Rattle.leg_lex.proofs.Until as loops
 use Rattle.leg_lex.proofs.Until.{Below, Shortens, below_none, below_some, below_bind, below_ask, below_if, until_below}
 use Rattle.leg_lex.proofs.Shorter.{keyword_below, name_below, word_below, end_below, end_of_below}
 use Rattle.leg_lex.proofs.Statements.{statement_below}
-use Rattle.leg_lex.proofs.Passed.{past_below}
-use Rattle.leg_cells.specs.Records.{RawContents, raw_master_names}
-use Rattle.leg_lib.specs.Macro.{MacroParts, no_macro_parts, macro_pin, macro_obstruction, macro_density, macro_timing, macro_statement, macro_part, symmetry_in, macro_said, macro_at, with_macro}
-use Rattle.leg_lib.proofs.Drawn.{geometry_below}
+use Rattle.leg_lex.proofs.ReadPast.{past_below}
+use Rattle.leg_lib_records.specs.Records.{RawLibraryModel, raw_master_names}
+use Rattle.leg_grammar.specs.Lef.Macro.{MacroParts, no_macro_parts, macro_pin, macro_obstruction, macro_density, macro_timing, macro_statement, macro_part, symmetry_in, macro_said, macro_at, with_macro}
+use Rattle.leg_lib.proofs.DrawnShapes.{geometry_below}
 use Rattle.leg_lib.proofs.Pins.{pin_below}
 
-macro_pin_below : (library : RawContents) (parts : MacroParts) (words : Words) → Below (length words) (macro_pin library parts words)
+macro_pin_below : (library : RawLibraryModel) (parts : MacroParts) (words : Words) → Below (length words) (macro_pin library parts words)
 unfolding macro_pin
 macro_pin_below library parts words =
     below_bind (omega arith) (pin_below library words) (λ pin less.
@@ -25,7 +25,7 @@ macro_pin_below library parts words =
     (below_some (record parts { pins = parts.pins ++ pin.0 ∷ [] }) pin.1 less)
     (below_none (length words)))
 
-macro_obstruction_below : (library : RawContents) (parts : MacroParts) (words : Words) → Below (length words) (macro_obstruction library parts words)
+macro_obstruction_below : (library : RawLibraryModel) (parts : MacroParts) (words : Words) → Below (length words) (macro_obstruction library parts words)
 unfolding macro_obstruction
 macro_obstruction_below library parts words =
     below_bind (omega arith) (keyword_below (codes "OBS") words) (λ start less.
@@ -53,7 +53,7 @@ macro_statement_below parts words =
     below_bind (omega arith) (statement_below words) (λ statement less.
     below_some (record parts { statements = parts.statements ++ statement.0 ∷ [] }) statement.1 less)
 
-pub macro_part_shortens : (library : RawContents) → Shortens (macro_part library)
+pub macro_part_shortens : (library : RawLibraryModel) → Shortens (macro_part library)
 unfolding macro_part
 macro_part_shortens library parts words =
     below_if (is_at (codes "PIN") words) (macro_pin_below library parts words)
@@ -62,23 +62,23 @@ macro_part_shortens library parts words =
     (below_if (is_at (codes "TIMING") words) (macro_timing_below parts words)
     (macro_statement_below parts words))))
 
-pub macro_part_shorter : (library : RawContents) (parts more : MacroParts) (words rest : Words) → macro_part library parts words ≡ Some (more, rest) → length rest < length words
+pub macro_part_shorter : (library : RawLibraryModel) (parts more : MacroParts) (words rest : Words) → macro_part library parts words ≡ Some (more, rest) → length rest < length words
 macro_part_shorter library parts more words rest said = (macro_part_shortens library parts words).left more rest said
 
 -- one more part
-pub macro_parts_on : (library : RawContents) (parts more : MacroParts) (words rest : Words) → macro_part library parts words ≡ Some (more, rest) → is_at (codes "END") words ≡ false → until at_end (macro_part library) parts words ≡ until at_end (macro_part library) more rest
+pub macro_parts_on : (library : RawLibraryModel) (parts more : MacroParts) (words rest : Words) → macro_part library parts words ≡ Some (more, rest) → is_at (codes "END") words ≡ false → until at_end (macro_part library) parts words ≡ until at_end (macro_part library) more rest
 macro_parts_on library parts more words rest said goes =
     loops.goes_on at_end (macro_part library) (macro_part_shortens library) parts more words rest goes said
 
 -- no more parts
-pub macro_parts_end : (library : RawContents) (parts : MacroParts) (words : Words) → is_at (codes "END") words ≡ true → until at_end (macro_part library) parts words ≡ Some (parts, words)
+pub macro_parts_end : (library : RawLibraryModel) (parts : MacroParts) (words : Words) → is_at (codes "END") words ≡ true → until at_end (macro_part library) parts words ≡ Some (parts, words)
 macro_parts_end library parts words stops = loops.ends at_end (macro_part library) parts words stops
 
 -- what stands there is no part
-pub macro_parts_fail : (library : RawContents) (parts : MacroParts) (words : Words) → macro_part library parts words ≡ None → is_at (codes "END") words ≡ false → until at_end (macro_part library) parts words ≡ None
+pub macro_parts_fail : (library : RawLibraryModel) (parts : MacroParts) (words : Words) → macro_part library parts words ≡ None → is_at (codes "END") words ≡ false → until at_end (macro_part library) parts words ≡ None
 macro_parts_fail library parts words said goes = loops.fails at_end (macro_part library) parts words goes said
 
-pub macro_below : (library : RawContents) (words : Words) → Below (length words) (macro_at library words)
+pub macro_below : (library : RawLibraryModel) (words : Words) → Below (length words) (macro_at library words)
 unfolding macro_at
 macro_below library words =
     below_bind (omega arith) (keyword_below (codes "MACRO") words) (λ start less.
@@ -88,7 +88,7 @@ macro_below library words =
     below_bind (omega arith) (end_of_below name.0 parts.1) (λ end last.
     below_some (record { name = name.0; size = said.size; origin = said.origin; y_symmetric = said.y_symmetric; site = said.site; pins = parts.0.pins; obstructions = parts.0.obstructions }) end.1 last)))))
 
-pub with_macro_below : (library : RawContents) (words : Words) → Below (length words) (with_macro library words)
+pub with_macro_below : (library : RawLibraryModel) (words : Words) → Below (length words) (with_macro library words)
 unfolding with_macro
 with_macro_below library words =
     below_bind (omega arith) (macro_below library words) (λ master less.

@@ -5,11 +5,11 @@ use Rattle.leg_lex.specs.Statements.{only, at_end}
 use Rattle.leg_lex.proofs.Shorter.{keyword_below, name_below, end_of_below}
 use Rattle.leg_lex.proofs.Statements.{statement_below}
 use Rattle.leg_lex.proofs.Until.{Below, Shortens, below_some, below_bind, below_ask, below_if, until_below}
-use Rattle.leg_cells.specs.Records.{RawContents}
-use Rattle.leg_lib.specs.Pin.{PinParts, no_pin_parts, port_at, pin_part, supply_of_any, pin_at}
-use Rattle.leg_lib.proofs.Drawn.{geometry_below}
+use Rattle.leg_lib_records.specs.Records.{RawLibraryModel}
+use Rattle.leg_grammar.specs.Lef.Pin.{PinParts, no_pin_parts, port_at, pin_part, supply_of_any, pin_at}
+use Rattle.leg_lib.proofs.DrawnShapes.{geometry_below}
 
-port_below : (library : RawContents) (words : Words) → Below (length words) (port_at library words)
+port_below : (library : RawLibraryModel) (words : Words) → Below (length words) (port_at library words)
 unfolding port_at
 port_below library words =
     below_bind (omega arith) (keyword_below (codes "PORT") words) (λ start less.
@@ -17,7 +17,7 @@ port_below library words =
     below_bind (omega arith) (keyword_below (codes "END") shapes.1) (λ end last.
     below_some shapes.0 end.1 last)))
 
-pub pin_part_shortens : (library : RawContents) → Shortens (pin_part library)
+pub pin_part_shortens : (library : RawLibraryModel) → Shortens (pin_part library)
 unfolding pin_part
 pin_part_shortens library parts words =
     below_if (is_at (codes "PORT") words)
@@ -26,10 +26,10 @@ pin_part_shortens library parts words =
     (below_bind (omega arith) (statement_below words) (λ statement less.
     below_some (record parts { statements = parts.statements ++ statement.0 ∷ [] }) statement.1 less))
 
-pub pin_part_shorter : (library : RawContents) (parts more : PinParts) (words rest : Words) → pin_part library parts words ≡ Some (more, rest) → length rest < length words
+pub pin_part_shorter : (library : RawLibraryModel) (parts more : PinParts) (words rest : Words) → pin_part library parts words ≡ Some (more, rest) → length rest < length words
 pin_part_shorter library parts more words rest said = (pin_part_shortens library parts words).left more rest said
 
-pub pin_below : (library : RawContents) (words : Words) → Below (length words) (pin_at library words)
+pub pin_below : (library : RawLibraryModel) (words : Words) → Below (length words) (pin_at library words)
 unfolding pin_at
 pin_below library words =
     below_bind (omega arith) (keyword_below (codes "PIN") words) (λ start less.

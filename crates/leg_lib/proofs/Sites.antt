@@ -8,9 +8,9 @@ use Rattle.leg_lex.proofs.Until.{Below, below_some, below_bind, below_ask}
 use Rattle.leg_lex.proofs.Shorter.{keyword_below, name_below, end_of_below}
 use Rattle.leg_lex.proofs.Statements.{statements_below}
 use Rattle.leg_lex.proofs.NameLookup.{place_stands}
-use Rattle.leg_cells.specs.Records.{RawContents}
-use Rattle.leg_lib.specs.Point.{size_in}
-use Rattle.leg_lib.specs.Site.{site_at, add_site, site_named, with_site}
+use Rattle.leg_lib_records.specs.Records.{RawLibraryModel}
+use Rattle.leg_grammar.specs.Lef.Point.{size_in}
+use Rattle.leg_grammar.specs.Lef.Site.{site_at, add_site, site_named, with_site}
 
 pub site_below : (words : Words) → Below (length words) (site_at words)
 unfolding site_at
@@ -23,7 +23,7 @@ site_below words =
     below_bind (omega arith) (end_of_below name.0 body.1) (λ end last.
     below_some (record { name = name.0; size = size }) end.1 last))))))
 
-pub with_site_below : (library : RawContents) (words : Words) → Below (length words) (with_site library words)
+pub with_site_below : (library : RawLibraryModel) (words : Words) → Below (length words) (with_site library words)
 unfolding with_site
 with_site_below library words =
     below_bind (omega arith) (site_below words) (λ site less.

@@ -5,11 +5,11 @@ use Rattle.std.proofs.lemmas.Int.{ints}
 use Rattle.leg_lex.specs.Words.{Words, is_keyword, length_at, keyword_at, name_at, end_of}
 use Rattle.leg_lex.specs.Statements.{statements_at, only, the}
 use Rattle.leg_lex.proofs.Gives.{Gives, gives_none, gives_some, gives_bind, gives_skip, gives_choice, gives_if}
-use Rattle.leg_cells.specs.declared.records.Direction.{Direction}
-use Rattle.leg_cells.specs.declared.raw.RawKind.TheVariants as raw
-use Rattle.leg_cells.specs.declared.raw.RawLayer.{RawLayer}
-use Rattle.leg_lib.specs.Layer.{length_in, width_in, width_of_any, routing, kind_in, spacing_in, spacing_of_any, at_row_end, second_in_row, table_value, table_value_of_any, spacing_of, type_in, direction_of_any, first_of_one_word, is_table, layer_at}
-use Rattle.leg_cells.specs.Sound.{HasRawWidth, IsSoundRawLayer}
+use Rattle.leg_lib_records.specs.declared.records.Direction.{Direction}
+use Rattle.leg_lib_records.specs.declared.raw.RawKind.TheVariants as raw
+use Rattle.leg_lib_records.specs.declared.raw.RawLayer.{RawLayer}
+use Rattle.leg_grammar.specs.Lef.Layer.{length_in, width_in, width_of_any, routing, kind_in, spacing_in, spacing_of_any, at_row_end, second_in_row, table_value, table_value_of_any, spacing_of, type_in, direction_of_any, first_of_one_word, is_table, layer_at}
+use Rattle.leg_lib_records.specs.Sound.{HasRawWidth, IsSoundRawLayer}
 
 -- What is read as a width is above 0.
 above_0 : (w : ℤ) → int_lt (pos 0) w ≡ true → pos 0 <ℤ w

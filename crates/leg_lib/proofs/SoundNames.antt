@@ -5,15 +5,15 @@ use Rattle.leg_lex.specs.Words.{Words, is_name, next_at, keyword_at, name_at, le
 use Rattle.leg_lex.specs.Until.{until, over}
 use Rattle.leg_lex.specs.Statements.{statements_at, the, at_end}
 use Rattle.leg_lex.proofs.Gives.{Gives, gives_none, gives_some, gives_bind, gives_skip, gives_choice}
-use Rattle.leg_cells.specs.declared.raw.RawLayer.{RawLayer}
-use Rattle.leg_cells.specs.declared.raw.RawSite.{RawSite}
-use Rattle.leg_cells.specs.Measure.{HasArea}
-use Rattle.leg_cells.specs.Records.{RawContents, RawViaSaid, RawMasterSaid}
-use Rattle.leg_lib.specs.Layer.{kind_in, spacing_of, layer_at}
-use Rattle.leg_lib.specs.Point.{size_in}
-use Rattle.leg_lib.specs.Site.{site_at}
-use Rattle.leg_lib.specs.Via.{flags_at, via_part, no_via_parts, via_at}
-use Rattle.leg_lib.specs.Macro.{macro_part, no_macro_parts, macro_said, macro_at}
+use Rattle.leg_lib_records.specs.declared.raw.RawLayer.{RawLayer}
+use Rattle.leg_lib_records.specs.declared.raw.RawSite.{RawSite}
+use Rattle.leg_lib_records.specs.Measure.{HasArea}
+use Rattle.leg_lib_records.specs.Records.{RawLibraryModel, RawViaModel, RawMasterModel}
+use Rattle.leg_grammar.specs.Lef.Layer.{kind_in, spacing_of, layer_at}
+use Rattle.leg_grammar.specs.Lef.Point.{size_in}
+use Rattle.leg_grammar.specs.Lef.Site.{site_at}
+use Rattle.leg_grammar.specs.Lef.Via.{flags_at, via_part, no_via_parts, via_at}
+use Rattle.leg_grammar.specs.Lef.Macro.{macro_part, no_macro_parts, macro_said, macro_at}
 
 pub name_gives : (words : Words) → Gives (λ said. IsTrue (is_name said.0)) (name_at words)
 unfolding name_at
@@ -74,7 +74,7 @@ site_is_named words rest site said = ((site_gives words).given (site, rest) said
 pub site_has_area : (words rest : Words) (site : RawSite) → site_at words ≡ Some (site, rest) → HasArea site.size
 site_has_area words rest site said = ((site_gives words).given (site, rest) said).0
 
-via_gives : (library : RawContents) (words : Words) → Gives (λ said. IsTrue (is_name said.0.name)) (via_at library words)
+via_gives : (library : RawLibraryModel) (words : Words) → Gives (λ said. IsTrue (is_name said.0.name)) (via_at library words)
 unfolding via_at
 via_gives library words =
     gives_skip (keyword_at (codes "VIA") words) (λ start.
@@ -84,10 +84,10 @@ via_gives library words =
     gives_skip (end_of name.0 body.1) (λ end.
     gives_some _ named)))))
 
-pub via_is_named : (library : RawContents) (words rest : Words) (via : RawViaSaid) → via_at library words ≡ Some (via, rest) → IsTrue (is_name via.name)
+pub via_is_named : (library : RawLibraryModel) (words rest : Words) (via : RawViaModel) → via_at library words ≡ Some (via, rest) → IsTrue (is_name via.name)
 via_is_named library words rest via said = (via_gives library words).given (via, rest) said
 
-macro_gives : (library : RawContents) (words : Words) → Gives (λ said. IsTrue (is_name said.0.name)) (macro_at library words)
+macro_gives : (library : RawLibraryModel) (words : Words) → Gives (λ said. IsTrue (is_name said.0.name)) (macro_at library words)
 unfolding macro_at
 macro_gives library words =
     gives_skip (keyword_at (codes "MACRO") words) (λ start.
@@ -97,5 +97,5 @@ macro_gives library words =
     gives_skip (end_of name.0 parts.1) (λ end.
     gives_some _ named)))))
 
-pub macro_is_named : (library : RawContents) (words rest : Words) (master : RawMasterSaid) → macro_at library words ≡ Some (master, rest) → IsTrue (is_name master.name)
+pub macro_is_named : (library : RawLibraryModel) (words rest : Words) (master : RawMasterModel) → macro_at library words ≡ Some (master, rest) → IsTrue (is_name master.name)
 macro_is_named library words rest master said = (macro_gives library words).given (master, rest) said

@@ -10,23 +10,23 @@ use Rattle.leg_lex.specs.Statements.{statement_at, statements_at, only, the, at_
 use Rattle.leg_lex.specs.NameLookup.{place_of, AreApart}
 use Rattle.leg_lex.proofs.Gives.{Gives, gives_none, gives_some, gives_bind, gives_skip, gives_choice, gives_if, gives_less}
 use Rattle.leg_lex.proofs.Until.{until_keeps}
-use Rattle.leg_lex.proofs.Over.{over_keeps}
+use Rattle.leg_lex.proofs.EachElement.{over_keeps}
 use Rattle.leg_lex.proofs.NameLookup.{apart_push, place_stands}
-use Rattle.leg_cells.specs.declared.raw.RawLayer.{RawLayer}
-use Rattle.leg_cells.specs.declared.raw.RawSite.{RawSite}
-use Rattle.leg_cells.specs.declared.raw.RawShape.{RawShape}
-use Rattle.leg_cells.specs.Records.{RawContents, RawViaSaid, RawPinSaid, RawMasterSaid, raw_layer_names, raw_site_names}
-use Rattle.leg_cells.specs.Joins.{is_wiring_word, join_layers}
-use Rattle.leg_cells.specs.GoodVia.{raw_uses, raw_parts, is_raw_good_via}
-use Rattle.leg_cells.specs.LibraryNames.{AreNames}
-use Rattle.leg_cells.specs.References.{AreRawShapesOn, IsRawViaOf, IsRawMasterOf}
-use Rattle.leg_cells.proofs.LibraryNames.{no_names, names_push}
-use Rattle.leg_lib.specs.Geometry.{Drawn, nothing_drawn, draws_metal, layer_of_geometry, drawn_rect, is_off_metal, is_other_shape, geometry_part, geometry_at, says_nothing}
-use Rattle.leg_lib.specs.Point.{rect_in, size_in}
-use Rattle.leg_lib.specs.Via.{flags_at, ViaParts, no_via_parts, layer_of_via, spoils, via_part, is_good, kept, via_at}
-use Rattle.leg_lib.specs.Pin.{PinParts, no_pin_parts, port_at, pin_part, supply_of_any, pin_at}
-use Rattle.leg_lib.specs.declared.macros.MacroSaid.{MacroSaid}
-use Rattle.leg_lib.specs.Macro.{MacroParts, no_macro_parts, macro_pin, macro_obstruction, macro_density, macro_timing, macro_statement, macro_part, origin_of_any, symmetry_of_any, site_in, site_of_any, macro_said, macro_at}
+use Rattle.leg_lib_records.specs.declared.raw.RawLayer.{RawLayer}
+use Rattle.leg_lib_records.specs.declared.raw.RawSite.{RawSite}
+use Rattle.leg_lib_records.specs.declared.raw.RawShape.{RawShape}
+use Rattle.leg_lib_records.specs.Records.{RawLibraryModel, RawViaModel, RawPinModel, RawMasterModel, raw_layer_names, raw_site_names}
+use Rattle.leg_lib_records.specs.Joins.{is_wiring_word, join_layers}
+use Rattle.leg_lib_records.specs.GoodVia.{raw_uses, raw_parts, is_raw_good_via}
+use Rattle.leg_lib_records.specs.LibraryNames.{AreNames}
+use Rattle.leg_lib_records.specs.References.{AreRawShapesOn, IsRawViaOf, IsRawMasterOf}
+use Rattle.leg_lib_records.proofs.LibraryNames.{no_names, names_push}
+use Rattle.leg_grammar.specs.Lef.Geometry.{Drawn, nothing_drawn, draws_metal, layer_of_geometry, drawn_rect, is_off_metal, is_other_shape, geometry_part, geometry_at, says_nothing}
+use Rattle.leg_grammar.specs.Lef.Point.{rect_in, size_in}
+use Rattle.leg_grammar.specs.Lef.Via.{flags_at, ViaParts, no_via_parts, layer_of_via, spoils, via_part, is_good, kept, via_at}
+use Rattle.leg_grammar.specs.Lef.Pin.{PinParts, no_pin_parts, port_at, pin_part, supply_of_any, pin_at}
+use Rattle.leg_grammar.specs.declared.macro_statements.MacroStatements.{MacroStatements}
+use Rattle.leg_grammar.specs.Lef.Macro.{MacroParts, no_macro_parts, macro_pin, macro_obstruction, macro_density, macro_timing, macro_statement, macro_part, origin_of_any, symmetry_of_any, site_in, site_of_any, macro_said, macro_at}
 use Rattle.leg_lib.proofs.SoundNames.{name_gives}
 
 -- A place that is found is one of the elements'.
@@ -55,7 +55,7 @@ record IsDrawnOn (layers : ℕ) (drawn : Drawn) : Type 0 where
 nothing_on : (layers : ℕ) → IsDrawnOn layers nothing_drawn
 nothing_on layers = record { on = tt; shapes = All-nil (λ (shape : RawShape). shape.layer < layers) }
 
-module _ (library : RawContents) where
+module _ (library : RawLibraryModel) where
   abbrev count : ℕ
   count = length library.layers
 
@@ -122,14 +122,6 @@ module _ (library : RawContents) where
   kept_on true shapes on = on
   kept_on false shapes on = All-nil (λ (shape : RawShape). shape.layer < count)
 
-  -- a via without shapes isn't good, and no via that isn't kept has shapes
-  nothing_good : (name : List ℕ) → is_raw_good_via library.layers name [] ≡ false
-  unfolding is_raw_good_via
-  nothing_good name = by (is_wiring_word name) where
-    by : (word : Bool) → (not word && false) ≡ false
-    by true = refl
-    by false = refl
-
   good_is : (name : List ℕ) (parts : ViaParts) → is_good library name parts ≡ is_raw_good_via library.layers name (kept (is_good library name parts) parts.drawn.shapes)
   unfolding is_raw_good_via
   good_is name parts = by parts.is_spoilt (is_wiring_word name) (join_layers (raw_uses library.layers) (raw_parts parts.drawn.shapes)) refl where
@@ -154,7 +146,7 @@ module _ (library : RawContents) where
       }))))))
 
   -- A via that is read has layers of the library, and is good just where it is marked so.
-  pub via_refers : (words rest : Words) (via : RawViaSaid) → via_at library words ≡ Some (via, rest) → IsRawViaOf library.layers via
+  pub via_refers : (words rest : Words) (via : RawViaModel) → via_at library words ≡ Some (via, rest) → IsRawViaOf library.layers via
   via_refers words rest via said = (via_gives words).given (via, rest) said
 
   -- pins
@@ -189,7 +181,7 @@ module _ (library : RawContents) where
   no_parts_on : ArePartsOn no_macro_parts
   no_parts_on = record {
     names = no_names;
-    pins = All-nil (λ (pin : RawPinSaid). AreRawShapesOn count pin.shapes);
+    pins = All-nil (λ (pin : RawPinModel). AreRawShapesOn count pin.shapes);
     obstructions = All-nil (λ (shape : RawShape). shape.layer < count);
   }
 
@@ -241,7 +233,7 @@ module _ (library : RawContents) where
       gives_skip (nothing_at name.1) (λ end.
       gives_some number within))))) (λ k within. gives_some (Some k) within)
 
-  said_gives : (statements : List Words) → Gives (λ (said : MacroSaid). IfSome said.site (λ k. k < length library.sites)) (macro_said library statements)
+  said_gives : (statements : List Words) → Gives (λ (said : MacroStatements). IfSome said.site (λ k. k < length library.sites)) (macro_said library statements)
   unfolding macro_said
   said_gives statements =
       gives_skip (the (codes "SIZE") statements) (λ of_size.
@@ -265,5 +257,5 @@ module _ (library : RawContents) where
       gives_some _ (record { site = within; pin_names = on.names; pins = on.pins; obstructions = on.obstructions }))))))
 
   -- A macro that is read has a site and layers of the library, and no two of its pins have one name.
-  pub macro_refers : (words rest : Words) (master : RawMasterSaid) → macro_at library words ≡ Some (master, rest) → IsRawMasterOf library.layers library.sites master
+  pub macro_refers : (words rest : Words) (master : RawMasterModel) → macro_at library words ≡ Some (master, rest) → IsRawMasterOf library.layers library.sites master
   macro_refers words rest master said = (macro_gives words).given (master, rest) said

@@ -4,11 +4,11 @@ use Rattle.leg_lex.specs.Words.{Words, ◌>>=◌, is_at}
 use Rattle.leg_lex.specs.Until.{over}
 use Rattle.leg_lex.specs.NameLookup.{place_of}
 use Rattle.leg_lex.proofs.Until.{Below, below_none, below_some, below_bind, below_ask, below_if}
-use Rattle.leg_lex.proofs.Over.{over_ends, over_goes_on, over_fails}
+use Rattle.leg_lex.proofs.EachElement.{over_ends, over_goes_on, over_fails}
 use Rattle.leg_lex.proofs.Shorter.{keyword_below, name_below, end_of_below}
 use Rattle.leg_lex.proofs.Statements.{statements_below}
-use Rattle.leg_cells.specs.Records.{RawContents, raw_via_names}
-use Rattle.leg_lib.specs.Via.{Flags, no_flags, flag_at, flags_at, ViaParts, no_via_parts, via_part, is_good, kept, via_at, with_via}
+use Rattle.leg_lib_records.specs.Records.{RawLibraryModel, raw_via_names}
+use Rattle.leg_grammar.specs.Lef.Via.{Flags, no_flags, flag_at, flags_at, ViaParts, no_via_parts, via_part, is_good, kept, via_at, with_via}
 
 -- where the last step says nothing, neither do the steps before it
 pub nothing_said : {X Y : Type 0} (said : Option X) (last : Option Y) → last ≡ None → (said >>= λ x. last) ≡ None
@@ -40,7 +40,7 @@ flags_no_longer words =
     let c = flag_no_longer second.0 second.1 in
     omega arith
 
-pub via_below : (library : RawContents) (words : Words) → Below (length words) (via_at library words)
+pub via_below : (library : RawLibraryModel) (words : Words) → Below (length words) (via_at library words)
 unfolding via_at
 via_below library words =
     below_bind (omega arith) (keyword_below (codes "VIA") words) (λ start less.
@@ -56,7 +56,7 @@ via_below library words =
       shapes = kept (is_good library name.0 parts) parts.drawn.shapes;
     }) end.1 last)))))
 
-pub with_via_below : (library : RawContents) (words : Words) → Below (length words) (with_via library words)
+pub with_via_below : (library : RawLibraryModel) (words : Words) → Below (length words) (with_via library words)
 unfolding with_via
 with_via_below library words =
     below_bind (omega arith) (via_below library words) (λ via less.
@@ -65,13 +65,13 @@ with_via_below library words =
     (below_none (length words)))
 
 -- the loop over a via's statements
-pub parts_on : (library : RawContents) (before next : ViaParts) (statements : List Words) (i : ℕ) (x : Words) → i < length statements → x ≡ get_or statements i x → via_part library before x ≡ Some next → over (via_part library) before (drop i statements) ≡ over (via_part library) next (drop (i + 1) statements)
+pub parts_on : (library : RawLibraryModel) (before next : ViaParts) (statements : List Words) (i : ℕ) (x : Words) → i < length statements → x ≡ get_or statements i x → via_part library before x ≡ Some next → over (via_part library) before (drop i statements) ≡ over (via_part library) next (drop (i + 1) statements)
 parts_on library before next statements i x less is said =
     over_goes_on (via_part library) before next statements i x less is said
 
-pub parts_fail : (library : RawContents) (before : ViaParts) (statements : List Words) (i : ℕ) (x : Words) → i < length statements → x ≡ get_or statements i x → via_part library before x ≡ None → over (via_part library) before (drop i statements) ≡ None
+pub parts_fail : (library : RawLibraryModel) (before : ViaParts) (statements : List Words) (i : ℕ) (x : Words) → i < length statements → x ≡ get_or statements i x → via_part library before x ≡ None → over (via_part library) before (drop i statements) ≡ None
 parts_fail library before statements i x less is said =
     over_fails (via_part library) before statements i x less is said
 
-pub parts_end : (library : RawContents) (before : ViaParts) (statements : List Words) (i : ℕ) → length statements ≤ i → over (via_part library) before (drop i statements) ≡ Some before
+pub parts_end : (library : RawLibraryModel) (before : ViaParts) (statements : List Words) (i : ℕ) → length statements ≤ i → over (via_part library) before (drop i statements) ≡ Some before
 parts_end library before statements i past = over_ends (via_part library) before statements i past

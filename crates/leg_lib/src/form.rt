@@ -3,19 +3,19 @@
 ghost use Rattle.std.specs.Prelude.{codes};
 ghost use Rattle.leg_lex.specs.Until.{until};
 ghost use Rattle.leg_lex.specs.Words.{Reads, Means};
-ghost use Rattle.leg_lib.specs.Form.{lef_form_at, at_last, ended, lef_in};
+ghost use Rattle.leg_grammar.specs.Lef.Form.{lef_form_at, at_last, ended, lef_in};
 
 use crate::layer::layer_form;
 use crate::macros::macro_form;
 use crate::site::site_form;
 use crate::skipped::past_form;
 use crate::via::via_form;
-use leg_cells::RawLibrary;
 use leg_lex::{Cursor, ReadFault};
+use leg_lib_records::RawLibrary;
 use std::alloc::Allocator;
 
 /// One form.
-#[tactic(auto, unfolding(crate::specs::Form::lef_form_at))]
+#[tactic(auto, unfolding(leg_grammar::specs::Lef::Form::lef_form_at))]
 fn form<'a, A: Allocator + Copy>(
     alloc: A,
     library: &mut RawLibrary<'a, A>,
@@ -63,7 +63,7 @@ fn ended(words: &mut Cursor<'_, '_>) -> Result<(), ReadFault>
 }
 
 /// Adds the forms of a text to the library of the texts before it.
-#[tactic(auto, unfolding(crate::specs::Form::lef_in))]
+#[tactic(auto, unfolding(leg_grammar::specs::Lef::Form::lef_in))]
 pub(crate) fn lef_words<'a, A: Allocator + Copy>(
     alloc: A,
     library: &mut RawLibrary<'a, A>,

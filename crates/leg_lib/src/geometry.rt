@@ -5,11 +5,11 @@ ghost use Rattle.std.specs.List.{list_all};
 ghost use Rattle.leg_lex.specs.declared.read_fault.FaultKind.TheVariants.{Memory};
 ghost use Rattle.leg_lex.specs.Words.{Reads, Means};
 ghost use Rattle.leg_lex.specs.Until.{over};
-ghost use Rattle.leg_lib.specs.Geometry.{draws_metal, is_off_metal, is_other_shape, says_nothing, layer_of_geometry, nothing_drawn, drawn_rect, geometry_part, geometry_at};
+ghost use Rattle.leg_grammar.specs.Lef.Geometry.{draws_metal, is_off_metal, is_other_shape, says_nothing, layer_of_geometry, nothing_drawn, drawn_rect, geometry_part, geometry_at};
 
 use crate::point::rect;
-use leg_cells::{RawKind, RawLayer, RawLibrary, RawShape};
 use leg_lex::{Cursor, FaultKind, Keyword, NameKind, Need, ReadFault};
+use leg_lib_records::{RawKind, RawLayer, RawLibrary, RawShape};
 use std::alloc::Allocator;
 use std::marker::Model;
 
@@ -25,7 +25,7 @@ fn has_metal(layers: &[RawLayer<'_>], number: usize) -> bool
 
 /// Checks that the words after a layer's name have no effect. `EXCEPTPGNET` is `Unsupported`; what is no
 /// name and not quoted is `Unexpected`.
-#[tactic(auto, using(crate::proofs::Drawn::other_said, crate::proofs::Drawn::exception_said, crate::proofs::Drawn::all_said_nothing, crate::proofs::Drawn::word_shorter))]
+#[tactic(auto, using(crate::proofs::DrawnShapes::other_said, crate::proofs::DrawnShapes::exception_said, crate::proofs::DrawnShapes::all_said_nothing, crate::proofs::DrawnShapes::word_shorter))]
 fn nothing_said(words: &mut Cursor<'_, '_>) -> Result<(), ReadFault>
     ensures nothing { OnOk result (list_all says_nothing words.old ≡ true) }
     ensures something { IfErr result (λ fault. fault.kind ≢ Memory → list_all says_nothing words.old ≡ false) }
@@ -40,7 +40,7 @@ fn nothing_said(words: &mut Cursor<'_, '_>) -> Result<(), ReadFault>
 }
 
 /// The number of the layer that a `LAYER` statement names.
-#[tactic(auto, unfolding(crate::specs::Geometry::layer_of_geometry))]
+#[tactic(auto, unfolding(leg_grammar::specs::Lef::Geometry::layer_of_geometry))]
 fn layer_of_geometry<A: Allocator + Copy>(
     library: &RawLibrary<'_, A>,
     statement: &mut Cursor<'_, '_>,
@@ -79,7 +79,7 @@ pub(crate) struct Drawing<A: Allocator> {
 }
 
 impl<A: Allocator> Model for Drawing<A> {
-    ghost use Rattle.leg_lib.specs.Geometry.{Drawn};
+    ghost use Rattle.leg_grammar.specs.Lef.Geometry.{Drawn};
 
     ghost Value = { Drawn };
 
@@ -98,7 +98,7 @@ impl<A: Allocator + Copy> Drawing<A> {
     }
 
     /// Adds the rectangle of a `RECT` statement, where the layer has metal.
-    #[tactic(auto, unfolding(crate::specs::Geometry::drawn_rect))]
+    #[tactic(auto, unfolding(leg_grammar::specs::Lef::Geometry::drawn_rect))]
     pub(crate) fn draw_rect(
         &mut self,
         library: &RawLibrary<'_, A>,
@@ -147,7 +147,7 @@ impl<A: Allocator + Copy> Drawing<A> {
     }
 
     /// One more statement.
-    #[tactic(auto, unfolding(crate::specs::Geometry::geometry_part))]
+    #[tactic(auto, unfolding(leg_grammar::specs::Lef::Geometry::geometry_part))]
     fn draw(
         &mut self,
         library: &RawLibrary<'_, A>,
@@ -173,7 +173,7 @@ impl<A: Allocator + Copy> Drawing<A> {
     }
 
     /// The statements one after the other.
-    #[tactic(auto, using(leg_lex::proofs::Over::over_ends, leg_lex::proofs::Over::over_goes_on, leg_lex::proofs::Over::over_fails))]
+    #[tactic(auto, using(leg_lex::proofs::EachElement::over_ends, leg_lex::proofs::EachElement::over_goes_on, leg_lex::proofs::EachElement::over_fails))]
     fn draw_all(
         &mut self,
         library: &RawLibrary<'_, A>,
@@ -189,7 +189,7 @@ impl<A: Allocator + Copy> Drawing<A> {
 }
 
 /// The shapes of all statements, up to the `END`.
-#[tactic(auto, unfolding(crate::specs::Geometry::geometry_at))]
+#[tactic(auto, unfolding(leg_grammar::specs::Lef::Geometry::geometry_at))]
 pub(crate) fn geometry<'a, A: Allocator + Copy>(
     alloc: A,
     library: &RawLibrary<'a, A>,

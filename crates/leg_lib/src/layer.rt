@@ -2,18 +2,18 @@
 
 ghost use Rattle.std.specs.Prelude.{◌≡◌};
 ghost use Rattle.leg_lex.specs.Words.{Reads, Means};
-ghost use Rattle.leg_lib.specs.Layer.{type_in, direction_of, direction_in, direction_of_any, has_one_word, first_of_one_word, width_in, width_of_any, layer_kind, kind_in, layer_at, with_layer};
+ghost use Rattle.leg_grammar.specs.Lef.Layer.{type_in, direction_of, direction_in, direction_of_any, has_one_word, first_of_one_word, width_in, width_of_any, layer_kind, kind_in, layer_at, with_layer};
 
 use crate::named::second_definition;
 use crate::spacing::spacing_of;
-use leg_cells::{Direction, RawKind, RawLayer, RawLibrary};
 use leg_lex::{
     Cursor, FaultKind, Keyword, Micron, Name, NameKind, Need, ReadFault, is_keyword, only, the,
 };
+use leg_lib_records::{Direction, RawKind, RawLayer, RawLibrary};
 use std::alloc::Allocator;
 
 /// The word of a `TYPE` statement.
-#[tactic(auto, unfolding(crate::specs::Layer::type_in))]
+#[tactic(auto, unfolding(leg_grammar::specs::Lef::Layer::type_in))]
 fn type_word<'a>(statement: &mut Cursor<'_, 'a>) -> Result<&'a [u8], ReadFault>
     ensures { Means (λ word. word.now) result (type_in statement.old) }
 {
@@ -46,7 +46,7 @@ fn no_direction(word: &[u8]) -> FaultKind {
 }
 
 /// The direction that a `DIRECTION` statement gives.
-#[tactic(auto, unfolding(crate::specs::Layer::direction_in))]
+#[tactic(auto, unfolding(leg_grammar::specs::Lef::Layer::direction_in))]
 fn direction(statement: &mut Cursor<'_, '_>) -> Result<Direction, ReadFault>
     ensures { Means (λ d. d) result (direction_in statement.old) }
 {
@@ -95,7 +95,7 @@ pub(crate) fn first_of_one_word<'t, 'a>(
 }
 
 /// The width that a `WIDTH` statement gives, above 0.
-#[tactic(auto, unfolding(crate::specs::Layer::width_in, crate::specs::Layer::length_in))]
+#[tactic(auto, unfolding(leg_grammar::specs::Lef::Layer::width_in, leg_grammar::specs::Lef::Layer::length_in))]
 fn width(statement: &mut Cursor<'_, '_>) -> Result<Micron, ReadFault>
     ensures { Means (λ w. w) result (width_in statement.old) }
 {
@@ -153,7 +153,7 @@ fn kind_of(
 }
 
 /// What a layer with these statements is for; `end` comes after them.
-#[tactic(auto, unfolding(crate::specs::Layer::kind_in))]
+#[tactic(auto, unfolding(leg_grammar::specs::Lef::Layer::kind_in))]
 fn kind(statements: &[Cursor<'_, '_>], end: &Cursor<'_, '_>) -> Result<RawKind, ReadFault>
     ensures { Means (λ k. k) result (kind_in statements.now) }
 {
@@ -165,7 +165,7 @@ fn kind(statements: &[Cursor<'_, '_>], end: &Cursor<'_, '_>) -> Result<RawKind, 
 }
 
 /// A layer, from `LAYER` to its `END`.
-#[tactic(auto, unfolding(crate::specs::Layer::layer_at))]
+#[tactic(auto, unfolding(leg_grammar::specs::Lef::Layer::layer_at))]
 fn layer<'a, A: Allocator + Copy>(
     alloc: A,
     words: &mut Cursor<'_, 'a>,
@@ -186,7 +186,7 @@ fn layer<'a, A: Allocator + Copy>(
 }
 
 /// Adds the layer that comes next, whose name is new.
-#[tactic(auto, using(crate::proofs::SoundLayers::layer_sound), unfolding(crate::specs::Layer::with_layer))]
+#[tactic(auto, using(crate::proofs::SoundLayers::layer_sound), unfolding(leg_grammar::specs::Lef::Layer::with_layer))]
 pub(crate) fn layer_form<'a, A: Allocator + Copy>(
     alloc: A,
     library: &mut RawLibrary<'a, A>,

@@ -1,7 +1,7 @@
 //! LEF libraries: what LEF texts denote, exactly, in millionths of a micron (LEF/DEF 5.8, "LEF Syntax").
 //!
 //! `read_lefs` reads texts and gives a `RawLibrary`, or reports the fault and its line. The records of a library are
-//! those of `leg_cells`.
+//! those of `leg_lib_records`.
 #![tactic(auto)]
 
 mod form;
@@ -19,10 +19,10 @@ mod skipped;
 mod spacing;
 mod via;
 
-pub use leg_cells::{
+pub use leg_lex::{FaultKind, ReadFault};
+pub use leg_lib_records::{
     Direction, Extent, Items, Layer, LayerKind, LayerUse, Library, Master, MasterPin, RawExtent,
     RawKind, RawLayer, RawLibrary, RawMaster, RawPin, RawPoint, RawRect, RawShape, RawSite, RawVia,
     ScaleFault, ScaleKind, Shape, Site, Supply, Via, ViaPart, is_wiring_word,
 };
-pub use leg_lex::{FaultKind, ReadFault};
 pub use read::{file_number, read_lefs};

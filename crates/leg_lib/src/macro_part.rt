@@ -5,13 +5,13 @@ ghost use Rattle.leg_lex.specs.Words.{Reads};
 ghost use Rattle.leg_lex.specs.Until.{until};
 ghost use Rattle.leg_lex.specs.Statements.{at_end};
 ghost use Rattle.leg_lex.specs.NameLookup.{place_of};
-ghost use Rattle.leg_lib.specs.Macro.{no_macro_parts, macro_pin, macro_obstruction, macro_density, macro_timing, macro_statement, macro_part};
+ghost use Rattle.leg_grammar.specs.Lef.Macro.{no_macro_parts, macro_pin, macro_obstruction, macro_density, macro_timing, macro_statement, macro_part};
 
 use crate::geometry::geometry;
 use crate::named::second_definition;
 use crate::pin::pin;
-use leg_cells::{RawLibrary, RawPin, RawShape};
 use leg_lex::{Cursor, NameKind, Names, ReadFault};
+use leg_lib_records::{RawLibrary, RawPin, RawShape};
 use std::alloc::{AllocError, Allocator};
 use std::marker::Model;
 
@@ -27,7 +27,7 @@ pub(crate) struct MacroParts<'t, 'a, A: Allocator + Copy> {
 
 impl<'t, 'a, A: Allocator + Copy> Model for MacroParts<'t, 'a, A> {
     ghost use Rattle.std.specs.Prelude.{◌≡◌, map};
-    ghost use Rattle.leg_lib.specs.Macro.{MacroParts};
+    ghost use Rattle.leg_grammar.specs.Lef.Macro.{MacroParts};
 
     ghost Value = { MacroParts };
 
@@ -62,7 +62,7 @@ impl<'t, 'a, A: Allocator + Copy> MacroParts<'t, 'a, A> {
     }
 
     /// One more pin, whose name is new.
-    #[tactic(auto, unfolding(crate::specs::Macro::macro_pin))]
+    #[tactic(auto, unfolding(leg_grammar::specs::Lef::Macro::macro_pin))]
     fn macro_pin(
         &mut self,
         alloc: A,
@@ -81,7 +81,7 @@ impl<'t, 'a, A: Allocator + Copy> MacroParts<'t, 'a, A> {
     }
 
     /// `OBS`, shapes, and `END`.
-    #[tactic(auto, unfolding(crate::specs::Macro::macro_obstruction))]
+    #[tactic(auto, unfolding(leg_grammar::specs::Lef::Macro::macro_obstruction))]
     fn macro_obstruction(
         &mut self,
         alloc: A,
@@ -98,7 +98,7 @@ impl<'t, 'a, A: Allocator + Copy> MacroParts<'t, 'a, A> {
     }
 
     /// `DENSITY`, and everything up to the first `END`.
-    #[tactic(auto, unfolding(crate::specs::Macro::macro_density))]
+    #[tactic(auto, unfolding(leg_grammar::specs::Lef::Macro::macro_density))]
     fn macro_density(&mut self, words: &mut Cursor<'t, 'a>) -> Result<(), ReadFault>
         ensures { Reads (λ _. self.new) result words.new (macro_density self.old words.old) }
     {
@@ -107,7 +107,7 @@ impl<'t, 'a, A: Allocator + Copy> MacroParts<'t, 'a, A> {
     }
 
     /// `TIMING`, and everything up to `END TIMING`.
-    #[tactic(auto, unfolding(crate::specs::Macro::macro_timing))]
+    #[tactic(auto, unfolding(leg_grammar::specs::Lef::Macro::macro_timing))]
     fn macro_timing(&mut self, words: &mut Cursor<'t, 'a>) -> Result<(), ReadFault>
         ensures { Reads (λ _. self.new) result words.new (macro_timing self.old words.old) }
     {
@@ -116,7 +116,7 @@ impl<'t, 'a, A: Allocator + Copy> MacroParts<'t, 'a, A> {
     }
 
     /// One more statement.
-    #[tactic(auto, unfolding(crate::specs::Macro::macro_statement))]
+    #[tactic(auto, unfolding(leg_grammar::specs::Lef::Macro::macro_statement))]
     fn macro_statement(&mut self, words: &mut Cursor<'t, 'a>) -> Result<(), ReadFault>
         ensures { Reads (λ _. self.new) result words.new (macro_statement self.old words.old) }
     {
@@ -126,7 +126,7 @@ impl<'t, 'a, A: Allocator + Copy> MacroParts<'t, 'a, A> {
     }
 
     /// One more part.
-    #[tactic(auto, unfolding(crate::specs::Macro::macro_part))]
+    #[tactic(auto, unfolding(leg_grammar::specs::Lef::Macro::macro_part))]
     fn macro_part(
         &mut self,
         alloc: A,

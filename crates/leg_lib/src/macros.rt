@@ -4,17 +4,18 @@ ghost use Rattle.std.specs.Prelude.{codes, not, if◌then◌else◌, Some, None}
 ghost use Rattle.std.specs.List.{list_any, list_all};
 ghost use Rattle.leg_lex.specs.Words.{Reads, Means, is_word, is_keyword};
 ghost use Rattle.leg_lex.specs.Statements.{only};
-ghost use Rattle.leg_lib.specs.Macro.{origin_in, origin_of_any, symmetry_in, symmetry_of_any, site_in, site_of_any, macro_said, macro_at, with_macro};
+ghost use Rattle.leg_grammar.specs.Lef.Macro.{origin_in, origin_of_any, symmetry_in, symmetry_of_any, site_in, site_of_any, macro_said, macro_at, with_macro};
 
 use crate::macro_part::MacroParts;
 use crate::named::second_definition;
 use crate::point;
-use leg_cells::{Items, RawExtent, RawLibrary, RawMaster, RawPoint};
+use leg_grammar::MacroStatements;
 use leg_lex::{Cursor, FaultKind, Micron, Name, NameKind, Need, ReadFault, is_keyword, only, the};
+use leg_lib_records::{Items, RawExtent, RawLibrary, RawMaster, RawPoint};
 use std::alloc::Allocator;
 
 /// The point of an `ORIGIN` statement.
-#[tactic(auto, unfolding(crate::specs::Macro::origin_in))]
+#[tactic(auto, unfolding(leg_grammar::specs::Lef::Macro::origin_in))]
 fn origin(statement: &mut Cursor<'_, '_>) -> Result<RawPoint, ReadFault>
     ensures { Means (λ p. p) result (origin_in statement.old) }
 {
@@ -48,7 +49,7 @@ fn has_y(words: &mut Cursor<'_, '_>) -> Result<bool, ReadFault>
 }
 
 /// Whether `Y` is among the words of a `SYMMETRY` statement.
-#[tactic(auto, using(crate::proofs::MacroForms::symmetry_said), unfolding(crate::specs::Macro::symmetry_in))]
+#[tactic(auto, using(crate::proofs::MacroForms::symmetry_said), unfolding(leg_grammar::specs::Lef::Macro::symmetry_in))]
 fn symmetry(statement: &mut Cursor<'_, '_>) -> Result<bool, ReadFault>
     ensures { Means (λ y. y) result (symmetry_in statement.old) }
 {
@@ -84,7 +85,7 @@ fn site_statement<'t, 'a>(
 }
 
 /// The number of the site that a `SITE` statement names.
-#[tactic(auto, unfolding(crate::specs::Macro::site_in, leg_lex::specs::Words::nothing_at))]
+#[tactic(auto, unfolding(leg_grammar::specs::Lef::Macro::site_in, leg_lex::specs::Words::nothing_at))]
 fn site<A: Allocator + Copy>(
     library: &RawLibrary<'_, A>,
     statement: &mut Cursor<'_, '_>,
@@ -116,22 +117,13 @@ fn site_of_any<A: Allocator + Copy>(
     }
 }
 
-/// What the statements of a macro give for it.
-#[derive(Clone, Copy)]
-struct MacroSaid {
-    size: RawExtent,
-    origin: RawPoint,
-    y_symmetric: bool,
-    site: Option<usize>,
-}
-
 /// What these statements, which come before the words, give for a macro.
-#[tactic(auto, unfolding(crate::specs::Macro::macro_said))]
+#[tactic(auto, unfolding(leg_grammar::specs::Lef::Macro::macro_said))]
 fn macro_said<A: Allocator + Copy>(
     library: &RawLibrary<'_, A>,
     statements: &[Cursor<'_, '_>],
     words: &Cursor<'_, '_>,
-) -> Result<MacroSaid, ReadFault>
+) -> Result<MacroStatements, ReadFault>
     ensures { Means (λ said. said) result (macro_said library.now statements.now) }
 {
     let mut of_size = the(statements, b"SIZE", words)?;
@@ -139,7 +131,7 @@ fn macro_said<A: Allocator + Copy>(
     let origin = origin_of_any(only(statements, b"ORIGIN")?)?;
     let y_symmetric = symmetry_of_any(only(statements, b"SYMMETRY")?)?;
     let site = site_of_any(library, site_statement(statements)?)?;
-    Ok(MacroSaid {
+    Ok(MacroStatements {
         size,
         origin,
         y_symmetric,
@@ -148,7 +140,7 @@ fn macro_said<A: Allocator + Copy>(
 }
 
 /// A macro, from `MACRO` to its `END`.
-#[tactic(auto, unfolding(crate::specs::Macro::macro_at))]
+#[tactic(auto, unfolding(leg_grammar::specs::Lef::Macro::macro_at))]
 fn master<'a, A: Allocator + Copy>(
     alloc: A,
     library: &RawLibrary<'a, A>,
@@ -174,7 +166,7 @@ fn master<'a, A: Allocator + Copy>(
 }
 
 /// Adds the macro that comes next, whose name is new.
-#[tactic(auto, unfolding(crate::specs::Macro::with_macro))]
+#[tactic(auto, unfolding(leg_grammar::specs::Lef::Macro::with_macro))]
 pub(crate) fn macro_form<'a, A: Allocator + Copy>(
     alloc: A,
     library: &mut RawLibrary<'a, A>,

@@ -4,11 +4,11 @@ ghost use Rattle.std.specs.Prelude.{◌≡◌};
 ghost use Rattle.leg_lex.specs.Words.{Reads, Means};
 ghost use Rattle.leg_lex.specs.Until.{until};
 ghost use Rattle.leg_lex.specs.Statements.{at_end};
-ghost use Rattle.leg_lib.specs.Pin.{no_pin_parts, port_at, pin_part, use_in, supply_of, supply_of_any, pin_at};
+ghost use Rattle.leg_grammar.specs.Lef.Pin.{no_pin_parts, port_at, pin_part, use_in, supply_of, supply_of_any, pin_at};
 
 use crate::geometry::geometry;
-use leg_cells::{Items, RawLibrary, RawPin, RawShape, Supply};
 use leg_lex::{Cursor, Name, ReadFault, is_keyword, only};
+use leg_lib_records::{Items, RawLibrary, RawPin, RawShape, Supply};
 use std::alloc::Allocator;
 use std::marker::Model;
 
@@ -20,7 +20,7 @@ struct Parts<'t, 'a, A: Allocator> {
 }
 
 impl<'t, 'a, A: Allocator> Model for Parts<'t, 'a, A> {
-    ghost use Rattle.leg_lib.specs.Pin.{PinParts};
+    ghost use Rattle.leg_grammar.specs.Lef.Pin.{PinParts};
 
     ghost Value = { PinParts };
 
@@ -29,7 +29,7 @@ impl<'t, 'a, A: Allocator> Model for Parts<'t, 'a, A> {
 
 impl<'t, 'a, A: Allocator + Copy> Parts<'t, 'a, A> {
     /// One more port, or one more statement.
-    #[tactic(auto, unfolding(crate::specs::Pin::pin_part))]
+    #[tactic(auto, unfolding(leg_grammar::specs::Lef::Pin::pin_part))]
     fn add(
         &mut self,
         alloc: A,
@@ -50,7 +50,7 @@ impl<'t, 'a, A: Allocator + Copy> Parts<'t, 'a, A> {
 }
 
 /// The shapes of a port, from `PORT` to its `END`.
-#[tactic(auto, unfolding(crate::specs::Pin::port_at))]
+#[tactic(auto, unfolding(leg_grammar::specs::Lef::Pin::port_at))]
 fn port<'a, A: Allocator + Copy>(
     alloc: A,
     library: &RawLibrary<'a, A>,
@@ -84,7 +84,7 @@ fn all_parts<'t, 'a, A: Allocator + Copy>(
 }
 
 /// The word of a `USE` statement.
-#[tactic(auto, unfolding(crate::specs::Pin::use_in))]
+#[tactic(auto, unfolding(leg_grammar::specs::Lef::Pin::use_in))]
 fn use_word<'a>(statement: &mut Cursor<'_, 'a>) -> Result<&'a [u8], ReadFault>
     ensures { Means (λ word. word.now) result (use_in statement.old) }
 {
@@ -118,7 +118,7 @@ fn supply_of_any(statement: Option<Cursor<'_, '_>>) -> Result<Supply, ReadFault>
 }
 
 /// A pin, from `PIN` to its `END`.
-#[tactic(auto, unfolding(crate::specs::Pin::pin_at))]
+#[tactic(auto, unfolding(leg_grammar::specs::Lef::Pin::pin_at))]
 pub(crate) fn pin<'a, A: Allocator + Copy>(
     alloc: A,
     library: &RawLibrary<'a, A>,

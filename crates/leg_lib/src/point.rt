@@ -3,14 +3,14 @@
 ghost use Rattle.std.specs.Prelude.{◌≡◌};
 ghost use Rattle.std.specs.Int.{int_min, int_max};
 ghost use Rattle.leg_lex.specs.Words.{Reads, Means};
-ghost use Rattle.leg_lib.specs.Point.{coordinates_at, enclosed_point_at, point_at, rect_in, size_in};
-ghost use Rattle.leg_cells.specs.Measure.{rect_between};
+ghost use Rattle.leg_grammar.specs.Lef.Point.{coordinates_at, enclosed_point_at, point_at, rect_in, size_in};
+ghost use Rattle.leg_lib_records.specs.Measure.{rect_between};
 
-use leg_cells::{RawExtent, RawPoint, RawRect};
 use leg_lex::{Cursor, FaultKind, Micron, ReadFault};
+use leg_lib_records::{RawExtent, RawPoint, RawRect};
 
 /// Two lengths.
-#[tactic(auto, unfolding(crate::specs::Point::coordinates_at))]
+#[tactic(auto, unfolding(leg_grammar::specs::Lef::Point::coordinates_at))]
 fn coordinates(words: &mut Cursor<'_, '_>) -> Result<RawPoint, ReadFault>
     ensures { Reads (λ p. p) result words.new (coordinates_at words.old) }
 {
@@ -20,7 +20,7 @@ fn coordinates(words: &mut Cursor<'_, '_>) -> Result<RawPoint, ReadFault>
 }
 
 /// Two lengths in parentheses.
-#[tactic(auto, unfolding(crate::specs::Point::enclosed_point_at))]
+#[tactic(auto, unfolding(leg_grammar::specs::Lef::Point::enclosed_point_at))]
 fn enclosed_point(words: &mut Cursor<'_, '_>) -> Result<RawPoint, ReadFault>
     ensures { Reads (λ p. p) result words.new (enclosed_point_at words.old) }
 {
@@ -31,7 +31,7 @@ fn enclosed_point(words: &mut Cursor<'_, '_>) -> Result<RawPoint, ReadFault>
 }
 
 /// A point: two lengths, which may be in parentheses.
-#[tactic(auto, unfolding(crate::specs::Point::point_at))]
+#[tactic(auto, unfolding(leg_grammar::specs::Lef::Point::point_at))]
 pub(crate) fn point(words: &mut Cursor<'_, '_>) -> Result<RawPoint, ReadFault>
     ensures { Reads (λ p. p) result words.new (point_at words.old) }
 {
@@ -65,7 +65,7 @@ fn higher(a: Micron, b: Micron) -> Micron
 }
 
 /// The rectangle between two corners, which are in any order, where it has area.
-#[tactic(auto, unfolding(leg_cells::specs::Measure::rect_between))]
+#[tactic(auto, unfolding(leg_lib_records::specs::Measure::rect_between))]
 fn rect_between(p: &RawPoint, q: &RawPoint) -> Option<RawRect>
     ensures { result ≡ rect_between p.now q.now }
 {
@@ -81,7 +81,7 @@ fn rect_between(p: &RawPoint, q: &RawPoint) -> Option<RawRect>
 }
 
 /// The rectangle of a `RECT` statement, whose corners are in any order.
-#[tactic(auto, unfolding(crate::specs::Point::rect_in))]
+#[tactic(auto, unfolding(leg_grammar::specs::Lef::Point::rect_in))]
 pub(crate) fn rect(statement: &mut Cursor<'_, '_>) -> Result<RawRect, ReadFault>
     ensures { Means (λ r. r) result (rect_in statement.old) }
 {
@@ -97,7 +97,7 @@ pub(crate) fn rect(statement: &mut Cursor<'_, '_>) -> Result<RawRect, ReadFault>
 }
 
 /// The width and the height of a `SIZE` statement.
-#[tactic(auto, unfolding(crate::specs::Point::size_in))]
+#[tactic(auto, unfolding(leg_grammar::specs::Lef::Point::size_in))]
 pub(crate) fn size(statement: &mut Cursor<'_, '_>) -> Result<RawExtent, ReadFault>
     ensures { Means (λ s. s) result (size_in statement.old) }
 {

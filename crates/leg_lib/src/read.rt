@@ -3,14 +3,14 @@
 ghost use Rattle.std.specs.Prelude.{◌≡◌, ◌≢◌, ◌<◌, ◌-◌, ◌^◌, min, length, map, IfOk, IfErr, OnOk};
 ghost use Rattle.leg_lex.specs.declared.limits.TheConstants.{TEXT_LIMIT};
 ghost use Rattle.leg_lex.specs.declared.read_fault.FaultKind.TheVariants.{Memory};
-ghost use Rattle.leg_lex.specs.Say.{Says};
-ghost use Rattle.leg_cells.specs.Records.{RawContents};
-ghost use Rattle.leg_lib.specs.Form.{lef_in};
-ghost use Rattle.leg_lib.specs.Say.{SayLibrary};
+ghost use Rattle.leg_lex.specs.Denotes.{Denotes};
+ghost use Rattle.leg_lib_records.specs.Records.{RawLibraryModel};
+ghost use Rattle.leg_grammar.specs.Lef.Form.{lef_in};
+ghost use Rattle.leg_grammar.specs.Lef.Library.{DenoteLibrary};
 
 use crate::form;
-use leg_cells::RawLibrary;
 use leg_lex::{Cursor, NameKind, Need, ReadFault, Token, file_words, is_keyword, tokens};
+use leg_lib_records::RawLibrary;
 use std::alloc::Allocator;
 
 /// Adds what a LEF denotes to the library of the LEFs before it.
@@ -20,12 +20,12 @@ fn add_lef<'a, A: Allocator + Copy>(
     file: u32,
     text: &'a [u8],
 ) -> Result<(), ReadFault>
-    ensures found { OnOk result (Says (lef_in library.old) text.now library.new) }
-    ensures only { OnOk result ((said : RawContents) → Says (lef_in library.old) text.now said → said ≡ library.new) }
+    ensures found { OnOk result (Denotes (lef_in library.old) text.now library.new) }
+    ensures only { OnOk result ((said : RawLibraryModel) → Denotes (lef_in library.old) text.now said → said ≡ library.new) }
     // A text that is too long is never reported as out of memory.
     ensures too_long { IfErr result (λ fault. TEXT_LIMIT < length text.now → fault.kind ≢ Memory) }
     ensures none { IfErr result (λ fault. fault.kind ≢ Memory
-        → (said : RawContents) → ¬ Says (lef_in library.old) text.now said) }
+        → (said : RawLibraryModel) → ¬ Denotes (lef_in library.old) text.now said) }
 {
     let words = file_words(alloc, file, text)?;
     form::lef_words(alloc, library, &mut Cursor::new(file, &words))
@@ -36,12 +36,12 @@ fn all_lefs<'a, A: Allocator + Copy>(
     alloc: A,
     lefs: &[&'a [u8]],
 ) -> Result<RawLibrary<'a, A>, ReadFault>
-    ensures found { IfOk result (λ library. SayLibrary (map (λ t. t.now) lefs.now) library) }
+    ensures found { IfOk result (λ library. DenoteLibrary (map (λ t. t.now) lefs.now) library) }
     // The texts denote no other library.
-    ensures only { IfOk result (λ library. (said : RawContents)
-        → SayLibrary (map (λ t. t.now) lefs.now) said → said ≡ library) }
+    ensures only { IfOk result (λ library. (said : RawLibraryModel)
+        → DenoteLibrary (map (λ t. t.now) lefs.now) said → said ≡ library) }
     ensures none { IfErr result (λ fault. fault.kind ≢ Memory
-        → (said : RawContents) → ¬ SayLibrary (map (λ t. t.now) lefs.now) said) }
+        → (said : RawLibraryModel) → ¬ DenoteLibrary (map (λ t. t.now) lefs.now) said) }
 {
     let mut library = RawLibrary::new(alloc);
     'lefs: for (number, lef) in lefs.iter().enumerate() {
@@ -127,12 +127,12 @@ pub fn read_lefs<'a, A: Allocator + Copy>(
     alloc: A,
     lefs: &[&'a [u8]],
 ) -> Result<RawLibrary<'a, A>, ReadFault>
-    ensures found { IfOk result (λ library. SayLibrary (map (λ t. t.now) lefs.now) library) }
+    ensures found { IfOk result (λ library. DenoteLibrary (map (λ t. t.now) lefs.now) library) }
     // The texts denote no other library.
-    ensures only { IfOk result (λ library. (said : RawContents)
-        → SayLibrary (map (λ t. t.now) lefs.now) said → said ≡ library) }
+    ensures only { IfOk result (λ library. (said : RawLibraryModel)
+        → DenoteLibrary (map (λ t. t.now) lefs.now) said → said ≡ library) }
     ensures none { IfErr result (λ fault. fault.kind ≢ Memory
-        → (said : RawContents) → ¬ SayLibrary (map (λ t. t.now) lefs.now) said) }
+        → (said : RawLibraryModel) → ¬ DenoteLibrary (map (λ t. t.now) lefs.now) said) }
 {
     match all_lefs(alloc, lefs) {
         Ok(library) => Ok(library),

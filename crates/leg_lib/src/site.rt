@@ -2,16 +2,16 @@
 
 ghost use Rattle.std.specs.Prelude.{◌≡◌, option_copied};
 ghost use Rattle.leg_lex.specs.Words.{Reads};
-ghost use Rattle.leg_lib.specs.Site.{site_at, site_named, with_site};
+ghost use Rattle.leg_grammar.specs.Lef.Site.{site_at, site_named, with_site};
 
 use crate::named::second_definition;
 use crate::point;
-use leg_cells::{RawLibrary, RawSite};
 use leg_lex::{Cursor, Name, NameKind, ReadFault, the};
+use leg_lib_records::{RawLibrary, RawSite};
 use std::alloc::Allocator;
 
 /// A site, from `SITE` to its `END`.
-#[tactic(auto, unfolding(crate::specs::Site::site_at))]
+#[tactic(auto, unfolding(leg_grammar::specs::Lef::Site::site_at))]
 fn site<'a, A: Allocator + Copy>(
     alloc: A,
     words: &mut Cursor<'_, 'a>,
@@ -42,7 +42,7 @@ fn site_named<'l, 'a, A: Allocator + Copy>(
 }
 
 /// Adds the site that comes next. A second definition with the same size adds nothing.
-#[tactic(auto, using(crate::proofs::Sites::found_nowhere), unfolding(crate::specs::Site::with_site))]
+#[tactic(auto, using(crate::proofs::Sites::found_nowhere), unfolding(leg_grammar::specs::Lef::Site::with_site))]
 pub(crate) fn site_form<'a, A: Allocator + Copy>(
     alloc: A,
     library: &mut RawLibrary<'a, A>,

@@ -2,12 +2,12 @@
 
 ghost use Rattle.std.specs.Prelude.{codes};
 ghost use Rattle.leg_lex.specs.Words.{Reads};
-ghost use Rattle.leg_lib.specs.Form.{past_named, past_lef_section, past_lef_extension, past_statement, past_lef_form};
+ghost use Rattle.leg_grammar.specs.Lef.Form.{past_named, past_lef_section, past_lef_extension, past_statement, past_lef_form};
 
 use leg_lex::{Cursor, ReadFault};
 
 /// A keyword, a name, and everything up to `END` and this name.
-#[tactic(auto, unfolding(crate::specs::Form::past_named))]
+#[tactic(auto, unfolding(leg_grammar::specs::Lef::Form::past_named))]
 fn past_named(words: &mut Cursor<'_, '_>) -> Result<(), ReadFault>
     ensures { Reads (λ x. x) result words.new (past_named words.old) }
 {
@@ -17,7 +17,7 @@ fn past_named(words: &mut Cursor<'_, '_>) -> Result<(), ReadFault>
 }
 
 /// This keyword, and everything up to `END` and the keyword.
-#[tactic(auto, unfolding(crate::specs::Form::past_lef_section))]
+#[tactic(auto, unfolding(leg_grammar::specs::Lef::Form::past_lef_section))]
 fn past_section(keyword: &[u8], words: &mut Cursor<'_, '_>) -> Result<(), ReadFault>
     ensures { Reads (λ x. x) result words.new (past_lef_section keyword.now words.old) }
 {
@@ -26,7 +26,7 @@ fn past_section(keyword: &[u8], words: &mut Cursor<'_, '_>) -> Result<(), ReadFa
 }
 
 /// `BEGINEXT`, and everything up to `ENDEXT`.
-#[tactic(auto, unfolding(crate::specs::Form::past_lef_extension))]
+#[tactic(auto, unfolding(leg_grammar::specs::Lef::Form::past_lef_extension))]
 fn past_extension(words: &mut Cursor<'_, '_>) -> Result<(), ReadFault>
     ensures { Reads (λ x. x) result words.new (past_lef_extension words.old) }
 {
@@ -35,7 +35,7 @@ fn past_extension(words: &mut Cursor<'_, '_>) -> Result<(), ReadFault>
 }
 
 /// Any other form, up to its semicolon.
-#[tactic(auto, unfolding(crate::specs::Form::past_statement))]
+#[tactic(auto, unfolding(leg_grammar::specs::Lef::Form::past_statement))]
 fn past_statement(words: &mut Cursor<'_, '_>) -> Result<(), ReadFault>
     ensures { Reads (λ x. x) result words.new (past_statement words.old) }
 {
@@ -44,7 +44,7 @@ fn past_statement(words: &mut Cursor<'_, '_>) -> Result<(), ReadFault>
 }
 
 /// A form that adds nothing to the library.
-#[tactic(auto, unfolding(crate::specs::Form::past_lef_form))]
+#[tactic(auto, unfolding(leg_grammar::specs::Lef::Form::past_lef_form))]
 pub(crate) fn past_form(words: &mut Cursor<'_, '_>) -> Result<(), ReadFault>
     ensures { Reads (λ x. x) result words.new (past_lef_form words.old) }
 {

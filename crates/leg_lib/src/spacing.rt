@@ -4,13 +4,13 @@
 ghost use Rattle.std.specs.Prelude.{◌≡◌};
 ghost use Rattle.std.specs.List.{find};
 ghost use Rattle.leg_lex.specs.Words.{Means};
-ghost use Rattle.leg_lib.specs.Layer.{spacing_in, spacing_of_any, is_table, at_row_end, second_in_row, table_value, table_value_of_any, spacing_of};
+ghost use Rattle.leg_grammar.specs.Lef.Layer.{spacing_in, spacing_of_any, is_table, at_row_end, second_in_row, table_value, table_value_of_any, spacing_of};
 
 use crate::layer::first_of_one_word;
 use leg_lex::{Cursor, FaultKind, Micron, Need, ReadFault};
 
 /// The spacing that a `SPACING` statement gives, at least 0.
-#[tactic(auto, unfolding(crate::specs::Layer::spacing_in, crate::specs::Layer::length_in))]
+#[tactic(auto, unfolding(leg_grammar::specs::Lef::Layer::spacing_in, leg_grammar::specs::Lef::Layer::length_in))]
 fn spacing(statement: &mut Cursor<'_, '_>) -> Result<Micron, ReadFault>
     ensures { Means (λ s. s) result (spacing_in statement.old) }
 {
@@ -68,7 +68,7 @@ fn at_row_end(row: &Cursor<'_, '_>) -> bool
 }
 
 /// The second number of a row of a table, at least 0, if the row has two.
-#[tactic(auto, unfolding(crate::specs::Layer::second_in_row))]
+#[tactic(auto, unfolding(leg_grammar::specs::Lef::Layer::second_in_row))]
 fn second_in_row(row: &mut Cursor<'_, '_>) -> Result<Option<Micron>, ReadFault>
     ensures { Means (λ s. s) result (second_in_row row.old) }
 {
@@ -88,7 +88,7 @@ fn second_in_row(row: &mut Cursor<'_, '_>) -> Result<Option<Micron>, ReadFault>
 }
 
 /// The value of a table: that of the row of its first `WIDTH`.
-#[tactic(auto, unfolding(crate::specs::Layer::table_value))]
+#[tactic(auto, unfolding(leg_grammar::specs::Lef::Layer::table_value))]
 fn table_value(statement: &mut Cursor<'_, '_>) -> Result<Option<Micron>, ReadFault>
     ensures { Means (λ s. s) result (table_value statement.old) }
 {
@@ -107,7 +107,7 @@ fn table_value_of_any(statement: Option<Cursor<'_, '_>>) -> Result<Option<Micron
 }
 
 /// The spacing of a layer with these statements.
-#[tactic(auto, unfolding(crate::specs::Layer::spacing_of))]
+#[tactic(auto, unfolding(leg_grammar::specs::Lef::Layer::spacing_of))]
 pub(crate) fn spacing_of(statements: &[Cursor<'_, '_>]) -> Result<Micron, ReadFault>
     ensures { Means (λ s. s) result (spacing_of statements.now) }
 {

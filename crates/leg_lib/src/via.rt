@@ -3,12 +3,12 @@
 ghost use Rattle.std.specs.Prelude.{◌≡◌, ◌≢◌, codes, not, ◌&&◌, if◌then◌else◌, drop, Some, IfOk, IfErr};
 ghost use Rattle.leg_lex.specs.Words.{Reads, Means, is_at};
 ghost use Rattle.leg_lex.specs.Until.{over};
-ghost use Rattle.leg_lib.specs.Via.{flag_at, flags_at, no_via_parts, layer_of_via, spoils, via_part, is_good, kept, via_at, with_via};
+ghost use Rattle.leg_grammar.specs.Lef.Via.{flag_at, flags_at, no_via_parts, layer_of_via, spoils, via_part, is_good, kept, via_at, with_via};
 
 use crate::geometry::Drawing;
 use crate::named::second_definition;
-use leg_cells::{Items, RawLibrary, RawShape, RawVia, is_wiring_word};
 use leg_lex::{Cursor, FaultKind, Name, NameKind, Need, ReadFault};
+use leg_lib_records::{Items, RawLibrary, RawShape, RawVia, is_wiring_word};
 use std::alloc::{AllocError, Allocator};
 use std::marker::Model;
 
@@ -21,7 +21,7 @@ struct ViaFlags {
 }
 
 impl Model for ViaFlags {
-    ghost use Rattle.leg_lib.specs.Via.{Flags};
+    ghost use Rattle.leg_grammar.specs.Lef.Via.{Flags};
 
     ghost Value = { Flags };
 
@@ -46,7 +46,7 @@ fn first_time(stood: bool, keyword: &[u8], words: &mut Cursor<'_, '_>) -> Result
 
 /// Reads one more of the words `DEFAULT`, `TOPOFSTACKONLY` and `GENERATED`, if one is next that
 /// did not appear before.
-#[tactic(auto, unfolding(crate::specs::Via::flag_at))]
+#[tactic(auto, unfolding(leg_grammar::specs::Lef::Via::flag_at))]
 fn flag(flags: ViaFlags, words: &mut Cursor<'_, '_>) -> Result<ViaFlags, ReadFault>
     ensures { Reads (λ f. f) result words.new (Some (flag_at flags words.old)) }
 {
@@ -72,7 +72,7 @@ fn flag(flags: ViaFlags, words: &mut Cursor<'_, '_>) -> Result<ViaFlags, ReadFau
 }
 
 /// The words between a via's name and its statements.
-#[tactic(auto, unfolding(crate::specs::Via::flags_at))]
+#[tactic(auto, unfolding(leg_grammar::specs::Lef::Via::flags_at))]
 fn flags(words: &mut Cursor<'_, '_>) -> Result<ViaFlags, ReadFault>
     ensures { Reads (λ f. f) result words.new (Some (flags_at words.old)) }
 {
@@ -94,7 +94,7 @@ struct ViaParts<A: Allocator> {
 }
 
 impl<A: Allocator> Model for ViaParts<A> {
-    ghost use Rattle.leg_lib.specs.Via as via;
+    ghost use Rattle.leg_grammar.specs.Lef.Via as via;
 
     ghost Value = { via.ViaParts };
 
@@ -102,7 +102,7 @@ impl<A: Allocator> Model for ViaParts<A> {
 }
 
 /// The number of the layer of a `LAYER` statement.
-#[tactic(auto, using(crate::proofs::Vias::nothing_said), unfolding(crate::specs::Via::layer_of_via))]
+#[tactic(auto, using(crate::proofs::Vias::nothing_said), unfolding(leg_grammar::specs::Lef::Via::layer_of_via))]
 fn layer<A: Allocator + Copy>(
     library: &RawLibrary<'_, A>,
     statement: &mut Cursor<'_, '_>,
@@ -154,7 +154,7 @@ impl<A: Allocator + Copy> ViaParts<A> {
     }
 
     /// One more statement.
-    #[tactic(auto, unfolding(crate::specs::Via::via_part))]
+    #[tactic(auto, unfolding(leg_grammar::specs::Lef::Via::via_part))]
     fn part(
         &mut self,
         library: &RawLibrary<'_, A>,
@@ -215,7 +215,7 @@ fn kept<A: Allocator>(good: bool, mut shapes: Vec<RawShape, A>) -> Vec<RawShape,
 }
 
 /// A via, from `VIA` to its `END`.
-#[tactic(auto, unfolding(crate::specs::Via::via_at))]
+#[tactic(auto, unfolding(leg_grammar::specs::Lef::Via::via_at))]
 fn via<'a, A: Allocator + Copy>(
     alloc: A,
     library: &RawLibrary<'a, A>,
@@ -239,7 +239,7 @@ fn via<'a, A: Allocator + Copy>(
 }
 
 /// Adds the via that comes next, whose name is new.
-#[tactic(auto, unfolding(crate::specs::Via::with_via))]
+#[tactic(auto, unfolding(leg_grammar::specs::Lef::Via::with_via))]
 pub(crate) fn via_form<'a, A: Allocator + Copy>(
     alloc: A,
     library: &mut RawLibrary<'a, A>,

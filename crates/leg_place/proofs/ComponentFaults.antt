@@ -1,17 +1,17 @@
 -- The violations that are asked of one component by itself, and those that are not.
 use Rattle.std.proofs.Common.{◌≡◌, ◌≢◌, ◌↔◌, ℕ, Bool, List, ◌⊎◌, inl, inr, refl, arith}
 use Rattle.std.proofs.lemmas.Bool.{cases_eq}
-use Rattle.leg_cells.specs.Records.{Contents}
-use Rattle.leg_block.specs.Records.{DesignContents}
-use Rattle.leg_block.specs.declared.fault.Fault.{Fault}
-use Rattle.leg_block.specs.declared.fault.Fault.TheVariants as faults
-use Rattle.leg_block.specs.Violation.{kind_number, numbers_of}
-use Rattle.leg_block.proofs.FaultNumbers.{same_fault, no_second_number}
+use Rattle.leg_lib_records.specs.Records.{LibraryModel}
+use Rattle.leg_design_records.specs.Records.{DesignModel}
+use Rattle.leg_design_records.specs.declared.fault.Fault.{Fault}
+use Rattle.leg_design_records.specs.declared.fault.Fault.TheVariants as faults
+use Rattle.leg_design_records.specs.Violation.{kind_number, numbers_of}
+use Rattle.leg_design_records.proofs.FaultNumbers.{same_fault, no_second_number}
 use Rattle.leg_place.specs.declared.component_fault.ComponentFault.{ComponentFault}
 use Rattle.leg_place.specs.declared.component_fault.ComponentFault.TheVariants.{Unplaced, Outside, OffSite, Blocked}
-use Rattle.leg_place.specs.Faults.{Holds}
-use Rattle.leg_place.specs.Faults.Holds.{unplaced, outside, off_site, overlap, blocked}
-use Rattle.leg_place.specs.Among.{IsMarked, TellsMarked}
+use Rattle.leg_rules.specs.Placement.Violations.{IsPlacementViolation}
+use Rattle.leg_rules.specs.Placement.Violations.IsPlacementViolation.{unplaced, outside, off_site, overlap, blocked}
+use Rattle.leg_place.specs.Among.{IsMarked, NamesOnlyMarked}
 use Rattle.leg_place.specs.Steps.ComponentFault.{fault_of}
 
 -- a kind that is asked of one component, as proofs of other crates name it
@@ -49,14 +49,14 @@ pub is_overlap : (v : Fault) → kind_number v ≡ overlap_kind → v ≡ faults
 is_overlap v same = same_fault v (faults.Overlap (numbers_of v).0 (numbers_of v).1) same refl refl
 
 -- the violation of a component names marked ones alone just where the component is marked
-pub tells_marked : (kind : ComponentFault) (marks : List Bool) (c : ℕ) → TellsMarked marks (fault_of kind c) ↔ IsMarked marks c
+pub tells_marked : (kind : ComponentFault) (marks : List Bool) (c : ℕ) → NamesOnlyMarked marks (fault_of kind c) ↔ IsMarked marks c
 tells_marked Unplaced marks c = (λ h. h, λ h. h)
 tells_marked Outside marks c = (λ h. h, λ h. h)
 tells_marked OffSite marks c = (λ h. h, λ h. h)
 tells_marked Blocked marks c = (λ h. h, λ h. h)
 
 -- a violation of placement is asked of one component, or is an overlap
-pub component_or_overlap : (library : Contents) (design : DesignContents) (v : Fault) → Holds library design v
+pub component_or_overlap : (library : LibraryModel) (design : DesignModel) (v : Fault) → IsPlacementViolation library design v
     → ((kind : ComponentFault) × (kind_number v ≡ number_of_kind kind)) ⊎ (kind_number v ≡ overlap_kind)
 component_or_overlap library design v (unplaced h) = inl (Unplaced, refl)
 component_or_overlap library design v (outside h) = inl (Outside, refl)

@@ -9,9 +9,9 @@ use Rattle.std.proofs.lemmas.List.Kept.{AllPairs-cons}
 use Rattle.std.proofs.lemmas.List.Sorted.{ranks_by, sorted_far, All-permutation, Contains-permutation}
 use Rattle.std.proofs.lemmas.Option.{same_Some, slice_get_within, get_or_from_slice_get}
 use Rattle.leg_sweep.proofs.Lists.{Contains-nil, Contains-here, Contains-there, Contains-cons_cases, AllPairs-nil, AllPairs-head, AllPairs-tail}
-use Rattle.leg_cells.specs.Records.{Contents}
-use Rattle.leg_cells.specs.declared.records.Site.{Site}
-use Rattle.leg_block.specs.declared.records.Row.{Row}
+use Rattle.leg_lib_records.specs.Records.{LibraryModel}
+use Rattle.leg_lib_records.specs.declared.records.Site.{Site}
+use Rattle.leg_design_records.specs.declared.records.Row.{Row}
 use Rattle.leg_place.specs.declared.site_span.SiteSpan.{SiteSpan}
 use Rattle.leg_place.specs.Steps.SiteSpan.{span_of, row_box, covers, begins_by}
 use Rattle.leg_place.specs.Steps.RowSpans.{IsRowSpan, IsOfSomeRow, AreSpansBelow, Precedes, IsCovered, AreRowSpans}
@@ -98,7 +98,7 @@ begins_sorted spans up =
     (sorted_far (λ x y. is_lt (span_cmp x y)) (ranks_by span_total (λ x. x)) spans up i j d (omega arith) within)
 
 -- the sites of a row are told once
-one_span : (library : Contents) (row : Row) (a b : SiteSpan) → IsRowSpan library row a → IsRowSpan library row b → a ≡ b
+one_span : (library : LibraryModel) (row : Row) (a b : SiteSpan) → IsRowSpan library row a → IsRowSpan library row b → a ≡ b
 one_span library row a b is_a is_b =
     let same : is_a.site ≡ is_b.site = same_Some is_a.site is_b.site (sym is_a.there ∙ is_b.there) in
     is_a.is ∙ ap (λ (site : Site). span_of row.site site.size row.orient (row_box row site.size)) same ∙ sym is_b.is
@@ -106,7 +106,7 @@ one_span library row a b is_a is_b =
 contained_at : (rows : List Row) (i : ℕ) (row : Row) → slice_get rows i ≡ Some row → Contains rows row
 contained_at rows i row at = (i, slice_get_within rows i row at, get_or_from_slice_get rows i row row at)
 
-module _ (library : Contents) (rows : List Row) where
+module _ (library : LibraryModel) (rows : List Row) where
   pub spans_none : AreSpansBelow library rows 0 []
   spans_none = record { each = All-nil (IsOfSomeRow library rows); all = λ number row span below there is. absurd (omega (arith, below)) }
 

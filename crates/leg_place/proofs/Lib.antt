@@ -3,7 +3,7 @@ mod Places
 mod Squares
 mod Boxes
 -- Sites of rows
-mod Mirrors
+pub mod Mirrors
 mod SpanOrder
 mod KeptSpans
 mod CoveredSpans
@@ -15,7 +15,7 @@ mod MetRects
 -- The list of violations
 mod Listing
 mod Overlaps
-mod Misplaced
+mod AnyViolation
 -- What the proofs of other crates cite
 pub mod PlaceFaults
 pub mod ComponentFaults

@@ -3,11 +3,11 @@ use Rattle.std.proofs.Common.{◌≡◌, ℕ, Bool, ◌+◌, List, [], ◌∷◌
 use Rattle.std.proofs.lemmas.Bool.{cases_lt, cases_eq}
 use Rattle.std.proofs.lemmas.List.Elements.{All-push, All-weaker, Contains-append_left, Contains-push}
 use Rattle.std.proofs.lemmas.List.Quantifiers.{all_pairs_push}
-use Rattle.leg_cells.specs.Records.{Contents}
-use Rattle.leg_block.specs.Records.{DesignContents}
-use Rattle.leg_block.specs.declared.fault.Fault.{Fault}
-use Rattle.leg_block.specs.declared.fault.Fault.TheVariants.{Short}
-use Rattle.leg_block.specs.Violation.{kind_number, numbers_of, ComesBefore, IsListOf}
+use Rattle.leg_lib_records.specs.Records.{LibraryModel}
+use Rattle.leg_design_records.specs.Records.{DesignModel}
+use Rattle.leg_design_records.specs.declared.fault.Fault.{Fault}
+use Rattle.leg_design_records.specs.declared.fault.Fault.TheVariants.{Short}
+use Rattle.leg_design_records.specs.Violation.{kind_number, numbers_of, ComesBefore, IsListOf}
 use Rattle.leg_place.specs.declared.component_fault.ComponentFault.{ComponentFault}
 use Rattle.leg_place.specs.Among.{HoldsAmong}
 use Rattle.leg_place.specs.Steps.ComponentFault.{fault_of}
@@ -15,7 +15,7 @@ use Rattle.leg_place.specs.Steps.ListPrefix.{HoldsBefore, IsListBefore}
 use Rattle.leg_place.proofs.PlaceFaults.{kind_below, component_below, same_list}
 use Rattle.leg_place.proofs.ComponentFaults.{number_of_kind, of_component, is_of_component}
 
-module _ (library : Contents) (design : DesignContents) (marks : List Bool) where
+module _ (library : LibraryModel) (design : DesignModel) (marks : List Bool) where
   -- behind the last component the next kind begins
   pub listing_end : (kind c : ℕ) → c ≡ length design.components → (found : List Fault)
       → IsListBefore library design marks kind c found → IsListBefore library design marks (kind + 1) 0 found

@@ -2,19 +2,19 @@
 use Rattle.std.proofs.Common.{◌≡◌, ◌==◌, ◌⊎◌, ℕ, pos, ◌-ℤ◌, if◌then◌else◌, Bool, IsTrue, inl, inr, refl, sym, ap, ◌∙◌, arith}
 use Rattle.std.specs.Ordering.{int_eq}
 use Rattle.std.proofs.lemmas.Int.{ints}
-use Rattle.leg_geom.specs.Plane.{Spot}
+use Rattle.leg_geom.specs.Plane.{PointModel}
 use Rattle.leg_geom.specs.declared.orient.Orient.{Orient}
 use Rattle.leg_geom.specs.declared.orient.Orient.TheVariants.{N, S, W, E, FN, FS, FW, FE}
 use Rattle.leg_geom.specs.Orientation.{turned, both_edges, IsMirrored}
-use Rattle.leg_place.specs.Sites.{Fits}
+use Rattle.leg_rules.specs.Placement.Sites.{Fits}
 use Rattle.leg_place.specs.Steps.SiteSpan.{orient_rank}
 
 -- a point of the box 4 wide and 2 high, which each orientation takes elsewhere
-abbrev point : Spot
+abbrev point : PointModel
 point = record { x = pos 1; y = pos 0 }
 
 -- the orientation that takes the point here
-abbrev orient_from : Spot → Orient
+abbrev orient_from : PointModel → Orient
 orient_from p =
     if int_eq p.x (pos 1) then (if int_eq p.y (pos 0) then N else FS)
     else (if int_eq p.x (pos 3) then (if int_eq p.y (pos 2) then S else FN)
@@ -32,11 +32,11 @@ orient_told FW = refl
 orient_told FE = refl
 
 -- there is one alone
-mirrored_once : (o a b : Orient) → IsMirrored o a → IsMirrored o b → a ≡ b
+pub mirrored_once : (o a b : Orient) → IsMirrored o a → IsMirrored o b → a ≡ b
 mirrored_once o a b is_a is_b =
     sym (orient_told a) ∙ ap orient_from (is_a (pos 4) (pos 2) point ∙ sym (is_b (pos 4) (pos 2) point)) ∙ orient_told b
 
-same_spot : (p q : Spot) → p.x ≡ q.x → p.y ≡ q.y → p ≡ q
+same_spot : (p q : PointModel) → p.x ≡ q.x → p.y ≡ q.y → p ≡ q
 same_spot p q x y = λ i. record { x = x i; y = y i }
 
 -- what is mirrored twice is as it was
@@ -68,8 +68,6 @@ same_rank a b same = sym (ranked_back a) ∙ ap orient_ranked same ∙ ranked_ba
 
 -- an orientation fits rows of its own, and with Y symmetry those that are it mirrored
 module _ (orient mirrored : Orient) (y_symmetric : Bool) (is_mirrored : IsMirrored orient mirrored) where
-  pub fits_straight : Fits orient y_symmetric orient
-  fits_straight = inl refl
 
   pub fits_mirrored : IsTrue y_symmetric → Fits mirrored y_symmetric orient
   fits_mirrored symmetric = inr (symmetric, mirrored_back orient mirrored is_mirrored)

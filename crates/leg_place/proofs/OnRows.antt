@@ -3,17 +3,17 @@ use Rattle.std.proofs.Common.{◌≡◌, ◌↔◌, ◌≤◌, ℕ, Bool, true, 
 use Rattle.std.proofs.lemmas.Bool.{false≢true}
 use Rattle.std.proofs.lemmas.List.Elements.{All-contains}
 use Rattle.std.proofs.lemmas.Option.{same_Some, none-some, slice_get_within}
-use Rattle.leg_geom.specs.Plane.{Sides}
+use Rattle.leg_geom.specs.Plane.{RectModel}
 use Rattle.leg_geom.specs.declared.orient.Orient.{Orient}
 use Rattle.leg_geom.specs.declared.place.Place.{Place}
-use Rattle.leg_cells.specs.declared.records.Site.{Site}
-use Rattle.leg_cells.specs.Measure.{Lengths, HasArea}
-use Rattle.leg_cells.specs.Records.{MasterSaid}
-use Rattle.leg_block.specs.Records.{DesignContents}
-use Rattle.leg_block.specs.declared.records.Component.{Component}
-use Rattle.leg_block.specs.declared.records.Row.{Row}
-use Rattle.leg_place.specs.Box.{placed_box}
-use Rattle.leg_place.specs.Sites.{IsOnSites, IsOffSite}
+use Rattle.leg_lib_records.specs.declared.records.Site.{Site}
+use Rattle.leg_lib_records.specs.Measure.{ExtentModel, HasArea}
+use Rattle.leg_lib_records.specs.Records.{MasterModel}
+use Rattle.leg_design_records.specs.Records.{DesignModel}
+use Rattle.leg_design_records.specs.declared.records.Component.{Component}
+use Rattle.leg_design_records.specs.declared.records.Row.{Row}
+use Rattle.leg_rules.specs.Placement.Box.{placed_box}
+use Rattle.leg_rules.specs.Placement.Sites.{IsOnSites, IsOffSite}
 use Rattle.leg_place.specs.declared.site_span.SiteSpan.{SiteSpan}
 use Rattle.leg_place.specs.Steps.SiteSpan.{span_of, row_box, covers}
 use Rattle.leg_place.specs.Steps.RowSpans.{IsRowSpan, IsOfSomeRow, AreRowSpans, IsWhole, IsCovered, HasSites, IsOnSomeRow}
@@ -22,7 +22,7 @@ use Rattle.leg_place.proofs.RowSites.{whole_on_sites, covers_on_sites, orient_of
 use Rattle.leg_place.proofs.SpanOrder.{covers-trans, reaches_from_covers}
 
 -- what is covered by a row's sites is of its site
-site_of_span : (row : Row) (size : Lengths) (number : ℕ) (orient : Orient) (box : Sides) (other : Lengths) → IsTrue (covers (span_of row.site size row.orient (row_box row size)) (span_of number other orient box)) → row.site ≡ number
+site_of_span : (row : Row) (size : ExtentModel) (number : ℕ) (orient : Orient) (box : RectModel) (other : ExtentModel) → IsTrue (covers (span_of row.site size row.orient (row_box row size)) (span_of number other orient box)) → row.site ≡ number
 site_of_span row size number orient box other all = ap (λ l. l.site) (reaches_from_covers (span_of row.site size row.orient (row_box row size)) (span_of number other orient box) all).line
 
 -- what has all sites of a span has those of what that one covers
@@ -30,7 +30,7 @@ covered_through : (spans : List SiteSpan) (span wanted : SiteSpan) → IsCovered
 covered_through spans span wanted covered all = record { span = covered.span; has = covered.has; has_all = covers-trans covered.span span wanted covered.has_all all }
 
 -- a macro of the site of this number, at a place; the sites of the rows are given
-module _ (design : DesignContents) (master : MasterSaid) (number : ℕ) (place : Place) (site : Site) (there : slice_get design.library.sites number ≡ Some site)
+module _ (design : DesignModel) (master : MasterModel) (number : ℕ) (place : Place) (site : Site) (there : slice_get design.library.sites number ≡ Some site)
     (area : HasArea site.size) (proper : IsWide (placed_box master.size place))
     (spans : List SiteSpan) (spans_are : AreRowSpans design.library design.rows spans) where
   -- where it stands on a row it is whole, and the row has its sites, in an orientation that fits
@@ -79,18 +79,18 @@ module _ (design : DesignContents) (master : MasterSaid) (number : ℕ) (place :
       }
 
 -- nor does a macro stand on a row whose site the library doesn't have
-pub on_no_row : (design : DesignContents) (master : MasterSaid) (number : ℕ) (place : Place) → length design.library.sites ≤ number → IsOnSomeRow design master number place → ⊥
+pub on_no_row : (design : DesignModel) (master : MasterModel) (number : ℕ) (place : Place) → length design.library.sites ≤ number → IsOnSomeRow design master number place → ⊥
 on_no_row design master number place beyond some = omega (arith, beyond, slice_get_within design.library.sites number some.on.site some.on.there)
 
-module _ (design : DesignContents) (c : ℕ) (component : Component) (there : slice_get design.components c ≡ Some component) where
+module _ (design : DesignModel) (c : ℕ) (component : Component) (there : slice_get design.components c ≡ Some component) where
   placed_of : (off : IsOffSite design.library design c) → component.place ≡ Some off.place
   placed_of off =
       let same : off.component ≡ component = same_Some off.component component (sym off.there ∙ there) in
       rw same at off.placed
 
 -- whether a component is off its sites, by its macro
-module _ (design : DesignContents) (c : ℕ) (component : Component) (there : slice_get design.components c ≡ Some component)
-    (master : MasterSaid) (is_master : slice_get design.library.masters component.master ≡ Some master) where
+module _ (design : DesignModel) (c : ℕ) (component : Component) (there : slice_get design.components c ≡ Some component)
+    (master : MasterModel) (is_master : slice_get design.library.masters component.master ≡ Some master) where
   master_of : (off : IsOffSite design.library design c) → off.master ≡ master
   master_of off =
       let same : off.component ≡ component = same_Some off.component component (sym off.there ∙ there) in

@@ -5,23 +5,23 @@ use Rattle.std.proofs.Math.Nat.{div-mul-le_self, lt-div-mul-add, mul-le-mul_righ
 use Rattle.std.proofs.lemmas.Bool.{cases_lt}
 use Rattle.std.proofs.lemmas.Grind.{common_steps}
 use Rattle.std.proofs.lemmas.Int.{ints}
-use Rattle.leg_geom.specs.Plane.{Spot, Sides, HasSquare}
-use Rattle.leg_cells.specs.Measure.{Lengths, HasArea}
-use Rattle.leg_block.specs.declared.records.Row.{Row}
-use Rattle.leg_place.specs.Sites.{SitesHave, IsOnSites}
+use Rattle.leg_geom.specs.Plane.{PointModel, RectModel, HasSquare}
+use Rattle.leg_lib_records.specs.Measure.{ExtentModel, HasArea}
+use Rattle.leg_design_records.specs.declared.records.Row.{Row}
+use Rattle.leg_rules.specs.Placement.Sites.{SitesHave, IsOnSites}
 
 -- a rectangle has area
-pub record IsWide (box : Sides) : Type 0 where
+pub record IsWide (box : RectModel) : Type 0 where
   pub wide : box.x1 <ℤ box.x2
   pub high : box.y1 <ℤ box.y2
 
 -- the box reaches from the lower edge of the row's sites to their upper one
-pub record IsLevel (row : Row) (size : Lengths) (box : Sides) : Type 0 where
+pub record IsLevel (row : Row) (size : ExtentModel) (box : RectModel) : Type 0 where
   pub bottom : box.y1 ≡ row.at.y
   pub top : box.y2 ≡ row.at.y +ℤ size.height
 
 -- a site of the row begins or ends at this x: so many sites lie to the left of it
-pub record IsEdge (row : Row) (size : Lengths) (x : ℤ) : Type 0 where
+pub record IsEdge (row : Row) (size : ExtentModel) (x : ℤ) : Type 0 where
   pub k : ℕ
   pub is : x ≡ row.at.x +ℤ pos k *ℤ size.width
   pub within : pos k ≤ℤ row.count
@@ -56,7 +56,7 @@ module _ (d n : ℕ) (some : 0 < n) where
         | inr high ↦ absurd (omega (arith, product_up l (d / n) n high, site_begins, below))
       ]
 
-module _ (row : Row) (size : Lengths) (box : Sides) (n : ℕ) (width : size.width ≡ pos n) (some : 0 < n) where
+module _ (row : Row) (size : ExtentModel) (box : RectModel) (n : ℕ) (width : size.width ≡ pos n) (some : 0 < n) where
   -- the left edge of a site
   pub edge_is : (k : ℕ) → pos k *ℤ size.width ≡ pos (k * n)
   edge_is k = rw width (pos-*ℤ-pos k n)
@@ -64,7 +64,7 @@ module _ (row : Row) (size : Lengths) (box : Sides) (n : ℕ) (width : size.widt
   module _ (f l : ℕ) (left : box.x1 ≡ row.at.x +ℤ pos (f * n)) (right : box.x2 ≡ row.at.x +ℤ pos (l * n))
       (bottom : box.y1 ≡ row.at.y) (top : box.y2 ≡ row.at.y +ℤ size.height) (order : f < l) where
     -- a unit square of the rectangle is one of a site
-    site_of_square : (square : Spot) → HasSquare box square → SitesHave row size f (l - f) square
+    site_of_square : (square : PointModel) → HasSquare box square → SitesHave row size f (l - f) square
     site_of_square square c =
         let d = unsigned_abs (square.x -ℤ row.at.x) in
         let apart : square.x ≡ row.at.x +ℤ pos d = omega (arith, ints, c.left, left) in
@@ -84,7 +84,7 @@ module _ (row : Row) (size : Lengths) (box : Sides) (n : ℕ) (width : size.widt
         }
 
     -- and the other way round
-    square_of_site : (square : Spot) → SitesHave row size f (l - f) square → HasSquare box square
+    square_of_site : (square : PointModel) → SitesHave row size f (l - f) square → HasSquare box square
     square_of_site square s =
         let inside_left = rw (edge_is s.k) at s.inside.left in
         let inside_right = rw (edge_is (s.k + 1)) at s.inside.right in
@@ -106,10 +106,10 @@ module _ (row : Row) (size : Lengths) (box : Sides) (n : ℕ) (width : size.widt
   }
 
   module _ (proper : IsWide box) (on : IsOnSites row size box) where
-    abbrev corner : Spot
+    abbrev corner : PointModel
     corner = record { x = box.x1; y = box.y1 }
 
-    abbrev opposite : Spot
+    abbrev opposite : PointModel
     opposite = record { x = box.x2 -ℤ pos 1; y = box.y2 -ℤ pos 1 }
 
     in_sites : SitesHave row size on.first on.many corner
@@ -191,7 +191,7 @@ module _ (row : Row) (size : Lengths) (box : Sides) (n : ℕ) (width : size.widt
         omega (arith, ints, last_in_sites.inside.top, (last_square l is).top)
 
 -- the lower edges are the same
-pub bottom_is : (row : Row) (size : Lengths) (box : Sides) → IsWide box → IsOnSites row size box → box.y1 ≡ row.at.y
+pub bottom_is : (row : Row) (size : ExtentModel) (box : RectModel) → IsWide box → IsOnSites row size box → box.y1 ≡ row.at.y
 bottom_is row size box proper on =
     let s =
     (on.squares (record { x = box.x1; y = box.y1 })).0
@@ -211,7 +211,7 @@ bottom_is row size box proper on =
     omega (arith, ints, s.inside.bottom, lower.bottom)
 
 -- a rectangle stands on sites just where its sides are those of sites
-module _ (row : Row) (size : Lengths) (box : Sides) (area : HasArea size) (proper : IsWide box) where
+module _ (row : Row) (size : ExtentModel) (box : RectModel) (area : HasArea size) (proper : IsWide box) where
   pub on_sites_from_edges : IsLevel row size box → IsEdge row size box.x1 → IsEdge row size box.x2 → IsOnSites row size box
   on_sites_from_edges level left right =
       let n = unsigned_abs size.width in

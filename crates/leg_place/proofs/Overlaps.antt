@@ -5,19 +5,20 @@ use Rattle.std.proofs.lemmas.List.{take_more, map-append, append_assoc}
 use Rattle.std.proofs.lemmas.List.Elements.{All-append, All-map, All-weaker, Contains-append_left, Contains-append_right}
 use Rattle.std.proofs.lemmas.Option.{same_Some, slice_get_within, slice_get-get_or, get_or_from_slice_get}
 use Rattle.leg_geom.specs.Plane.{ShareSquare}
-use Rattle.leg_sweep.specs.Pairs.{Before, IsPair, ArePairs, TakesAll, TookPairs}
+use Rattle.leg_sweep.specs.Pairs.{Before, ArePairs, TakesAll, TookPairs}
+use Rattle.leg_geom.specs.Pairs.{IsPair}
 use Rattle.leg_sweep.specs.Pairs.TakesAll.{none, more}
 use Rattle.leg_sweep.proofs.Lists.{AllPairs-append_by, AllPairs-map_where, Contains-map, Contains-nil}
-use Rattle.leg_cells.specs.Records.{Contents}
-use Rattle.leg_block.specs.Records.{DesignContents}
-use Rattle.leg_block.specs.declared.fault.Fault.{Fault}
-use Rattle.leg_block.specs.declared.fault.Fault.TheVariants.{Overlap}
-use Rattle.leg_block.specs.Violation.{ComesBefore, kind_number, numbers_of}
+use Rattle.leg_lib_records.specs.Records.{LibraryModel}
+use Rattle.leg_design_records.specs.Records.{DesignModel}
+use Rattle.leg_design_records.specs.declared.fault.Fault.{Fault}
+use Rattle.leg_design_records.specs.declared.fault.Fault.TheVariants.{Overlap}
+use Rattle.leg_design_records.specs.Violation.{ComesBefore, kind_number, numbers_of}
 use Rattle.leg_place.specs.declared.placed_box.PlacedBox.{PlacedBox}
-use Rattle.leg_place.specs.Box.{StandsIn}
-use Rattle.leg_place.specs.Faults.{DoOverlap}
+use Rattle.leg_rules.specs.Placement.Box.{HasBox}
+use Rattle.leg_rules.specs.Placement.Violations.{DoOverlap}
 use Rattle.leg_place.specs.Among.{IsMarked, HoldsAmong}
-use Rattle.leg_place.specs.Faults.Holds.{overlap}
+use Rattle.leg_rules.specs.Placement.Violations.IsPlacementViolation.{overlap}
 use Rattle.leg_place.specs.Steps.ListPrefix.{HoldsBefore, IsListBefore, AreBoxesBelow, HasLowerNumber, DoSomeOverlap, HasPair}
 use Rattle.leg_place.proofs.PlaceFaults.{overlap_there, marked_by_all}
 use Rattle.leg_place.proofs.ComponentFaults.{overlap_kind, is_overlap}
@@ -53,7 +54,7 @@ took_none : {Sink : Type 0} (found : List (ℕ × ℕ)) (before after : Sink) �
 took_none found before after (none) p has = Contains-nil p has
 took_none found before after (more rest never) p has = absurd never
 
-module _ (library : Contents) (design : DesignContents) (marks : List Bool) (n : ℕ) (boxes : List PlacedBox) (are : AreBoxesBelow library design marks n boxes) where
+module _ (library : LibraryModel) (design : DesignModel) (marks : List Bool) (n : ℕ) (boxes : List PlacedBox) (are : AreBoxesBelow library design marks n boxes) where
   -- the violation of a pair of boxes holds
   Holds-overlap_of : (p : ℕ × ℕ) → IsPair Share boxes p → HoldsAmong library design marks (overlap_of boxes p)
   Holds-overlap_of p pair =
@@ -62,8 +63,8 @@ module _ (library : Contents) (design : DesignContents) (marks : List Bool) (n :
           in_order = AllPairs-at HasLowerNumber boxes p.0 p.1 pair.a pair.b are.increasing pair.a_at pair.b_at pair.in_order;
           box_a = pair.a.rect;
           box_b = pair.b.rect;
-          stands_a = All-at (λ box. StandsIn library design box.component box.rect) boxes p.0 pair.a are.each pair.a_at;
-          stands_b = All-at (λ box. StandsIn library design box.component box.rect) boxes p.1 pair.b are.each pair.b_at;
+          stands_a = All-at (λ box. HasBox library design box.component box.rect) boxes p.0 pair.a are.each pair.a_at;
+          stands_b = All-at (λ box. HasBox library design box.component box.rect) boxes p.1 pair.b are.each pair.b_at;
           shared = pair.holds;
         });
         marked = (
@@ -106,7 +107,7 @@ module _ (library : Contents) (design : DesignContents) (marks : List Bool) (n :
       rw (first.1, second.1) at has
 
 -- overlaps behind the violations of the kinds before
-module _ (library : Contents) (design : DesignContents) (marks : List Bool) (found : List Fault) (before : IsListBefore library design marks overlap_kind 0 found) (boxes : List PlacedBox) (are : AreBoxesBelow library design marks (length design.components) boxes) where
+module _ (library : LibraryModel) (design : DesignModel) (marks : List Bool) (found : List Fault) (before : IsListBefore library design marks overlap_kind 0 found) (boxes : List PlacedBox) (are : AreBoxesBelow library design marks (length design.components) boxes) where
   pub listing_Overlap_end : (pairs : List (ℕ × ℕ)) → ArePairs Share boxes pairs
       → IsListBefore library design marks (overlap_kind + 1) 0 (found ++ map (overlap_of boxes) pairs)
   listing_Overlap_end pairs are_pairs = record {
@@ -177,7 +178,7 @@ pair_at boxes a b first second lower within shared =
     }
 
 -- overlaps of components that are all marked
-module _ (library : Contents) (design : DesignContents) (boxes : List PlacedBox) (are : AreBoxesBelow library design (replicate (length design.components) true) (length design.components) boxes) where
+module _ (library : LibraryModel) (design : DesignModel) (boxes : List PlacedBox) (are : AreBoxesBelow library design (replicate (length design.components) true) (length design.components) boxes) where
   -- of a pair
   pub overlap_of_pair : HasPair boxes → DoSomeOverlap library design
   overlap_of_pair has =

@@ -6,12 +6,12 @@ use Rattle.std.proofs.Math.Nat.{mul-pos, mul-mod_left}
 use Rattle.std.proofs.lemmas.Nat.{div-add-mod'}
 use Rattle.std.proofs.lemmas.Int.{ints, fits_signed_from_abs}
 use Rattle.leg_lex.specs.Number.{IsNumber}
-use Rattle.leg_geom.specs.Plane.{Sides, IsRect}
+use Rattle.leg_geom.specs.Plane.{RectModel, IsRect}
 use Rattle.leg_geom.specs.declared.orient.Orient.{Orient}
-use Rattle.leg_cells.specs.Measure.{Lengths, HasArea, IsExtent}
-use Rattle.leg_block.specs.WellFormedParts.{IsPosition}
-use Rattle.leg_block.specs.declared.records.Row.{Row}
-use Rattle.leg_place.specs.Sites.{IsOnSites}
+use Rattle.leg_lib_records.specs.Measure.{ExtentModel, HasArea, IsExtent}
+use Rattle.leg_design_records.specs.WellFormedParts.{IsPosition}
+use Rattle.leg_design_records.specs.declared.records.Row.{Row}
+use Rattle.leg_rules.specs.Placement.Sites.{IsOnSites}
 use Rattle.leg_place.specs.Steps.SiteSpan.{span_of, row_box, covers}
 use Rattle.leg_place.specs.Steps.RowSpans.{IsWhole}
 use Rattle.leg_place.proofs.Mirrors.{same_rank}
@@ -20,7 +20,7 @@ use Rattle.leg_place.proofs.Shift.{product_sum, same_shift, steps_between}
 use Rattle.leg_place.proofs.SpanOrder.{Reaches, same_parts, reaches_from_covers, covers_from_reaches}
 
 -- a box as high as a site is whole just where no part of a site remains of its width
-pub whole_test : (size : Lengths) (box : Sides) (d n : ℕ) → HasArea size → IsWide box → d ≡ unsigned_abs (box.x2 -ℤ box.x1) → n ≡ unsigned_abs size.width → box.y2 ≡ box.y1 +ℤ size.height → (d % n ≡ 0) ↔ IsWhole size box
+pub whole_test : (size : ExtentModel) (box : RectModel) (d n : ℕ) → HasArea size → IsWide box → d ≡ unsigned_abs (box.x2 -ℤ box.x1) → n ≡ unsigned_abs size.width → box.y2 ≡ box.y1 +ℤ size.height → (d % n ≡ 0) ↔ IsWhole size box
 whole_test size box d n area proper apart is_width high =
     let width : size.width ≡ pos n = omega (arith, ints, is_width, area.wide) in
     let long : (k : ℕ) → pos k *ℤ size.width ≡ pos (k * n) = λ k. ap (λ w. pos k *ℤ w) width ∙ pos-*ℤ-pos k n in (
@@ -46,7 +46,7 @@ pub sum_fits : (x y : ℤ) → IsNumber x → IsNumber y → FitsSigned w64 (x +
 sum_fits x y one other = fits_signed_from_abs w64 (x +ℤ y) (omega (arith, ints, one, other))
 
 -- the box of all sites of a row is a rectangle
-pub row_box_proper : (row : Row) (size : Lengths) → IsPosition row.at → pos 1 ≤ℤ row.count → IsNumber (row.at.x +ℤ row.count *ℤ size.width) → IsExtent size → IsRect (row_box row size)
+pub row_box_proper : (row : Row) (size : ExtentModel) → IsPosition row.at → pos 1 ≤ℤ row.count → IsNumber (row.at.x +ℤ row.count *ℤ size.width) → IsExtent size → IsRect (row_box row size)
 row_box_proper row size at some end extent =
     let m = unsigned_abs row.count in
     let n = unsigned_abs size.width in
@@ -65,7 +65,7 @@ row_box_proper row size at some end extent =
       high = omega (arith, ints, extent.area.high);
     }
 
-module _ (row : Row) (size : Lengths) (box : Sides) (n : ℕ) (width : size.width ≡ pos n) (some : 0 < n) where
+module _ (row : Row) (size : ExtentModel) (box : RectModel) (n : ℕ) (width : size.width ≡ pos n) (some : 0 < n) where
   -- so many sites, as a length
   sites_long : (k : ℕ) → pos k *ℤ size.width ≡ pos (k * n)
   sites_long k = rw width (pos-*ℤ-pos k n)
@@ -152,7 +152,7 @@ module _ (row : Row) (size : Lengths) (box : Sides) (n : ℕ) (width : size.widt
       within = within_count;
     }
 
-module _ (row : Row) (size : Lengths) (box : Sides) (area : HasArea size) (proper : IsWide box) where
+module _ (row : Row) (size : ExtentModel) (box : RectModel) (area : HasArea size) (proper : IsWide box) where
   wide_sites : size.width ≡ pos (unsigned_abs size.width)
   wide_sites = omega (arith, ints, area.wide)
 

@@ -1,10 +1,10 @@
 -- Rectangles by their unit squares.
 use Rattle.std.proofs.Common.{◌-ℤ◌, ◌+ℤ◌, pos, arith}
 use Rattle.std.proofs.lemmas.Int.{ints, by_lt_z}
-use Rattle.leg_geom.specs.Plane.{Spot, Sides, IsRect, HasSquare, HasAllPoints}
+use Rattle.leg_geom.specs.Plane.{PointModel, RectModel, IsRect, HasSquare, HasAllPoints}
 
 -- a rectangle that has all points of another has all its unit squares
-pub HasSquare-points : (a b : Sides) → HasAllPoints a b → (p : Spot) → HasSquare b p → HasSquare a p
+pub HasSquare-points : (a b : RectModel) → HasAllPoints a b → (p : PointModel) → HasSquare b p → HasSquare a p
 HasSquare-points a b points p square =
     let low = points p (record { left = square.left; right = omega (arith, ints); bottom = square.bottom; top = omega (arith, ints) }) in
     let high =
@@ -13,13 +13,13 @@ HasSquare-points a b points p square =
     record { left = low.left; right = omega (arith, ints, high.right); bottom = low.bottom; top = omega (arith, ints, high.top) }
 
 -- a unit square of the second rectangle that isn't one of the first
-pub record SquareOutside (a b : Sides) : Type 0 where
-  pub square : Spot
+pub record SquareOutside (a b : RectModel) : Type 0 where
+  pub square : PointModel
   pub inside : HasSquare b square
   pub outside : HasSquare a square → ⊥
 
 -- a rectangle that lacks a point of another, which has area, lacks one of its unit squares
-pub SquareOutside-points : (a b : Sides) → IsRect b → (HasAllPoints a b → ⊥) → SquareOutside a b
+pub SquareOutside-points : (a b : RectModel) → IsRect b → (HasAllPoints a b → ⊥) → SquareOutside a b
 SquareOutside-points a b proper missed =
     let corner : HasSquare b (record { x = b.x1; y = b.y1 }) =
     record { left = omega (arith, ints); right = proper.wide; bottom = omega (arith, ints); top = proper.high } in

@@ -1,5 +1,2 @@
-pub mod Box
-pub mod Sites
-pub mod Faults
 pub mod Among
 pub mod Steps

@@ -2,7 +2,7 @@
 //! placement blockage.
 
 ghost use Rattle.std.specs.Prelude.{◌≡◌, ◌<◌, ◌↔◌, length, IsTrue};
-ghost use Rattle.leg_place.specs.Faults.{IsUnplaced, IsOutside, Holds};
+ghost use Rattle.leg_rules.specs.Placement.Violations.{IsUnplaced, IsOutside, IsPlacementViolation};
 ghost use Rattle.leg_place.specs.Steps.Floorplan.{IsFloorplan};
 ghost use Rattle.leg_place.specs.Steps.ComponentFault.{fault_of};
 
@@ -10,7 +10,7 @@ use crate::floorplan::Floorplan;
 use crate::placed_box::box_of;
 use crate::placement_blockages::is_blocked;
 use crate::sites::is_off_site;
-use leg_block::{Design, Fault};
+use leg_design_records::{Design, Fault};
 use std::alloc::Allocator;
 
 /// A kind of violation that is asked of one component by itself.
@@ -44,7 +44,7 @@ impl ComponentFault {
     ) -> bool
         requires there { component < length design.now.components }
         requires floorplan { IsFloorplan design.now floorplan.now }
-        ensures { IsTrue result ↔ Holds design.now.library design.now (fault_of self component) }
+        ensures { IsTrue result ↔ IsPlacementViolation design.now.library design.now (fault_of self component) }
     {
         match self {
             ComponentFault::Unplaced => is_unplaced(design, component),

@@ -1,8 +1,8 @@
 //! The violations of placement.
 
 ghost use Rattle.std.specs.Prelude.{◌≡◌, ◌+◌, IfOk, OnOk};
-ghost use Rattle.leg_block.specs.Violation.{kind_number, IsListOf};
-ghost use Rattle.leg_place.specs.Faults.{Holds};
+ghost use Rattle.leg_design_records.specs.Violation.{kind_number, IsListOf};
+ghost use Rattle.leg_rules.specs.Placement.Violations.{IsPlacementViolation};
 ghost use Rattle.leg_place.specs.Among.{HoldsAmong};
 ghost use Rattle.leg_place.specs.Steps.ComponentFault.{fault_of};
 ghost use Rattle.leg_place.specs.Steps.Floorplan.{IsFloorplan};
@@ -12,8 +12,8 @@ use crate::component_fault::ComponentFault;
 use crate::floorplan::Floorplan;
 use crate::marks::{all_marked, is_marked};
 use crate::overlap::push_overlaps;
-use leg_block::{Design, Fault};
-use leg_cells::Library;
+use leg_design_records::{Design, Fault};
+use leg_lib_records::Library;
 use std::alloc::{AllocError, Allocator};
 
 /// The components without a place, those outside the die, those off the sites of the rows, the pairs of components that
@@ -26,7 +26,7 @@ pub fn place_faults<A: Allocator + Copy>(
     design: &Design<'_, A>,
 ) -> Result<Vec<Fault, A>, AllocError>
     requires { library.now ≡ design.now.library }
-    ensures { IfOk result (λ found. IsListOf (Holds library.now design.now) found.items) }
+    ensures { IfOk result (λ found. IsListOf (IsPlacementViolation library.now design.now) found.items) }
 {
     let marks = all_marked(alloc, design)?;
     let faults = place_faults_among(alloc, library, design, &marks)?;

@@ -6,7 +6,7 @@ ghost use Rattle.leg_place.specs.Steps.Floorplan.{IsFloorplan};
 use crate::placement_blockages::PlacementBlockages;
 use crate::row_spans::row_spans;
 use crate::site_span::SiteSpan;
-use leg_block::Design;
+use leg_design_records::Design;
 use std::alloc::{AllocError, Allocator};
 
 /// The sites and the placement blockages of a design, in orders by which they are found.

@@ -3,7 +3,7 @@
 ghost use Rattle.std.specs.Prelude.{◌≡◌, ◌↔◌, true, length, replicate, IsTrue, IfOk};
 ghost use Rattle.leg_place.specs.Among.{IsMarked};
 
-use leg_block::Design;
+use leg_design_records::Design;
 use std::alloc::{AllocError, Allocator};
 
 /// Whether the component of this number is marked.

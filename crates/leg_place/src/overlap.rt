@@ -4,12 +4,12 @@ ghost use Rattle.std.specs.Prelude.{◌≡◌, ◌+◌, ◌^◌, ◌↔◌, IsTr
 ghost use Rattle.std.proofs.Common.{refl};
 ghost use Rattle.leg_geom.specs.Plane.{ShareSquare};
 ghost use Rattle.leg_geom.proofs.Gaps.{ShareSquare-symmetric, ShareSquare-gaps};
-ghost use Rattle.leg_block.specs.Violation.{kind_number};
+ghost use Rattle.leg_design_records.specs.Violation.{kind_number};
 ghost use Rattle.leg_place.specs.Steps.ListPrefix.{IsListBefore, DoSomeOverlap, HasPair};
 
 use crate::marks::all_marked;
 use crate::placed_box::{PlacedBox, placed_boxes};
-use leg_block::{Design, Fault};
+use leg_design_records::{Design, Fault};
 use leg_sweep::{LayeredRule, PairRule, PairSink, each_pair, pairs_in_bands};
 use std::alloc::{AllocError, Allocator};
 

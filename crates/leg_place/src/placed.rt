@@ -1,15 +1,15 @@
 //! Whether all components are legally placed.
 
 ghost use Rattle.std.specs.Prelude.{◌≡◌, ◌<◌, ◌↔◌, length, IsTrue, IfOk};
-ghost use Rattle.leg_place.specs.Faults.{IsLegallyPlaced};
+ghost use Rattle.leg_rules.specs.Placement.Violations.{IsLegallyPlaced};
 ghost use Rattle.leg_place.specs.Steps.Floorplan.{IsFloorplan};
 ghost use Rattle.leg_place.specs.Steps.ListPrefix.{IsMisplaced, IsOneMisplaced};
 
 use crate::component_fault::ComponentFault;
 use crate::floorplan::Floorplan;
 use crate::overlap::do_some_overlap;
-use leg_block::Design;
-use leg_cells::Library;
+use leg_design_records::Design;
+use leg_lib_records::Library;
 use std::alloc::{AllocError, Allocator};
 
 /// Whether no violation holds that `place_faults` would list. It ends at the first one, so that it takes no time for the

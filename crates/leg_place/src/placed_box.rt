@@ -2,15 +2,15 @@
 
 ghost use Rattle.std.specs.Prelude.{◌≡◌, ◌≤◌, ◌<◌, length, IfOk, IfSome};
 ghost use Rattle.leg_geom.specs.Plane.{IsRect};
-ghost use Rattle.leg_block.specs.declared.limits.TheConstants.{ENTRY_LIMIT};
-ghost use Rattle.leg_block.specs.WellFormedParts.{IsPosition, IsComponent};
-ghost use Rattle.leg_place.specs.Box.{placed_box, box_of};
+ghost use Rattle.leg_design_records.specs.declared.limits.TheConstants.{ENTRY_LIMIT};
+ghost use Rattle.leg_design_records.specs.WellFormedParts.{IsPosition, IsComponent};
+ghost use Rattle.leg_rules.specs.Placement.Box.{placed_box, box_of};
 ghost use Rattle.leg_place.specs.Steps.ListPrefix.{AreBoxesBelow, IsMarkedBox};
 
 use crate::marks::is_marked;
-use leg_block::{Component, Design};
-use leg_cells::{Extent, Library};
+use leg_design_records::{Component, Design};
 use leg_geom::{Place, Rect};
+use leg_lib_records::{Extent, Library};
 use std::alloc::{AllocError, Allocator};
 
 /// A component that has a place, by its number, and its box.

@@ -1,13 +1,13 @@
 //! Components in placement blockages (LEF/DEF 5.8, "Blockages").
 
 ghost use Rattle.std.specs.Prelude.{◌≡◌, ◌<◌, ◌≤◌, ◌↔◌, length, IsTrue, IfOk};
-ghost use Rattle.leg_block.specs.declared.limits.TheConstants.{PART_LIMIT};
-ghost use Rattle.leg_block.specs.Records.{placement_rects};
-ghost use Rattle.leg_place.specs.Faults.{IsBlocked};
+ghost use Rattle.leg_design_records.specs.declared.limits.TheConstants.{PART_LIMIT};
+ghost use Rattle.leg_design_records.specs.Records.{placement_rects};
+ghost use Rattle.leg_rules.specs.Placement.Violations.{IsBlocked};
 ghost use Rattle.leg_place.specs.Steps.Floorplan.{IsMet};
 
 use crate::placed_box::box_of;
-use leg_block::{Blockage, Design};
+use leg_design_records::{Blockage, Design};
 use leg_geom::Rect;
 use leg_sweep::BinIndex;
 use std::alloc::{AllocError, Allocator};
@@ -23,9 +23,9 @@ pub(crate) struct PlacementBlockages<A: Allocator> {
 
 impl<A: Allocator> Model for PlacementBlockages<A> {
     ghost use Rattle.std.specs.Prelude.{◌≡◌, List};
-    ghost use Rattle.leg_geom.specs.Plane.{Sides};
+    ghost use Rattle.leg_geom.specs.Plane.{RectModel};
 
-    ghost Value = { List Sides };
+    ghost Value = { List RectModel };
 
     ghost view = { λ blockages. blockages.rects.items };
 

@@ -2,14 +2,14 @@
 
 ghost use Rattle.std.specs.Prelude.{◌≡◌, ◌↔◌, ◌≤ℤ◌, ◌+ℤ◌, ◌*ℤ◌, pos, length, AllPairs, IsTrue, IfOk};
 ghost use Rattle.leg_lex.specs.Number.{IsNumber};
-ghost use Rattle.leg_block.specs.WellFormedParts.{IsPosition};
+ghost use Rattle.leg_design_records.specs.WellFormedParts.{IsPosition};
 ghost use Rattle.leg_place.specs.Steps.SiteSpan.{row_box};
 ghost use Rattle.leg_place.specs.Steps.RowSpans.{AreSpansBelow, AreRowSpans, Precedes, IsCovered};
 
 use crate::site_span::SiteSpan;
-use leg_block::{Design, Row};
-use leg_cells::Extent;
+use leg_design_records::{Design, Row};
 use leg_geom::Rect;
+use leg_lib_records::Extent;
 use std::alloc::{AllocError, Allocator};
 
 /// The sites of the rows of a design, line by line and from left to right. A row is left out where the one kept before

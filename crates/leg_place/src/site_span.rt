@@ -3,8 +3,8 @@
 ghost use Rattle.std.specs.Prelude.{◌≡◌};
 ghost use Rattle.leg_place.specs.Steps.SiteSpan.{orient_rank, span_of, covers, begins_by};
 
-use leg_cells::Extent;
 use leg_geom::{Orient, Rect};
+use leg_lib_records::Extent;
 
 /// What sites have in common whose edges coincide wherever they overlap.
 #[derive(Clone, Copy, PartialEq, Eq, PartialOrd, Ord)]

@@ -2,17 +2,17 @@
 
 ghost use Rattle.std.specs.Prelude.{◌≡◌, ◌<◌, ◌↔◌, length, AllPairs, IsTrue};
 ghost use Rattle.leg_geom.specs.Plane.{IsRect};
-ghost use Rattle.leg_cells.specs.Measure.{HasArea};
-ghost use Rattle.leg_block.specs.WellFormedParts.{IsPosition};
-ghost use Rattle.leg_place.specs.Sites.{IsOffSite};
+ghost use Rattle.leg_lib_records.specs.Measure.{HasArea};
+ghost use Rattle.leg_design_records.specs.WellFormedParts.{IsPosition};
+ghost use Rattle.leg_rules.specs.Placement.Sites.{IsOffSite};
 ghost use Rattle.leg_place.specs.Steps.RowSpans.{AreRowSpans, Precedes, IsWhole, HasSites, IsOnSomeRow};
 
 use crate::placed_box::placed_size;
 use crate::row_spans::is_covered;
 use crate::site_span::SiteSpan;
-use leg_block::Design;
-use leg_cells::{Extent, Master};
+use leg_design_records::Design;
 use leg_geom::{Orient, Place, Rect};
+use leg_lib_records::{Extent, Master};
 use std::alloc::Allocator;
 
 /// Whether the component is placed, its macro has a site, and it is on the sites of no row. The sites of the rows

@@ -3,7 +3,7 @@ use Rattle.std.proofs.Common.{◌≡◌, ℤ, w64, to_z, of_z, arith}
 use Rattle.std.specs.Int.{int_min, int_max}
 use Rattle.std.proofs.lemmas.Int.{ints, clamps, to_z-of_z}
 use Rattle.leg_lex.specs.Number.{IsNumber}
-use Rattle.leg_geom.specs.Plane.{Sides, IsCoordinate}
+use Rattle.leg_geom.specs.Plane.{RectModel, IsCoordinate}
 use Rattle.leg_print.specs.Steps.Wirelength.{IsBox, joined}
 
 -- what a register keeps of a number
@@ -30,7 +30,7 @@ max_kept z a b p q is =
     rw e (kept _ (near_max a b p q))
 
 -- the box of two is one
-pub box_joined : (a b : Sides) → IsBox a → IsBox b → IsBox (joined a b)
+pub box_joined : (a b : RectModel) → IsBox a → IsBox b → IsBox (joined a b)
 box_joined a b p q = record {
   x1 = near_min a.x1 b.x1 p.x1 q.x1;
   y1 = near_min a.y1 b.y1 p.y1 q.y1;

@@ -1,6 +1,6 @@
 mod ShapeText
 -- The text of a design
-pub mod InTurn
+pub mod Appends
 pub mod SectionText
 -- The wirelength
 mod LeastBoxes

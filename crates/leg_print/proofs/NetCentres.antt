@@ -5,14 +5,14 @@ use Rattle.std.proofs.lemmas.List.{map-id}
 use Rattle.std.proofs.lemmas.List.Sums.{sum_by-append}
 use Rattle.std.proofs.lemmas.List.FromFn.{map-range_with_len_more}
 use Rattle.std.proofs.lemmas.List.Elements.{Contains-append_left, Contains-append_right, Contains-append_cases}
-use Rattle.leg_geom.specs.Plane.{Spot, Sides}
-use Rattle.leg_cells.specs.Scale.{OneForOne}
-use Rattle.leg_block.specs.declared.records.Terminal.{Terminal}
-use Rattle.leg_block.specs.Terminals.{is_among}
-use Rattle.leg_block.specs.Records.{DesignContents, NetSaid}
-use Rattle.leg_block.proofs.SameTerminal.{among_contains}
-use Rattle.leg_flat.specs.Nets.{special_named, entry_terminals, terminals_of}
-use Rattle.leg_print.specs.Wirelength.{IsLeastBoxIfAny, IsCentreAmong, IsNetLength, IsWirelength}
+use Rattle.leg_geom.specs.Plane.{PointModel, RectModel}
+use Rattle.leg_lib_records.specs.Scale.{OneForOne}
+use Rattle.leg_design_records.specs.declared.records.Terminal.{Terminal}
+use Rattle.leg_design_records.specs.Terminals.{is_among}
+use Rattle.leg_design_records.specs.Records.{DesignModel, NetModel}
+use Rattle.leg_design_records.proofs.SameTerminal.{among_contains}
+use Rattle.leg_rules.specs.Metal.Nets.{special_named, entry_terminals, terminals_of}
+use Rattle.leg_rules.specs.Wirelength.{IsLeastBoxIfAny, IsCentreAmong, IsNetLength, IsWirelength}
 use Rattle.leg_print.specs.Steps.Wirelength.{joined_if_any}
 use Rattle.leg_print.proofs.LeastBoxes.{least_same, least_joined_if_any}
 
@@ -63,19 +63,19 @@ in_both_lists xs ys t (inr second) = by (is_among t xs) refl where
       Contains-append_right xs (filter (λ u. not (is_among u xs)) ys) t
       (kept_by_filter (λ u. not (is_among u xs)) ys t (ap not is) second)
 
-module _ (design : DesignContents) where
-  both_centres : (xs ys : List Terminal) (p : Spot) → (IsCentreAmong design xs p ⊎ IsCentreAmong design ys p) → IsCentreAmong design (xs ++ filter (λ u. not (is_among u xs)) ys) p
+module _ (design : DesignModel) where
+  both_centres : (xs ys : List Terminal) (p : PointModel) → (IsCentreAmong design xs p ⊎ IsCentreAmong design ys p) → IsCentreAmong design (xs ++ filter (λ u. not (is_among u xs)) ys) p
   both_centres xs ys p (inl has) = record { terminal = has.terminal; listed = in_both_lists xs ys has.terminal (inl has.listed); centre = has.centre }
   both_centres xs ys p (inr has) = record { terminal = has.terminal; listed = in_both_lists xs ys has.terminal (inr has.listed); centre = has.centre }
 
-  centre_of_either : (xs ys : List Terminal) (p : Spot) → IsCentreAmong design (xs ++ filter (λ u. not (is_among u xs)) ys) p → (IsCentreAmong design xs p ⊎ IsCentreAmong design ys p)
+  centre_of_either : (xs ys : List Terminal) (p : PointModel) → IsCentreAmong design (xs ++ filter (λ u. not (is_among u xs)) ys) p → (IsCentreAmong design xs p ⊎ IsCentreAmong design ys p)
   centre_of_either xs ys p has = elim (both_lists xs ys has.terminal has.listed) [
     | inl first ↦ inl (record { terminal = has.terminal; listed = first; centre = has.centre })
     | inr second ↦ inr (record { terminal = has.terminal; listed = second; centre = has.centre })
   ]
 
   -- the box of a net of NETS joins that of its own terminals to that of the terminals of its special entry
-  pub net_least : (n : ℕ) (net : NetSaid) (a b : Option Sides) → slice_get design.nets n ≡ Some net → IsLeastBoxIfAny (IsCentreAmong design net.terminals) a → IsLeastBoxIfAny (IsCentreAmong design (entry_terminals (special_named design net.name))) b → IsLeastBoxIfAny (IsCentreAmong design (terminals_of design n)) (joined_if_any a b)
+  pub net_least : (n : ℕ) (net : NetModel) (a b : Option RectModel) → slice_get design.nets n ≡ Some net → IsLeastBoxIfAny (IsCentreAmong design net.terminals) a → IsLeastBoxIfAny (IsCentreAmong design (entry_terminals (special_named design net.name))) b → IsLeastBoxIfAny (IsCentreAmong design (terminals_of design n)) (joined_if_any a b)
   unfolding terminals_of
   net_least n net a b there regular special =
       let xs = net.terminals in
@@ -84,8 +84,8 @@ module _ (design : DesignContents) where
       (least_same _ _ (both_centres xs ys) (centre_of_either xs ys) (joined_if_any a b)
       (least_joined_if_any (IsCentreAmong design xs) (IsCentreAmong design ys) a b regular special))
 
-  pub same_box : (n : ℕ) (a b : Option Sides) → a ≡ b → IsLeastBoxIfAny (IsCentreAmong design (terminals_of design n)) a → IsLeastBoxIfAny (IsCentreAmong design (terminals_of design n)) b
-  same_box n a b same least = subst (λ (box : Option Sides). IsLeastBoxIfAny (IsCentreAmong design (terminals_of design n)) box) same least
+  pub same_box : (n : ℕ) (a b : Option RectModel) → a ≡ b → IsLeastBoxIfAny (IsCentreAmong design (terminals_of design n)) a → IsLeastBoxIfAny (IsCentreAmong design (terminals_of design n)) b
+  same_box n a b same least = subst (λ (box : Option RectModel). IsLeastBoxIfAny (IsCentreAmong design (terminals_of design n)) box) same least
 
 -- one more of a range
 range_more : (a n : ℕ) → range_with_len a (n + 1) ≡ range_with_len a n ++ (a + n) ∷ []
@@ -98,18 +98,15 @@ push_pair R (w ∷ xs) [] x y before is = absurd before
 push_pair R (w ∷ xs) (z ∷ ys) x y before is = (before.0, push_pair R xs ys x y before.1 is)
 
 -- the lengths of the first nets, and their sum
-pub record AreLengths (design : DesignContents) (count total : ℕ) : Type 0 where
+pub record AreLengths (design : DesignModel) (count total : ℕ) : Type 0 where
   pub lengths : List ℕ
   pub each : OneForOne (IsNetLength design) (range_with_len 0 count) lengths
   pub is : total ≡ sum lengths
 
-pub no_lengths : (design : DesignContents) → AreLengths design 0 0
-no_lengths design = record { lengths = []; each = tt; is = refl }
-
 sum_push : (xs : List ℕ) (x : ℕ) → sum (xs ++ x ∷ []) ≡ sum xs + x
 sum_push xs x = sum_by-append (λ (n : ℕ). n) xs (x ∷ []) ∙ ap (λ n. sum xs + n) (zero-add x)
 
-pub one_more_length : (design : DesignContents) (count total length : ℕ) → AreLengths design count total → IsNetLength design count length → AreLengths design (count + 1) (total + length)
+pub one_more_length : (design : DesignModel) (count total length : ℕ) → AreLengths design count total → IsNetLength design count length → AreLengths design (count + 1) (total + length)
 one_more_length design count total length before one = record {
   lengths = before.lengths ++ length ∷ [];
   each =
@@ -119,7 +116,7 @@ one_more_length design count total length before one = record {
 }
 
 -- the lengths of all nets of NETS are those of the wirelength
-pub all_lengths : (design : DesignContents) (count total : ℕ) → count ≡ length design.nets → AreLengths design count total → IsWirelength design (pos total)
+pub all_lengths : (design : DesignModel) (count total : ℕ) → count ≡ length design.nets → AreLengths design count total → IsWirelength design (pos total)
 all_lengths design count total is known = record {
   lengths = known.lengths;
   each = subst (λ (n : ℕ). OneForOne (IsNetLength design) (range_with_len 0 n) known.lengths) is known.each;

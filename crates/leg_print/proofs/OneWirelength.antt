@@ -1,12 +1,12 @@
 -- A design has one wirelength.
 use Rattle.std.proofs.Common.{◌≡◌, ℕ, ℤ, pos, List, [], ◌∷◌, sum, refl, sym, ap, ◌∙◌}
-use Rattle.leg_cells.specs.Scale.{OneForOne}
-use Rattle.leg_block.specs.Records.{DesignContents}
-use Rattle.leg_flat.specs.Nets.{terminals_of}
-use Rattle.leg_print.specs.Wirelength.{IsCentreAmong, half_perimeter, IsNetLength, IsWirelength}
+use Rattle.leg_lib_records.specs.Scale.{OneForOne}
+use Rattle.leg_design_records.specs.Records.{DesignModel}
+use Rattle.leg_rules.specs.Metal.Nets.{terminals_of}
+use Rattle.leg_rules.specs.Wirelength.{IsCentreAmong, half_perimeter, IsNetLength, IsWirelength}
 use Rattle.leg_print.proofs.LeastBoxes.{one_least_if_any}
 
-module _ (design : DesignContents) where
+module _ (design : DesignModel) where
   -- a net has one length
   one_length : (n a b : ℕ) → IsNetLength design n a → IsNetLength design n b → a ≡ b
   one_length n a b first second =

@@ -4,9 +4,9 @@ use Rattle.std.specs.List.{flat_map}
 use Rattle.std.proofs.lemmas.Bool.Decides.{nat_tests}
 use Rattle.std.proofs.lemmas.List.{take_all, length-map}
 use Rattle.std.proofs.lemmas.List.Folds.{flat_map-map}
-use Rattle.leg_text.specs.Spaced.{line}
-use Rattle.leg_print.specs.Text.Sections.{section_start_words, end_words, section_text}
-use Rattle.leg_print.proofs.InTurn.{three_parts}
+use Rattle.leg_output.specs.Words.{line}
+use Rattle.leg_output.specs.Text.Sections.{section_start_words, end_words, section_text}
+use Rattle.leg_print.proofs.Appends.{three_parts}
 
 -- without entries there is no section
 pub no_section : {X : Type 0} (keyword : List ℕ) (entry : X → List ℕ) (xs : List X) → (length xs == 0) ≡ true → section_text keyword entry xs ≡ []

@@ -5,17 +5,17 @@ use Rattle.std.proofs.lemmas.Option.{slice_get_within, slice_get_read, get_or_fr
 use Rattle.std.proofs.lemmas.List.Elements.{All-weaker}
 use Rattle.leg_lex.specs.declared.limits.TheConstants.{NUMBER_LIMIT}
 use Rattle.leg_lex.specs.Number.{IsNumber}
-use Rattle.leg_geom.specs.Plane.{Sides}
+use Rattle.leg_geom.specs.Plane.{RectModel}
 use Rattle.leg_geom.specs.declared.place.Place.{Place}
-use Rattle.leg_cells.specs.declared.records.Shape.{Shape}
-use Rattle.leg_cells.specs.Records.{Contents, MasterSaid, MasterPinSaid}
-use Rattle.leg_cells.specs.Sound.{AreWithin, AreShapesWithin, IsSoundMaster, IsSound}
-use Rattle.leg_block.specs.declared.records.Status.{Status}
-use Rattle.leg_block.specs.declared.records.Status.TheVariants.{Unplaced, Placed, Fixed, Cover}
-use Rattle.leg_block.specs.declared.records.Component.{Component}
-use Rattle.leg_block.specs.Records.{DesignContents, PortSaid, PinSaid}
-use Rattle.leg_block.specs.WellFormedParts.{IsPosition, IsPlaced, IsArea, IsMetalShape, IsComponent, IsPort, IsPin}
-use Rattle.leg_block.specs.WellFormed.{IsWellFormed}
+use Rattle.leg_lib_records.specs.declared.records.Shape.{Shape}
+use Rattle.leg_lib_records.specs.Records.{LibraryModel, MasterModel, MasterPinModel}
+use Rattle.leg_lib_records.specs.Sound.{AreWithin, AreShapesWithin, IsSoundMaster, IsSound}
+use Rattle.leg_design_records.specs.declared.records.Status.{Status}
+use Rattle.leg_design_records.specs.declared.records.Status.TheVariants.{Unplaced, Placed, Fixed, Cover}
+use Rattle.leg_design_records.specs.declared.records.Component.{Component}
+use Rattle.leg_design_records.specs.Records.{DesignModel, PortModel, PinModel}
+use Rattle.leg_design_records.specs.WellFormedParts.{IsPosition, IsPlaced, IsArea, IsMetalShape, IsComponent, IsPort, IsPin}
+use Rattle.leg_design_records.specs.WellFormed.{IsWellFormed}
 use Rattle.leg_flat.specs.Steps.Bounds.{IsSumWithin, IsDrawnWithin}
 use Rattle.leg_flat.specs.Steps.AddedMetal.{AreDrawnWithin, IsPlaceWithin, IsPortWithin}
 
@@ -29,7 +29,7 @@ sum_of_number z n = omega (arith, n)
 drawn_of_sums : (s : Shape) → AreWithin (2 * NUMBER_LIMIT) s.rect → IsDrawnWithin s.rect
 drawn_of_sums s w = record { x1 = w.x1; y1 = w.y1; x2 = w.x2; y2 = w.y2 }
 
-drawn_of_area : (r : Sides) → IsArea r → IsDrawnWithin r
+drawn_of_area : (r : RectModel) → IsArea r → IsDrawnWithin r
 drawn_of_area r a = record {
   x1 = sum_of_number r.x1 a.x1;
   y1 = sum_of_number r.y1 a.y1;
@@ -37,7 +37,7 @@ drawn_of_area r a = record {
   y2 = sum_of_number r.y2 a.y2;
 }
 
-drawn_of_metal : (library : Contents) (s : Shape) → IsMetalShape library s → IsDrawnWithin s.rect
+drawn_of_metal : (library : LibraryModel) (s : Shape) → IsMetalShape library s → IsDrawnWithin s.rect
 drawn_of_metal library s m = drawn_of_area s.rect m.rect
 
 placed_within : (status : Status) (place : Option Place) → IsPlaced status place → IsPlaceWithin place
@@ -47,32 +47,26 @@ placed_within Placed (Some place) is = is
 placed_within Fixed (Some place) is = is
 placed_within Cover (Some place) is = is
 
-port_within : (library : Contents) (port : PortSaid) → IsPort library port → IsPortWithin port
+port_within : (library : LibraryModel) (port : PortModel) → IsPort library port → IsPortWithin port
 port_within library port is = record {
   place = placed_within port.status port.place is.placed;
   shapes = All-weaker (IsMetalShape library) (λ s. IsDrawnWithin s.rect) (drawn_of_metal library) port.shapes is.shapes;
 }
 
--- the ports of a pin
-pub ports_within : (design : DesignContents) (p : ℕ) (pin : PinSaid) → IsWellFormed design → slice_get design.pins p ≡ Some pin → All IsPortWithin pin.ports
-ports_within design p pin proper there =
-    let known = all_at (IsPin design.library) design.pins p pin there proper.pins.each in
-    All-weaker (IsPort design.library) IsPortWithin (port_within design.library) pin.ports known.ports
-
 position : (o : Option Place) (place : Place) → o ≡ Some place → IsPlaceWithin o → IsPosition place.at
 position o place is within = let at = rw is at within in at
 
 -- the place of a component
-pub component_position : (design : DesignContents) (c : ℕ) (component : Component) (place : Place) → IsWellFormed design → slice_get design.components c ≡ Some component → component.place ≡ Some place → IsPosition place.at
+pub component_position : (design : DesignModel) (c : ℕ) (component : Component) (place : Place) → IsWellFormed design → slice_get design.components c ≡ Some component → component.place ≡ Some place → IsPosition place.at
 component_position design c component place proper there stands =
     let known = all_at (IsComponent design.library) design.components c component there proper.components.each in
     position component.place place stands (placed_within component.status component.place known.placed)
 
 -- the shapes of a macro's pin
-pub pin_within : (library : Contents) (m k : ℕ) (master : MasterSaid) (pin : MasterPinSaid) → IsSound library → slice_get library.masters m ≡ Some master → slice_get master.pins k ≡ Some pin → AreDrawnWithin pin.shapes
+pub pin_within : (library : LibraryModel) (m k : ℕ) (master : MasterModel) (pin : MasterPinModel) → IsSound library → slice_get library.masters m ≡ Some master → slice_get master.pins k ≡ Some pin → AreDrawnWithin pin.shapes
 pin_within library m k master pin sound made there =
     let known = all_at IsSoundMaster library.masters m master made sound.masters in
-    let shapes = all_at (λ (p : MasterPinSaid). AreShapesWithin (2 * NUMBER_LIMIT) p.shapes) master.pins k pin there known.pins in
+    let shapes = all_at (λ (p : MasterPinModel). AreShapesWithin (2 * NUMBER_LIMIT) p.shapes) master.pins k pin there known.pins in
     All-weaker (λ s. AreWithin (2 * NUMBER_LIMIT) s.rect) (λ s. IsDrawnWithin s.rect) drawn_of_sums pin.shapes shapes
 
 -- what a lookup finds stands at its place

@@ -2,18 +2,18 @@
 
 ghost use Rattle.std.specs.Prelude.{◌≡◌, ◌++◌, OnOk, codes, map};
 ghost use Rattle.std.specs.List.{flat_map};
-ghost use Rattle.leg_text.specs.Spaced.{spaced, line};
-ghost use Rattle.leg_block.specs.Records.{blockage_said};
-ghost use Rattle.leg_print.specs.Text.Blockages.{blocked_layer_words, rect_words, blockage_words};
-ghost use Rattle.leg_print.specs.Text.Whole.{blockages_text};
+ghost use Rattle.leg_output.specs.Words.{spaced, line};
+ghost use Rattle.leg_design_records.specs.Records.{blockage_said};
+ghost use Rattle.leg_output.specs.Text.Blockages.{blocked_layer_words, rect_words, blockage_words};
+ghost use Rattle.leg_output.specs.Text.Whole.{blockages_text};
 
 use crate::name::layer_name;
 use crate::points::push_corners;
 use crate::sections::{push_section_end, push_section_start};
 use crate::words::push_start;
-use leg_block::{Blockage, Design};
+use leg_design_records::{Blockage, Design};
 use leg_geom::Rect;
-use leg_text::{push_end, push_word};
+use leg_print_words::{push_end, push_word};
 use std::alloc::{AllocError, Allocator};
 
 /// Adds rectangles, each after its keyword.

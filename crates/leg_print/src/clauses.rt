@@ -1,17 +1,17 @@
 //! Clauses, each after a `+`.
 
 ghost use Rattle.std.specs.Prelude.{◌≡◌, ◌++◌, ◌∷◌, OnOk, codes, option_map, map};
-ghost use Rattle.leg_text.specs.Spaced.{spaced};
-ghost use Rattle.leg_print.specs.Text.Clauses.{clause_words, kept_clause, shape_clause, status_word, placement_clause};
+ghost use Rattle.leg_output.specs.Words.{spaced};
+ghost use Rattle.leg_output.specs.Text.Clauses.{clause_words, kept_clause, shape_clause, status_word, placement_clause};
 
 use crate::name::layer_name;
 use crate::points::{orient_word, push_corners};
 use itoa::Buffer;
-use leg_block::{Design, Status};
-use leg_cells::Shape;
+use leg_design_records::{Design, Status};
 use leg_geom::Place;
 use leg_lex::Name;
-use leg_text::push_words;
+use leg_lib_records::Shape;
+use leg_print_words::push_words;
 use std::alloc::{AllocError, Allocator};
 
 /// Adds a keyword and a word as a clause, where the word was kept.

@@ -1,16 +1,16 @@
 //! The section of components.
 
 ghost use Rattle.std.specs.Prelude.{◌≡◌, ◌++◌, OnOk};
-ghost use Rattle.leg_text.specs.Spaced.{line};
-ghost use Rattle.leg_print.specs.Text.Components.{component_words};
-ghost use Rattle.leg_print.specs.Text.Whole.{components_text};
+ghost use Rattle.leg_output.specs.Words.{line};
+ghost use Rattle.leg_output.specs.Text.Components.{component_words};
+ghost use Rattle.leg_output.specs.Text.Whole.{components_text};
 
 use crate::clauses::push_placement;
 use crate::name::master_name;
 use crate::sections::{push_section_end, push_section_start};
 use crate::words::push_start;
-use leg_block::{Component, Design};
-use leg_text::push_end;
+use leg_design_records::{Component, Design};
+use leg_print_words::push_end;
 use std::alloc::{AllocError, Allocator};
 
 /// Adds the entry of a component.

@@ -1,7 +1,7 @@
 //! The text of a design.
 
 ghost use Rattle.std.specs.Prelude.{◌≡◌, IfOk};
-ghost use Rattle.leg_print.specs.Text.Whole.{design_text};
+ghost use Rattle.leg_output.specs.Text.Whole.{design_text};
 
 use crate::blockages::push_blockages;
 use crate::components::push_components;
@@ -12,15 +12,15 @@ use crate::rows::push_rows;
 use crate::sections::push_section_end;
 use crate::tracks::push_tracks;
 use crate::vias::push_vias;
-use leg_block::Design;
-use leg_cells::Library;
+use leg_design_records::Design;
+use leg_lib_records::Library;
 use std::alloc::{AllocError, Allocator};
 
 /// The text of the design, a DEF of which each byte depends on the design alone (LEF/DEF 5.8, "DEF Syntax"; its order
 /// and its layout are lefdef's own rules).
 ///
 /// The design was read with this library. It fails only when out of memory.
-#[tactic(auto, unfolding(crate::specs::Text::Whole::design_text))]
+#[tactic(auto, unfolding(leg_output::specs::Text::Whole::design_text))]
 pub fn print_def<A: Allocator + Copy>(
     alloc: A,
     library: &Library<'_, A>,

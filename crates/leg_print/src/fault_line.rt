@@ -3,19 +3,19 @@
 ghost use Rattle.std.specs.Prelude.{◌≡◌, ◌++◌, ◌∷◌, [], None, IfOk, OnOk, option_map, codes};
 ghost use Rattle.std.specs.List.{flat_map};
 ghost use Rattle.std.specs.Fmt.{signed_decimal};
-ghost use Rattle.leg_text.specs.Spaced.{spaced};
-ghost use Rattle.leg_block.specs.declared.fault.Fault.TheVariants.{Overlap};
-ghost use Rattle.leg_print.specs.Names.{component_name};
-ghost use Rattle.leg_print.specs.Lines.{shape_text, shape_at, piece_at, pair_line, open_line, violation_line, violations_text};
+ghost use Rattle.leg_output.specs.Words.{spaced};
+ghost use Rattle.leg_design_records.specs.declared.fault.Fault.TheVariants.{Overlap};
+ghost use Rattle.leg_rules.specs.Names.{component_name};
+ghost use Rattle.leg_output.specs.Lines.{shape_text, shape_at, piece_at, pair_line, open_line, violation_line, violations_text};
 
 use crate::name::{component_name, layer_name, net_name, push_owner, push_piece};
 use crate::words::push_parts;
 use itoa::Buffer;
-use leg_block::{Design, Fault};
-use leg_cells::Library;
+use leg_design_records::{Design, Fault};
 use leg_flat::{Flat, Piece, Shape};
 use leg_geom::Rect;
-use leg_text::{push_first, push_line_feed, push_words};
+use leg_lib_records::Library;
+use leg_print_words::{push_first, push_line_feed, push_words};
 use std::alloc::{AllocError, Allocator};
 
 /// A line for each violation, in their order.

@@ -1,15 +1,15 @@
 //! The lines that a design text begins with.
 
 ghost use Rattle.std.specs.Prelude.{◌≡◌, ◌++◌, OnOk, option_map, codes};
-ghost use Rattle.leg_text.specs.Spaced.{line};
-ghost use Rattle.leg_print.specs.Text.Header.{kept_line, units_words, die_words, header_text};
+ghost use Rattle.leg_output.specs.Words.{line};
+ghost use Rattle.leg_output.specs.Text.Header.{kept_line, units_words, die_words, header_text};
 
 use crate::points::push_corners;
 use crate::words::push_line;
 use itoa::Buffer;
-use leg_block::Design;
+use leg_design_records::Design;
 use leg_geom::Rect;
-use leg_text::{push_end, push_first};
+use leg_print_words::{push_end, push_first};
 use std::alloc::{AllocError, Allocator};
 
 /// Adds the line of a keyword and a word, where the word was kept.

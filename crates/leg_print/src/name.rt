@@ -1,15 +1,16 @@
 //! How lines name what they speak of.
 
 ghost use Rattle.std.specs.Prelude.{◌≡◌, ◌++◌, ◌∷◌, [], OnOk, option_map, codes};
-ghost use Rattle.leg_print.specs.Names.{layer_name, site_name, master_name, via_numbered, via_name, component_name, net_name, component_pin_name, design_pin_name, terminal_text, owner_text, piece_text};
-ghost use Rattle.leg_print.specs.Text.Nets.{terminal_words};
+ghost use Rattle.leg_output.specs.Names.{layer_name, site_name, master_name, net_name, component_pin_name, terminal_text, owner_text, piece_text};
+ghost use Rattle.leg_rules.specs.Names.{via_numbered, via_name, component_name, design_pin_name};
+ghost use Rattle.leg_output.specs.Text.Nets.{terminal_words};
 
 use crate::words::push_parts;
 use itoa::Buffer;
-use leg_block::{Design, Terminal};
-use leg_cells::Via;
+use leg_design_records::{Design, Terminal};
 use leg_flat::{Owner, Piece};
-use leg_text::push_first;
+use leg_lib_records::Via;
+use leg_print_words::push_first;
 use std::alloc::{AllocError, Allocator};
 
 /// The name of the layer of this number; empty where there is none.

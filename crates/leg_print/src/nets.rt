@@ -2,18 +2,18 @@
 
 ghost use Rattle.std.specs.Prelude.{◌≡◌, ◌++◌, OnOk, map};
 ghost use Rattle.std.specs.List.{flat_map};
-ghost use Rattle.leg_text.specs.Spaced.{spaced};
-ghost use Rattle.leg_print.specs.Text.Wires.{wire_words};
-ghost use Rattle.leg_print.specs.Text.Nets.{terminal_words, wiring_words, wire_line, net_text};
-ghost use Rattle.leg_print.specs.Text.Whole.{net_section, nets_text};
+ghost use Rattle.leg_output.specs.Words.{spaced};
+ghost use Rattle.leg_output.specs.Text.Wires.{wire_words};
+ghost use Rattle.leg_output.specs.Text.Nets.{terminal_words, wiring_words, wire_line, net_text};
+ghost use Rattle.leg_output.specs.Text.Whole.{net_section, nets_text};
 
 use crate::clauses::push_kept;
 use crate::name::terminal_names;
 use crate::sections::{push_section_end, push_section_start};
 use crate::wires::push_wire;
 use crate::words::push_start;
-use leg_block::{Design, Net, Terminal, Wire};
-use leg_text::{push_end, push_words};
+use leg_design_records::{Design, Net, Terminal, Wire};
+use leg_print_words::{push_end, push_words};
 use std::alloc::{AllocError, Allocator};
 
 /// Adds the terminals of a net, each in its parentheses.

@@ -2,16 +2,16 @@
 
 ghost use Rattle.std.specs.Prelude.{◌≡◌, ◌++◌, OnOk};
 ghost use Rattle.std.specs.List.{flat_map};
-ghost use Rattle.leg_text.specs.Spaced.{spaced, line};
-ghost use Rattle.leg_print.specs.Text.Clauses.{clause_words};
-ghost use Rattle.leg_print.specs.Text.Pins.{port_clauses, pin_words};
-ghost use Rattle.leg_print.specs.Text.Whole.{pins_text};
+ghost use Rattle.leg_output.specs.Words.{spaced, line};
+ghost use Rattle.leg_output.specs.Text.Clauses.{clause_words};
+ghost use Rattle.leg_output.specs.Text.Pins.{port_clauses, pin_words};
+ghost use Rattle.leg_output.specs.Text.Whole.{pins_text};
 
 use crate::clauses::{push_kept, push_placement, push_shapes};
 use crate::sections::{push_section_end, push_section_start};
 use crate::words::push_start;
-use leg_block::{Design, Pin, Port};
-use leg_text::{push_end, push_words};
+use leg_design_records::{Design, Pin, Port};
+use leg_print_words::{push_end, push_words};
 use std::alloc::{AllocError, Allocator};
 
 /// Adds the clauses of a port.

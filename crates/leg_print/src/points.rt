@@ -1,12 +1,12 @@
 //! Points, corners and orientations as words.
 
 ghost use Rattle.std.specs.Prelude.{◌≡◌, ◌++◌, OnOk};
-ghost use Rattle.leg_text.specs.Spaced.{spaced};
-ghost use Rattle.leg_print.specs.Text.Points.{spot_words, corner_words, orient_word};
+ghost use Rattle.leg_output.specs.Words.{spaced};
+ghost use Rattle.leg_output.specs.Text.Points.{spot_words, corner_words, orient_word};
 
 use itoa::Buffer;
 use leg_geom::{Orient, Point, Rect};
-use leg_text::push_words;
+use leg_print_words::push_words;
 use std::alloc::{AllocError, Allocator};
 
 /// Adds a point, in its parentheses.

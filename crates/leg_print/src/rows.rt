@@ -1,16 +1,16 @@
 //! The lines of rows.
 
 ghost use Rattle.std.specs.Prelude.{◌≡◌, ◌++◌, OnOk};
-ghost use Rattle.leg_text.specs.Spaced.{line};
-ghost use Rattle.leg_print.specs.Text.Rows.{width_of_site, row_words};
-ghost use Rattle.leg_print.specs.Text.Whole.{rows_text};
+ghost use Rattle.leg_output.specs.Words.{line};
+ghost use Rattle.leg_output.specs.Text.Rows.{width_of_site, row_words};
+ghost use Rattle.leg_output.specs.Text.Whole.{rows_text};
 
 use crate::name::site_name;
 use crate::points::orient_word;
 use crate::words::push_start;
 use itoa::Buffer;
-use leg_block::{Design, Row};
-use leg_text::{push_end, push_words};
+use leg_design_records::{Design, Row};
+use leg_print_words::{push_end, push_words};
 use std::alloc::{AllocError, Allocator};
 
 /// How wide the site of this number is; 0 where there is none.

@@ -1,8 +1,8 @@
 //! The lines around the entries of a section.
 
 ghost use Rattle.std.specs.Prelude.{◌≡◌, ◌++◌, OnOk};
-ghost use Rattle.leg_text.specs.Spaced.{line};
-ghost use Rattle.leg_print.specs.Text.Sections.{section_start_words, end_words};
+ghost use Rattle.leg_output.specs.Words.{line};
+ghost use Rattle.leg_output.specs.Text.Sections.{section_start_words, end_words};
 
 use crate::words::push_line;
 use itoa::Buffer;

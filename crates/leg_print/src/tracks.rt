@@ -1,15 +1,15 @@
 //! The lines of tracks.
 
 ghost use Rattle.std.specs.Prelude.{◌≡◌, ◌++◌, OnOk};
-ghost use Rattle.leg_text.specs.Spaced.{spaced, line};
-ghost use Rattle.leg_print.specs.Text.Tracks.{axis_word, layer_words, track_words};
-ghost use Rattle.leg_print.specs.Text.Whole.{tracks_text};
+ghost use Rattle.leg_output.specs.Words.{spaced, line};
+ghost use Rattle.leg_output.specs.Text.Tracks.{axis_word, layer_words, track_words};
+ghost use Rattle.leg_output.specs.Text.Whole.{tracks_text};
 
 use crate::name::layer_name;
 use crate::words::push_start;
 use itoa::Buffer;
-use leg_block::{Axis, Design, Track};
-use leg_text::{push_end, push_word};
+use leg_design_records::{Axis, Design, Track};
+use leg_print_words::{push_end, push_word};
 use std::alloc::{AllocError, Allocator};
 
 /// The word of an axis.

@@ -1,16 +1,16 @@
 //! The section of vias.
 
 ghost use Rattle.std.specs.Prelude.{◌≡◌, ◌++◌, OnOk};
-ghost use Rattle.leg_text.specs.Spaced.{line};
-ghost use Rattle.leg_print.specs.Text.Vias.{via_words};
-ghost use Rattle.leg_print.specs.Text.Whole.{vias_text};
+ghost use Rattle.leg_output.specs.Words.{line};
+ghost use Rattle.leg_output.specs.Text.Vias.{via_words};
+ghost use Rattle.leg_output.specs.Text.Whole.{vias_text};
 
 use crate::clauses::push_shapes;
 use crate::sections::{push_section_end, push_section_start};
 use crate::words::push_start;
-use leg_block::Design;
-use leg_cells::Via;
-use leg_text::push_end;
+use leg_design_records::Design;
+use leg_lib_records::Via;
+use leg_print_words::push_end;
 use std::alloc::{AllocError, Allocator};
 
 /// Adds the entry of a via.

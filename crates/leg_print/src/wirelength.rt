@@ -3,20 +3,20 @@
 ghost use Rattle.std.specs.Prelude.{◌≡◌, ◌≤◌, ◌*◌, ℕ, ℤ, All, Some, slice_get};
 ghost use Rattle.leg_lex.specs.Number.{IsNumber};
 ghost use Rattle.leg_geom.specs.declared.limits.TheConstants.{COORDINATE_LIMIT};
-ghost use Rattle.leg_cells.specs.declared.records.Shape.{Shape};
-ghost use Rattle.leg_block.specs.declared.records.Terminal.TheVariants.{Comp, Pin};
-ghost use Rattle.leg_block.specs.Records.{PortSaid};
-ghost use Rattle.leg_block.specs.WellFormedParts.{IsPosition};
-ghost use Rattle.leg_flat.specs.Nets.{special_named, entry_terminals};
+ghost use Rattle.leg_lib_records.specs.declared.records.Shape.{Shape};
+ghost use Rattle.leg_design_records.specs.declared.records.Terminal.TheVariants.{Comp, Pin};
+ghost use Rattle.leg_design_records.specs.Records.{PortModel};
+ghost use Rattle.leg_design_records.specs.WellFormedParts.{IsPosition};
+ghost use Rattle.leg_rules.specs.Metal.Nets.{special_named, entry_terminals};
 ghost use Rattle.leg_flat.specs.Steps.AddedMetal.{AreDrawnWithin, IsPortWithin};
 ghost use Rattle.leg_flat.specs.Steps.Bounds.{IsDrawnWithin};
-ghost use Rattle.leg_print.specs.Wirelength.{IsLeastBox, IsLeastBoxIfAny, HasTerminalPoint, IsTerminalCentre, IsCentreAmong, IsNetLength, IsWirelength};
+ghost use Rattle.leg_rules.specs.Wirelength.{IsLeastBox, IsLeastBoxIfAny, HasTerminalPoint, IsTerminalCentre, IsCentreAmong, IsNetLength, IsWirelength};
 ghost use Rattle.leg_print.specs.Steps.Wirelength.{IsOfSome, IsOfShape, IsOfPort};
 
 use crate::wirelength_box::{Bounds, joined};
-use leg_block::{Design, Net, Port, Terminal};
-use leg_cells::{Library, Shape};
+use leg_design_records::{Design, Net, Port, Terminal};
 use leg_geom::Place;
+use leg_lib_records::{Library, Shape};
 use std::alloc::Allocator;
 
 /// The half-perimeter wirelength of a design, in database units: over the nets of `NETS`, half of the way round the least
@@ -128,7 +128,7 @@ fn design_pin_box<A: Allocator + Copy>(design: &Design<'_, A>, pin: u32) -> Opti
 /// The least box that holds the shapes of these ports, where there are some.
 fn ports_box<A: Allocator + Copy>(ports: &[Port<A>]) -> Option<Bounds>
     requires { All IsPortWithin ports.now }
-    ensures { IsLeastBoxIfAny (IsOfSome PortSaid IsOfPort ports.now) result }
+    ensures { IsLeastBoxIfAny (IsOfSome PortModel IsOfPort ports.now) result }
 {
     let mut bounds = None;
     for port in ports {

@@ -2,8 +2,8 @@
 
 ghost use Rattle.std.specs.Prelude.{◌≡◌, ◌≤◌, ◌*◌, Some};
 ghost use Rattle.leg_geom.specs.declared.limits.TheConstants.{COORDINATE_LIMIT};
-ghost use Rattle.leg_geom.specs.Plane.{Spot, IsCoordinate, IsHalfway, IsCentre};
-ghost use Rattle.leg_print.specs.Wirelength.{half_perimeter};
+ghost use Rattle.leg_geom.specs.Plane.{PointModel, IsCoordinate, IsHalfway, IsCentre};
+ghost use Rattle.leg_rules.specs.Wirelength.{half_perimeter};
 ghost use Rattle.leg_print.specs.Steps.Wirelength.{point_box, joined, joined_if_any};
 
 use leg_geom::Rect;
@@ -19,10 +19,10 @@ pub(crate) struct Bounds {
 }
 
 impl Model for Bounds {
-    ghost use Rattle.leg_geom.specs.Plane.{Sides};
+    ghost use Rattle.leg_geom.specs.Plane.{RectModel};
     ghost use Rattle.leg_print.specs.Steps.Wirelength.{IsBox};
 
-    ghost Value = { Sides };
+    ghost Value = { RectModel };
 
     ghost view = { λ b. record { x1 = b.x1; y1 = b.y1; x2 = b.x2; y2 = b.y2 } };
 
@@ -58,7 +58,7 @@ impl Bounds {
 
     /// The point in the middle, each coordinate rounded down, as a box.
     pub(crate) fn centre(&self) -> Bounds
-        ensures { (p : Spot) × (result ≡ point_box p) × IsCentre self.now p }
+        ensures { (p : PointModel) × (result ≡ point_box p) × IsCentre self.now p }
     {
         let x = middle(self.x1, self.x2);
         let y = middle(self.y1, self.y2);

@@ -3,19 +3,19 @@
 ghost use Rattle.std.specs.Prelude.{◌≡◌, ◌++◌, ◌∷◌, [], None, Some, OnOk, if◌then◌else◌, codes, pos};
 ghost use Rattle.std.specs.Fmt.{signed_decimal};
 ghost use Rattle.std.specs.Ordering.{int_eq};
-ghost use Rattle.leg_text.specs.Spaced.{spaced};
-ghost use Rattle.leg_block.specs.Wires.{default_extension};
-ghost use Rattle.leg_block.specs.WellFormedNets.{written};
-ghost use Rattle.leg_print.specs.Names.{layer_name};
-ghost use Rattle.leg_print.specs.Text.Wires.{number_words, width_words, point_words, given_extension, lowest_layer, layer_of_via, via_wire_words, patch_words, wire_words};
+ghost use Rattle.leg_output.specs.Words.{spaced};
+ghost use Rattle.leg_design_records.specs.Wires.{default_extension};
+ghost use Rattle.leg_design_records.specs.WellFormedNets.{written};
+ghost use Rattle.leg_output.specs.Names.{layer_name};
+ghost use Rattle.leg_output.specs.Text.Wires.{number_words, width_words, point_words, given_extension, lowest_layer, layer_of_via, via_wire_words, patch_words, wire_words};
 
 use crate::name::{layer_name, via_name, via_numbered};
 use crate::points::push_spot;
 use itoa::Buffer;
-use leg_block::{Design, Wire};
-use leg_cells::{LayerKind, Shape};
+use leg_design_records::{Design, Wire};
 use leg_geom::{Point, Rect};
-use leg_text::{push_number, push_word, push_words};
+use leg_lib_records::{LayerKind, Shape};
+use leg_print_words::{push_number, push_word, push_words};
 use std::alloc::{AllocError, Allocator};
 
 /// Adds what a path begins with: its layer, and its width, which is written in `SPECIALNETS` only.
@@ -37,7 +37,7 @@ fn push_path_start<A: Allocator + Copy>(
 }
 
 /// How far a segment on this layer reaches past an end whose extension is not written.
-#[tactic(auto, unfolding(leg_block::specs::Wires::default_extension))]
+#[tactic(auto, unfolding(leg_design_records::specs::Wires::default_extension))]
 fn default_extension<A: Allocator + Copy>(
     design: &Design<'_, A>,
     special: bool,

@@ -2,9 +2,9 @@
 
 ghost use Rattle.std.specs.Prelude.{◌≡◌, ◌++◌, ◌∷◌, OnOk, map};
 ghost use Rattle.std.specs.List.{flat_map};
-ghost use Rattle.leg_text.specs.Spaced.{spaced, line};
+ghost use Rattle.leg_output.specs.Words.{spaced, line};
 
-use leg_text::{push_first, push_line_feed, push_words};
+use leg_print_words::{push_first, push_line_feed, push_words};
 use std::alloc::{AllocError, Allocator};
 
 /// Adds what a line begins with: its first word, with no blank before it, and the words after it.

@@ -4,24 +4,25 @@ use Rattle.std.proofs.lemmas.Bool.{cases_eq}
 use Rattle.std.proofs.lemmas.List.Elements.{All-nil, Contains-append_left, Contains-append_cases}
 use Rattle.std.proofs.lemmas.Option.{same_Some, none-some, slice_get_within, slice_get_read, slice_get-get_or, get_or_from_slice_get}
 use Rattle.leg_sweep.proofs.Lists.{Contains-nil}
-use Rattle.leg_geom.specs.Plane.{Spot}
-use Rattle.leg_block.specs.declared.records.Wire as records
-use Rattle.leg_block.specs.Records.{DesignContents}
-use Rattle.leg_flat.specs.declared.owner.Owner.TheVariants.{Net}
-use Rattle.leg_flat.specs.declared.shape.Shape.{Shape}
-use Rattle.leg_flat.specs.Metal.{OnLayer, Belonging, Metal, wire_outlines}
-use Rattle.leg_flat.specs.Flat.{FlatSaid, IsShapeOf}
-use Rattle.leg_flat.specs.MoreWires.{wire_metal, HasOneMoreWire}
+use Rattle.leg_geom.specs.Plane.{PointModel}
+use Rattle.leg_design_records.specs.declared.records.Wire as records
+use Rattle.leg_design_records.specs.Records.{DesignModel}
+use Rattle.leg_rules.specs.declared.owner.Owner.TheVariants.{Net}
+use Rattle.leg_rules.specs.declared.shape.Shape.{Shape}
+use Rattle.leg_rules.specs.Metal.Metal.{OnLayer, Belonging, Metal, wire_outlines}
+use Rattle.leg_rules.specs.Metal.Flat.{FlatModel, IsShapeOf}
+use Rattle.leg_rules.specs.Metal.MoreWires.{wire_metal, HasOneMoreWire}
 use Rattle.leg_wire.specs.NetShapes.{AreNumbersOf}
-use Rattle.leg_wire.specs.Touch.{piece_count, LiesIn, Touch, AreJoined, AreMarks}
-use Rattle.leg_wire.specs.Touch.Joined.{itself, through}
-use Rattle.leg_grid.specs.declared.node.Node.{Node}
-use Rattle.leg_grid.specs.declared.slot_box.SlotBox.{SlotBox}
-use Rattle.leg_grid.specs.Bound.{bound_at, IsBoxOf}
-use Rattle.leg_grid.specs.Grid.{GridSaid, slot_total}
-use Rattle.leg_grown.proofs.Places.{is_like, comes_from}
+use Rattle.leg_wire.specs.PieceMarks.{AreMarks}
+use Rattle.leg_rules.specs.Joins.Touch.{piece_count, LiesIn, Touch, AreJoined}
+use Rattle.leg_rules.specs.Joins.Touch.Joined.{itself, through}
+use Rattle.leg_rules.specs.declared.node.Node.{Node}
+use Rattle.leg_route_grid.specs.declared.slot_box.SlotBox.{SlotBox}
+use Rattle.leg_route_grid.specs.Steps.WalkBounds.{bound_at, IsBoxOf}
+use Rattle.leg_route_grid.specs.Steps.Grid.{GridModel, slot_total}
+use Rattle.leg_route_laws.proofs.Places.{is_like, comes_from}
 use Rattle.leg_route.specs.Steps.NetSlots.{MeetsMarked, AreMarkedSlots}
-use Rattle.leg_route.specs.Steps.JoinedPart.{PartSaid, MeetsPart, IsPart}
+use Rattle.leg_route.specs.Steps.JoinedPart.{PartModel, MeetsPart, IsJoinedPart}
 use Rattle.leg_route.proofs.JoinedSlots.{one_as}
 use Rattle.leg_route.proofs.MoreWires.{count_at, count_as, with_count, one_piece, step_pieces}
 
@@ -32,8 +33,8 @@ marked_joined joined Is size marks k low is =
     read ∙ ap Some ((marks.each k (get_or joined k false) read).1 is)
 
 -- of no pieces
-pub part_none : (grid : GridSaid) (flat : FlatSaid) (net : ℕ) (joined : List Bool) (boxes : List SlotBox) (slots : List ℕ) → joined ≡ [] → boxes ≡ [] → slots ≡ []
-    → IsPart grid flat (record { net = net; joined = joined; boxes = boxes; slots = slots })
+pub part_none : (grid : GridModel) (flat : FlatModel) (net : ℕ) (joined : List Bool) (boxes : List SlotBox) (slots : List ℕ) → joined ≡ [] → boxes ≡ [] → slots ≡ []
+    → IsJoinedPart grid flat (record { net = net; joined = joined; boxes = boxes; slots = slots })
 part_none grid flat net joined boxes slots joined_is boxes_is slots_is =
     rw (joined_is, boxes_is, slots_is)
     (record {
@@ -50,7 +51,7 @@ same_net : (m n : ℕ) → Net m ≡ Net n → m ≡ n
 same_net m n same = cc
 
 -- a net got a wire
-module _ (design : DesignContents) (net : ℕ) (wire : records.Wire) (before after : FlatSaid) (more : HasOneMoreWire design net wire before after) where
+module _ (design : DesignModel) (net : ℕ) (wire : records.Wire) (before after : FlatModel) (more : HasOneMoreWire design net wire before after) where
   abbrev pub own : ℕ
   own = length more.terminals + more.wires
 
@@ -83,7 +84,7 @@ module _ (design : DesignContents) (net : ℕ) (wire : records.Wire) (before aft
 
   module _ (n : ℕ) where
     -- what lies in a piece lies in it still
-    lies_on : (k layer : ℕ) (p : Spot) → LiesIn before n k layer p → LiesIn after n k layer p
+    lies_on : (k layer : ℕ) (p : PointModel) → LiesIn before n k layer p → LiesIn after n k layer p
     lies_on k layer p h =
         let many = as_many n in
         let there = h.of_piece.there in
@@ -103,7 +104,7 @@ module _ (design : DesignContents) (net : ℕ) (wire : records.Wire) (before aft
         omega (arith, low, last, count)
 
     -- and in an old piece no more does
-    lies_back : (k layer : ℕ) (p : Spot) → k < piece_count before n → LiesIn after n k layer p → LiesIn before n k layer p
+    lies_back : (k layer : ℕ) (p : PointModel) → k < piece_count before n → LiesIn after n k layer p → LiesIn before n k layer p
     lies_back k layer p low h = elim (Contains-append_cases before.shapes more.added h.shape (subst (λ (shapes : List Shape). Contains shapes h.shape) more.shapes h.has)) [
       | inl old ↦
           record {
@@ -145,7 +146,7 @@ module _ (design : DesignContents) (net : ℕ) (wire : records.Wire) (before aft
     joined_on a b (through {b = c} first meet) = through (joined_on a c first) (touch_on c b meet)
 
   -- what is kept is right still
-  pub part_grows : (grid : GridSaid) (part : PartSaid) → IsPart grid before part → IsPart grid after part
+  pub part_grows : (grid : GridModel) (part : PartModel) → IsJoinedPart grid before part → IsJoinedPart grid after part
   part_grows grid part had =
       let n = part.net in
       let many = as_many n in
@@ -172,7 +173,7 @@ module _ (design : DesignContents) (net : ℕ) (wire : records.Wire) (before aft
       }
 
 -- the marked pieces of a net, by the numbers of its shapes
-module _ (flat : FlatSaid) (net : ℕ) (numbers : List ℕ) (are : AreNumbersOf flat.shapes net numbers) (joined : List Bool) (few : length joined ≤ piece_count flat net) where
+module _ (flat : FlatModel) (net : ℕ) (numbers : List ℕ) (are : AreNumbersOf flat.shapes net numbers) (joined : List Bool) (few : length joined ≤ piece_count flat net) where
   meets_part : (node : Node) → MeetsMarked flat.shapes joined true numbers node → MeetsPart flat net joined node
   meets_part node m =
       let of_net = are.each m.number m.listed in
@@ -204,9 +205,9 @@ module _ (flat : FlatSaid) (net : ℕ) (numbers : List ℕ) (are : AreNumbersOf 
         lies = record { on_layer = sym lies.on_layer; inside = lies.inside };
       }
 
-  module _ (grid : GridSaid) (boxes : List SlotBox) (slots : List ℕ) where
+  module _ (grid : GridModel) (boxes : List SlotBox) (slots : List ℕ) where
     -- what is kept, by these numbers
-    pub part_has : IsPart grid flat (record { net = net; joined = joined; boxes = boxes; slots = slots }) → AreMarkedSlots grid flat.shapes joined true numbers boxes slots
+    pub part_has : IsJoinedPart grid flat (record { net = net; joined = joined; boxes = boxes; slots = slots }) → AreMarkedSlots grid flat.shapes joined true numbers boxes slots
     part_has part = record {
       are = λ n. (
         λ has. one_as grid (MeetsPart flat net joined) (MeetsMarked flat.shapes joined true numbers) meets_numbered n ((part.are n).0 has),
@@ -218,7 +219,7 @@ module _ (flat : FlatSaid) (net : ℕ) (numbers : List ℕ) (are : AreNumbersOf 
 
     -- and what is to be kept
     pub part_of : AreMarks (AreJoined flat net 0) (piece_count flat net) joined → AreMarkedSlots grid flat.shapes joined true numbers boxes slots
-        → IsPart grid flat (record { net = net; joined = joined; boxes = boxes; slots = slots })
+        → IsJoinedPart grid flat (record { net = net; joined = joined; boxes = boxes; slots = slots })
     part_of marks had = record {
       few = few;
       still = λ k there. (marks.each k true there).0 refl;
@@ -233,7 +234,7 @@ module _ (flat : FlatSaid) (net : ℕ) (numbers : List ℕ) (are : AreNumbersOf 
     }
 
 -- what was joined when the part was kept has its mark still
-pub part_still : (grid : GridSaid) (flat : FlatSaid) (part : PartSaid) (net : ℕ) (joined : List Bool) → part.net ≡ net → IsPart grid flat part
+pub part_still : (grid : GridModel) (flat : FlatModel) (part : PartModel) (net : ℕ) (joined : List Bool) → part.net ≡ net → IsJoinedPart grid flat part
     → AreMarks (AreJoined flat net 0) (piece_count flat net) joined → (k : ℕ) → slice_get part.joined k ≡ Some true → slice_get joined k ≡ Some true
 part_still grid flat part net joined same had marks k there =
     let within = slice_get_within part.joined k true there in
@@ -242,6 +243,6 @@ part_still grid flat part net joined same had marks k there =
     marked_joined joined (AreJoined flat net 0) (piece_count flat net) marks k (omega (arith, within, few, count)) (rw same at (had.still k there))
 
 -- what is kept of this net, by the numbers of its shapes
-pub part_had : (grid : GridSaid) (flat : FlatSaid) (part : PartSaid) (net : ℕ) (numbers : List ℕ) → part.net ≡ net → AreNumbersOf flat.shapes net numbers → IsPart grid flat part
+pub part_had : (grid : GridModel) (flat : FlatModel) (part : PartModel) (net : ℕ) (numbers : List ℕ) → part.net ≡ net → AreNumbersOf flat.shapes net numbers → IsJoinedPart grid flat part
     → AreMarkedSlots grid flat.shapes part.joined true numbers part.boxes part.slots
 part_had grid flat part net numbers same are had = part_has flat part.net numbers (rw same are) part.joined had.few grid part.boxes part.slots had

@@ -3,26 +3,26 @@ use Rattle.std.proofs.Common.{◌≡◌, ◌↔◌, ℕ, ◌<◌, Bool, true, Li
 use Rattle.std.proofs.lemmas.List.Elements.{Contains-append_left, Contains-push, Contains-push_cases}
 use Rattle.std.proofs.lemmas.Option.{same_Some}
 use Rattle.leg_sweep.proofs.Lists.{Contains-nil}
-use Rattle.leg_flat.specs.declared.shape.Shape.{Shape}
-use Rattle.leg_grid.specs.declared.node.Node.{Node}
-use Rattle.leg_grid.specs.declared.slot_box.SlotBox.{SlotBox}
-use Rattle.leg_grid.specs.Bound.{AreBoxed}
-use Rattle.leg_grid.specs.Grid.{GridSaid, IsNumberOf, slot_total}
-use Rattle.leg_grid.specs.InRect.{LiesInRect}
-use Rattle.leg_grid.specs.Numbered.{IsOneOf}
+use Rattle.leg_rules.specs.declared.shape.Shape.{Shape}
+use Rattle.leg_rules.specs.declared.node.Node.{Node}
+use Rattle.leg_route_grid.specs.declared.slot_box.SlotBox.{SlotBox}
+use Rattle.leg_route_grid.specs.Steps.WalkBounds.{AreBoxed}
+use Rattle.leg_route_grid.specs.Steps.Grid.{GridModel, IsNumberOf, slot_total}
+use Rattle.leg_route_grid.specs.Steps.NodesInRect.{LiesInRect}
+use Rattle.leg_route_grid.specs.Steps.NodeNumbers.{IsOneOf}
 use Rattle.leg_route.specs.Steps.NetSlots.{HasMark, MeetsMarked, AreMarkedSlots}
 
 -- exactly the slots of nodes of which this holds, which lie in these boxes
-pub record AreSlotsOf (grid : GridSaid) (Holds : Node → Type 0) (boxes : List SlotBox) (slots : List ℕ) : Type 0 where
+pub record AreSlotsOf (grid : GridModel) (Holds : Node → Type 0) (boxes : List SlotBox) (slots : List ℕ) : Type 0 where
   pub are : (n : ℕ) → Contains slots n ↔ IsOneOf (IsNumberOf grid) Holds n
   pub within : All (λ n. n < slot_total grid) slots
   pub boxed : AreBoxed grid boxes slots
 
 -- of a node for another reason
-pub one_as : (grid : GridSaid) (Holds Then : Node → Type 0) → ((node : Node) → Holds node → Then node) → (n : ℕ) → IsOneOf (IsNumberOf grid) Holds n → IsOneOf (IsNumberOf grid) Then n
+pub one_as : (grid : GridModel) (Holds Then : Node → Type 0) → ((node : Node) → Holds node → Then node) → (n : ℕ) → IsOneOf (IsNumberOf grid) Holds n → IsOneOf (IsNumberOf grid) Then n
 one_as grid Holds Then then n one = record { node = one.node; is = one.is; holds = then one.node one.holds }
 
-pub slots_as : (grid : GridSaid) (Holds Then : Node → Type 0) (boxes : List SlotBox) (slots : List ℕ) → ((node : Node) → Holds node → Then node) → ((node : Node) → Then node → Holds node)
+pub slots_as : (grid : GridModel) (Holds Then : Node → Type 0) (boxes : List SlotBox) (slots : List ℕ) → ((node : Node) → Holds node → Then node) → ((node : Node) → Then node → Holds node)
     → AreSlotsOf grid Holds boxes slots → AreSlotsOf grid Then boxes slots
 slots_as grid Holds Then boxes slots then back are = record {
   are = λ n. (λ has. one_as grid Holds Then then n ((are.are n).0 has), λ one. (are.are n).1 (one_as grid Then Holds back n one));
@@ -30,7 +30,7 @@ slots_as grid Holds Then boxes slots then back are = record {
   boxed = are.boxed;
 }
 
-module _ (grid : GridSaid) (shapes : List Shape) (before joined : List Bool) (numbers : List ℕ) where
+module _ (grid : GridModel) (shapes : List Shape) (before joined : List Bool) (numbers : List ℕ) where
   -- the node lies in a shape that had its mark before, or in one of those that were looked at and have it now
   abbrev pub MeetsSoFar : List ℕ → Node → Type 0
   MeetsSoFar some node = MeetsMarked shapes before true numbers node ⊎ MeetsMarked shapes joined true some node

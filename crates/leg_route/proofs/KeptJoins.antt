@@ -3,20 +3,20 @@ use Rattle.std.proofs.Common.{◌≡◌, ◌+◌, ◌<◌, ℕ, true, List, ◌+
 use Rattle.std.proofs.lemmas.List.Elements.{Contains-append_left, Contains-append_right, Contains-append_cases}
 use Rattle.std.proofs.lemmas.Option.{same_Some}
 use Rattle.leg_sweep.proofs.Lists.{Contains-map}
-use Rattle.leg_block.specs.declared.records.Wire as records
-use Rattle.leg_block.specs.Records.{DesignContents}
-use Rattle.leg_flat.specs.declared.shape.Shape.{Shape}
-use Rattle.leg_flat.specs.Flat.{FlatSaid}
-use Rattle.leg_flat.specs.MoreWires.{HasOneMoreWire}
+use Rattle.leg_design_records.specs.declared.records.Wire as records
+use Rattle.leg_design_records.specs.Records.{DesignModel}
+use Rattle.leg_rules.specs.declared.shape.Shape.{Shape}
+use Rattle.leg_rules.specs.Metal.Flat.{FlatModel}
+use Rattle.leg_rules.specs.Metal.MoreWires.{HasOneMoreWire}
 use Rattle.leg_wire.specs.declared.piece_shape.PieceShape.{PieceShape}
-use Rattle.leg_wire.specs.Touch.{piece_count}
-use Rattle.leg_wire.specs.Joins.{JoinsSaid, IsWholeNet, AreJoinsOf, metal_of_piece, HasOnePieceMore, IsPieceShape}
-use Rattle.leg_grown.proofs.Places.{comes_from}
+use Rattle.leg_rules.specs.Joins.Touch.{piece_count}
+use Rattle.leg_wire.specs.Joins.{JoinsModel, IsWholeNet, AreJoinsOf, metal_of_piece, HasOnePieceMore, IsPieceShape}
+use Rattle.leg_route_laws.proofs.Places.{comes_from}
 use Rattle.leg_route.specs.Steps.Ready.{IsWithWire}
 use Rattle.leg_route.proofs.JoinedParts.{own, own_is, IsNew, new_shape}
 use Rattle.leg_route.proofs.MoreWires.{one_piece}
 
-module _ (design : DesignContents) (net : ℕ) (wire : records.Wire) (before after : FlatSaid) (more : HasOneMoreWire design net wire before after) where
+module _ (design : DesignModel) (net : ℕ) (wire : records.Wire) (before after : FlatModel) (more : HasOneMoreWire design net wire before after) where
   abbrev last : ℕ
   last = own design net wire before after more
 
@@ -51,7 +51,7 @@ module _ (design : DesignContents) (net : ℕ) (wire : records.Wire) (before aft
   ]
 
   -- what is kept is right with the new piece
-  module _ (joins new : JoinsSaid) (of_net : joins.net ≡ net) (is_whole : joins.is_whole ≡ true) (are : AreJoinsOf before joins) (with_piece : HasOnePieceMore joins more.added new) where
+  module _ (joins new : JoinsModel) (of_net : joins.net ≡ net) (is_whole : joins.is_whole ≡ true) (are : AreJoinsOf before joins) (with_piece : HasOnePieceMore joins more.added new) where
     last_is : length joins.sets ≡ last
     last_is = are.count ∙ rw of_net had
 
@@ -107,7 +107,7 @@ module _ (design : DesignContents) (net : ℕ) (wire : records.Wire) (before aft
     }
 
   -- and so where something is kept
-  pub kept_with : (joins after_joins : Option JoinsSaid) → IfSome joins (AreJoinsOf before) → IfSome after_joins (IsWithWire joins net more.added) → IfSome after_joins (AreJoinsOf after)
+  pub kept_with : (joins after_joins : Option JoinsModel) → IfSome joins (AreJoinsOf before) → IfSome after_joins (IsWithWire joins net more.added) → IfSome after_joins (AreJoinsOf after)
   kept_with joins None had_are with_wire = with_wire
   kept_with joins (Some new) had_are with_wire =
       joins_with with_wire.before new with_wire.of_net with_wire.is_whole (rw with_wire.is at had_are) with_wire.more

@@ -4,28 +4,21 @@ use Rattle.std.proofs.lemmas.Bool.{cases_Bool}
 use Rattle.std.proofs.lemmas.List.Elements.{All-nil, Contains-append_left, Contains-push, Contains-push_cases}
 use Rattle.std.proofs.lemmas.Option.{same_Some, slice_get_within, slice_get_read, slice_get-get_or, get_or_from_slice_get}
 use Rattle.leg_sweep.proofs.Lists.{Contains-nil}
-use Rattle.leg_flat.specs.declared.shape.Shape.{Shape}
-use Rattle.leg_flat.specs.Flat.{FlatSaid}
+use Rattle.leg_rules.specs.declared.shape.Shape.{Shape}
+use Rattle.leg_rules.specs.Metal.Flat.{FlatModel}
 use Rattle.leg_wire.specs.NetShapes.{AreNumbersOf}
-use Rattle.leg_wire.specs.Touch.{piece_count, LiesIn, AreJoined, AreMarks}
-use Rattle.leg_grid.specs.declared.node.Node.{Node}
-use Rattle.leg_grid.specs.declared.slot_box.SlotBox.{SlotBox}
-use Rattle.leg_grid.specs.Bound.{bound_at, IsBoxOf, AreBoxed}
-use Rattle.leg_grid.specs.Grid.{GridSaid, IsNumberOf, slot_total}
-use Rattle.leg_grid.specs.InRect.{LiesInRect}
-use Rattle.leg_grid.specs.Meets.{MeetsJoined, MeetsRest}
-use Rattle.leg_grid.specs.Numbered.{IsOneOf}
+use Rattle.leg_wire.specs.PieceMarks.{AreMarks}
+use Rattle.leg_rules.specs.Joins.Touch.{piece_count, LiesIn, AreJoined}
+use Rattle.leg_rules.specs.declared.node.Node.{Node}
+use Rattle.leg_route_grid.specs.declared.slot_box.SlotBox.{SlotBox}
+use Rattle.leg_route_grid.specs.Steps.WalkBounds.{bound_at, IsBoxOf, AreBoxed}
+use Rattle.leg_route_grid.specs.Steps.Grid.{GridModel, IsNumberOf, slot_total}
+use Rattle.leg_route_grid.specs.Steps.NodesInRect.{LiesInRect}
+use Rattle.leg_rules.specs.Route.Meets.{MeetsJoined, MeetsRest}
+use Rattle.leg_route_grid.specs.Steps.NodeNumbers.{IsOneOf}
 use Rattle.leg_route.specs.Steps.NetSlots.{HasMark, MeetsMarked, AreMarkedSlots}
 
-module _ (grid : GridSaid) (shapes : List Shape) (marks : List Bool) (mark : Bool) where
-  -- no shape was looked at
-  pub slots_none : AreMarkedSlots grid shapes marks mark [] [] []
-  slots_none = record {
-    are = λ n. (λ has. absurd (Contains-nil n has), λ one. absurd (Contains-nil one.holds.number one.holds.listed));
-    within = All-nil (λ n. n < slot_total grid);
-    boxed = record { corners = All-nil (IsBoxOf grid); inside = All-nil (λ n. bound_at grid [] n ≡ 0); only = λ n within none. absurd (omega (arith, none)) };
-  }
-
+module _ (grid : GridModel) (shapes : List Shape) (marks : List Bool) (mark : Bool) where
   -- one shape more
   module _ (numbers : List ℕ) (boxes : List SlotBox) (slots : List ℕ) (done : AreMarkedSlots grid shapes marks mark numbers boxes slots) (k : ℕ) (shape : Shape) (read : slice_get shapes k ≡ Some shape) where
     same_shape : (other : Shape) → slice_get shapes k ≡ Some other → other ≡ shape
@@ -127,7 +120,7 @@ module _ (grid : GridSaid) (shapes : List Shape) (marks : List Bool) (mark : Boo
     }
 
 -- The shapes of a net, and which of its pieces are joined.
-module _ (flat : FlatSaid) (net : ℕ) (numbers : List ℕ) (are : AreNumbersOf flat.shapes net numbers) (marks : List Bool) (marks_are : AreMarks (AreJoined flat net 0) (piece_count flat net) marks) where
+module _ (flat : FlatModel) (net : ℕ) (numbers : List ℕ) (are : AreNumbersOf flat.shapes net numbers) (marks : List Bool) (marks_are : AreMarks (AreJoined flat net 0) (piece_count flat net) marks) where
   meets_piece : (mark : Bool) (node : Node) (m : MeetsMarked flat.shapes marks mark numbers node) → LiesIn flat net m.marked.number node.layer node.at
   meets_piece mark node m =
       let of_net = are.each m.number m.listed in
@@ -173,7 +166,7 @@ module _ (flat : FlatSaid) (net : ℕ) (numbers : List ℕ) (are : AreNumbersOf 
         | inr is ↦ read ∙ ap Some is
       ]
 
-  module _ (grid : GridSaid) (boxes : List SlotBox) (slots : List ℕ) where
+  module _ (grid : GridModel) (boxes : List SlotBox) (slots : List ℕ) where
     -- the slots in shapes of joined pieces
     pub starts_are : AreMarkedSlots grid flat.shapes marks true numbers boxes slots → (n : ℕ) → Contains slots n ↔ IsOneOf (IsNumberOf grid) (MeetsJoined flat net) n
     starts_are told n = (

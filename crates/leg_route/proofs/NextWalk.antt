@@ -2,42 +2,43 @@
 use Rattle.std.proofs.Common.{◌≡◌, ◌↔◌, ℕ, ◌<◌, List, [], ◌∷◌, All, Contains, Option, None, Some, IfSome, option_map, subst, ap, ◌∙◌, refl}
 use Rattle.std.specs.List.{AllZip}
 use Rattle.leg_sweep.proofs.Lists.{Contains-nil}
-use Rattle.leg_block.specs.Records.{DesignContents}
-use Rattle.leg_flat.specs.Flat.{FlatSaid}
-use Rattle.leg_walk.specs.Walk.{IsStep, IsShortest, NoWalk, IsAnswer}
-use Rattle.leg_grid.specs.declared.node.Node.{Node}
-use Rattle.leg_grid.specs.declared.slot_access.SlotAccess.{SlotAccess}
-use Rattle.leg_grid.specs.declared.slot_box.SlotBox.{SlotBox}
-use Rattle.leg_grid.specs.Bound.{IsBesideNear}
-use Rattle.leg_grid.specs.Grid.{GridSaid, IsNumberOf, slot_total}
-use Rattle.leg_grid.specs.Meets.{MeetsJoined, MeetsRest}
-use Rattle.leg_grid.specs.Admitted.{IsNodeAdmitted, IsStepAdmitted}
-use Rattle.leg_grid.specs.Numbered.{IsOneOf, IsNextWalkAt, HasNoWalkAt}
-use Rattle.leg_grid.specs.Run.{IsNextWalk}
+use Rattle.leg_design_records.specs.Records.{DesignModel}
+use Rattle.leg_rules.specs.Metal.Flat.{FlatModel}
+use Rattle.leg_route_search.specs.Steps.Walks.{IsStep, IsShortestIfAny}
+use Rattle.leg_rules.specs.Route.Walk.{IsShortest, NoWalk}
+use Rattle.leg_rules.specs.declared.node.Node.{Node}
+use Rattle.leg_route_grid.specs.declared.slot_access.SlotAccess.{SlotAccess}
+use Rattle.leg_route_grid.specs.declared.slot_box.SlotBox.{SlotBox}
+use Rattle.leg_route_grid.specs.Steps.WalkBounds.{IsNeighbourNear}
+use Rattle.leg_route_grid.specs.Steps.Grid.{GridModel, IsNumberOf, slot_total}
+use Rattle.leg_rules.specs.Route.Meets.{MeetsJoined, MeetsRest}
+use Rattle.leg_route_grid.specs.Steps.AccessToNet.{IsNodeAdmitted, IsStepAdmitted}
+use Rattle.leg_route_grid.specs.Steps.NodeNumbers.{IsOneOf, IsNextWalkAt, HasNoWalkAt}
+use Rattle.leg_rules.specs.Route.Run.{IsNextWalk}
 use Rattle.leg_route.specs.Steps.NetSlots.{IsNextAnswerAt}
 
 -- where a walk can't end, there is none
-pub no_ends : (grid : GridSaid) (flat : FlatSaid) (net : ℕ) (ends : List ℕ) → ((n : ℕ) → Contains ends n ↔ IsOneOf (IsNumberOf grid) (MeetsRest flat net) n)
+pub no_ends : (grid : GridModel) (flat : FlatModel) (net : ℕ) (ends : List ℕ) → ((n : ℕ) → Contains ends n ↔ IsOneOf (IsNumberOf grid) (MeetsRest flat net) n)
     → ends ≡ [] → HasNoWalkAt grid flat net
 no_ends grid flat net ends are none a b nodes start is_end walk = Contains-nil b (subst (λ xs. Contains xs b) none ((are b).1 is_end))
 
 -- where it can't begin, there is none either
-pub no_starts : (grid : GridSaid) (flat : FlatSaid) (net : ℕ) (starts : List ℕ) → ((n : ℕ) → Contains starts n ↔ IsOneOf (IsNumberOf grid) (MeetsJoined flat net) n)
+pub no_starts : (grid : GridModel) (flat : FlatModel) (net : ℕ) (starts : List ℕ) → ((n : ℕ) → Contains starts n ↔ IsOneOf (IsNumberOf grid) (MeetsJoined flat net) n)
     → starts ≡ [] → HasNoWalkAt grid flat net
 no_starts grid flat net starts are none a b nodes start is_end walk = Contains-nil a (subst (λ xs. Contains xs a) none ((are a).1 start))
 
 -- what a search answers whose walks begin and end in these slots
-module _ (grid : GridSaid) (flat : FlatSaid) (slots : List SlotAccess) (net : ℕ) (origin around : List SlotBox) (starts ends : List ℕ) where
+module _ (grid : GridModel) (flat : FlatModel) (slots : List SlotAccess) (net : ℕ) (origin around : List SlotBox) (starts ends : List ℕ) where
   abbrev pub IsWalk : List ℕ → Type 0
   IsWalk numbers =
-      IsShortest (IsNodeAdmitted slots net) (IsStep (IsBesideNear grid origin around) (IsStepAdmitted grid slots net)) (Contains starts) (Contains ends) numbers
+      IsShortest (IsNodeAdmitted slots net) (IsStep (IsNeighbourNear grid origin around) (IsStepAdmitted grid slots net)) (Contains starts) (Contains ends) numbers
 
   abbrev pub IsNone : Type 0
-  IsNone = NoWalk (IsNodeAdmitted slots net) (IsStep (IsBesideNear grid origin around) (IsStepAdmitted grid slots net)) (Contains starts) (Contains ends)
+  IsNone = NoWalk (IsNodeAdmitted slots net) (IsStep (IsNeighbourNear grid origin around) (IsStepAdmitted grid slots net)) (Contains starts) (Contains ends)
 
   abbrev pub IsFound : Option (List ℕ) → Type 0
   IsFound answer =
-      IsAnswer (IsNodeAdmitted slots net) (IsStep (IsBesideNear grid origin around) (IsStepAdmitted grid slots net)) (Contains starts) (Contains ends) answer
+      IsShortestIfAny (IsNodeAdmitted slots net) (IsStep (IsNeighbourNear grid origin around) (IsStepAdmitted grid slots net)) (Contains starts) (Contains ends) answer
 
   -- it answers by numbers
   pub answer_at : ((numbers : List ℕ) → IsWalk numbers → IsNextWalkAt grid flat net numbers) → (IsNone → HasNoWalkAt grid flat net)
@@ -65,7 +66,7 @@ same_nodes Number apart (n ∷ ns) (x ∷ xs) (y ∷ ys) p q =
     ap (λ z. z ∷ xs) first ∙ ap (λ zs. y ∷ zs) rest
 
 -- the nodes of a shortest open walk of numbers are those of one
-pub walk_of : (grid : GridSaid) (design : DesignContents) (flat : FlatSaid) (net : ℕ) (numbers : List ℕ) (nodes : List Node) → grid.design ≡ design
+pub walk_of : (grid : GridModel) (design : DesignModel) (flat : FlatModel) (net : ℕ) (numbers : List ℕ) (nodes : List Node) → grid.design ≡ design
     → ((n : ℕ) (a b : Node) → IsNumberOf grid n a → IsNumberOf grid n b → a ≡ b)
     → ((others : List Node) × AllZip (IsNumberOf grid) numbers others × IsNextWalk grid.design flat net others)
     → AllZip (IsNumberOf grid) numbers nodes → IsNextWalk design flat net nodes

@@ -2,33 +2,33 @@
 use Rattle.std.proofs.Common.{◌≡◌, ◌≢◌, ℕ, ℤ, pos, ◌≤ℤ◌, List, [], ◌∷◌, ◌++◌, ◌⊎◌, inl, inr, All, negsuc, refl, sym, ap, ◌∙◌, subst, arith}
 use Rattle.std.proofs.lemmas.Int.{ints}
 use Rattle.std.proofs.lemmas.List.Elements.{All-contains, All-cons, All-nil}
-use Rattle.leg_geom.specs.Plane.{Spot}
-use Rattle.leg_cells.specs.declared.records.Direction.{Direction}
-use Rattle.leg_cells.specs.Sound.{IsSound, IsSoundLayer, HasWidth, IsWidth}
-use Rattle.leg_block.specs.declared.records.Wire.{Wire}
-use Rattle.leg_block.specs.declared.records.Wire.TheVariants.{Segment, ViaAt, Patch}
-use Rattle.leg_block.specs.Records.{DesignContents}
-use Rattle.leg_flat.specs.Flat.{FlatSaid}
-use Rattle.leg_walk.specs.declared.side.Side.{Side}
-use Rattle.leg_walk.specs.Walk.{Walk}
-use Rattle.leg_walk.specs.Walk.Walk.{here, on}
-use Rattle.leg_grid.specs.declared.node.Node.{Node}
-use Rattle.leg_grid.specs.Tracks.{Runs}
-use Rattle.leg_grid.specs.Neighbours.{IsInLine, IsOver}
-use Rattle.leg_grid.specs.Added.{half, square, NodeAdds, StepAdds}
-use Rattle.leg_grid.specs.OpenMetal.{IsOpenWire, IsOpenNode, IsOpenStep}
-use Rattle.leg_grid.specs.Spelling.{IsOnLayer, IsStraight, Spells, AreWiresOf}
-use Rattle.leg_grid.specs.Spelling.IsStraight.{one, more}
-use Rattle.leg_grid.specs.Spelling.Spells.{done, through, along}
-use Rattle.leg_grid.specs.Spelling.AreWiresOf.{stays, goes}
-use Rattle.leg_grown.specs.Lines.{EachStep, last_spot}
-use Rattle.leg_grown.proofs.Places.{contains_at}
+use Rattle.leg_geom.specs.Plane.{PointModel}
+use Rattle.leg_lib_records.specs.declared.records.Direction.{Direction}
+use Rattle.leg_lib_records.specs.Sound.{IsSound, IsSoundLayer, HasWidth, IsWidth}
+use Rattle.leg_design_records.specs.declared.records.Wire.{Wire}
+use Rattle.leg_design_records.specs.declared.records.Wire.TheVariants.{Segment, ViaAt, Patch}
+use Rattle.leg_design_records.specs.Records.{DesignModel}
+use Rattle.leg_rules.specs.Metal.Flat.{FlatModel}
+use Rattle.leg_rules.specs.declared.side.Side.{Side}
+use Rattle.leg_rules.specs.Route.Walk.{Walk}
+use Rattle.leg_rules.specs.Route.Walk.Walk.{here, on}
+use Rattle.leg_rules.specs.declared.node.Node.{Node}
+use Rattle.leg_rules.specs.Route.Tracks.{Runs}
+use Rattle.leg_rules.specs.Route.Neighbours.{IsInLine, IsOver}
+use Rattle.leg_rules.specs.Route.StepWires.{half, square, NodeAdds, StepAdds}
+use Rattle.leg_rules.specs.Route.OpenMetal.{IsOpenWire, IsOpenNode, IsOpenStep}
+use Rattle.leg_rules.specs.Route.Spelling.{IsOnLayer, IsStraight, Spells, AreWiresOf}
+use Rattle.leg_rules.specs.Route.Spelling.IsStraight.{one, more}
+use Rattle.leg_rules.specs.Route.Spelling.Spells.{done, through, along}
+use Rattle.leg_rules.specs.Route.Spelling.AreWiresOf.{stays, goes}
+use Rattle.leg_route_laws.specs.Lines.{EachStep, last_spot}
+use Rattle.leg_route_laws.proofs.Places.{contains_at}
 use Rattle.leg_route.proofs.GrownLaws.{RunOfCleanWires}
 use Rattle.leg_route.proofs.GridFacts.{same_width, over_up, via_once}
-use Rattle.leg_route.proofs.Straight.{points, beside_layer, straight_last, straight_ahead, straight_apart, straight_keeps, ahead_apart, in_line}
+use Rattle.leg_route.proofs.StraightRuns.{points, beside_layer, straight_last, straight_ahead, straight_apart, straight_keeps, ahead_apart, in_line}
 
 -- the width of a routing layer is above 0 and even
-pub runs_width : (design : DesignContents) (number : ℕ) (direction : Direction) (width : ℤ) → IsSound design.library → Runs design.library number direction width → IsWidth width
+pub runs_width : (design : DesignModel) (number : ℕ) (direction : Direction) (width : ℤ) → IsSound design.library → Runs design.library number direction width → IsWidth width
 runs_width design number direction width sound runs =
     let layer = All-contains IsSoundLayer design.library.layers runs.layer sound.layers (contains_at design.library.layers number runs.layer runs.there) in
     subst HasWidth runs.routes layer.width
@@ -38,7 +38,7 @@ half_least : (width : ℤ) → IsWidth width → pos 0 ≤ℤ half width
 half_least (pos a) is = omega (arith, ints)
 half_least (negsuc a) is = absurd (let above = is.above in let e : ⊥ = omega (arith, ints) in e)
 
-module _ (run_of_clean : RunOfCleanWires) (design : DesignContents) (flat : FlatSaid) (net : ℕ) where
+module _ (run_of_clean : RunOfCleanWires) (design : DesignModel) (flat : FlatModel) (net : ℕ) where
   abbrev Clean : Wire → Type 0
   Clean wire = IsOpenWire design flat net wire
 
@@ -116,7 +116,7 @@ module _ (run_of_clean : RunOfCleanWires) (design : DesignContents) (flat : Flat
         subst Clean same step.clean
 
   module _ (side : Side) (on_layer : IsOnLayer side) (layer : ℕ) (direction : Direction) (width : ℤ) (runs : Runs design.library layer direction width) where
-    abbrev IsCleanLine : Spot → Spot → Type 0
+    abbrev IsCleanLine : PointModel → PointModel → Type 0
     IsCleanLine p q = Clean (Segment layer p q width (half width) (half width))
 
     run_clean : (a b : Node) (run : List Node) → a.layer ≡ layer → IsStraight design side a run b → AreSteps a run → EachStep IsCleanLine a.at (points run)

@@ -9,33 +9,34 @@ use Rattle.std.proofs.lemmas.Bool.{false≢true}
 use Rattle.std.proofs.lemmas.Bool.Decides.{nat_tests}
 use Rattle.std.proofs.lemmas.List.{length-append, length-drop, take_all, length-set, get_or-set_same, get_or-set_other}
 use Rattle.std.proofs.lemmas.Option.{slice_get_read, slice_get-get_or, get_or_from_slice_get}
-use Rattle.leg_block.specs.declared.records.Wire.{Wire}
-use Rattle.leg_block.specs.Records.{DesignContents}
-use Rattle.leg_flat.specs.declared.shape.Shape.{Shape}
-use Rattle.leg_flat.specs.Flat.{FlatSaid, pieces_with}
-use Rattle.leg_flat.specs.MoreWires.{HasOneMoreWire}
+use Rattle.leg_design_records.specs.declared.records.Wire.{Wire}
+use Rattle.leg_design_records.specs.Records.{DesignModel}
+use Rattle.leg_rules.specs.declared.shape.Shape.{Shape}
+use Rattle.leg_rules.specs.Metal.Flat.{FlatModel, pieces_with}
+use Rattle.leg_rules.specs.Metal.MoreWires.{HasOneMoreWire}
 use Rattle.leg_wire.specs.NetShapes.{AreNumbersOf}
-use Rattle.leg_wire.specs.Joins.{JoinsSaid}
-use Rattle.leg_wire.specs.Touch.{piece_count, AreJoined, AreMarks}
-use Rattle.leg_walk.specs.declared.mark.Mark.{Mark}
-use Rattle.leg_grid.specs.declared.slot_access.SlotAccess.{SlotAccess}
-use Rattle.leg_grid.specs.Grid.{GridSaid}
-use Rattle.leg_wire.specs.Open.{IsOpenNet}
-use Rattle.leg_grown.specs.Growth.{Grows, of_net}
-use Rattle.leg_route.specs.Steps.JoinedPart.{PartSaid}
+use Rattle.leg_wire.specs.Joins.{JoinsModel}
+use Rattle.leg_wire.specs.PieceMarks.{AreMarks}
+use Rattle.leg_rules.specs.Joins.Touch.{piece_count, AreJoined}
+use Rattle.leg_route_search.specs.declared.mark.Mark.{Mark}
+use Rattle.leg_route_grid.specs.declared.slot_access.SlotAccess.{SlotAccess}
+use Rattle.leg_route_grid.specs.Steps.Grid.{GridModel}
+use Rattle.leg_rules.specs.Joins.Violations.{IsOpenNet}
+use Rattle.leg_route_laws.specs.Growth.{Grows, of_net}
+use Rattle.leg_route.specs.Steps.JoinedPart.{PartModel}
 use Rattle.leg_route.proofs.JoinedParts.{part_grows}
 use Rattle.leg_route.proofs.KeptJoins.{kept_with}
-use Rattle.leg_route.specs.Steps.Ready.{AreNumbersByNet, TellsShapes, AreReady, IsWithWire}
+use Rattle.leg_route.specs.Steps.Ready.{AreNumbersByNet, HasSlotsOf, IsReadyGround, IsWithWire}
 
 -- a piece without a mark is one that isn't joined
-pub unmarked_is_open : (design : DesignContents) (flat : FlatSaid) (net : ℕ) (marks : List Bool) → net < length design.nets
+pub unmarked_is_open : (design : DesignModel) (flat : FlatModel) (net : ℕ) (marks : List Bool) → net < length design.nets
     → AreMarks (AreJoined flat net 0) (piece_count flat net) marks → Contains marks false → IsOpenNet design flat net
 unmarked_is_open design flat net marks entry are has =
     let there : slice_get marks has.0 ≡ Some false = slice_get_read marks (length marks) has.0 false refl has.1 (sym has.2) in
     let low : has.0 < piece_count flat net = rw (← are.count) has.1 in
     (has.0, record { net = entry; piece = low; open_piece = λ joined. false≢true ((are.each has.0 false there).1 joined) })
 
-pub open_has_unmarked : (design : DesignContents) (flat : FlatSaid) (net : ℕ) (marks : List Bool)
+pub open_has_unmarked : (design : DesignModel) (flat : FlatModel) (net : ℕ) (marks : List Bool)
     → AreMarks (AreJoined flat net 0) (piece_count flat net) marks → IsOpenNet design flat net → Contains marks false
 open_has_unmarked design flat net marks are is_open =
     let k = is_open.0 in
@@ -46,7 +47,7 @@ open_has_unmarked design flat net marks are is_open =
       by k low false there not_joined = (k, low, get_or_from_slice_get marks k false false there)
 
 -- whether a mark is missing tells whether the net is open
-pub told_open : (design : DesignContents) (flat : FlatSaid) (net : ℕ) (marks : List Bool) (told : Bool) → net < length design.nets
+pub told_open : (design : DesignModel) (flat : FlatModel) (net : ℕ) (marks : List Bool) (told : Bool) → net < length design.nets
     → AreMarks (AreJoined flat net 0) (piece_count flat net) marks → IsAnyAnswer (λ y b. beq y false ≡ b) marks told → IsTrue told ↔ IsOpenNet design flat net
 told_open design flat net marks told entry are answer =
     let decides = Decides-contains marks false told (contains_decides beq booleans_Decides marks false told answer) in
@@ -54,25 +55,22 @@ told_open design flat net marks told entry are answer =
 
 abbrev pub OwnNumbersGrow : Type 0
 OwnNumbersGrow =
-    (design : DesignContents) (net : ℕ) (wires : List Wire) (before after : FlatSaid) (numbers : List ℕ)
+    (design : DesignModel) (net : ℕ) (wires : List Wire) (before after : FlatModel) (numbers : List ℕ)
     → Grows design (of_net net wires) before after → AreNumbersOf before.shapes net numbers
     → AreNumbersOf after.shapes net (numbers ++ range_with_len (length before.shapes) (length after.shapes - length before.shapes))
 
 abbrev pub OtherNumbersStay : Type 0
 OtherNumbersStay =
-    (design : DesignContents) (net other : ℕ) (wires : List Wire) (before after : FlatSaid) (numbers : List ℕ)
+    (design : DesignModel) (net other : ℕ) (wires : List Wire) (before after : FlatModel) (numbers : List ℕ)
     → Grows design (of_net net wires) before after → other ≢ net → AreNumbersOf before.shapes other numbers → AreNumbersOf after.shapes other numbers
 
-module _ (design : DesignContents) (net : ℕ) (wire : Wire) (before after : FlatSaid) (more : HasOneMoreWire design net wire before after) where
+module _ (design : DesignModel) (net : ℕ) (wire : Wire) (before after : FlatModel) (more : HasOneMoreWire design net wire before after) where
   grows : Grows design (of_net net (wire ∷ [])) before after
   grows = (after, more, refl)
 
   -- the shapes that the wire has
   added_are : drop (length before.shapes) after.shapes ≡ more.added
   added_are = rw more.shapes (drop-append_seam before.shapes more.added)
-
-  added_count : length after.shapes - length before.shapes ≡ length more.added
-  added_count = let many = length-append before.shapes more.added in rw more.shapes (omega (arith, many))
 
   -- the same, cut out of all shapes
   rest_are : (all first : List Shape) → all ≡ after.shapes → first ≡ before.shapes → take (length all - length first) (drop (length first) all) ≡ more.added
@@ -98,15 +96,15 @@ module _ (design : DesignContents) (net : ℕ) (wire : Wire) (before after : Fla
     }
 
   -- all is ready still when the net has the wire, where what is new was told to the slots and the net's numbers got its
-  pub ready_more : OwnNumbersGrow → OtherNumbersStay → (grid : GridSaid) (slots slots_then : List SlotAccess) (lists : List (List ℕ)) (had own : List ℕ) (marks : List Mark) (touched : List ℕ) (part : PartSaid) (joins joins_then : Option JoinsSaid)
-      (all first : List Shape) → all ≡ after.shapes → first ≡ before.shapes → net < length design.nets → AreReady design grid before slots lists marks touched part joins
-      → ((shapes : List Shape) → TellsShapes grid shapes slots → TellsShapes grid (shapes ++ take (length all - length first) (drop (length first) all)) slots_then)
+  pub ready_more : OwnNumbersGrow → OtherNumbersStay → (grid : GridModel) (slots slots_then : List SlotAccess) (lists : List (List ℕ)) (had own : List ℕ) (marks : List Mark) (touched : List ℕ) (part : PartModel) (joins joins_then : Option JoinsModel)
+      (all first : List Shape) → all ≡ after.shapes → first ≡ before.shapes → net < length design.nets → IsReadyGround design grid before slots lists marks touched part joins
+      → ((shapes : List Shape) → HasSlotsOf grid shapes slots → HasSlotsOf grid (shapes ++ take (length all - length first) (drop (length first) all)) slots_then)
       → had ≡ get_or lists net [] → own ≡ had ++ range_with_len (length first) (length all - length first)
       → IfSome joins_then (IsWithWire joins net (take (length all - length first) (drop (length first) all)))
-      → AreReady design grid after slots_then (slice_set lists net own) marks touched part joins_then
+      → IsReadyGround design grid after slots_then (slice_set lists net own) marks touched part joins_then
   ready_more own_law other_law grid slots slots_then lists had own marks touched part joins joins_then all first all_is first_is low ready told had_is own_is kept =
       let rest = rest_are all first all_is first_is in
-      let then : TellsShapes grid (before.shapes ++ more.added) slots_then = rw rest at (told before.shapes ready.told) in
+      let then : HasSlotsOf grid (before.shapes ++ more.added) slots_then = rw rest at (told before.shapes ready.told) in
       let own_then : own ≡ get_or lists net [] ++ range_with_len (length before.shapes) (length after.shapes - length before.shapes) = rw (all_is, first_is, had_is) at own_is in
       record {
         of_design = ready.of_design;

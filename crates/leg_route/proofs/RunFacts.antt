@@ -3,18 +3,18 @@ use Rattle.std.proofs.Common.{◌≡◌, ◌==◌, ◌<◌, ℕ, List, [], ◌�
 use Rattle.std.proofs.lemmas.Bool.Decides.{nat_tests}
 use Rattle.std.proofs.lemmas.List.{append-nil, append_assoc}
 use Rattle.std.proofs.lemmas.List.Elements.{All-nil, All-cons, All-append}
-use Rattle.leg_cells.specs.Sound.{IsSound}
-use Rattle.leg_block.specs.declared.records.Wire.{Wire}
-use Rattle.leg_block.specs.Records.{DesignContents}
-use Rattle.leg_flat.specs.Flat.{FlatSaid}
-use Rattle.leg_grid.specs.MoreWires.{HasMoreWires}
-use Rattle.leg_grid.specs.MoreWires.HasMoreWires.{none, one_more}
-use Rattle.leg_grid.specs.Run.{Added, Run}
-use Rattle.leg_wire.specs.Open.{IsOpenNet}
-use Rattle.leg_grid.specs.Run.Run.{begun, walked}
-use Rattle.leg_grown.specs.Growth.{AddedWire, Grows, of_net, wires_added}
-use Rattle.leg_grown.specs.CleanWire.{HasNoSpacingFault}
-use Rattle.leg_route.specs.Routed.{wires_for}
+use Rattle.leg_lib_records.specs.Sound.{IsSound}
+use Rattle.leg_design_records.specs.declared.records.Wire.{Wire}
+use Rattle.leg_design_records.specs.Records.{DesignModel}
+use Rattle.leg_rules.specs.Metal.Flat.{FlatModel}
+use Rattle.leg_rules.specs.Route.MoreWires.{HasMoreWires}
+use Rattle.leg_rules.specs.Route.MoreWires.HasMoreWires.{none, one_more}
+use Rattle.leg_rules.specs.Route.Run.{Added, RouteRun}
+use Rattle.leg_rules.specs.Joins.Violations.{IsOpenNet}
+use Rattle.leg_rules.specs.Route.Run.RouteRun.{begun, walked}
+use Rattle.leg_route_laws.specs.Growth.{AddedWire, Grows, of_net, wires_added}
+use Rattle.leg_route_laws.specs.CleanWire.{HasNoSpacingFault}
+use Rattle.leg_rules.specs.Route.Result.{wires_for}
 use Rattle.leg_route.proofs.GrownLaws.{RunOfCleanWires, CleanWiresStay, GrowthGoesOn}
 use Rattle.leg_route.proofs.MoreWires.{was_open}
 use Rattle.leg_route.proofs.OpenWires.{walk_clean}
@@ -54,19 +54,19 @@ added_for net [] = refl
 added_for net (one ∷ more) = added_next net one more (added_for net more)
 
 -- wires one after another
-pub more_grows : (design : DesignContents) (net : ℕ) (wires : List Wire) (before after : FlatSaid) → HasMoreWires design net wires before after → Grows design (of_net net wires) before after
+pub more_grows : (design : DesignModel) (net : ℕ) (wires : List Wire) (before after : FlatModel) → HasMoreWires design net wires before after → Grows design (of_net net wires) before after
 more_grows design net wires before after none = refl
 more_grows design net wires before after (one_more {mid = mid} {wires = others} step rest) = (mid, step, more_grows design net others mid after rest)
 
-module _ (goes_on : GrowthGoesOn) (design : DesignContents) where
-  pub run_grows : (flat grown : FlatSaid) (added : List Added) → Run design flat added grown → Grows design (told added) flat grown
+module _ (goes_on : GrowthGoesOn) (design : DesignModel) where
+  pub run_grows : (flat grown : FlatModel) (added : List Added) → RouteRun design flat added grown → Grows design (told added) flat grown
   run_grows flat grown added begun = refl
   run_grows flat grown added (walked {mid = mid} {added = before} {wires = wires} net run turn walk spelled more) =
       subst (λ ws. Grows design ws flat grown) (sym (told_last before net wires))
       (goes_on design (told before) (of_net net wires) flat mid grown (run_grows flat mid before run) (more_grows design net wires mid grown more))
 
   -- all added wires are of entries of NETS
-  pub run_nets : (flat grown : FlatSaid) (added : List Added) → Run design flat added grown → All (λ (one : AddedWire). one.net < length design.nets) (told added)
+  pub run_nets : (flat grown : FlatModel) (added : List Added) → RouteRun design flat added grown → All (λ (one : AddedWire). one.net < length design.nets) (told added)
   run_nets flat grown added begun = All-nil (λ (one : AddedWire). one.net < length design.nets)
   run_nets flat grown added (walked {mid = mid} {added = before} {wires = wires} net run turn walk spelled more) =
       subst (All (λ (one : AddedWire). one.net < length design.nets)) (sym (told_last before net wires))
@@ -77,8 +77,8 @@ module _ (goes_on : GrowthGoesOn) (design : DesignContents) where
       all_of net (wire ∷ wires) within =
           All-cons (λ (one : AddedWire). one.net < length design.nets) (record { net = net; wire = wire }) (of_net net wires) within (all_of net wires within)
 
-module _ (run_of_clean : RunOfCleanWires) (stay : CleanWiresStay) (design : DesignContents) where
-  pub run_clean : (flat grown : FlatSaid) (added : List Added) → IsSound design.library → HasNoSpacingFault design.library flat → Run design flat added grown
+module _ (run_of_clean : RunOfCleanWires) (stay : CleanWiresStay) (design : DesignModel) where
+  pub run_clean : (flat grown : FlatModel) (added : List Added) → IsSound design.library → HasNoSpacingFault design.library flat → RouteRun design flat added grown
       → HasNoSpacingFault design.library grown
   run_clean flat grown added sound clean begun = clean
   run_clean flat grown added sound clean (walked {mid = mid} {added = before} {nodes = nodes} {wires = wires} net run turn walk spelled more) =
@@ -87,7 +87,7 @@ module _ (run_of_clean : RunOfCleanWires) (stay : CleanWiresStay) (design : Desi
       (more_grows design net wires mid grown more)
 
 -- a net that is open after a run was open before it
-pub was_open_first : (design : DesignContents) (flat grown : FlatSaid) (added : List Added) (net : ℕ) → Run design flat added grown → IsOpenNet design grown net → IsOpenNet design flat net
+pub was_open_first : (design : DesignModel) (flat grown : FlatModel) (added : List Added) (net : ℕ) → RouteRun design flat added grown → IsOpenNet design grown net → IsOpenNet design flat net
 was_open_first design flat grown added net begun is_open = is_open
 was_open_first design flat grown added net (walked {mid = mid} {added = before} {wires = wires} one run turn walk spelled more) is_open =
     was_open_first design flat mid before net run (by (net == one) refl)
@@ -107,7 +107,7 @@ wires_for_both net (one ∷ first) second = by (wires_for_both net first second)
   by rest false differ = rw differ rest
 
 -- a net that is not open before a run has no turn in it
-pub no_wires_for : (design : DesignContents) (flat grown : FlatSaid) (added : List Added) (net : ℕ) → Run design flat added grown → ¬ IsOpenNet design flat net → wires_for net added ≡ []
+pub no_wires_for : (design : DesignModel) (flat grown : FlatModel) (added : List Added) (net : ℕ) → RouteRun design flat added grown → ¬ IsOpenNet design flat net → wires_for net added ≡ []
 no_wires_for design flat grown added net begun joined = refl
 no_wires_for design flat grown added net (walked {mid = mid} {added = before} {wires = wires} one run turn walk spelled more) joined =
     wires_for_both net before (record { net = one; wires = wires } ∷ []) ∙ ap (λ ws. ws ++ wires_for net (record { net = one; wires = wires } ∷ [])) (no_wires_for design flat mid before net run joined) ∙ by (one == net) refl

@@ -1,8 +1,10 @@
--- Intermediate state of the code. Only private contracts cite it.
+-- Intermediate state of the code, and what crates of one algorithm know of one another. No promise of a command rests on it.
 pub mod NextWires
 pub mod NetRun
-pub mod Underway
+pub mod RunSoFar
 pub mod Stops
 pub mod Ready
 pub mod NetSlots
 pub mod JoinedPart
+pub mod NetLists
+pub mod RunEnd

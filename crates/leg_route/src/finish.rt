@@ -1,20 +1,20 @@
 //! The design gets the wires of a run that has come to its end.
 
 ghost use Rattle.std.specs.Prelude.{◌≡◌, ◌≤◌, false, All, length, map, IfOk, IfErr, OnOk};
-ghost use Rattle.leg_block.specs.declared.limits.TheConstants.{PART_LIMIT};
-ghost use Rattle.leg_block.specs.WellFormedNets.{IsWire};
-ghost use Rattle.leg_flat.specs.Metal.{metal_of};
-ghost use Rattle.leg_grid.specs.GridSize.{IsGridTooLarge};
+ghost use Rattle.leg_design_records.specs.declared.limits.TheConstants.{PART_LIMIT};
+ghost use Rattle.leg_design_records.specs.WellFormedNets.{IsWire};
+ghost use Rattle.leg_rules.specs.Metal.Metal.{metal_of};
+ghost use Rattle.leg_rules.specs.Route.GridSize.{IsGridTooLarge};
 ghost use Rattle.leg_rules.specs.Legal.{IsLegal};
-ghost use Rattle.leg_grown.specs.SameButForWires.{IsSameButForWires};
-ghost use Rattle.leg_route.specs.Routed.{IsRouted};
-ghost use Rattle.leg_route.specs.Refusal.{IsRefusal};
-ghost use Rattle.leg_route.specs.FinishedRun.{IsFinishedRun};
+ghost use Rattle.leg_rules.specs.Route.SameButForWires.{IsSameButForWires};
+ghost use Rattle.leg_rules.specs.Route.Result.{IsRouted};
+ghost use Rattle.leg_route.specs.Refusal.{IsRouteRefusal};
+ghost use Rattle.leg_route.specs.Steps.RunEnd.{IsFinishedRun};
 
 use crate::fault::RouteFault;
 use crate::laws::finished_run;
-use leg_block::laws::design_is_sound;
-use leg_block::{Design, Wire};
+use leg_design_records::laws::design_is_sound;
+use leg_design_records::{Design, Wire};
 use leg_flat::laws::every_design_has_a_flat;
 use std::alloc::Allocator;
 
@@ -31,7 +31,7 @@ pub(crate) fn finish<'a, A: Allocator + Copy>(
     ensures few { IfOk result (λ done. length (metal_of done) ≤ PART_LIMIT) }
     ensures fits { OnOk result (¬ IsGridTooLarge design.entry) }
     ensures unchanged { IfErr result (λ back. back.0 ≡ design.entry) }
-    ensures refused { IfErr result (λ back. IsRefusal design.entry back.1) }
+    ensures refused { IfErr result (λ back. IsRouteRefusal design.entry back.1) }
 {
     finished_run();
     design_is_sound(&design);

@@ -2,24 +2,25 @@
 
 ghost use Rattle.std.specs.Prelude.{◌≡◌, ◌↔◌, ◌-◌, ◌++◌, List, IsTrue, false, length, Contains, IfOk, IfErr, OnOk};
 ghost use Rattle.std.specs.List.{range_with_len};
-ghost use Rattle.leg_flat.specs.declared.shape.Shape.{Shape};
-ghost use Rattle.leg_flat.specs.Flat.{IsWithin};
-ghost use Rattle.leg_grid.specs.Grid.{slot_total};
+ghost use Rattle.leg_rules.specs.declared.shape.Shape.{Shape};
+ghost use Rattle.leg_flat.specs.Limits.{IsWithinLimits};
+ghost use Rattle.leg_route_grid.specs.Steps.Grid.{slot_total};
 ghost use Rattle.leg_rules.specs.Legal.{IsCleanIn};
-ghost use Rattle.leg_route.specs.Refusal.{ComesToRun, IsRefusal};
-ghost use Rattle.leg_route.specs.Steps.Ready.{AreReady};
+ghost use Rattle.leg_route.specs.Refusal.{IsRouteRefusal};
+ghost use Rattle.leg_rules.specs.Route.Refusal.{ComesToRun};
+ghost use Rattle.leg_route.specs.Steps.Ready.{IsReadyGround};
 
 use crate::fault::RouteFault;
 use crate::ground::Ground;
 use crate::joined_part::{JoinedPart, joined_slots};
 use crate::kept_joins::{joins_of, with_wire};
 use crate::next_wires::next_wires;
-use leg_block::{Design, Wire};
-use leg_cells::Items;
+use leg_design_records::{Design, Wire};
 use leg_flat::{Flat, FlatFault, Shape};
-use leg_grid::{Grid, SlotAccess, add_shapes, slots_beside};
-use leg_grown::laws::{other_numbers_stay, own_numbers_grow};
-use leg_walk::{Mark, unseen_marks};
+use leg_lib_records::Items;
+use leg_route_grid::{Grid, SlotAccess, add_shapes, slots_beside};
+use leg_route_laws::laws::{other_numbers_stay, own_numbers_grow};
+use leg_route_search::{Mark, unseen_marks};
 use leg_wire::{NetJoins, numbers_by_net};
 use std::alloc::{AllocError, Allocator};
 use std::mem;
@@ -49,12 +50,12 @@ impl<'g, 'a, A: Allocator + Copy> GridGround<'g, 'a, A> {
         flat: Flat<A>,
     ) -> Result<GridGround<'g, 'a, A>, RouteFault<A>>
         requires clean { IsCleanIn design.now flat }
-        ensures ready { IfOk result (λ ground. AreReady design.now ground.grid ground.flat ground.slots.items ground.numbers.items ground.marks.items ground.touched.items
+        ensures ready { IfOk result (λ ground. IsReadyGround design.now ground.grid ground.flat ground.slots.items ground.numbers.items ground.marks.items ground.touched.items
             (record { net = ground.part.net; joined = ground.part.joined.items; boxes = ground.part.slots.boxes.items; slots = ground.part.slots.slots.items }) ground.joins) }
         ensures same_design { IfOk result (λ ground. ground.design.now ≡ design.now) }
         ensures comes { IfOk result (λ ground. ComesToRun design.now ground.flat) }
-        ensures within { IfOk result (λ ground. IsWithin ground.flat) }
-        ensures refused { IfErr result (λ fault. IsRefusal design.now fault) }
+        ensures within { IfOk result (λ ground. IsWithinLimits ground.flat) }
+        ensures refused { IfErr result (λ fault. IsRouteRefusal design.now fault) }
     {
         let grid = Grid::new(alloc, design)?;
         let slots = slots_beside(alloc, &grid, design, flat.shapes())?;
@@ -76,13 +77,13 @@ impl<'g, 'a, A: Allocator + Copy> GridGround<'g, 'a, A> {
 }
 
 impl<'g, 'a, A: Allocator + Copy> Ground<A> for GridGround<'g, 'a, A> {
-    ghost use Rattle.leg_route.specs.Steps.Ready.{AreReady};
+    ghost use Rattle.leg_route.specs.Steps.Ready.{IsReadyGround};
 
     ghost design = { λ g. g.design.now };
 
     ghost flat = { λ g. g.flat };
 
-    ghost IsReady = { λ g. AreReady g.design.now g.grid g.flat g.slots.items g.numbers.items g.marks.items g.touched.items
+    ghost IsReady = { λ g. IsReadyGround g.design.now g.grid g.flat g.slots.items g.numbers.items g.marks.items g.touched.items
         (record { net = g.part.net; joined = g.part.joined.items; boxes = g.part.slots.boxes.items; slots = g.part.slots.slots.items }) g.joins };
 
     fn joined(&mut self, alloc: A, net: u32) -> Result<Vec<bool, A>, AllocError> {

@@ -1,28 +1,29 @@
 //! What the router works on.
 
 ghost use Rattle.std.specs.Prelude.{◌≡◌, ◌<◌, ◌≤◌, ◌+◌, false, length, IfOk, IfErr, OnOk, OnErr, option_map};
-ghost use Rattle.leg_block.specs.declared.limits.TheConstants.{PART_LIMIT};
-ghost use Rattle.leg_block.specs.WellFormedNets.{IsWire};
+ghost use Rattle.leg_design_records.specs.declared.limits.TheConstants.{PART_LIMIT};
+ghost use Rattle.leg_design_records.specs.WellFormedNets.{IsWire};
 ghost use Rattle.leg_flat.specs.declared.fault.FlatFault.TheVariants.{TooMany};
-ghost use Rattle.leg_flat.specs.Metal.{wire_outlines};
-ghost use Rattle.leg_flat.specs.MoreWires.{HasOneMoreWire};
-ghost use Rattle.leg_flat.specs.Flat.{IsWithin};
-ghost use Rattle.leg_wire.specs.Touch.{piece_count, AreJoined, AreMarks};
+ghost use Rattle.leg_rules.specs.Metal.Metal.{wire_outlines};
+ghost use Rattle.leg_rules.specs.Metal.MoreWires.{HasOneMoreWire};
+ghost use Rattle.leg_flat.specs.Limits.{IsWithinLimits};
+ghost use Rattle.leg_wire.specs.PieceMarks.{AreMarks};
+ghost use Rattle.leg_rules.specs.Joins.Touch.{piece_count, AreJoined};
 ghost use Rattle.leg_route.specs.Steps.NextWires.{IsNextAnswer};
 
-use leg_block::Wire;
+use leg_design_records::Wire;
 use leg_flat::FlatFault;
 use std::alloc::{AllocError, Allocator};
 
 /// A design, and the flat of it that grows as nets get wires. What else a search needs is kept with them: it is ready
 /// where all of this fits the flat.
 pub(crate) trait Ground<A: Allocator + Copy> {
-    ghost use Rattle.leg_block.specs.Records.{DesignContents};
-    ghost use Rattle.leg_flat.specs.Flat.{FlatSaid};
+    ghost use Rattle.leg_design_records.specs.Records.{DesignModel};
+    ghost use Rattle.leg_rules.specs.Metal.Flat.{FlatModel};
 
-    ghost design: { Self → DesignContents };
+    ghost design: { Self → DesignModel };
 
-    ghost flat: { Self → FlatSaid };
+    ghost flat: { Self → FlatModel };
 
     ghost IsReady: { Self → Type 0 };
 
@@ -57,7 +58,7 @@ pub(crate) trait Ground<A: Allocator + Copy> {
         requires in_range { net < length (design self.old).nets }
         requires spelled { IsWire (design self.old).library (design self.old).vias false wire }
         ensures added { OnOk result (HasOneMoreWire (design self.old) net wire (flat self.old) (flat self.new)) }
-        ensures within { OnOk result (IsWithin (flat self.new)) }
+        ensures within { OnOk result (IsWithinLimits (flat self.new)) }
         ensures ready { OnOk result (IsReady self.new) }
         ensures many { IfErr result (λ fault. fault ≡ TooMany → PART_LIMIT < length (flat self.old).shapes + length (wire_outlines (design self.old) wire)) }
         ensures same_design { design self.new ≡ design self.old };

@@ -5,7 +5,7 @@ ghost use Rattle.leg_route.specs.Steps.NetSlots.{HasMark, AreMarkedSlots};
 
 use crate::next_wires::{has_mark, marked_slots};
 use leg_flat::Shape;
-use leg_grid::{BoxedSlots, Grid, add_slots_in};
+use leg_route_grid::{BoxedSlots, Grid, add_slots_in};
 use std::alloc::{AllocError, Allocator};
 
 /// For pieces of a net whether they are joined to its first one, and the slots in the shapes of those that are. What came to the net

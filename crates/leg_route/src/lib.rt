@@ -1,4 +1,18 @@
 //! The router: it adds wires to nets that are open, along the grid of tracks, until all their pieces are joined.
+//!
+//! `route` flattens the design and refuses it if violations other than open nets hold. Then it makes the grid and goes
+//! through the nets of `NETS` in turn. As long as a piece of the net is not joined to its first one, a search over the grid
+//! gives the wires of a shortest open walk from the joined part to the rest, and these are added to the flat, which grows;
+//! so all later questions are asked of the metal as it is then. Which pieces are joined is found once for each net, from
+//! its own shapes, and kept while it gets wires (`NetJoins` of `leg_wire`); what is open is read from a table (`SlotAccess`
+//! of `leg_route_grid`). Neither is made anew for a walk, nor are the slots of the joined part, to which those of newly
+//! joined pieces are added. What is made for each walk is the marks of the pieces that are joined, the slots of the others,
+//! and the hulls; so a net takes time by the square of its pins, with a small share of it.
+//!
+//! When no net is open, the design gets all wires at once (`Design::with_all_wires`), which is the last allocation; so each
+//! refusal returns the design as it was. That the result is legal is a theorem about the run: clean wires leave a clean
+//! flat clean, and a flat in which no net is open is that of the design which got the wires, except for the numbers of its
+//! shapes and pieces (`leg_route_laws`).
 #![tactic(auto)]
 
 mod clean_flat;

@@ -1,19 +1,21 @@
 //! The turn of a net: it gets wires until it isn't open any more.
 
 ghost use Rattle.std.specs.Prelude.{◌≡◌, ◌<◌, ◌≤◌, ◌↔◌, ℕ, IsTrue, false, All, length, IfOk, IfErr, OnOk};
-ghost use Rattle.leg_block.specs.Records.{DesignContents};
-ghost use Rattle.leg_block.specs.WellFormedNets.{IsWire};
+ghost use Rattle.leg_design_records.specs.Records.{DesignModel};
+ghost use Rattle.leg_design_records.specs.WellFormedNets.{IsWire};
 ghost use Rattle.leg_flat.specs.declared.fault.FlatFault.TheVariants.{TooMany};
-ghost use Rattle.leg_flat.specs.Flat.{FlatSaid, IsWithin};
-ghost use Rattle.leg_grid.specs.MoreWires.{HasMoreWires};
-ghost use Rattle.leg_wire.specs.Open.{IsOpenNet};
-ghost use Rattle.leg_wire.specs.Touch.{piece_count, AreJoined, AreMarks};
+ghost use Rattle.leg_flat.specs.Limits.{IsWithinLimits};
+ghost use Rattle.leg_rules.specs.Metal.Flat.{FlatModel};
+ghost use Rattle.leg_rules.specs.Route.MoreWires.{HasMoreWires};
+ghost use Rattle.leg_rules.specs.Joins.Violations.{IsOpenNet};
+ghost use Rattle.leg_wire.specs.PieceMarks.{AreMarks};
+ghost use Rattle.leg_rules.specs.Joins.Touch.{piece_count, AreJoined};
 ghost use Rattle.leg_route.specs.Steps.NetRun.{NetRun};
 ghost use Rattle.leg_route.specs.Steps.Stops.{PassesLimit, IsNetStop};
 
 use crate::fault::RouteFault;
 use crate::ground::Ground;
-use leg_block::Wire;
+use leg_design_records::Wire;
 use leg_flat::FlatFault;
 use std::alloc::Allocator;
 
@@ -26,9 +28,9 @@ fn add_wires<A: Allocator + Copy, G: Ground<A>>(
     requires ready { G.IsReady ground.old }
     requires in_range { net < length (G.design ground.old).nets }
     requires spelled { All (IsWire (G.design ground.old).library (G.design ground.old).vias false) wires.now }
-    requires within { IsWithin (G.flat ground.old) }
+    requires within { IsWithinLimits (G.flat ground.old) }
     ensures added { OnOk result (HasMoreWires (G.design ground.old) net wires.now (G.flat ground.old) (G.flat ground.new)) }
-    ensures within { OnOk result (IsWithin (G.flat ground.new)) }
+    ensures within { OnOk result (IsWithinLimits (G.flat ground.new)) }
     ensures ready { OnOk result (G.IsReady ground.new) }
     ensures many { IfErr result (λ fault. fault ≡ TooMany → PassesLimit (G.design ground.old) net (G.flat ground.old) wires.now) }
     ensures same_design { G.design ground.new ≡ G.design ground.old }
@@ -41,7 +43,7 @@ fn add_wires<A: Allocator + Copy, G: Ground<A>>(
 
 /// Whether one of the pieces of a net isn't joined to its first one: whether the net is open.
 fn is_one_apart(joined: &[bool]) -> bool
-    ensures { (design : DesignContents) (flat : FlatSaid) (net : ℕ) → net < length design.nets
+    ensures { (design : DesignModel) (flat : FlatModel) (net : ℕ) → net < length design.nets
         → AreMarks (AreJoined flat net 0) (piece_count flat net) joined.now → IsTrue result ↔ IsOpenNet design flat net }
 {
     joined.contains(&false)
@@ -55,11 +57,11 @@ pub(crate) fn route_net<A: Allocator + Copy, G: Ground<A>>(
 ) -> Result<Vec<Wire, A>, RouteFault<A>>
     requires ready { G.IsReady ground.old }
     requires in_range { net < length (G.design ground.old).nets }
-    requires within { IsWithin (G.flat ground.old) }
+    requires within { IsWithinLimits (G.flat ground.old) }
     ensures run { IfOk result (λ wires. NetRun (G.design ground.old) net (G.flat ground.old) wires.items (G.flat ground.new)) }
     ensures spelled { IfOk result (λ wires. All (IsWire (G.design ground.old).library (G.design ground.old).vias false) wires.items) }
     ensures joined { OnOk result (¬ IsOpenNet (G.design ground.old) (G.flat ground.new) net) }
-    ensures within { OnOk result (IsWithin (G.flat ground.new)) }
+    ensures within { OnOk result (IsWithinLimits (G.flat ground.new)) }
     ensures ready { OnOk result (G.IsReady ground.new) }
     ensures stop { IfErr result (λ fault. IsNetStop (G.design ground.old) (G.flat ground.old) net fault) }
     ensures same_design { G.design ground.new ≡ G.design ground.old }

@@ -1,17 +1,18 @@
 //! All nets, one after another.
 
 ghost use Rattle.std.specs.Prelude.{◌≡◌, false, All, length, map, IfOk, IfErr, OnOk};
-ghost use Rattle.leg_block.specs.WellFormedNets.{IsWire};
-ghost use Rattle.leg_flat.specs.Flat.{IsWithin};
-ghost use Rattle.leg_route.specs.Refusal.{ComesToRun, IsRefusal};
-ghost use Rattle.leg_route.specs.FinishedRun.{IsFinishedRun};
-ghost use Rattle.leg_route.specs.Steps.Underway.{IsUnderway};
+ghost use Rattle.leg_design_records.specs.WellFormedNets.{IsWire};
+ghost use Rattle.leg_flat.specs.Limits.{IsWithinLimits};
+ghost use Rattle.leg_route.specs.Refusal.{IsRouteRefusal};
+ghost use Rattle.leg_rules.specs.Route.Refusal.{ComesToRun};
+ghost use Rattle.leg_route.specs.Steps.RunEnd.{IsFinishedRun};
+ghost use Rattle.leg_route.specs.Steps.RunSoFar.{IsRunSoFar};
 ghost use Rattle.leg_route.specs.Steps.Stops.{IsRunStop};
 
 use crate::fault::RouteFault;
 use crate::ground::Ground;
 use crate::net_turn::route_net;
-use leg_block::Wire;
+use leg_design_records::Wire;
 use std::alloc::Allocator;
 
 /// Gives each of this many nets its turn, in their order. For each there is a list of the wires that it got.
@@ -22,10 +23,10 @@ fn turns<A: Allocator + Copy, G: Ground<A>>(
 ) -> Result<Vec<Vec<Wire, A>, A>, RouteFault<A>>
     requires ready { G.IsReady ground.old }
     requires count { nets ≡ length (G.design ground.old).nets }
-    requires within { IsWithin (G.flat ground.old) }
-    ensures run { IfOk result (λ lists. IsUnderway (G.design ground.old) (G.flat ground.old) nets (map (λ wires. wires.items) lists.items) (G.flat ground.new)) }
+    requires within { IsWithinLimits (G.flat ground.old) }
+    ensures run { IfOk result (λ lists. IsRunSoFar (G.design ground.old) (G.flat ground.old) nets (map (λ wires. wires.items) lists.items) (G.flat ground.new)) }
     ensures spelled { IfOk result (λ lists. All (λ wires. All (IsWire (G.design ground.old).library (G.design ground.old).vias false) wires.items) lists.items) }
-    ensures within { OnOk result (IsWithin (G.flat ground.new)) }
+    ensures within { OnOk result (IsWithinLimits (G.flat ground.new)) }
     ensures ready { OnOk result (G.IsReady ground.new) }
     ensures stop { IfErr result (λ fault. IsRunStop (G.design ground.old) (G.flat ground.old) fault) }
     ensures same_design { G.design ground.new ≡ G.design ground.old }
@@ -51,10 +52,10 @@ pub(crate) fn route_nets<A: Allocator + Copy, G: Ground<A>>(
     requires ready { G.IsReady ground.old }
     requires count { nets ≡ length (G.design ground.old).nets }
     requires comes { ComesToRun (G.design ground.old) (G.flat ground.old) }
-    requires within { IsWithin (G.flat ground.old) }
+    requires within { IsWithinLimits (G.flat ground.old) }
     ensures run { IfOk result (λ lists. IsFinishedRun (G.design ground.old) (map (λ wires. wires.items) lists.items)) }
     ensures spelled { IfOk result (λ lists. All (λ wires. All (IsWire (G.design ground.old).library (G.design ground.old).vias false) wires.items) lists.items) }
-    ensures refused { IfErr result (λ fault. IsRefusal (G.design ground.old) fault) }
+    ensures refused { IfErr result (λ fault. IsRouteRefusal (G.design ground.old) fault) }
     ensures same_design { G.design ground.new ≡ G.design ground.old }
 {
     let lists = turns(alloc, ground, nets)?;

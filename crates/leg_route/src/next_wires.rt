@@ -2,27 +2,28 @@
 
 ghost use Rattle.std.specs.Prelude.{◌≡◌, ◌↔◌, ◌<◌, ◌^◌, ℕ, [], IsTrue, true, All, Contains, length, IfOk, IfSome};
 ghost use Rattle.std.specs.Option.{option_map};
-ghost use Rattle.leg_walk.specs.Marks.{AreUnseen};
+ghost use Rattle.leg_route_search.specs.Steps.FreshMarks.{AreUnseen};
 ghost use Rattle.leg_wire.specs.NetShapes.{AreNumbersOf};
-ghost use Rattle.leg_wire.specs.Touch.{piece_count, AreJoined, AreMarks};
-ghost use Rattle.leg_grid.specs.Grid.{IsNumberOf, slot_total};
-ghost use Rattle.leg_grid.specs.Bound.{AreBoxed};
-ghost use Rattle.leg_grid.specs.Meets.{MeetsJoined, MeetsRest};
-ghost use Rattle.leg_grid.specs.Numbered.{IsOneOf};
-ghost use Rattle.leg_grid.specs.Told.{TellsSlots};
+ghost use Rattle.leg_wire.specs.PieceMarks.{AreMarks};
+ghost use Rattle.leg_rules.specs.Joins.Touch.{piece_count, AreJoined};
+ghost use Rattle.leg_route_grid.specs.Steps.Grid.{IsNumberOf, slot_total};
+ghost use Rattle.leg_route_grid.specs.Steps.WalkBounds.{AreBoxed};
+ghost use Rattle.leg_rules.specs.Route.Meets.{MeetsJoined, MeetsRest};
+ghost use Rattle.leg_route_grid.specs.Steps.NodeNumbers.{IsOneOf};
+ghost use Rattle.leg_route_grid.specs.Steps.AccessTable.{IsAccessTable};
 ghost use Rattle.leg_route.specs.Steps.NetSlots.{HasMark, AreMarkedSlots, IsNextAnswerAt};
 ghost use Rattle.leg_route.specs.Steps.NextWires.{IsNextAnswer};
 
-use leg_block::{Design, Wire};
+use leg_design_records::{Design, Wire};
 use leg_flat::{Flat, Shape};
-use leg_grid::laws::{
+use leg_route_grid::laws::{
     nodes_have_numbers, numbers_walk_as_nodes, open_walks_are_grid_walks, searches_walk_as_numbers,
 };
-use leg_grid::{
+use leg_route_grid::{
     BoxedSlots, Grid, NetGraph, SlotAccess, add_slots_in, grid_is_sound, hulls_of, nodes_of,
     wires_of,
 };
-use leg_walk::{Mark, shortest};
+use leg_route_search::{Mark, shortest};
 use std::alloc::{AllocError, Allocator};
 
 /// Whether the piece has this mark.
@@ -75,7 +76,7 @@ fn next_walk<A: Allocator + Copy>(
     marks: &mut [Mark],
     touched: &mut Vec<u32, A>,
 ) -> Result<Option<Vec<u32, A>>, AllocError>
-    requires told { TellsSlots grid.now flat.now slots.now }
+    requires told { IsAccessTable grid.now flat.now slots.now }
     requires starts { (n : ℕ) → Contains starts.now.slots.items n ↔ IsOneOf (IsNumberOf grid.now) (MeetsJoined flat.now net) n }
     requires ends { (n : ℕ) → Contains ends.now.slots.items n ↔ IsOneOf (IsNumberOf grid.now) (MeetsRest flat.now net) n }
     requires starts_within { All (λ n. n < slot_total grid.now) starts.now.slots.items }
@@ -116,7 +117,7 @@ fn next_walk<A: Allocator + Copy>(
 /// The wires of a shortest open walk from the joined part of the net to the rest, or `None` where there is no such walk. `slots`
 /// has for each slot of the grid what is open in the flat, `numbers` are those of the net's shapes, and
 /// `joined` has for each of its pieces whether it is joined to the first one, and `starts` the slots in those that are. `marks` has one
-/// for each slot. `touched` is room to work in. Of several such walks one is taken as `shortest` of `leg_walk` states.
+/// for each slot. `touched` is room to work in. Of several such walks one is taken as `shortest` of `leg_route_search` states.
 ///
 /// It fails only when out of memory.
 pub(crate) fn next_wires<A: Allocator + Copy>(
@@ -133,7 +134,7 @@ pub(crate) fn next_wires<A: Allocator + Copy>(
     touched: &mut Vec<u32, A>,
 ) -> Result<Option<Vec<Wire, A>>, AllocError>
     requires of_design { grid.now.design ≡ design.now }
-    requires told { TellsSlots grid.now flat.now slots.now }
+    requires told { IsAccessTable grid.now flat.now slots.now }
     requires in_range { net < length flat.now.pieces }
     requires numbers { AreNumbersOf flat.now.shapes net numbers.now }
     requires joined { AreMarks (AreJoined flat.now net 0) (piece_count flat.now net) joined.now }

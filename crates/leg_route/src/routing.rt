@@ -1,23 +1,23 @@
 //! Routing a design.
 
 ghost use Rattle.std.specs.Prelude.{◌≡◌, ◌≤◌, false, All, length, map, IfOk, IfErr, OnOk};
-ghost use Rattle.leg_block.specs.declared.limits.TheConstants.{PART_LIMIT};
-ghost use Rattle.leg_block.specs.WellFormedNets.{IsWire};
-ghost use Rattle.leg_flat.specs.Metal.{metal_of};
-ghost use Rattle.leg_grid.specs.GridSize.{IsGridTooLarge};
+ghost use Rattle.leg_design_records.specs.declared.limits.TheConstants.{PART_LIMIT};
+ghost use Rattle.leg_design_records.specs.WellFormedNets.{IsWire};
+ghost use Rattle.leg_rules.specs.Metal.Metal.{metal_of};
+ghost use Rattle.leg_rules.specs.Route.GridSize.{IsGridTooLarge};
 ghost use Rattle.leg_rules.specs.Legal.{IsLegal};
-ghost use Rattle.leg_grown.specs.SameButForWires.{IsSameButForWires};
-ghost use Rattle.leg_route.specs.Routed.{IsRouted};
-ghost use Rattle.leg_route.specs.Refusal.{IsRefusal};
-ghost use Rattle.leg_route.specs.FinishedRun.{IsFinishedRun};
+ghost use Rattle.leg_rules.specs.Route.SameButForWires.{IsSameButForWires};
+ghost use Rattle.leg_rules.specs.Route.Result.{IsRouted};
+ghost use Rattle.leg_route.specs.Refusal.{IsRouteRefusal};
+ghost use Rattle.leg_route.specs.Steps.RunEnd.{IsFinishedRun};
 
 use crate::clean_flat::clean_flat;
 use crate::fault::RouteFault;
 use crate::finish::finish;
 use crate::grid_ground::GridGround;
 use crate::nets::route_nets;
-use leg_block::{Design, Wire};
-use leg_cells::Library;
+use leg_design_records::{Design, Wire};
+use leg_lib_records::Library;
 use std::alloc::Allocator;
 
 /// The design with all its nets routed (lefdef's own rules): each entry of `NETS` keeps its wires and gets further ones
@@ -47,7 +47,7 @@ pub fn route<'a, A: Allocator + Copy>(
     ensures few { IfOk result (λ done. length (metal_of done) ≤ PART_LIMIT) }
     ensures fits { OnOk result (¬ IsGridTooLarge design.entry) }
     ensures unchanged { IfErr result (λ back. back.0 ≡ design.entry) }
-    ensures refused { IfErr result (λ back. IsRefusal design.entry back.1) }
+    ensures refused { IfErr result (λ back. IsRouteRefusal design.entry back.1) }
 {
     match wires_for(alloc, library, &design) {
         Ok(lists) => finish(design, lists),
@@ -64,7 +64,7 @@ fn wires_for<A: Allocator + Copy>(
     requires { library.now ≡ design.now.library }
     ensures run { IfOk result (λ lists. IsFinishedRun design.now (map (λ wires. wires.items) lists.items)) }
     ensures spelled { IfOk result (λ lists. All (λ wires. All (IsWire design.now.library design.now.vias false) wires.items) lists.items) }
-    ensures refused { IfErr result (λ fault. IsRefusal design.now fault) }
+    ensures refused { IfErr result (λ fault. IsRouteRefusal design.now fault) }
 {
     let flat = clean_flat(alloc, library, design)?;
     let mut ground = GridGround::new(alloc, design, flat)?;

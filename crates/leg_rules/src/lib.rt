@@ -1,6 +1,21 @@
-//! What a violation of a design is, and when a design is legal.
+//! The rules by which designs are judged, legalised, routed and compared: definitions alone, in `specs`, and the types that
+//! these speak of.
 #![tactic(auto)]
 
-mod but_open;
+mod difference;
+mod grid_limits;
+mod node;
+mod owner;
+mod piece;
+mod position;
+mod shape;
+mod side;
 
-pub use but_open::faults_but_open;
+pub use difference::{Change, Difference, Part, Section, Verdict};
+pub use grid_limits::{GREATEST_GRID, GRID_LIMIT};
+pub use node::Node;
+pub use owner::Owner;
+pub use piece::Piece;
+pub use position::Candidate;
+pub use shape::Shape;
+pub use side::Side;

@@ -9,7 +9,8 @@ use Rattle.std.proofs.lemmas.Cmp.{nat_eq_equiv, nat_cmp_total, on_total, then_to
 use Rattle.std.proofs.lemmas.List.FromFn.{length-range_with_len, get_or-range_with_len}
 use Rattle.std.proofs.lemmas.List.Sorted.{ranks_by, sorted_far, All-permutation, Contains-permutation}
 use Rattle.std.proofs.lemmas.Map.Keys.{IsDistinct-from_apart, apart_from_distinct, IsDistinct-IsPermutation}
-use Rattle.leg_sweep.specs.Pairs.{Before, IsPair, ArePairs, HasPairs}
+use Rattle.leg_sweep.specs.Pairs.{Before, ArePairs, HasPairs}
+use Rattle.leg_geom.specs.Pairs.{IsPair}
 use Rattle.leg_sweep.specs.Steps.Sweep.{pair_cmp}
 
 -- the numbers up to n in another order

@@ -3,7 +3,7 @@ use Rattle.std.proofs.Common.{◌≡◌, ℤ, pos, ◌+ℤ◌, ◌-ℤ◌, ◌�
 use Rattle.std.specs.Option.{SomeIff, IsSome}
 use Rattle.std.specs.Int.{int_max, int_min}
 use Rattle.std.proofs.lemmas.Int.{ints, int_max_is, int_min_is, to_z-of_z, by_lt_z}
-use Rattle.leg_geom.specs.Plane.{Sides, IsCoordinate, IsRect}
+use Rattle.leg_geom.specs.Plane.{RectModel, IsCoordinate, IsRect}
 use Rattle.leg_geom.specs.Gap.{gap_between, x_gap}
 use Rattle.leg_sweep.specs.Steps.Cut.{cut_at}
 
@@ -51,11 +51,11 @@ gaps_kept line a b c d wide other left right =
       meet_both : (a b c d e f : ℤ) → c ≤ℤ b → a ≤ℤ d → c ≤ℤ e → a ≤ℤ f → gap_between a e c f ≡ gap_between a b c d
       meet_both a b c d e f first second third fourth = grind (arith, ints)
 
-pub x_gap_kept : (line : ℤ) (a b : Sides) → IsRect a → IsRect b → a.x1 ≤ℤ line → b.x1 ≤ℤ line → x_gap (cut_at line a) (cut_at line b) ≡ x_gap a b
+pub x_gap_kept : (line : ℤ) (a b : RectModel) → IsRect a → IsRect b → a.x1 ≤ℤ line → b.x1 ≤ℤ line → x_gap (cut_at line a) (cut_at line b) ≡ x_gap a b
 x_gap_kept line a b a_is b_is left right = gaps_kept line a.x1 a.x2 b.x1 b.x2 a_is.wide b_is.wide left right
 
 -- what is cut is a rectangle
-pub cut_proper : (line : ℤ) (a : Sides) → IsRect a → a.x1 ≤ℤ line → IsCoordinate line → IsRect (cut_at line a)
+pub cut_proper : (line : ℤ) (a : RectModel) → IsRect a → a.x1 ≤ℤ line → IsCoordinate line → IsRect (cut_at line a)
 cut_proper line a is left limit =
     let wide = is.wide in
     let x1 = is.x1 in
@@ -75,23 +75,23 @@ pub made_is : {T : Type 0} (o : Option T) (P : Type 0) (v x : T) → SomeIff o P
 made_is None P v x made is = absurd (let e : ⊥ = cc in e)
 made_is (Some y) P v x made is = let same : y ≡ x = cc in rw (← same) made.1
 
-abbrev sides : ℤ → ℤ → ℤ → ℤ → Sides
+abbrev sides : ℤ → ℤ → ℤ → ℤ → RectModel
 sides x1 y1 x2 y2 = record { x1 = x1; y1 = y1; x2 = x2; y2 = y2 }
 
-same_sides : (x1 y1 x2 y2 : ℤ) (v : Sides) → x1 ≡ v.x1 → y1 ≡ v.y1 → x2 ≡ v.x2 → y2 ≡ v.y2 → sides x1 y1 x2 y2 ≡ v
+same_sides : (x1 y1 x2 y2 : ℤ) (v : RectModel) → x1 ≡ v.x1 → y1 ≡ v.y1 → x2 ≡ v.x2 → y2 ≡ v.y2 → sides x1 y1 x2 y2 ≡ v
 same_sides x1 y1 x2 y2 v a b c d = λ i. record { x1 = a i; y1 = b i; x2 = c i; y2 = d i }
 
 -- a rectangle of these sides is made
-pub sides_made : (o : Option Sides) (x1 y1 x2 y2 : ℤ) (v : Sides) → x1 ≡ v.x1 → y1 ≡ v.y1 → x2 ≡ v.x2 → y2 ≡ v.y2 → IsRect v → SomeIff o (IsRect (sides x1 y1 x2 y2)) (sides x1 y1 x2 y2) → IsSome o
+pub sides_made : (o : Option RectModel) (x1 y1 x2 y2 : ℤ) (v : RectModel) → x1 ≡ v.x1 → y1 ≡ v.y1 → x2 ≡ v.x2 → y2 ≡ v.y2 → IsRect v → SomeIff o (IsRect (sides x1 y1 x2 y2)) (sides x1 y1 x2 y2) → IsSome o
 sides_made o x1 y1 x2 y2 v a b c d proper made =
     let same = same_sides x1 y1 x2 y2 v a b c d in
     is_made o (IsRect (sides x1 y1 x2 y2)) (sides x1 y1 x2 y2) made (rw same proper)
 
-pub sides_are : (o : Option Sides) (x1 y1 x2 y2 : ℤ) (v x : Sides) → x1 ≡ v.x1 → y1 ≡ v.y1 → x2 ≡ v.x2 → y2 ≡ v.y2 → SomeIff o (IsRect (sides x1 y1 x2 y2)) (sides x1 y1 x2 y2) → o ≡ Some x → x ≡ v
+pub sides_are : (o : Option RectModel) (x1 y1 x2 y2 : ℤ) (v x : RectModel) → x1 ≡ v.x1 → y1 ≡ v.y1 → x2 ≡ v.x2 → y2 ≡ v.y2 → SomeIff o (IsRect (sides x1 y1 x2 y2)) (sides x1 y1 x2 y2) → o ≡ Some x → x ≡ v
 sides_are o x1 y1 x2 y2 v x a b c d made is = made_is o (IsRect (sides x1 y1 x2 y2)) (sides x1 y1 x2 y2) x made is ∙ same_sides x1 y1 x2 y2 v a b c d
 
 -- the right edge that a gap tells
-pub edge_told : (right left edge gap : ℤ) (rect other : Sides) → left ≡ rect.x1 → edge ≡ other.x1 → gap ≡ pos (x_gap rect other) → IsRect rect → IsRect other → rect.x1 ≤ℤ other.x1
+pub edge_told : (right left edge gap : ℤ) (rect other : RectModel) → left ≡ rect.x1 → edge ≡ other.x1 → gap ≡ pos (x_gap rect other) → IsRect rect → IsRect other → rect.x1 ≤ℤ other.x1
     → right ≡ int_max (to_z w64 (of_z w64 (to_z w64 (of_z w64 edge) -ℤ to_z w64 (of_z w64 gap)))) (to_z w64 (of_z w64 (to_z w64 (of_z w64 left) +ℤ pos 1))) → right ≡ (cut_at other.x1 rect).x2
 edge_told right left edge gap rect other left_is edge_is gap_is proper other_proper order is =
     let x1 = proper.x1 in

@@ -6,10 +6,11 @@ use Rattle.std.proofs.lemmas.Bool.{cases_lt, cases_eq, leb-true, le-leb}
 use Rattle.std.proofs.lemmas.List.{length-append, length-map, length-take-le}
 use Rattle.std.proofs.lemmas.List.Elements.{All-nil}
 use Rattle.std.proofs.lemmas.Option.{slice_get-map, slice_get_within, get_or_from_slice_get}
-use Rattle.leg_geom.specs.Plane.{Sides}
+use Rattle.leg_geom.specs.Plane.{RectModel}
 use Rattle.leg_geom.specs.Gap.{x_gap}
 use Rattle.leg_sweep.specs.declared.band.Stretch.{Stretch}
-use Rattle.leg_sweep.specs.Pairs.{IsPair, TakesAll, TookPairs}
+use Rattle.leg_sweep.specs.Pairs.{TakesAll, TookPairs}
+use Rattle.leg_geom.specs.Pairs.{IsPair}
 use Rattle.leg_sweep.specs.Pairs.TakesAll.{none}
 use Rattle.leg_sweep.specs.Counts.{near_along_x, near_along_both}
 use Rattle.leg_sweep.specs.Steps.Bands.{Waiting, waiting_at, stretch_at, reach_at, share_band, near_in_band, near_both_in_band, met, AreStretches, AreEmpty, AreVisited, CanVisit}
@@ -19,8 +20,8 @@ use Rattle.leg_sweep.proofs.Lists.{Contains-nil, All-from_contains, AllPairs-nil
 use Rattle.leg_sweep.proofs.MetItems.{begun_in, passing_in, visited_by, are_met, met_apart, count_by-le_within}
 use Rattle.leg_sweep.proofs.Places.{order_below, order_differs, order_between}
 use Rattle.leg_sweep.proofs.Progress.{place_in_front, place_of, numbers_contain}
-use Rattle.leg_sweep.proofs.Swept.{SweptTo, swept_more}
-use Rattle.leg_sweep.proofs.Taken.{takes_append}
+use Rattle.leg_sweep.proofs.SweepSoFar.{SweptTo, swept_more}
+use Rattle.leg_sweep.proofs.SinkPairs.{takes_append}
 use Rattle.leg_sweep.proofs.Turns.{ordered_below, ordered_above}
 
 -- The items up to a place of the order are in, and the sink took the pairs among them.
@@ -60,12 +61,12 @@ reaches_after narrow first last new before after visited k =
     ]
 
 -- what near items are
-pub near_split : (rects : List Sides) (stretches : List Stretch) (start : List Waiting) (x y : ℕ) → near_in_band rects stretches start x y ≡ true
+pub near_split : (rects : List RectModel) (stretches : List Stretch) (start : List Waiting) (x y : ℕ) → near_in_band rects stretches start x y ≡ true
     → (share_band stretches x y ≡ true) × (test_at (near_along_x (reach_at stretches start x)) rects x y ≡ true)
 near_split rects stretches start x y is_near = and_split (share_band stretches x y) (test_at (near_along_x (reach_at stretches start x)) rects x y) is_near
 
 module _ {Item : Type 0} (Holds : Item → Item → Type 0) (symmetric : (a b : Item) → Holds a b → Holds b a)
-    (rect_of : Item → Sides) (items : List Item) (stretches : List Stretch) (start : List Waiting) (are : AreStretches Holds rect_of items stretches start) where
+    (rect_of : Item → RectModel) (items : List Item) (stretches : List Stretch) (start : List Waiting) (are : AreStretches Holds rect_of items stretches start) where
   rect_of_got : (x : ℕ) (a : Item) → slice_get items x ≡ Some a → rect_numbered (map rect_of items) x ≡ rect_of a
   rect_of_got x a got = get_or_from_slice_get (map rect_of items) x (rect_of a) unit_square (slice_get-map rect_of items x ∙ ap (λ o. option_map rect_of o) got)
 
@@ -228,7 +229,7 @@ module _ {Item : Type 0} (Holds : Item → Item → Type 0) (symmetric : (a b : 
           omega (arith, all, length_of_all list, length_of_all (take i order), length-take-le i order (omega arith))
 
 module _ {Sink : Type 0} (Takes : Sink → ℕ × ℕ → Sink → Type 0) {Item : Type 0} (Holds : Item → Item → Type 0) (symmetric : (a b : Item) → Holds a b → Holds b a)
-    (rect_of : Item → Sides) (items : List Item) (stretches : List Stretch) (start : List Waiting) (are : AreStretches Holds rect_of items stretches start)
+    (rect_of : Item → RectModel) (items : List Item) (stretches : List Stretch) (start : List Waiting) (are : AreStretches Holds rect_of items stretches start)
     (order : List ℕ) (sorted : IsLeftToRight (map rect_of items) order) where
   -- before the first item
   pub found_none : (before : Sink) → AreEmpty start → FoundTo Takes (near_in_band (map rect_of items) stretches start) (IsPair Holds items) stretches order 0 start 0 before before

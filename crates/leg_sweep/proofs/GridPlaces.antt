@@ -7,7 +7,7 @@ use Rattle.std.proofs.lemmas.List.{length-map}
 use Rattle.std.proofs.lemmas.List.Elements.{All-contains}
 use Rattle.std.proofs.lemmas.List.Sums.{get_or-le-sum_by, sum_by-take-le}
 use Rattle.std.proofs.lemmas.Option.{slice_get-map, slice_get_within, slice_get_cases, get_or_from_slice_get}
-use Rattle.leg_geom.specs.Plane.{Sides, IsRect}
+use Rattle.leg_geom.specs.Plane.{RectModel, IsRect}
 use Rattle.leg_sweep.specs.declared.band.Stretch.{Stretch}
 use Rattle.leg_sweep.specs.declared.grid.LayerSpan.{LayerSpan}
 use Rattle.leg_sweep.specs.declared.grid.LayerBands.{LayerBands}
@@ -24,7 +24,7 @@ pub record IsAmong (bands : LayerBands) (stretch : Stretch) : Type 0 where
   pub up : stretch.first ≤ stretch.last
   pub high : stretch.last < bands.first + bands.count
 
-stretch_among : (bands : LayerBands) (rect : Sides) → IsRect rect → BeginsIn bands rect → IsAmong bands (stretch_in bands rect)
+stretch_among : (bands : LayerBands) (rect : RectModel) → IsRect rect → BeginsIn bands rect → IsAmong bands (stretch_in bands rect)
 stretch_among bands rect is begins =
     let rise = height_rises rect.y1 rect.y2 is.y1 is.y2 is.high in
     let below = begins.below in
@@ -36,7 +36,7 @@ abbrev entries_of : Stretch → ℕ
 entries_of stretch = stretch.last + 1 - stretch.first
 
 -- what it takes of the bands' height
-stretch_taken : (bands : LayerBands) (rect : Sides) → IsRect rect → BeginsIn bands rect → bands.height * entries_of (stretch_in bands rect) ≤ 2 * bands.height + (rect_height rect + bands.reach)
+stretch_taken : (bands : LayerBands) (rect : RectModel) → IsRect rect → BeginsIn bands rect → bands.height * entries_of (stretch_in bands rect) ≤ 2 * bands.height + (rect_height rect + bands.reach)
 stretch_taken bands rect is begins =
     let bottom : ℕ = height_of rect.y1 in
     let top : ℕ = height_of rect.y2 in
@@ -59,7 +59,7 @@ pub record IsPlaced {Item : Type 0} (layer_of : Item → ℕ) (items : List Item
 pub has_item : {Item : Type 0} (items : List Item) (x : ℕ) (a : Item) → slice_get items x ≡ Some a → Contains items a
 has_item items x a got = (x, slice_get_within items x a got, get_or_from_slice_get items x a a got)
 
-module _ {Item : Type 0} (rect_of : Item → Sides) (layer_of : Item → ℕ) (reach_of : ℕ → ℕ) (layers : ℕ) (items : List Item) (spans : List LayerSpan) (grid : List LayerBands)
+module _ {Item : Type 0} (rect_of : Item → RectModel) (layer_of : Item → ℕ) (reach_of : ℕ → ℕ) (layers : ℕ) (items : List Item) (spans : List LayerSpan) (grid : List LayerBands)
     (are_spans : AreSpans rect_of layer_of layers items spans) (is_grid : IsGrid reach_of layers spans grid) (few : length items < 2 ^ 32) where
   pub layer_within : (a : Item) → Contains items a → layer_of a < layers
   layer_within a has = All-contains (λ b. layer_of b < layers) items a are_spans.layered has

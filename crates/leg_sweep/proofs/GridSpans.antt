@@ -5,13 +5,13 @@ use Rattle.std.proofs.lemmas.List.{length-set, length-replicate, length_push, ge
 use Rattle.std.proofs.lemmas.List.Elements.{All-nil, All-push, All-weaker}
 use Rattle.std.proofs.lemmas.List.Folds.{sum_by-replicate}
 use Rattle.std.proofs.lemmas.List.Sums.{sum_by_push, sum_by-set}
-use Rattle.leg_geom.specs.Plane.{Sides, IsRect}
+use Rattle.leg_geom.specs.Plane.{RectModel, IsRect}
 use Rattle.leg_sweep.specs.declared.grid.LayerSpan.{LayerSpan}
 use Rattle.leg_sweep.specs.Steps.Grid.{height_of, rect_height, no_span, span_at, span_with, IsSmall, IsSpan, AreSpans}
 use Rattle.leg_sweep.proofs.GridHeights.{height_small}
 
 -- one more rectangle's height is small too
-pub small_more : (span : LayerSpan) (rect : Sides) → IsRect rect → IsSmall span → IsSmall (span_with span rect)
+pub small_more : (span : LayerSpan) (rect : RectModel) → IsRect rect → IsSmall span → IsSmall (span_with span rect)
 small_more span rect is small =
     let bottom = height_small rect.y1 is.y1 in
     let top = height_small rect.y2 is.y2 in
@@ -19,7 +19,7 @@ small_more span rect is small =
     let highest = small.highest in
     record { total = omega (arith, top, total); highest = omega (arith, bottom, highest) }
 
-module _ {Item : Type 0} (rect_of : Item → Sides) (layer_of : Item → ℕ) where
+module _ {Item : Type 0} (rect_of : Item → RectModel) (layer_of : Item → ℕ) where
   span_none : (layer : ℕ) → IsSpan rect_of layer_of [] layer no_span
   span_none layer = record {
     count = refl;

@@ -5,12 +5,12 @@ use Rattle.std.proofs.lemmas.List.{length-map}
 use Rattle.std.proofs.lemmas.Option.{same_Some, slice_get-map, slice_get_within, get_or_from_slice_get}
 use Rattle.std.specs.Option.{option_map}
 use Rattle.leg_geom.specs.declared.limits.TheConstants.{COORDINATE_LIMIT}
-use Rattle.leg_geom.specs.Plane.{Sides, IsRect}
+use Rattle.leg_geom.specs.Plane.{RectModel, IsRect}
 use Rattle.leg_geom.specs.Gap.{x_gap, y_gap}
 use Rattle.leg_sweep.specs.declared.band.Stretch.{Stretch}
 use Rattle.leg_sweep.specs.declared.grid.LayerSpan.{LayerSpan}
 use Rattle.leg_sweep.specs.declared.grid.LayerBands.{LayerBands}
-use Rattle.leg_sweep.specs.Pairs.{IsPair}
+use Rattle.leg_geom.specs.Pairs.{IsPair}
 use Rattle.leg_sweep.specs.Steps.Bands.{Waiting, waiting_at, stretch_at, share_band, reach_at, AreStretches, AreByLayer}
 use Rattle.leg_sweep.specs.Steps.Grid.{height_of, bands_at, AreSpans, IsGrid, BeginsIn, stretch_in, AreBandsBelow}
 use Rattle.leg_sweep.proofs.Nearness.{y_gap_symmetric}
@@ -19,7 +19,7 @@ use Rattle.leg_sweep.proofs.GridBands.{bands_rise}
 use Rattle.leg_sweep.proofs.GridPlaces.{IsPlaced, layer_within, proper_of, begins_at, stretch_is, has_item, many_stretches, placed}
 
 -- a rectangle begins in no higher band than another one within the reach ends
-stretches_meet : (bands : LayerBands) (a b : Sides) (reach : ℕ) → IsRect a → IsRect b → BeginsIn bands b → bands.reach ≡ min reach (2 * COORDINATE_LIMIT) → y_gap a b ≤ reach
+stretches_meet : (bands : LayerBands) (a b : RectModel) (reach : ℕ) → IsRect a → IsRect b → BeginsIn bands b → bands.reach ≡ min reach (2 * COORDINATE_LIMIT) → y_gap a b ≤ reach
     → (stretch_in bands b).first ≤ (stretch_in bands a).last
 stretches_meet bands a b reach is_a is_b begins within near =
     let far = height_within a.y1 a.y2 b.y1 b.y2 reach is_a.y2 is_b.y1 is_b.high near in
@@ -27,7 +27,7 @@ stretches_meet bands a b reach is_a is_b begins within near =
     let below = begins.below in
     omega (arith, up, below)
 
-module _ {Item : Type 0} (rect_of : Item → Sides) (layer_of : Item → ℕ) (reach_of : ℕ → ℕ) (layers : ℕ) (items : List Item) (spans : List LayerSpan) (grid : List LayerBands)
+module _ {Item : Type 0} (rect_of : Item → RectModel) (layer_of : Item → ℕ) (reach_of : ℕ → ℕ) (layers : ℕ) (items : List Item) (spans : List LayerSpan) (grid : List LayerBands)
     (are_spans : AreSpans rect_of layer_of layers items spans) (is_grid : IsGrid reach_of layers spans grid) (few : length items < 2 ^ 32)
     (stretches : List Stretch) (are_stretches : stretches ≡ map (λ a. stretch_in (bands_at grid (layer_of a)) (rect_of a)) items)
     (bands : List Waiting) (are_bands : AreBandsBelow reach_of grid layers bands) where

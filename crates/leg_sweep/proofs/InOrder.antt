@@ -2,7 +2,7 @@
 use Rattle.std.proofs.Common.{◌≡◌, ℕ, ◌<◌, List, length, map, get_or, All, subst, ◌∙◌, arith}
 use Rattle.std.proofs.Math.ListN.{get_or-map}
 use Rattle.std.proofs.lemmas.List.{get_or_default, length-map}
-use Rattle.leg_geom.specs.Plane.{Sides}
+use Rattle.leg_geom.specs.Plane.{RectModel}
 use Rattle.leg_sweep.specs.declared.band.Stretch.{Stretch}
 use Rattle.leg_sweep.specs.Steps.Bands.{stretch_at}
 use Rattle.leg_sweep.specs.Steps.Sweep.{IsLeftToRight}
@@ -15,5 +15,5 @@ in_order_is stretches order in_order i stretch is within there =
     let long : i < length (map f order) = omega (arith, length-map order f, within) in
     there ∙ rw is (get_or_default (map f order) i stretch (f 0) long ∙ get_or-map f order i 0)
 
-pub all_have_stretches : (rects : List Sides) (stretches : List Stretch) (order : List ℕ) → IsLeftToRight rects order → length rects ≡ length stretches → All (λ x. x < length stretches) order
+pub all_have_stretches : (rects : List RectModel) (stretches : List Stretch) (order : List ℕ) → IsLeftToRight rects order → length rects ≡ length stretches → All (λ x. x < length stretches) order
 all_have_stretches rects stretches order is same = λ k d within. rw (get_or_default order k d 0 within) (subst (λ n. get_or order k 0 < n) same (order_below rects order is k within))

@@ -4,7 +4,7 @@ use Rattle.std.proofs.lemmas.Bool.{cases_lt}
 use Rattle.std.proofs.lemmas.List.{take-append-le, take-take, take_all, length-take-le, get_or-take}
 use Rattle.std.proofs.lemmas.List.Concat.{flat_map-append}
 use Rattle.std.proofs.lemmas.List.Elements.{All-nil, All-cons, All-append, All-weaker, All-from_get_or, Contains-append_left, Contains-append_right}
-use Rattle.leg_geom.specs.Plane.{Sides, IsRect}
+use Rattle.leg_geom.specs.Plane.{RectModel, IsRect}
 use Rattle.leg_sweep.specs.declared.bin_index.Cut.{Cut}
 use Rattle.leg_sweep.specs.declared.bounds.Bounds.{Bounds}
 use Rattle.leg_sweep.specs.declared.node.Content.{Content}
@@ -18,21 +18,21 @@ use Rattle.leg_sweep.proofs.Lists.{AllPairs-append}
 use Rattle.leg_sweep.proofs.NearNodes.{forest_append}
 
 -- an element keeps its place where others come behind
-get_before : (xs ys : List Sides) (number : ℕ) (rect : Sides) → slice_get xs number ≡ Some rect → slice_get (xs ++ ys) number ≡ Some rect
+get_before : (xs ys : List RectModel) (number : ℕ) (rect : RectModel) → slice_get xs number ≡ Some rect → slice_get (xs ++ ys) number ≡ Some rect
 get_before [] ys number rect at = absurd (cc)
 get_before (x ∷ xs) ys zero rect at = at
 get_before (x ∷ xs) ys (suc number) rect at = get_before xs ys number rect at
 
-get_last : (xs : List Sides) (rect : Sides) → slice_get (xs ++ rect ∷ []) (length xs) ≡ Some rect
+get_last : (xs : List RectModel) (rect : RectModel) → slice_get (xs ++ rect ∷ []) (length xs) ≡ Some rect
 get_last [] rect = refl
 get_last (x ∷ xs) rect = get_last xs rect
 
 -- a node is right where others come behind its rectangle
-right_before : (xs ys : List Sides) (bounds : Bounds) (content : Content) → IsRightAt xs bounds content → IsRightAt (xs ++ ys) bounds content
+right_before : (xs ys : List RectModel) (bounds : Bounds) (content : Content) → IsRightAt xs bounds content → IsRightAt (xs ++ ys) bounds content
 right_before xs ys bounds (Group members) right = right
 right_before xs ys bounds (Rect number) right = record { rect = right.rect; there = get_before xs ys number right.rect right.there; proper = right.proper; are = right.are }
 
-rights_before : (xs ys : List Sides) (nodes : List Node) → All (IsRight xs) nodes → All (IsRight (xs ++ ys)) nodes
+rights_before : (xs ys : List RectModel) (nodes : List Node) → All (IsRight xs) nodes → All (IsRight (xs ++ ys)) nodes
 rights_before xs ys nodes right = All-weaker (IsRight xs) (IsRight (xs ++ ys)) (λ node is. right_before xs ys node.bounds node.content is) nodes right
 
 numbers_before : (xs ys : List Node) (number : ℕ) → Contains (numbers_of xs) number → Contains (numbers_of (xs ++ ys)) number
@@ -42,7 +42,7 @@ numbers_behind : (xs ys : List Node) (number : ℕ) → Contains (numbers_of ys)
 numbers_behind xs ys number has = rw (flat_map-append (λ (node : Node). number_in node.content) xs ys) (Contains-append_right (numbers_of xs) (numbers_of ys) number has)
 
 -- the nodes of the first rectangles and those of the others
-nodes_joined : (rects : List Sides) (first : ℕ) (front back : List Node) → first ≤ length rects → AreNodesFrom (take first rects) 0 front → AreNodesFrom rects first back → AreNodesFrom rects 0 (front ++ back)
+nodes_joined : (rects : List RectModel) (first : ℕ) (front back : List Node) → first ≤ length rects → AreNodesFrom (take first rects) 0 front → AreNodesFrom rects first back → AreNodesFrom rects 0 (front ++ back)
 nodes_joined rects first front back within a b = record {
   forest = forest_append front back a.forest b.forest;
   right = All-append (IsRight rects) front back (rw (take-append-drop first rects) at (rights_before (take first rects) (drop first rects) front a.right)) b.right;
@@ -53,7 +53,7 @@ nodes_joined rects first front back within a b = record {
 }
 
 -- one more rectangle
-nodes_grown : (rects : List Sides) (nodes : List Node) (rect : Sides) (bounds : Bounds) → AreNodesFrom rects 0 nodes → bounds ≡ bounds_around rect 0 → IsRect rect
+nodes_grown : (rects : List RectModel) (nodes : List Node) (rect : RectModel) (bounds : Bounds) → AreNodesFrom rects 0 nodes → bounds ≡ bounds_around rect 0 → IsRect rect
     → AreNodesFrom (rects ++ rect ∷ []) 0 (nodes ++ (record { bounds = bounds; content = Rect (length rects) }) ∷ [])
 nodes_grown rects nodes rect bounds a is proper =
     let node : Node = record { bounds = bounds; content = Rect (length rects) } in
@@ -70,14 +70,14 @@ nodes_grown rects nodes rect bounds a is proper =
       ];
     }
 
-cut_grown : (rects more : List Sides) (nodes others : List Node) (cut : Cut) → IsCut rects nodes cut → IsCut (rects ++ more) (nodes ++ others) cut
+cut_grown : (rects more : List RectModel) (nodes others : List Node) (cut : Cut) → IsCut rects nodes cut → IsCut (rects ++ more) (nodes ++ others) cut
 cut_grown rects more nodes others cut is = record {
   rects_in = omega (arith, is.rects_in, length-append rects more);
   nodes_in = omega (arith, is.nodes_in, length-append nodes others);
   are = rw (take-append-le cut.rects rects more is.rects_in, take-append-le cut.nodes nodes others is.nodes_in) is.are;
 }
 
-pub index_grown : (rects : List Sides) (nodes : List Node) (cuts : List Cut) (rect : Sides) (bounds : Bounds) → IsIndex rects nodes cuts → length rects < 2 ^ 32 - 1 → bounds ≡ bounds_around rect 0 → IsRect rect
+pub index_grown : (rects : List RectModel) (nodes : List Node) (cuts : List Cut) (rect : RectModel) (bounds : Bounds) → IsIndex rects nodes cuts → length rects < 2 ^ 32 - 1 → bounds ≡ bounds_around rect 0 → IsRect rect
     → IsIndex (rects ++ rect ∷ []) (nodes ++ (record { bounds = bounds; content = Rect (length rects) }) ∷ []) cuts
 index_grown rects nodes cuts rect bounds index room is proper =
     let node : Node = record { bounds = bounds; content = Rect (length rects) } in
@@ -89,7 +89,7 @@ index_grown rects nodes cuts rect bounds index room is proper =
       rising = index.rising;
     }
 
-module _ (rects : List Sides) (nodes : List Node) (cuts : List Cut) (kept : ℕ) (cut : Cut) (fresh : List Node)
+module _ (rects : List RectModel) (nodes : List Node) (cuts : List Cut) (kept : ℕ) (cut : Cut) (fresh : List Node)
     (index : IsIndex rects nodes cuts) (some : 0 < kept) (within : kept ≤ length cuts) (at : cut ≡ get_or cuts (kept - 1) cut)
     (are : AreNodesFrom rects cut.rects fresh) where
   abbrev grouped : List Node

@@ -4,7 +4,7 @@ use Rattle.std.specs.List.{filter, range_with_len}
 use Rattle.std.proofs.lemmas.Bool.{cases_eq, eq-eqb, ne_eqb}
 use Rattle.std.proofs.lemmas.List.{append-nil, length-map, length-set, length-replicate, length_push, get_or-map, get_or-set_same, get_or-set_other, get_or_push, get_or_append_left, map-append}
 use Rattle.std.proofs.lemmas.List.Elements.{filter-append}
-use Rattle.leg_geom.specs.Plane.{Sides}
+use Rattle.leg_geom.specs.Plane.{RectModel}
 use Rattle.leg_sweep.specs.declared.node.Node.{Node}
 use Rattle.leg_sweep.specs.Steps.Layers.{is_on, numbers_on, AreKeysByLayer, AreNodesByLayer}
 use Rattle.leg_sweep.specs.Steps.Nodes.{AreNodesOf}
@@ -59,12 +59,12 @@ pub on_below : (layer_of : List ℕ) (layer bound x : ℕ) → Contains (numbers
 on_below layer_of layer bound x c = number_below bound x (Contains-from_filter (is_on layer_of layer) (range_with_len 0 bound) x c).0
 
 -- The layers so far have nodes, and the layers to come have keys.
-pub record NodesSoFar (rects : List Sides) (layer_of : List ℕ) (layers : ℕ) (done : List (List Node)) (left : List (List (ℕ × ℕ))) : Type 0 where
+pub record NodesSoFar (rects : List RectModel) (layer_of : List ℕ) (layers : ℕ) (done : List (List Node)) (left : List (List (ℕ × ℕ))) : Type 0 where
   pub count : length done + length left ≡ layers
   pub nodes : (layer : ℕ) → layer < length done → AreNodesOf rects (numbers_on layer_of layer (length rects)) (get_or done layer [])
   pub keys : (k : ℕ) → k < length left → map (λ (key : ℕ × ℕ). key.1) (get_or left k []) ≡ numbers_on layer_of (length done + k) (length rects)
 
-module _ (rects : List Sides) (layer_of : List ℕ) (layers : ℕ) where
+module _ (rects : List RectModel) (layer_of : List ℕ) (layers : ℕ) where
   pub nodes_none : (keys : List (List (ℕ × ℕ))) → AreKeysByLayer layer_of layers (length rects) keys → NodesSoFar rects layer_of layers [] keys
   nodes_none keys are = record {
     count = omega (arith, are.many);

@@ -1,17 +1,17 @@
 -- Pairs and their order
 mod Unique
 mod Apart
-mod Listed
+mod PairLists
 mod Counts
 -- The sweep from left to right
-mod Taken
+mod SinkPairs
 mod Nearness
 mod Progress
 mod Tallies
 mod Turns
 mod Places
 mod InOrder
-mod Swept
+mod SweepSoFar
 mod MetItems
 mod FoundSoFar
 mod FewPairs

@@ -13,7 +13,7 @@ use Rattle.std.proofs.lemmas.Map.Made.{is_member-Decides, length-le_from_is_memb
 use Rattle.leg_sweep.specs.Steps.Bands.{Waiting, empty_band, waiting_at, after_begin, after_pass, met, waiting_count, AreEmpty, AreVisited}
 use Rattle.leg_sweep.proofs.Lists.{All-from_contains, AllPairs-append_by}
 use Rattle.leg_sweep.proofs.Progress.{Contains-filter, Contains-from_filter}
-use Rattle.leg_sweep.proofs.Swept.{VisitedBy, AreMet}
+use Rattle.leg_sweep.proofs.SweepSoFar.{VisitedBy, AreMet}
 
 -- the bands' lists as functions of their numbers
 abbrev pub begun_in : List Waiting → ℕ → List ℕ

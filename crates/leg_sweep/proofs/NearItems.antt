@@ -13,13 +13,13 @@ use Rattle.std.proofs.lemmas.List.Sorted.{Contains-permutation, IsPermutation-sy
 use Rattle.std.proofs.lemmas.List.Sums.{sum_by_more, sum_by_push}
 use Rattle.std.proofs.lemmas.Map.Keys.{IsDistinct-from_apart, apart_from_distinct, IsDistinct-IsPermutation}
 use Rattle.std.proofs.lemmas.Option.{slice_get-map, slice_get_cases, slice_get_within, get_or_from_slice_get, same_Some}
-use Rattle.leg_geom.specs.Plane.{Sides, IsRect}
+use Rattle.leg_geom.specs.Plane.{RectModel, IsRect}
 use Rattle.leg_geom.specs.Gap.{x_gap, y_gap}
 use Rattle.leg_sweep.specs.declared.node.Node.{Node}
 use Rattle.leg_sweep.specs.Counts.{near_on_layer_along_x, near_on_layer, count_pairs}
 use Rattle.leg_sweep.specs.NearNumbers.{is_near, numbers_of, near_numbers}
 use Rattle.leg_sweep.specs.Near.{IsNear}
-use Rattle.leg_sweep.specs.Pairs.{IsPair}
+use Rattle.leg_geom.specs.Pairs.{IsPair}
 use Rattle.leg_sweep.specs.Steps.Cut.{cut_at, left_edge_at, AreCut}
 use Rattle.leg_sweep.specs.Steps.Layers.{is_on, numbers_on, AreNodesByLayer}
 use Rattle.leg_sweep.specs.Steps.Nodes.{AreNodesOf}
@@ -75,16 +75,16 @@ module _ {X : Type 0} where
       ]
 
 -- an earlier item, near another one on its layer
-pub record IsEarlier {Item : Type 0} (rect_of : Item → Sides) (layer_of : Item → ℕ) (reach_of : ℕ → ℕ) (items : List Item) (n : ℕ) (b : Item) (x : ℕ) : Type 0 where
+pub record IsEarlier {Item : Type 0} (rect_of : Item → RectModel) (layer_of : Item → ℕ) (reach_of : ℕ → ℕ) (items : List Item) (n : ℕ) (b : Item) (x : ℕ) : Type 0 where
   pub item : Item
   pub there : slice_get items x ≡ Some item
   pub earlier : x < n
   pub near : near_on_layer rect_of layer_of reach_of item b ≡ true
 
-module _ {Item : Type 0} (Holds : Item → Item → Type 0) (rect_of : Item → Sides) (layer_of : Item → ℕ) (reach_of : ℕ → ℕ)
+module _ {Item : Type 0} (Holds : Item → Item → Type 0) (rect_of : Item → RectModel) (layer_of : Item → ℕ) (reach_of : ℕ → ℕ)
     (layered : (a b : Item) → Holds a b → layer_of a ≡ layer_of b)
     (law : (a b : Item) → Holds a b → (x_gap (rect_of a) (rect_of b) ≤ reach_of (layer_of a)) × (y_gap (rect_of a) (rect_of b) ≤ reach_of (layer_of a)))
-    (items : List Item) (rects : List Sides) (cut : AreCut rect_of items rects) (layers : ℕ) (nodes : List (List Node)) (are : AreNodesByLayer rects (map layer_of items) layers nodes)
+    (items : List Item) (rects : List RectModel) (cut : AreCut rect_of items rects) (layers : ℕ) (nodes : List (List Node)) (are : AreNodesByLayer rects (map layer_of items) layers nodes)
     (n : ℕ) (b : Item) (b_at : slice_get items n ≡ Some b) (b_in : layer_of b < layers) where
   abbrev of_layer : List Node
   of_layer = get_or nodes (layer_of b) []
@@ -95,7 +95,7 @@ module _ {Item : Type 0} (Holds : Item → Item → Type 0) (rect_of : Item → 
   -- the rectangle of an item is cut
   rect_at : (x : ℕ) (a : Item) → slice_get items x ≡ Some a → slice_get rects x ≡ Some (cut_at cut.line (rect_of a))
   rect_at x a got =
-      let v : Item → Sides = λ (c : Item). cut_at cut.line (rect_of c) in
+      let v : Item → RectModel = λ (c : Item). cut_at cut.line (rect_of c) in
       rw cut.are (slice_get-map v items x ∙ ap (λ o. option_map v o) got)
 
   rect_is : rect_numbered rects n ≡ cut_at cut.line (rect_of b)
@@ -215,20 +215,20 @@ module _ {Item : Type 0} (Holds : Item → Item → Type 0) (rect_of : Item → 
   }
 
 -- what the nodes of the item's layer give, as they were read
-pub found_read : (rects : List Sides) (nodes : List (List Node)) (layer layer_is reach reach_is n : ℕ) (of_layer inside : List Node) (found : List ℕ) → layer ≡ layer_is → reach ≡ reach_is → layer < length nodes
+pub found_read : (rects : List RectModel) (nodes : List (List Node)) (layer layer_is reach reach_is n : ℕ) (of_layer inside : List Node) (found : List ℕ) → layer ≡ layer_is → reach ≡ reach_is → layer < length nodes
     → of_layer ≡ get_or nodes layer of_layer → inside ≡ of_layer → found ≡ filter (λ x. ltb x n) (near_numbers rects (rect_numbered rects n) reach inside)
     → found ≡ filter (λ x. ltb x n) (near_numbers rects (rect_numbered rects n) reach_is (get_or nodes layer_is []))
 found_read rects nodes layer layer_is reach reach_is n of_layer inside found same_layer same_reach within read is found_is =
     let nodes_read : inside ≡ get_or nodes layer [] = is ∙ get_or_read nodes layer of_layer within read [] in
     rw (← same_layer, ← same_reach, ← nodes_read) found_is
 
-module _ {Item : Type 0} (rect_of : Item → Sides) (items : List Item) (order : List ℕ) (sorted : IsLeftToRight (map rect_of items) order) where
+module _ {Item : Type 0} (rect_of : Item → RectModel) (items : List Item) (order : List ℕ) (sorted : IsLeftToRight (map rect_of items) order) where
   -- no item begins right of the last of the order
   pub left_of_last : All (λ a. (rect_of a).x1 ≤ℤ left_edge_at rect_of items (get_or order (length order - 1) 0)) items
   left_of_last k d within =
       rw (← get_or-map rect_of items k d unit_square within) (last_furthest (map rect_of items) order sorted k (omega (arith, length-map items rect_of, within)))
 
-  pub all_cut : (rects : List Sides) → rects ≡ map (λ a. cut_at (left_edge_at rect_of items (get_or order (length order - 1) 0)) (rect_of a)) items → AreCut rect_of items rects
+  pub all_cut : (rects : List RectModel) → rects ≡ map (λ a. cut_at (left_edge_at rect_of items (get_or order (length order - 1) 0)) (rect_of a)) items → AreCut rect_of items rects
   all_cut rects are = record {
     proper = λ k d within. rw (← get_or-map rect_of items k d unit_square within) (sorted.proper k unit_square (omega (arith, length-map items rect_of, within)));
     line = left_edge_at rect_of items (get_or order (length order - 1) 0);
@@ -237,7 +237,7 @@ module _ {Item : Type 0} (rect_of : Item → Sides) (items : List Item) (order :
   }
 
 -- what is near along both axes is near along x
-pub both_near_along_x : {Item : Type 0} (rect_of : Item → Sides) (layer_of : Item → ℕ) (reach_of : ℕ → ℕ) (items : List Item)
+pub both_near_along_x : {Item : Type 0} (rect_of : Item → RectModel) (layer_of : Item → ℕ) (reach_of : ℕ → ℕ) (items : List Item)
     → count_pairs (near_on_layer rect_of layer_of reach_of) items ≤ count_pairs (near_on_layer_along_x rect_of layer_of reach_of) items
 both_near_along_x rect_of layer_of reach_of items =
     count_pairs-le (near_on_layer rect_of layer_of reach_of) (near_on_layer_along_x rect_of layer_of reach_of) items

@@ -7,7 +7,7 @@ use Rattle.std.proofs.lemmas.Int.{ints}
 use Rattle.std.proofs.lemmas.Option.{slice_get_past}
 use Rattle.std.proofs.lemmas.List.{take-append-le}
 use Rattle.std.proofs.lemmas.List.Elements.{All-head, All-tail, All-drop, All-weaker, filter-append, filter_passes}
-use Rattle.leg_geom.specs.Plane.{Sides, IsRect}
+use Rattle.leg_geom.specs.Plane.{RectModel, IsRect}
 use Rattle.leg_geom.specs.Gap.{gap_between, x_gap, y_gap}
 use Rattle.leg_sweep.specs.declared.bounds.Bounds.{Bounds}
 use Rattle.leg_sweep.specs.declared.bounds.Window.{Window}
@@ -62,27 +62,27 @@ steps_meet a b below = let rises = step_rises a b below in le_true (step_of a) (
   le_true x y rises = grind (arith, ints)
 
 -- a number with a rectangle is below the count
-pub number_below : (rects : List Sides) (rect : Sides) (number : ℕ) → slice_get rects number ≡ Some rect → number < length rects
+pub number_below : (rects : List RectModel) (rect : RectModel) (number : ℕ) → slice_get rects number ≡ Some rect → number < length rects
 number_below rects rect number there = elim (cases_lt number (length rects)) [
   | inl below ↦ below
   | inr past ↦ let none = slice_get_past rects number past in cc
 ]
 
 -- the number of a node's rectangle is below the count
-content_below : (rects : List Sides) (bounds : Bounds) (content : Content) → IsRightAt rects bounds content → All (λ number. number < length rects) (number_in content)
+content_below : (rects : List RectModel) (bounds : Bounds) (content : Content) → IsRightAt rects bounds content → All (λ number. number < length rects) (number_in content)
 content_below rects bounds (Group members) right = λ k d within. absurd (omega arith)
 content_below rects bounds (Rect number) right = λ k d within. first k d (omega arith) where
   first : (k d : ℕ) → k ≡ 0 → get_or (number ∷ []) k d < length rects
   first k d is = rw is (number_below rects right.rect number right.there)
 
-module _ (rects : List Sides) (rect : Sides) (reach : ℕ) where
+module _ (rects : List RectModel) (rect : RectModel) (reach : ℕ) where
   abbrev near : ℕ → Bool
   near = is_near rects rect reach
 
   -- the test is that of the definition
   pub near_is : (number : ℕ) → near number ≡ true → IsNear rects rect reach number
   near_is number test = by (slice_get rects number) refl where
-    by : (found : Option Sides) → slice_get rects number ≡ found → IsNear rects rect reach number
+    by : (found : Option RectModel) → slice_get rects number ≡ found → IsNear rects rect reach number
     by None is = absurd (true≢false (sym test ∙ rw is refl))
     by (Some other) is =
         let passes : near_along_both reach rect other ≡ true = rw is at test in
@@ -98,12 +98,12 @@ module _ (rects : List Sides) (rect : Sides) (reach : ℕ) where
     all = λ number is. Contains-filter near number (numbers_of nodes) (is_near_passes number is) (are.all number (omega arith) (number_below rects is.other number is.there));
   }
 
-module _ (rects : List Sides) (w : Window) (is : IsWindow w) where
+module _ (rects : List RectModel) (w : Window) (is : IsWindow w) where
   abbrev in_window : ℕ → Bool
   in_window = is_near rects w.rect w.reach
 
   -- what is near has bounds that meet those of the window
-  near_meets : (other : Sides) → IsRect other → x_gap w.rect other ≤ w.reach → y_gap w.rect other ≤ w.reach → meet w.bounds (bounds_around other 0) ≡ true
+  near_meets : (other : RectModel) → IsRect other → x_gap w.rect other ≤ w.reach → y_gap w.rect other ≤ w.reach → meet w.bounds (bounds_around other 0) ≡ true
   near_meets other proper x y =
       let along_x = gap_reaches w.rect.x1 w.rect.x2 other.x1 other.x2 w.reach is.proper.wide proper.wide x in
       let along_y = gap_reaches w.rect.y1 w.rect.y2 other.y1 other.y2 w.reach is.proper.high proper.high y in
@@ -141,14 +141,14 @@ module _ (rects : List Sides) (w : Window) (is : IsWindow w) where
       ∙ far_members outer n nodes (All-tail (IsRight rects) node nodes right) (All-tail (λ (m : Node). IsWithin m.bounds outer) node (take n nodes) within) far
 
 -- what is left of a search behind its first node
-pub search_rest : (rects : List Sides) (w : Window) (node : Node) (nodes : List Node) → IsSearch rects w (node ∷ nodes) → IsSearch rects w nodes
+pub search_rest : (rects : List RectModel) (w : Window) (node : Node) (nodes : List Node) → IsSearch rects w (node ∷ nodes) → IsSearch rects w nodes
 search_rest rects w node nodes search = record { forest = search.forest.2; right = All-tail (IsRight rects) node nodes search.right; window = search.window }
 
-search_drop : (rects : List Sides) (w : Window) (n : ℕ) (nodes : List Node) → IsSearch rects w nodes → IsSearch rects w (drop n nodes)
+search_drop : (rects : List RectModel) (w : Window) (n : ℕ) (nodes : List Node) → IsSearch rects w nodes → IsSearch rects w (drop n nodes)
 search_drop rects w n nodes search = record { forest = forest_drop n nodes search.forest; right = All-drop (IsRight rects) n nodes search.right; window = search.window }
 
 -- A group that can't reach into the window is passed over with its members.
-pub passed_over : (rects : List Sides) (w : Window) (node : Node) (nodes : List Node) → IsSearch rects w (node ∷ nodes) → meet w.bounds node.bounds ≡ false
+pub passed_over : (rects : List RectModel) (w : Window) (node : Node) (nodes : List Node) → IsSearch rects w (node ∷ nodes) → meet w.bounds node.bounds ≡ false
     → (near_numbers rects w.rect w.reach (node ∷ nodes) ≡ near_numbers rects w.rect w.reach (drop (members_of node.content) nodes)) × IsSearch rects w (drop (members_of node.content) nodes)
 passed_over rects w node nodes search far =
     let rest = search_rest rects w node nodes search in (
@@ -158,9 +158,9 @@ passed_over rects w node nodes search far =
     )
 
 -- the number of the first node's rectangle is below the count
-pub first_below : (rects : List Sides) (w : Window) (node : Node) (nodes : List Node) → IsSearch rects w (node ∷ nodes) → All (λ number. number < length rects) (number_in node.content)
+pub first_below : (rects : List RectModel) (w : Window) (node : Node) (nodes : List Node) → IsSearch rects w (node ∷ nodes) → All (λ number. number < length rects) (number_in node.content)
 first_below rects w node nodes search = content_below rects node.bounds node.content (All-head (IsRight rects) node nodes search.right)
 
 -- a node that gives nothing
-pub gives_nothing : (rects : List Sides) (rect : Sides) (reach : ℕ) (node : Node) (nodes : List Node) → filter (is_near rects rect reach) (number_in node.content) ≡ [] → near_numbers rects rect reach (node ∷ nodes) ≡ near_numbers rects rect reach nodes
+pub gives_nothing : (rects : List RectModel) (rect : RectModel) (reach : ℕ) (node : Node) (nodes : List Node) → filter (is_near rects rect reach) (number_in node.content) ≡ [] → near_numbers rects rect reach (node ∷ nodes) ≡ near_numbers rects rect reach nodes
 gives_nothing rects rect reach node nodes none = rw (filter-append (is_near rects rect reach) (number_in node.content) (numbers_of nodes), none) refl

@@ -3,7 +3,7 @@ use Rattle.std.proofs.Common.{◌≡◌, ℕ, ◌≤◌, true, leb, ℤ, ◌≤�
 use Rattle.std.proofs.lemmas.Bool.{cases_lt, leb-true, le-leb}
 use Rattle.std.proofs.lemmas.Int.{ints}
 use Rattle.std.proofs.lemmas.List.{get_or_past}
-use Rattle.leg_geom.specs.Plane.{Sides, IsRect}
+use Rattle.leg_geom.specs.Plane.{RectModel, IsRect}
 use Rattle.leg_geom.specs.Gap.{gap_between, x_gap, y_gap}
 use Rattle.leg_sweep.specs.Counts.{near_along_x, near_along_both}
 use Rattle.leg_sweep.specs.Steps.Sweep.{unit_square, rect_numbered, test_at}
@@ -15,13 +15,13 @@ gap_symmetric a b c d long_a long_c = grind (arith, ints)
 gap_grows : (a b c d e f : ℤ) → c <ℤ d → a ≤ℤ c → c ≤ℤ e → gap_between a b c d ≤ gap_between a b e f
 gap_grows a b c d e f long first second = grind (arith, ints)
 
-pub x_gap_symmetric : (a b : Sides) → IsRect a → IsRect b → x_gap a b ≡ x_gap b a
+pub x_gap_symmetric : (a b : RectModel) → IsRect a → IsRect b → x_gap a b ≡ x_gap b a
 x_gap_symmetric a b is_a is_b = gap_symmetric a.x1 a.x2 b.x1 b.x2 is_a.wide is_b.wide
 
-pub y_gap_symmetric : (a b : Sides) → IsRect a → IsRect b → y_gap a b ≡ y_gap b a
+pub y_gap_symmetric : (a b : RectModel) → IsRect a → IsRect b → y_gap a b ≡ y_gap b a
 y_gap_symmetric a b is_a is_b = gap_symmetric a.y1 a.y2 b.y1 b.y2 is_a.high is_b.high
 
-module _ (rects : List Sides) (proper : All IsRect rects) where
+module _ (rects : List RectModel) (proper : All IsRect rects) where
   rect_at_proper : (i : ℕ) → IsRect (rect_numbered rects i)
   rect_at_proper i =
       elim (cases_lt i (length rects)) [

@@ -8,7 +8,7 @@ use Rattle.std.proofs.lemmas.List.Concat.{flat_map-append}
 use Rattle.std.proofs.lemmas.List.Elements.{All-nil, All-cons, All-append, All-take, All-weaker}
 use Rattle.std.proofs.lemmas.List.FromFn.{map-range_with_len_more, length-range_with_len, get_or-range_with_len}
 use Rattle.std.proofs.lemmas.List.Sorted.{IsPermutation-map, Contains-permutation}
-use Rattle.leg_geom.specs.Plane.{Sides}
+use Rattle.leg_geom.specs.Plane.{RectModel}
 use Rattle.leg_sweep.specs.declared.bounds.Bounds.{Bounds}
 use Rattle.leg_sweep.specs.declared.node.Content.TheVariants.{Rect}
 use Rattle.leg_sweep.specs.declared.node.Node.{Node}
@@ -29,7 +29,7 @@ within_through a b c first second = record {
   top = omega (arith, ints, first.top, second.top);
 }
 
-module _ (rects : List Sides) where
+module _ (rects : List RectModel) where
   -- no rectangles have no nodes
   pub grouped_none : (bounds : Bounds) (before : List Node) → AreGrouped rects [] bounds before before
   grouped_none bounds before = record {
@@ -110,7 +110,7 @@ range_below first end low k d within =
     omega (arith, at, count, within, low)
 
 -- rectangles, in whatever order, have nodes
-pub nodes_are : (rects : List Sides) (keys sorted : List (ℕ × ℕ)) (bounds : Bounds) (nodes : List Node) → IsPermutation keys sorted
+pub nodes_are : (rects : List RectModel) (keys sorted : List (ℕ × ℕ)) (bounds : Bounds) (nodes : List Node) → IsPermutation keys sorted
     → AreGrouped rects (map (λ (key : ℕ × ℕ). key.1) sorted) bounds [] nodes → AreNodesOf rects (map (λ (key : ℕ × ℕ). key.1) keys) nodes
 nodes_are rects keys sorted bounds nodes moved a =
     let same : nodes ≡ a.nodes = a.are in
@@ -121,7 +121,7 @@ nodes_are rects keys sorted bounds nodes moved a =
     }
 
 -- all numbers from one on have nodes
-pub nodes_from : (rects : List Sides) (first : ℕ) (keys : List (ℕ × ℕ)) (nodes : List Node) → map (λ (key : ℕ × ℕ). key.1) keys ≡ range_with_len first (length rects - first)
+pub nodes_from : (rects : List RectModel) (first : ℕ) (keys : List (ℕ × ℕ)) (nodes : List Node) → map (λ (key : ℕ × ℕ). key.1) keys ≡ range_with_len first (length rects - first)
     → AreNodesOf rects (map (λ (key : ℕ × ℕ). key.1) keys) nodes → AreNodesFrom rects first nodes
 nodes_from rects first keys nodes all are = record {
   forest = are.forest;
@@ -130,7 +130,7 @@ nodes_from rects first keys nodes all are = record {
 }
 
 -- the keys of numbers from one on speak of rectangles
-pub keys_below : (rects : List Sides) (first : ℕ) (keys : List (ℕ × ℕ)) → first ≤ length rects → map (λ (key : ℕ × ℕ). key.1) keys ≡ range_with_len first (length rects - first)
+pub keys_below : (rects : List RectModel) (first : ℕ) (keys : List (ℕ × ℕ)) → first ≤ length rects → map (λ (key : ℕ × ℕ). key.1) keys ≡ range_with_len first (length rects - first)
     → All (λ (key : ℕ × ℕ). key.1 < length rects) keys
 keys_below rects first keys within are k d below =
     let numbers : All (λ (number : ℕ). number < length rects) (map (λ (key : ℕ × ℕ). key.1) keys) = rw are (range_below first (length rects) within) in

@@ -6,7 +6,7 @@ use Rattle.std.specs.List.{range_with_len}
 use Rattle.std.proofs.lemmas.Bool.{eqb-true, eq-eqb}
 use Rattle.std.proofs.lemmas.List.{length-map}
 use Rattle.std.proofs.lemmas.List.FromFn.{fill_by_all}
-use Rattle.leg_geom.specs.Plane.{Sides}
+use Rattle.leg_geom.specs.Plane.{RectModel}
 use Rattle.leg_sweep.specs.declared.band.Stretch.{Stretch}
 use Rattle.leg_sweep.specs.Counts.{count_pairs}
 use Rattle.leg_sweep.specs.Steps.Bands.{Waiting, share_band, reach_at, AreByLayer}
@@ -22,10 +22,10 @@ read_both f h (x ∷ xs) zero d e = refl
 read_both f h (x ∷ xs) (suc k) d e = read_both f h xs k d e
 
 -- a rectangle on a layer, and another one on it
-abbrev on_one_layer : (ℕ → Sides → Sides → Bool) → (ℕ → ℕ) → Sides × ℕ → Sides × ℕ → Bool
+abbrev on_one_layer : (ℕ → RectModel → RectModel → Bool) → (ℕ → ℕ) → RectModel × ℕ → RectModel × ℕ → Bool
 on_one_layer test reach_of p q = (p.1 == q.1) && test (reach_of p.1) p.0 q.0
 
-module _ (test : ℕ → Sides → Sides → Bool) (reach_of : ℕ → ℕ) (rects : List Sides) (layers : List ℕ) (symmetric : (reach i j : ℕ) → test_at (test reach) rects i j ≡ test_at (test reach) rects j i) where
+module _ (test : ℕ → RectModel → RectModel → Bool) (reach_of : ℕ → ℕ) (rects : List RectModel) (layers : List ℕ) (symmetric : (reach i j : ℕ) → test_at (test reach) rects i j ≡ test_at (test reach) rects j i) where
   one_way : (i j : ℕ) → on_one_layer test reach_of (rect_numbered rects i, get_or layers i 0) (rect_numbered rects j, get_or layers j 0) ≡ true
       → on_one_layer test reach_of (rect_numbered rects j, get_or layers j 0) (rect_numbered rects i, get_or layers i 0) ≡ true
   one_way i j passes =
@@ -39,7 +39,7 @@ module _ (test : ℕ → Sides → Sides → Bool) (reach_of : ℕ → ℕ) (rec
   layer_symmetric i j = both_ways _ _ (one_way i j) (one_way j i)
 
 -- pairs that stand in a common band are no more than those on one layer
-pub on_layers : {Item : Type 0} (test : ℕ → Sides → Sides → Bool) (reach_of : ℕ → ℕ) (rect_of : Item → Sides) (layer_of : Item → ℕ) (items : List Item)
+pub on_layers : {Item : Type 0} (test : ℕ → RectModel → RectModel → Bool) (reach_of : ℕ → ℕ) (rect_of : Item → RectModel) (layer_of : Item → ℕ) (items : List Item)
     → ((reach i j : ℕ) → test_at (test reach) (map rect_of items) i j ≡ test_at (test reach) (map rect_of items) j i)
     → (stretches : List Stretch) (bands : List Waiting) (order : List ℕ) → IsLeftToRight (map rect_of items) order → AreByLayer (map layer_of items) reach_of stretches bands
     → count_pairs (λ x y. share_band stretches x y && test_at (test (reach_at stretches bands x)) (map rect_of items) x y) order
@@ -48,9 +48,9 @@ on_layers {Item} test reach_of rect_of layer_of items symmetric stretches bands 
     let rects = map rect_of items in
     let layers = map layer_of items in
     let numbers = range_with_len 0 (length rects) in
-    let at : ℕ → Sides × ℕ = λ i. (rect_numbered rects i, get_or layers i 0) in
+    let at : ℕ → RectModel × ℕ = λ i. (rect_numbered rects i, get_or layers i 0) in
     let by_number = λ (i j : ℕ). on_one_layer test reach_of (at i) (at j) in
-    let both : Item → Sides × ℕ = λ a. (rect_of a, layer_of a) in
+    let both : Item → RectModel × ℕ = λ a. (rect_of a, layer_of a) in
     let below : (x : ℕ) → Contains order x → x < length layers = λ x c.
     let place = place_of order x c in
     let inside : get_or order place.0 0 < length layers = omega (arith, order_below rects order sorted place.0 place.1, length-map items rect_of, length-map items layer_of) in

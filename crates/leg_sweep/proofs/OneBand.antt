@@ -3,7 +3,7 @@ use Rattle.std.proofs.Common.{◌≡◌, ℕ, zero, suc, ◌≤◌, true, List, 
 use Rattle.std.proofs.lemmas.Bool.{cases_lt}
 use Rattle.std.proofs.lemmas.List.{get_or-replicate, get_or_past, length-replicate}
 use Rattle.std.proofs.lemmas.List.Sums.{sum_by-cons}
-use Rattle.leg_geom.specs.Plane.{Sides}
+use Rattle.leg_geom.specs.Plane.{RectModel}
 use Rattle.leg_geom.specs.Gap.{x_gap, y_gap}
 use Rattle.leg_sweep.specs.declared.band.Stretch.{Stretch}
 use Rattle.leg_sweep.specs.Counts.{near_along_x, near_along_both, count_pairs}
@@ -32,7 +32,7 @@ last_is n x = ap (λ (s : Stretch). s.last) (lowest_at n x)
 pub reach_one : (n x reach : ℕ) → reach_at (replicate n lowest) (empty_band reach ∷ []) x ≡ reach
 reach_one n x reach = ap (λ (s : Stretch). (waiting_at (empty_band reach ∷ []) s.first).reach) (lowest_at n x)
 
-module _ {Item : Type 0} (Holds : Item → Item → Type 0) (rect_of : Item → Sides) (items : List Item) (reach : ℕ)
+module _ {Item : Type 0} (Holds : Item → Item → Type 0) (rect_of : Item → RectModel) (items : List Item) (reach : ℕ)
     (near : (a b : Item) → Holds a b → (x_gap (rect_of a) (rect_of b) ≤ reach) × (y_gap (rect_of a) (rect_of b) ≤ reach)) where
   pub one_stretch : AreStretches Holds rect_of items (replicate (length items) lowest) (empty_band reach ∷ [])
   one_stretch =
@@ -54,14 +54,14 @@ one_entry n [] = refl
 one_entry n (x ∷ xs) = omega (arith, one_entry n xs, sum_by-cons (entries_at (replicate n lowest)) x xs, first_is n x, last_is n x)
 
 -- pairs that stand in it and are near
-pub one_near : (rects : List Sides) (n reach : ℕ) (order : List ℕ) → count_pairs (near_in_band rects (replicate n lowest) (empty_band reach ∷ [])) order ≤ count_pairs (test_at (near_along_x reach) rects) order
+pub one_near : (rects : List RectModel) (n reach : ℕ) (order : List ℕ) → count_pairs (near_in_band rects (replicate n lowest) (empty_band reach ∷ [])) order ≤ count_pairs (test_at (near_along_x reach) rects) order
 one_near rects n reach order =
     count_pairs-le (near_in_band rects (replicate n lowest) (empty_band reach ∷ [])) (test_at (near_along_x reach) rects) order
     (λ x y in_x in_y passes.
     let split = and_split (share_band (replicate n lowest) x y) _ passes in
     subst (λ r. test_at (near_along_x r) rects x y ≡ true) (reach_one n x reach) split.1)
 
-pub one_near_both : (rects : List Sides) (n reach : ℕ) (order : List ℕ) → count_pairs (near_both_in_band rects (replicate n lowest) (empty_band reach ∷ [])) order ≤ count_pairs (test_at (near_along_both reach) rects) order
+pub one_near_both : (rects : List RectModel) (n reach : ℕ) (order : List ℕ) → count_pairs (near_both_in_band rects (replicate n lowest) (empty_band reach ∷ [])) order ≤ count_pairs (test_at (near_along_both reach) rects) order
 one_near_both rects n reach order =
     count_pairs-le (near_both_in_band rects (replicate n lowest) (empty_band reach ∷ [])) (test_at (near_along_both reach) rects) order
     (λ x y in_x in_y passes.

@@ -5,7 +5,7 @@ use Rattle.std.proofs.lemmas.List.Elements.{All-from_get_or}
 use Rattle.std.proofs.lemmas.List.FromFn.{length-range_with_len, get_or-range_with_len, fill_by_all}
 use Rattle.std.proofs.lemmas.List.Sorted.{All-permutation, length_permutation}
 use Rattle.std.proofs.lemmas.Nat.{mul-le}
-use Rattle.leg_geom.specs.Plane.{Sides}
+use Rattle.leg_geom.specs.Plane.{RectModel}
 use Rattle.leg_sweep.specs.Counts.{near_along_x, near_along_both, count_pairs}
 use Rattle.leg_sweep.specs.Steps.Sweep.{unit_square, rect_numbered, test_at, IsLeftToRight}
 use Rattle.leg_sweep.proofs.Apart.{numbers_apart}
@@ -21,7 +21,7 @@ numbers_below n order moved =
     let below : i < n = omega (arith, length-range_with_len 0 n, within) in
     rw (get_or-range_with_len 0 n i 0 below) (omega arith)))
 
-module _ (rects : List Sides) (order : List ℕ) (sorted : IsLeftToRight rects order) where
+module _ (rects : List RectModel) (order : List ℕ) (sorted : IsLeftToRight rects order) where
   pub order_below : (a : ℕ) → a < length order → get_or order a 0 < length rects
   order_below a within = numbers_below (length rects) order sorted.numbers a 0 within
 
@@ -34,7 +34,7 @@ module _ (rects : List Sides) (order : List ℕ) (sorted : IsLeftToRight rects o
       near_between rects sorted.proper reach (get_or order a 0) (get_or order b 0) (get_or order c 0) (sorted.rising a b first (omega arith)) (sorted.rising b c second within) near
 
   -- a count over the order is one over the rectangles
-  count_in_order : (test : Sides → Sides → Bool) → ((i j : ℕ) → test_at test rects i j ≡ test_at test rects j i) → count_pairs (test_at test rects) order ≡ count_pairs test rects
+  count_in_order : (test : RectModel → RectModel → Bool) → ((i j : ℕ) → test_at test rects i j ≡ test_at test rects j i) → count_pairs (test_at test rects) order ≡ count_pairs test rects
   count_in_order test symmetric =
       let numbers = range_with_len 0 (length rects) in
       let filled : rects ≡ map (rect_numbered rects) numbers = fill_by_all (rect_numbered rects) rects (length rects) unit_square refl (λ k below. refl) in
@@ -57,7 +57,7 @@ pub looks_fit : (n start entries pairs met looks : ℕ) → n < 2 ^ 32 → start
 looks_fit n start entries pairs met looks few seen short half at_most so_far = omega (arith, half, mul-le n n 4294967295 4294967295 (omega arith) (omega arith))
 
 -- the last of the order begins furthest right
-pub last_furthest : (rects : List Sides) (order : List ℕ) → IsLeftToRight rects order → (x : ℕ) → x < length rects → (rect_numbered rects x).x1 ≤ℤ (rect_numbered rects (get_or order (length order - 1) 0)).x1
+pub last_furthest : (rects : List RectModel) (order : List ℕ) → IsLeftToRight rects order → (x : ℕ) → x < length rects → (rect_numbered rects x).x1 ≤ℤ (rect_numbered rects (get_or order (length order - 1) 0)).x1
 last_furthest rects order sorted x within =
     let place = place_of order x (numbers_contain order (length rects) x sorted.numbers within) in
     rw place.2 at (sorted.rising place.0 (length order - 1) (omega (arith, place.1)) (omega (arith, place.1)))

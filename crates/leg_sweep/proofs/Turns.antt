@@ -5,12 +5,12 @@ use Rattle.std.proofs.lemmas.List.{append-nil, get_or-map, length-append, length
 use Rattle.std.proofs.lemmas.List.Elements.{filter_more, All-nil, All-push, All-append, All-weaker, Contains-append_left, Contains-append_right, Contains-append_cases, Contains-push, Contains-push_cases}
 use Rattle.std.proofs.lemmas.List.Quantifiers.{all_pairs_push}
 use Rattle.std.proofs.lemmas.Option.{same_Some}
-use Rattle.leg_sweep.specs.Pairs.{IsPair}
-use Rattle.leg_geom.specs.Plane.{Sides}
+use Rattle.leg_geom.specs.Pairs.{IsPair}
+use Rattle.leg_geom.specs.Plane.{RectModel}
 use Rattle.leg_sweep.specs.Steps.Sweep.{unit_square, rect_numbered, test_at, ordered, AreNewPairs}
 use Rattle.leg_sweep.specs.Pairs.TakesAll.{none, more}
 use Rattle.leg_sweep.proofs.Lists.{Contains-nil, AllPairs-nil, AllPairs-append_by}
-use Rattle.leg_sweep.proofs.Taken.{takes_append}
+use Rattle.leg_sweep.proofs.SinkPairs.{takes_append}
 
 pub ordered_below : (x n : ℕ) → x < n → ordered x n ≡ (x, n)
 ordered_below x n below =
@@ -141,13 +141,13 @@ module _ {Sink : Type 0} (Takes : Sink → ℕ × ℕ → Sink → Type 0) (IsOn
     enough = omega (arith, a.enough, b.enough, length-append a.more b.more);
   }
 
-module _ {Item : Type 0} (rect_of : Item → Sides) (items : List Item) where
+module _ {Item : Type 0} (rect_of : Item → RectModel) (items : List Item) where
   -- the rectangle of an item that was read
   pub rect_of_read : (x : ℕ) (a : Item) → x < length items → a ≡ get_or items x a → rect_numbered (map rect_of items) x ≡ rect_of a
   rect_of_read x a within read = get_or-map rect_of items x a unit_square within ∙ ap rect_of (sym read)
 
   -- a test of two items that were read
-  pub test_of_read : (test : Sides → Sides → Bool) (x y : ℕ) (a b : Item) → x < length items → y < length items → a ≡ get_or items x a → b ≡ get_or items y b
+  pub test_of_read : (test : RectModel → RectModel → Bool) (x y : ℕ) (a b : Item) → x < length items → y < length items → a ≡ get_or items x a → b ≡ get_or items y b
       → test_at test (map rect_of items) x y ≡ test (rect_of a) (rect_of b)
   test_of_read test x y a b x_in y_in a_read b_read = rw (rect_of_read x a x_in a_read, rect_of_read y b y_in b_read)
 

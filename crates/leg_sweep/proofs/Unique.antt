@@ -1,7 +1,8 @@
 -- The order of pairs, and that a rule's pairs are one list.
 use Rattle.std.proofs.Common.{◌≡◌, ℕ, List, refl, arith}
 use Rattle.std.proofs.lemmas.List.Elements.{All-contains}
-use Rattle.leg_sweep.specs.Pairs.{Before, IsPair, ArePairs}
+use Rattle.leg_sweep.specs.Pairs.{Before, ArePairs}
+use Rattle.leg_geom.specs.Pairs.{IsPair}
 use Rattle.leg_sweep.proofs.Lists.{same_rising}
 
 -- no pair stands before itself

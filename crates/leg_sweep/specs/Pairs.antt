@@ -1,19 +1,11 @@
 -- The list of the pairs of items for which a rule holds.
-use Rattle.std.specs.Prelude.{◌≡◌, ◌≢◌, ℕ, ◌≤◌, ◌<◌, List, [], ◌∷◌, ◌++◌, length, Some, All, AllPairs, Contains, slice_get}
+use Rattle.std.specs.Prelude.{◌≡◌, ◌≢◌, ℕ, ◌≤◌, ◌<◌, List, [], ◌∷◌, ◌++◌, length, All, AllPairs, Contains}
+use Rattle.leg_geom.specs.Pairs.{IsPair}
 
 -- Pairs of numbers in increasing order: by the first, then by the second.
 pub record Before (p q : ℕ × ℕ) : Type 0 where
   pub first : p.0 ≤ q.0
   pub second : p.0 ≡ q.0 → p.1 < q.1
-
--- two items by their numbers, the lower number first, for which the rule holds
-pub record IsPair {Item : Type 0} (Holds : Item → Item → Type 0) (items : List Item) (p : ℕ × ℕ) : Type 0 where
-  pub a : Item
-  pub b : Item
-  pub a_at : slice_get items p.0 ≡ Some a
-  pub b_at : slice_get items p.1 ≡ Some b
-  pub in_order : p.0 < p.1
-  pub holds : Holds a b
 
 -- the strictly increasing list of exactly these pairs
 pub record ArePairs {Item : Type 0} (Holds : Item → Item → Type 0) (items : List Item) (found : List (ℕ × ℕ)) : Type 0 where

@@ -37,10 +37,10 @@ pub(crate) struct Cut {
 
 impl<A: Allocator> Model for BinIndex<A> {
     ghost use Rattle.std.specs.Prelude.{List};
-    ghost use Rattle.leg_geom.specs.Plane.{Sides};
+    ghost use Rattle.leg_geom.specs.Plane.{RectModel};
     ghost use Rattle.leg_sweep.specs.Steps.Index.{IsIndex};
 
-    ghost Value = { List Sides };
+    ghost Value = { List RectModel };
 
     ghost view = { λ index. index.rects.items };
 

@@ -2,7 +2,8 @@
 
 ghost use Rattle.std.specs.Prelude.{◌≡◌, ◌≤◌, ◌<◌, ◌+◌, ◌-◌, ◌*◌, ◌^◌, ◌==◌, ◌↔◌, IsTrue, length, take, OnOk, if◌then◌else◌};
 ghost use Rattle.std.specs.List.{range_with_len};
-ghost use Rattle.leg_sweep.specs.Pairs.{IsPair, TookPairs};
+ghost use Rattle.leg_sweep.specs.Pairs.{TookPairs};
+ghost use Rattle.leg_geom.specs.Pairs.{IsPair};
 ghost use Rattle.leg_sweep.specs.Counts.{near_on_layer_along_x, near_on_layer, count_pairs};
 ghost use Rattle.leg_sweep.specs.Steps.Sweep.{AreNewPairs};
 

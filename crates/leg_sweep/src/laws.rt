@@ -1,7 +1,7 @@
 //! What follows from the definitions alone, as functions whose contracts state it.
 
 ghost use Rattle.std.specs.Prelude.{◌≡◌, ℕ, Bool, IsTrue, List, length};
-ghost use Rattle.leg_geom.specs.Plane.{Sides};
+ghost use Rattle.leg_geom.specs.Plane.{RectModel};
 ghost use Rattle.leg_sweep.specs.Counts.{count_pairs};
 ghost use Rattle.leg_sweep.specs.Pairs.{ArePairs};
 
@@ -15,6 +15,6 @@ pub fn pairs_are_unique<R: PairRule>()
 
 /// A count of pairs is the length of the list of the pairs that pass the test.
 pub fn counts_are_lengths()
-    ensures { (test : Sides → Sides → Bool) (rects : List Sides) (found : List (ℕ × ℕ))
+    ensures { (test : RectModel → RectModel → Bool) (rects : List RectModel) (found : List (ℕ × ℕ))
         → ArePairs (λ a b. IsTrue (test a b)) rects found → length found ≡ count_pairs test rects }
 {}

@@ -3,7 +3,8 @@
 ghost use Rattle.std.specs.Prelude.{◌≡◌, ◌≤◌, ◌<◌, ◌+◌, ◌-◌, ◌*◌, ◌^◌, length, map, take, filter, nat_lt, All, IsTrue, OnOk};
 ghost use Rattle.std.specs.List.{range_with_len};
 ghost use Rattle.leg_sweep.specs.NearNumbers.{near_numbers};
-ghost use Rattle.leg_sweep.specs.Pairs.{IsPair, TookPairs};
+ghost use Rattle.leg_sweep.specs.Pairs.{TookPairs};
+ghost use Rattle.leg_geom.specs.Pairs.{IsPair};
 ghost use Rattle.leg_sweep.specs.Counts.{near_on_layer, count_pairs};
 ghost use Rattle.leg_sweep.specs.Steps.Cut.{AreCut};
 ghost use Rattle.leg_sweep.specs.Steps.Layers.{AreNodesByLayer};

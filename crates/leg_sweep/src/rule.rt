@@ -1,7 +1,7 @@
 //! What it means that two items meet.
 
 ghost use Rattle.std.specs.Prelude.{◌≡◌, ◌≤◌, ◌<◌, ◌+◌, ◌-◌, ◌^◌, ◌↔◌, ℕ, pos, IsTrue};
-ghost use Rattle.leg_geom.specs.Plane.{Sides, IsRect};
+ghost use Rattle.leg_geom.specs.Plane.{RectModel, IsRect};
 ghost use Rattle.leg_geom.specs.Gap.{x_gap, y_gap};
 
 /// A rule for pairs of items that lie in the plane. Its meaning gives each item a rectangle, and defines
@@ -17,7 +17,7 @@ pub trait PairRule {
 
     ghost Holds: { Self → Self.Item → Self.Item → Type 0 };
 
-    ghost rect_of: { Self → Self.Item → Sides };
+    ghost rect_of: { Self → Self.Item → RectModel };
 
     ghost reach_of: { Self → ℕ };
 

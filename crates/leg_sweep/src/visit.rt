@@ -1,7 +1,7 @@
 //! A new item's visit to its bands, where it meets the items that wait.
 
 ghost use Rattle.std.specs.Prelude.{◌≡◌, ◌≤◌, ◌<◌, ◌+◌, ◌-◌, ◌^◌, ◌++◌, length, map, count_by, slice_set, Contains, OnOk};
-ghost use Rattle.leg_sweep.specs.Pairs.{IsPair};
+ghost use Rattle.leg_geom.specs.Pairs.{IsPair};
 ghost use Rattle.leg_sweep.specs.Counts.{near_along_x, near_along_both};
 ghost use Rattle.leg_sweep.specs.Steps.Bands.{waiting_at, after_begin, after_pass, met, waiting_count, AreVisited, CanVisit};
 ghost use Rattle.leg_sweep.specs.Steps.Sweep.{test_at, AreNewPairs, CanMeet};

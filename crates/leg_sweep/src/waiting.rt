@@ -2,7 +2,7 @@
 
 ghost use Rattle.std.specs.Prelude.{◌≡◌, ◌≤◌, ◌<◌, ◌+◌, ◌-◌, ◌^◌, ◌↔◌, IsTrue, [], length, map, filter, count_by, OnOk, if◌then◌else◌};
 ghost use Rattle.leg_geom.specs.Gap.{x_gap, y_gap};
-ghost use Rattle.leg_sweep.specs.Pairs.{IsPair};
+ghost use Rattle.leg_geom.specs.Pairs.{IsPair};
 ghost use Rattle.leg_sweep.specs.Counts.{near_along_x, near_along_both};
 ghost use Rattle.leg_sweep.specs.Steps.Sweep.{test_at, ordered, AreNewPairs, CanMeet};
 

@@ -2,12 +2,12 @@
 use Rattle.std.proofs.Common.{◌≡◌, ◌≢◌, ◌⊎◌, ◌↔◌, ℕ, zero, suc, ◌<◌, [], ◌∷◌, Contains, get_or, inl, inr, refl, sym, ap, subst, ◌∙◌, arith}
 use Rattle.std.proofs.lemmas.Bool.{cases_eq}
 use Rattle.std.proofs.lemmas.Option.{none-some}
-use Rattle.leg_geom.specs.Plane.{Sides, SharePoint}
-use Rattle.leg_cells.specs.Records.{Contents}
-use Rattle.leg_flat.specs.declared.owner.Owner.TheVariants.{Net}
-use Rattle.leg_flat.specs.declared.shape.Shape.{Shape}
-use Rattle.leg_wire.specs.Spacing.{AreNearer}
-use Rattle.leg_wire.specs.Clean.{net_metal, IsClean}
+use Rattle.leg_geom.specs.Plane.{RectModel, SharePoint}
+use Rattle.leg_lib_records.specs.Records.{LibraryModel}
+use Rattle.leg_rules.specs.declared.owner.Owner.TheVariants.{Net}
+use Rattle.leg_rules.specs.declared.shape.Shape.{Shape}
+use Rattle.leg_rules.specs.Spacing.Violations.{AreNearer}
+use Rattle.leg_rules.specs.Spacing.Clean.{net_metal, IsClean}
 use Rattle.leg_wire.specs.Access.{alone}
 use Rattle.leg_wire.specs.Steps.TooCloseRule.{AreCloserThan}
 use Rattle.leg_wire.specs.Steps.LayerSpacing.{spacing_at}
@@ -19,7 +19,7 @@ only_itself a b has = by has.0 has.1 has.2 where
   by zero below is = is
   by (suc k) below is = absurd (omega (arith, below))
 
-module _ (library : Contents) (shape : Shape) (layer : ℕ) (rect : Sides) where
+module _ (library : LibraryModel) (shape : Shape) (layer : ℕ) (rect : RectModel) where
   -- the shape lies on the layer, and so near that metal of another owner is not clean
   pub record IsNear : Type 0 where
     pub layer_is : layer ≡ shape.layer
@@ -27,10 +27,6 @@ module _ (library : Contents) (shape : Shape) (layer : ℕ) (rect : Sides) where
 
   clean_where_far : (net : ℕ) → ¬ AreCloserThan (spacing_at library.layers layer) (net_metal net layer rect) shape → IsClean library (alone shape) net layer rect
   clean_where_far net far = is_clean library (alone shape) net layer rect (λ s has. subst (λ (s : Shape). ¬ AreCloserThan (spacing_at library.layers layer) (net_metal net layer rect) s) (only_itself shape s has) far)
-
-  -- where it isn't near, metal of each net is clean
-  pub clean_far : ¬ IsNear → (net : ℕ) → IsClean library (alone shape) net layer rect
-  clean_far far net = clean_where_far net (λ closer. far (record { layer_is = closer.comparable.layer; close = closer.close }))
 
   -- where it is, no metal of another owner
   pub not_clean_near : IsNear → (net : ℕ) → Net net ≢ shape.owner → ¬ IsClean library (alone shape) net layer rect

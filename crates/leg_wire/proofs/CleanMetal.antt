@@ -3,20 +3,20 @@ use Rattle.std.proofs.Common.{◌≡◌, ℕ, zero, suc, ◌<◌, List, [], ◌�
 use Rattle.std.proofs.lemmas.List.{length-map}
 use Rattle.std.proofs.lemmas.List.Elements.{All-contains, Contains-append_right}
 use Rattle.std.proofs.lemmas.Option.{slice_get_read, slice_get_within}
-use Rattle.leg_geom.specs.Plane.{Sides}
-use Rattle.leg_cells.specs.declared.records.Layer.{Layer}
-use Rattle.leg_cells.specs.Records.{Contents}
-use Rattle.leg_flat.specs.declared.shape.Shape.{Shape}
-use Rattle.leg_flat.specs.Flat.{FlatSaid}
+use Rattle.leg_geom.specs.Plane.{RectModel}
+use Rattle.leg_lib_records.specs.declared.records.Layer.{Layer}
+use Rattle.leg_lib_records.specs.Records.{LibraryModel}
+use Rattle.leg_rules.specs.declared.shape.Shape.{Shape}
+use Rattle.leg_rules.specs.Metal.Flat.{FlatModel}
 use Rattle.leg_sweep.specs.Near.{IsNear, AreNear}
 use Rattle.leg_sweep.proofs.Lists.{Contains-here}
-use Rattle.leg_wire.specs.Spacing.{AreShort, AreTooNear, AreNearer}
-use Rattle.leg_wire.specs.Clean.{net_metal, IsClean}
+use Rattle.leg_rules.specs.Spacing.Violations.{AreShort, AreTooNear, AreNearer}
+use Rattle.leg_rules.specs.Spacing.Clean.{net_metal, IsClean}
 use Rattle.leg_wire.specs.Steps.TooCloseRule.{AreCloserThan, AreCloserThan-gaps}
 use Rattle.leg_wire.specs.Steps.LayerSpacing.{spacing_at}
 
 -- shapes that are close are short or too near
-close_is_bad : (library : Contents) (a b : Shape) → ¬ AreShort a b → ¬ AreTooNear library a b → ¬ AreCloserThan (spacing_at library.layers a.layer) a b
+close_is_bad : (library : LibraryModel) (a b : Shape) → ¬ AreShort a b → ¬ AreTooNear library a b → ¬ AreCloserThan (spacing_at library.layers a.layer) a b
 close_is_bad library a b no_short far h = elim h.close [
   | inl shared ↦ no_short (record { comparable = h.comparable; shared = shared })
   | inr near ↦ by (slice_get library.layers a.layer) refl near
@@ -33,12 +33,12 @@ close_is_bad library a b no_short far h = elim h.close [
         near = near;
       })
 
-bad_is_close : (library : Contents) (a b : Shape) → AreTooNear library a b → AreCloserThan (spacing_at library.layers a.layer) a b
+bad_is_close : (library : LibraryModel) (a b : Shape) → AreTooNear library a b → AreCloserThan (spacing_at library.layers a.layer) a b
 bad_is_close library a b bad =
     let near : AreNearer (spacing_at library.layers a.layer) a.rect b.rect = rw bad.there bad.near in
     record { comparable = bad.comparable; close = inr near }
 
-module _ (library : Contents) (flat : FlatSaid) (net layer : ℕ) (rect : Sides) where
+module _ (library : LibraryModel) (flat : FlatModel) (net layer : ℕ) (rect : RectModel) where
   abbrev metal : Shape
   metal = net_metal net layer rect
 
@@ -52,7 +52,7 @@ module _ (library : Contents) (flat : FlatSaid) (net layer : ℕ) (rect : Sides)
   }
 
 -- the rectangles of shapes
-abbrev pub rects_of : List Shape → List Sides
+abbrev pub rects_of : List Shape → List RectModel
 rects_of shapes = map (λ shape. shape.rect) shapes
 
 -- the shape of this number isn't closer than the distance
@@ -81,7 +81,7 @@ far_at shapes distance metal number shape at far other there close =
     far (rw (← same) close)
 
 -- The next of what is left is the number of a shape.
-pub next_within : (shapes : List Shape) (rects : List Sides) (rect : Sides) (reach : ℕ) (all before left rest : List ℕ) (number : ℕ) → rects ≡ rects_of shapes → AreNear rects rect reach all → all ≡ before ++ left → left ≡ number ∷ rest → number < length shapes
+pub next_within : (shapes : List Shape) (rects : List RectModel) (rect : RectModel) (reach : ℕ) (all before left rest : List ℕ) (number : ℕ) → rects ≡ rects_of shapes → AreNear rects rect reach all → all ≡ before ++ left → left ≡ number ∷ rest → number < length shapes
 next_within shapes rects rect reach all before left rest number are near is next =
     let has : Contains all number = rw (is, next) (Contains-append_right before (number ∷ rest) number (Contains-here number rest)) in
     let one : IsNear rects rect reach number = All-contains (IsNear rects rect reach) all number near.each has in

@@ -1,8 +1,8 @@
 -- Pieces that are joined are so both ways, and onward.
 use Rattle.std.proofs.Common.{ℕ}
-use Rattle.leg_flat.specs.Flat.{FlatSaid}
-use Rattle.leg_wire.specs.Touch.{Touch, Joined, AreJoined}
-use Rattle.leg_wire.specs.Touch.Joined.{itself, through}
+use Rattle.leg_rules.specs.Metal.Flat.{FlatModel}
+use Rattle.leg_rules.specs.Joins.Touch.{Touch, Joined, AreJoined}
+use Rattle.leg_rules.specs.Joins.Touch.Joined.{itself, through}
 
 module _ (Meet : ℕ → ℕ → Type 0) where
   pub Joined-onward : (a b c : ℕ) → Joined Meet a b → Joined Meet b c → Joined Meet a c
@@ -14,7 +14,7 @@ module _ (Meet : ℕ → ℕ → Type 0) where
   Joined-symmetric back a b itself = itself
   Joined-symmetric back a b (through {b = d} joined meet) = Joined-onward b d a (through itself (back d b meet)) (Joined-symmetric back a d joined)
 
-Touch-symmetric : (flat : FlatSaid) (net a b : ℕ) → Touch flat net a b → Touch flat net b a
+Touch-symmetric : (flat : FlatModel) (net a b : ℕ) → Touch flat net a b → Touch flat net b a
 Touch-symmetric flat net a b t = record {
   layer = t.layer;
   p = t.p;
@@ -26,5 +26,5 @@ Touch-symmetric flat net a b t = record {
   q_in_b = t.q_in_a;
 }
 
-pub AreJoined-symmetric : (flat : FlatSaid) (net a b : ℕ) → AreJoined flat net a b → AreJoined flat net b a
+pub AreJoined-symmetric : (flat : FlatModel) (net a b : ℕ) → AreJoined flat net a b → AreJoined flat net b a
 AreJoined-symmetric flat net a b joined = Joined-symmetric (Touch flat net) (Touch-symmetric flat net) a b joined

@@ -4,11 +4,12 @@ use Rattle.std.specs.List.{flat_map}
 use Rattle.std.proofs.lemmas.Bool.{cases_lt, cases_eq}
 use Rattle.std.proofs.lemmas.List.Elements.{All-contains, Contains-append_left, Contains-append_right, Contains-append_cases}
 use Rattle.std.proofs.lemmas.Option.{same_Some, slice_get_within, get_or_from_slice_get, slice_get-get_or, none-some}
-use Rattle.leg_sweep.specs.Pairs.{Before, IsPair, ArePairs}
+use Rattle.leg_sweep.specs.Pairs.{Before, ArePairs}
+use Rattle.leg_geom.specs.Pairs.{IsPair}
 use Rattle.leg_sweep.specs.Steps.Sweep.{ordered}
 use Rattle.leg_sweep.proofs.Lists.{Contains-nil, Contains-here, Contains-there, Contains-cons_cases, Contains-map, All-from_contains}
-use Rattle.leg_cells.specs.declared.records.Layer.{Layer}
-use Rattle.leg_flat.specs.declared.shape.Shape.{Shape}
+use Rattle.leg_lib_records.specs.declared.records.Layer.{Layer}
+use Rattle.leg_rules.specs.declared.shape.Shape.{Shape}
 use Rattle.leg_wire.specs.Steps.TooCloseRule.{AreClose, AreClose-symmetric}
 use Rattle.leg_wire.specs.Steps.Kinds.{AreAlike, IsOfKind, AreKinds, AreMembers, pairs_between, pairs_among}
 

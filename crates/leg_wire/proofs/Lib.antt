@@ -1,6 +1,6 @@
 -- Shorts, and shapes too near
-mod ToldPairs
-mod AllTold
+mod PairLists
+mod SpacingLists
 -- Kinds of metal
 mod AlikeMetal
 mod KindPairs

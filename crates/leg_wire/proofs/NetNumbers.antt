@@ -9,8 +9,8 @@ use Rattle.std.proofs.lemmas.Map.Keys.{sorted_from_strictly_increasing}
 use Rattle.std.proofs.lemmas.Map.Views.{length-le_from_below}
 use Rattle.std.proofs.lemmas.Option.{same_Some, slice_get_within}
 use Rattle.leg_sweep.proofs.Lists.{AllPairs-nil, All-from_contains, Contains-nil}
-use Rattle.leg_flat.specs.declared.owner.Owner.TheVariants.{Net}
-use Rattle.leg_flat.specs.declared.shape.Shape.{Shape}
+use Rattle.leg_rules.specs.declared.owner.Owner.TheVariants.{Net}
+use Rattle.leg_rules.specs.declared.shape.Shape.{Shape}
 use Rattle.leg_wire.specs.NetShapes.{IsOfNet, AreNumbersOf}
 
 same_net : (m n : ℕ) → Net m ≡ Net n → m ≡ n
@@ -105,10 +105,6 @@ module _ (shapes : List Shape) where
         → (net : ℕ) → net < nets → AreBelow net (i + 1) (get_or lists net [])
     lists_skip nets lists done none net below =
         below_skip net i (get_or lists net []) (done net below) (λ of_net. none net (owner_of net of_net) below)
-
-  -- empty lists
-  pub lists_none : (nets : ℕ) (lists : List (List ℕ)) → lists ≡ replicate nets [] → (net : ℕ) → net < nets → AreBelow net 0 (get_or lists net [])
-  lists_none nets lists are net below = rw (are, get_or-replicate {A = List ℕ} nets net [] [] below) (below_none net)
 
 -- all lists are written back
 pub lists_written : (lists : List (List ℕ)) (place : ℕ) (list : List ℕ) (after : List (List ℕ)) (n : ℕ) → after ≡ set lists place list → n ≡ length lists → take n (after ++ drop (length after) lists) ≡ set lists place list

@@ -6,10 +6,11 @@ use Rattle.std.proofs.lemmas.List.{append-nil, length-map, length-take, get_or-t
 use Rattle.std.proofs.lemmas.List.Elements.{All-nil, All-push, All-contains, All-append, Contains-push, Contains-push_cases, Contains-append_left, Contains-append_right}
 use Rattle.std.proofs.lemmas.Option.{same_Some, slice_get_within, slice_get_read, get_or_from_slice_get}
 use Rattle.leg_sweep.specs.Near.{IsNear, AreNear}
-use Rattle.leg_sweep.specs.Pairs.{IsPair, TakesAll}
+use Rattle.leg_sweep.specs.Pairs.{TakesAll}
+use Rattle.leg_geom.specs.Pairs.{IsPair}
 use Rattle.leg_sweep.specs.Pairs.TakesAll.{none, more}
 use Rattle.leg_sweep.proofs.Lists.{Contains-nil, Contains-here}
-use Rattle.leg_geom.specs.Plane.{Sides}
+use Rattle.leg_geom.specs.Plane.{RectModel}
 use Rattle.leg_wire.specs.declared.corner.Beside.{Beside}
 use Rattle.leg_wire.specs.declared.piece_shape.PieceShape.{PieceShape}
 use Rattle.leg_wire.specs.Steps.MeetingRule.{DoMeet, DoMeet-symmetric, DoMeet-near}
@@ -35,13 +36,13 @@ all_rects shapes =
     omega (arith, many, cut)
 
 -- a number that is given is that of a near rectangle
-pub near_is : (rects : List Sides) (rect : Sides) (reach : ℕ) (all given left rest : List ℕ) (n : ℕ) → AreNear rects rect reach all → all ≡ given ++ left → left ≡ n ∷ rest → IsNear rects rect reach n
+pub near_is : (rects : List RectModel) (rect : RectModel) (reach : ℕ) (all given left rest : List ℕ) (n : ℕ) → AreNear rects rect reach all → all ≡ given ++ left → left ≡ n ∷ rest → IsNear rects rect reach n
 near_is rects rect reach all given left rest n are so_far steps =
     All-contains (IsNear rects rect reach) all n are.each (rw (so_far, steps) (Contains-append_right given (n ∷ rest) n (Contains-here n rest)))
 
 module _ (shapes : List PieceShape) where
   -- and of one of the first shapes
-  pub near_first : (few n reach : ℕ) (rect : Sides) → few ≤ length shapes → IsNear (first_rects few shapes) rect reach n → n < few
+  pub near_first : (few n reach : ℕ) (rect : RectModel) → few ≤ length shapes → IsNear (first_rects few shapes) rect reach n → n < few
   near_first few n reach rect within near =
       let low : n < length (first_rects few shapes) = slice_get_within (first_rects few shapes) n near.other near.there in
       let many : length (first_rects few shapes) ≡ length (take few shapes) = length-map (take few shapes) (λ (s : PieceShape). s.rect) in
@@ -49,10 +50,10 @@ module _ (shapes : List PieceShape) where
       omega (arith, low, many, cut, within)
 
   -- so a number that the index gives is one of a first shape
-  pub near_low : (index : List Sides) (rect : Sides) (all given left rest : List ℕ) (n : ℕ) → length index ≤ length shapes → index ≡ first_rects (length index) shapes
+  pub near_low : (index : List RectModel) (rect : RectModel) (all given left rest : List ℕ) (n : ℕ) → length index ≤ length shapes → index ≡ first_rects (length index) shapes
       → AreNear index rect 0 all → all ≡ given ++ left → left ≡ n ∷ rest → n < length index
   near_low index rect all given left rest n within first are so_far steps =
-      near_first (length index) n 0 rect within (subst (λ (rects : List Sides). IsNear rects rect 0 n) first (near_is index rect 0 all given left rest n are so_far steps))
+      near_first (length index) n 0 rect within (subst (λ (rects : List RectModel). IsNear rects rect 0 n) first (near_is index rect 0 all given left rest n are so_far steps))
 
   -- a first shape that meets another one is near it
   meets_near : (few j : ℕ) (a b : PieceShape) → j < few → few ≤ length shapes → slice_get shapes j ≡ Some a → DoMeet a b → IsNear (first_rects few shapes) b.rect 0 j

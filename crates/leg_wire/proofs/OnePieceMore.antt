@@ -4,21 +4,21 @@ use Rattle.std.proofs.lemmas.Bool.{cases_eq}
 use Rattle.std.proofs.lemmas.List.{length-append, get_or_append_left, get_or-append-add}
 use Rattle.std.proofs.lemmas.List.Elements.{All-nil, All-cons, All-contains, All-append, All-weaker, Contains-append_left, Contains-append_cases}
 use Rattle.std.proofs.lemmas.Option.{none-some, slice_get_read}
-use Rattle.leg_sweep.specs.Pairs.{IsPair}
+use Rattle.leg_geom.specs.Pairs.{IsPair}
 use Rattle.leg_sweep.proofs.Lists.{All-from_contains, Contains-nil}
-use Rattle.leg_geom.specs.Plane.{Spot, Sides}
-use Rattle.leg_flat.specs.declared.shape.Shape.{Shape}
+use Rattle.leg_geom.specs.Plane.{PointModel, RectModel}
+use Rattle.leg_rules.specs.declared.shape.Shape.{Shape}
 use Rattle.leg_wire.specs.declared.corner.Beside.{Beside}
 use Rattle.leg_wire.specs.declared.piece_shape.PieceShape.{PieceShape}
-use Rattle.leg_wire.specs.Touch.{Joined}
-use Rattle.leg_wire.specs.Touch.Joined.{itself, through}
+use Rattle.leg_rules.specs.Joins.Touch.{Joined}
+use Rattle.leg_rules.specs.Joins.Touch.Joined.{itself, through}
 use Rattle.leg_wire.specs.Steps.MeetingRule.{DoMeet, DoMeet-symmetric}
 use Rattle.leg_wire.specs.Steps.NumberSets.{AreTogether}
 use Rattle.leg_wire.specs.Steps.PieceMetal.{LiesAmong, TouchAmong}
 use Rattle.leg_wire.specs.Steps.SharedPoints.{first_seen}
 use Rattle.leg_wire.specs.Steps.JoinSteps.{AreSetsOf, HavePlaces, AreKept}
 use Rattle.leg_wire.specs.Joins.{metal_of_piece}
-use Rattle.leg_wire.specs.Steps.Joins.{first_rects, HasOneNumberMore, JoinsNew, IsKept}
+use Rattle.leg_wire.specs.Steps.Joins.{first_rects, HasOneNumberMore, JoinsNew, IsKeptSet}
 use Rattle.leg_wire.proofs.SetsUnited.{AreTogether-itself, AreTogether-onward}
 use Rattle.leg_wire.proofs.PiecesTouch.{IsDone, IsDone-back, AreSoFar, AreDone, touch_together}
 use Rattle.leg_wire.proofs.SetsTaken.{taken_so_far, taken_keeps}
@@ -60,7 +60,7 @@ module _ (metal new : List PieceShape) (sets grown : List ℕ) (are : AreSetsOf 
   }
 
   -- what lies in an old piece lies among the old metal
-  lies_old : (a layer : ℕ) (p : Spot) → a ≢ length sets → LiesAmong all a layer p → LiesAmong metal a layer p
+  lies_old : (a layer : ℕ) (p : PointModel) → a ≢ length sets → LiesAmong all a layer p → LiesAmong metal a layer p
   lies_old a layer p old lies = elim (Contains-append_cases metal new lies.shape lies.has) [
     | inl had ↦ record { shape = lies.shape; has = had; of_piece = lies.of_piece; on_layer = lies.on_layer; inside = lies.inside }
     | inr came ↦ absurd (old (sym lies.of_piece ∙ All-contains (λ (shape : PieceShape). shape.piece ≡ length sets) new lies.shape new_is came))
@@ -150,9 +150,9 @@ module _ (metal new : List PieceShape) (sets grown : List ℕ) (are : AreSetsOf 
     }
 
 -- what is kept is right with the new piece, whose shapes these are
-pub kept_more : (metal : List PieceShape) (shapes : List Shape) (index : List Sides) (sets grown sets_after : List ℕ) → AreSetsOf metal (length sets) sets → HavePlaces sets metal
+pub kept_more : (metal : List PieceShape) (shapes : List Shape) (index : List RectModel) (sets grown sets_after : List ℕ) → AreSetsOf metal (length sets) sets → HavePlaces sets metal
     → index ≡ first_rects (length metal) metal → HasOneNumberMore sets grown → JoinsNew (metal ++ metal_of_piece (length sets) shapes) (length index) grown sets_after → length sets_after ≡ length grown
-    → IsKept (metal ++ metal_of_piece (length sets) shapes) index sets_after
+    → IsKeptSet (metal ++ metal_of_piece (length sets) shapes) index sets_after
 kept_more metal shapes index sets grown sets_after are places index_is more joins same =
     let new = metal_of_piece (length sets) shapes in
     let count : length index ≡ length metal = ap length index_is ∙ all_rects metal in

@@ -4,16 +4,16 @@ use Rattle.std.proofs.lemmas.List.{length_push}
 use Rattle.std.proofs.lemmas.List.Elements.{All-nil, All-push, All-contains, Contains-append_left, Contains-push, Contains-push_cases}
 use Rattle.std.proofs.lemmas.Option.{same_Some, none-some, slice_get_within, slice_get_read, get_or_from_slice_get}
 use Rattle.leg_sweep.proofs.Lists.{Contains-nil}
-use Rattle.leg_flat.specs.declared.owner.Owner.TheVariants.{Net}
-use Rattle.leg_flat.specs.declared.shape.Shape.{Shape}
-use Rattle.leg_flat.specs.Flat.{FlatSaid}
+use Rattle.leg_rules.specs.declared.owner.Owner.TheVariants.{Net}
+use Rattle.leg_rules.specs.declared.shape.Shape.{Shape}
+use Rattle.leg_rules.specs.Metal.Flat.{FlatModel}
 use Rattle.leg_wire.specs.declared.piece_shape.PieceShape.{PieceShape}
-use Rattle.leg_wire.specs.Touch.{piece_count}
+use Rattle.leg_rules.specs.Joins.Touch.{piece_count}
 use Rattle.leg_wire.specs.NetShapes.{IsOfNet, AreNumbersOf}
 use Rattle.leg_wire.specs.Joins.{IsWholeNet, IsPieceShape, ArePieceShapes}
 use Rattle.leg_wire.specs.Steps.PieceMetal.{SaysShape}
 
-module _ (flat : FlatSaid) (net : ℕ) where
+module _ (flat : FlatModel) (net : ℕ) where
   -- the shape of this number is metal of a piece
   pub record HasPiece (k : ℕ) : Type 0 where
     pub shape : Shape

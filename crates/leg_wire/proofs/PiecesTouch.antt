@@ -4,18 +4,19 @@ use Rattle.std.proofs.Common.{◌≡◌, ◌≢◌, ℕ, min, max, Bool, true, f
 use Rattle.std.proofs.lemmas.Bool.{false≢true, cases_lt, cases_eq}
 use Rattle.std.proofs.lemmas.List.Elements.{Contains-push_cases}
 use Rattle.std.proofs.lemmas.Option.{same_Some, slice_get_within, slice_get_read, get_or_from_slice_get}
-use Rattle.leg_sweep.specs.Pairs.{IsPair, HasPairs}
-use Rattle.leg_geom.specs.Plane.{Spot, ShareTwoPoints}
+use Rattle.leg_sweep.specs.Pairs.{HasPairs}
+use Rattle.leg_geom.specs.Pairs.{IsPair}
+use Rattle.leg_geom.specs.Plane.{PointModel, ShareTwoPoints}
 use Rattle.leg_wire.specs.declared.corner.Beside.{Beside}
 use Rattle.leg_wire.specs.declared.piece_shape.PieceShape.{PieceShape}
-use Rattle.leg_wire.specs.Touch.{Joined}
-use Rattle.leg_wire.specs.Touch.Joined.{itself, through}
+use Rattle.leg_rules.specs.Joins.Touch.{Joined}
+use Rattle.leg_rules.specs.Joins.Touch.Joined.{itself, through}
 use Rattle.leg_wire.specs.Steps.MeetingRule.{DoMeet, DoMeet-symmetric}
 use Rattle.leg_wire.specs.Steps.PieceMetal.{LiesAmong, TouchAmong}
 use Rattle.leg_wire.specs.Steps.NumberSets.{AreTogether, AreUnited}
 use Rattle.leg_wire.specs.Steps.SharedPoints.{first_seen, pieces_beside, spot_of, IsShared}
-use Rattle.leg_wire.specs.Steps.JoinSteps.{TellsTouch, IsJoinStep}
-use Rattle.leg_wire.specs.Steps.JoinSteps.TellsTouch.{share_two, share_none, share_one}
+use Rattle.leg_wire.specs.Steps.JoinSteps.{AnswersTouch, IsJoinStep}
+use Rattle.leg_wire.specs.Steps.JoinSteps.AnswersTouch.{share_two, share_none, share_one}
 use Rattle.leg_wire.specs.Steps.JoinSteps.IsJoinStep.{were_together, are_united, stay_apart}
 use Rattle.leg_wire.proofs.JoinedLaws.{Joined-onward}
 use Rattle.leg_wire.proofs.SetsUnited.{AreTogether-itself, AreTogether-back, AreTogether-onward}
@@ -23,7 +24,7 @@ use Rattle.leg_wire.proofs.SetsUnited.{AreTogether-itself, AreTogether-back, Are
 -- each point of both rectangles is the first that was seen for their pieces, or these are together
 abbrev pub IsDone : List ℕ → List (Beside × (ℤ × ℤ)) → PieceShape → PieceShape → Type 0
 IsDone sets seen s t =
-    (p : Spot) → IsShared s.rect t.rect p → AreTogether sets s.piece t.piece ⊎ (first_seen seen (pieces_beside s t) ≡ Some (p.x, p.y))
+    (p : PointModel) → IsShared s.rect t.rect p → AreTogether sets s.piece t.piece ⊎ (first_seen seen (pieces_beside s t) ≡ Some (p.x, p.y))
 
 -- two pieces, in either order, and a layer
 abbrev pub beside : ℕ → ℕ → ℕ → Beside
@@ -67,10 +68,10 @@ module _ (shapes : List PieceShape) where
 
   module _ (s t : PieceShape) (s_in : Contains shapes s) (t_in : Contains shapes t) (meet : DoMeet s t) where
     -- a point of both rectangles lies in both pieces
-    lies_in_first : (p : Spot) → IsShared s.rect t.rect p → LiesAmong shapes s.piece s.layer p
+    lies_in_first : (p : PointModel) → IsShared s.rect t.rect p → LiesAmong shapes s.piece s.layer p
     lies_in_first p shared = record { shape = s; has = s_in; of_piece = refl; on_layer = refl; inside = shared.in_a }
 
-    lies_in_second : (p : Spot) → IsShared s.rect t.rect p → LiesAmong shapes t.piece s.layer p
+    lies_in_second : (p : PointModel) → IsShared s.rect t.rect p → LiesAmong shapes t.piece s.layer p
     lies_in_second p shared = record { shape = t; has = t_in; of_piece = refl; on_layer = sym meet.layer; inside = shared.in_b }
 
     -- by the lower and the higher one
@@ -133,7 +134,7 @@ module _ (shapes : List PieceShape) where
         }
 
     -- what two rectangles tell of the points that were seen
-    pub points_told : (before after : List (Beside × (ℤ × ℤ))) (touch : Bool) → TellsTouch s t before after touch
+    pub points_told : (before after : List (Beside × (ℤ × ℤ))) (touch : Bool) → AnswersTouch s t before after touch
         → ((pieces : Beside) (point : ℤ × ℤ) → first_seen before pieces ≡ Some point → LiesInBoth pieces point)
         → (pieces : Beside) (point : ℤ × ℤ) → first_seen after pieces ≡ Some point → LiesInBoth pieces point
     points_told before after touch (share_two told two same) points pieces point at = points pieces point (rw same at at)
@@ -144,14 +145,14 @@ module _ (shapes : List PieceShape) where
     ]
 
     -- none is forgotten
-    pub points_kept : (before after : List (Beside × (ℤ × ℤ))) (touch : Bool) → TellsTouch s t before after touch
+    pub points_kept : (before after : List (Beside × (ℤ × ℤ))) (touch : Bool) → AnswersTouch s t before after touch
         → (pieces : Beside) (point : ℤ × ℤ) → first_seen before pieces ≡ Some point → first_seen after pieces ≡ Some point
     points_kept before after touch (share_two told two same) pieces point there = rw same there
     points_kept before after touch (share_none told none same) pieces point there = rw same there
     points_kept before after touch (share_one seen) pieces point there = seen.kept pieces point there
 
     -- they make their pieces touch
-    pub touch_told : (before after : List (Beside × (ℤ × ℤ))) (touch : Bool) → touch ≡ true → TellsTouch s t before after touch
+    pub touch_told : (before after : List (Beside × (ℤ × ℤ))) (touch : Bool) → touch ≡ true → AnswersTouch s t before after touch
         → ((pieces : Beside) (point : ℤ × ℤ) → first_seen before pieces ≡ Some point → LiesInBoth pieces point)
         → TouchAmong shapes s.piece t.piece
     touch_told before after touch is (share_two told two same) points = touch_by_two two
@@ -161,12 +162,12 @@ module _ (shapes : List PieceShape) where
         (points_told before after touch (share_one seen) points (pieces_beside s t) seen.first seen.there) (seen.differs is)
 
     -- they don't: the point that they share is the first one
-    pub apart_told : (before after : List (Beside × (ℤ × ℤ))) (touch : Bool) → touch ≡ false → TellsTouch s t before after touch
-        → (p : Spot) → IsShared s.rect t.rect p → first_seen after (pieces_beside s t) ≡ Some (p.x, p.y)
+    pub apart_told : (before after : List (Beside × (ℤ × ℤ))) (touch : Bool) → touch ≡ false → AnswersTouch s t before after touch
+        → (p : PointModel) → IsShared s.rect t.rect p → first_seen after (pieces_beside s t) ≡ Some (p.x, p.y)
     apart_told before after touch is (share_two told two same) p shared = absurd (false≢true (sym is ∙ told))
     apart_told before after touch is (share_none told none same) p shared = absurd (none (record { point = p; in_a = shared.in_a; in_b = shared.in_b }))
     apart_told before after touch is (share_one seen) p shared =
-        let here : (p.x, p.y) ≡ seen.first = ap (λ (q : Spot). (q.x, q.y)) ((seen.same is).only p shared) in
+        let here : (p.x, p.y) ≡ seen.first = ap (λ (q : PointModel). (q.x, q.y)) ((seen.same is).only p shared) in
         seen.there ∙ ap Some (sym here)
 
 -- the sets and the points by the meetings so far
@@ -182,7 +183,7 @@ module _ (shapes : List PieceShape) (sets : List ℕ) (seen : List (Beside × (�
   AreDone a b = (s t : PieceShape) → Contains shapes s → Contains shapes t → s.piece ≡ a → t.piece ≡ b → DoMeet s t → IsDone sets seen s t
 
   -- a point of two such pieces is the first one that was seen for them, or they are together
-  together_or_first : (a b layer : ℕ) (p : Spot) → a ≢ b → AreDone a b → LiesAmong shapes a layer p → LiesAmong shapes b layer p
+  together_or_first : (a b layer : ℕ) (p : PointModel) → a ≢ b → AreDone a b → LiesAmong shapes a layer p → LiesAmong shapes b layer p
       → AreTogether sets a b ⊎ (first_seen seen (beside a b layer) ≡ Some (p.x, p.y))
   together_or_first a b layer p others are in_a in_b =
       let s = in_a.shape in

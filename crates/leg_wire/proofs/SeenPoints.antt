@@ -6,11 +6,11 @@ use Rattle.std.proofs.lemmas.Bool.{false≢true}
 use Rattle.std.proofs.lemmas.Bool.Decides.{nat_tests}
 use Rattle.std.proofs.lemmas.Int.{ints}
 use Rattle.std.proofs.lemmas.Option.{same_Some, none-some}
-use Rattle.leg_geom.specs.Plane.{Spot}
+use Rattle.leg_geom.specs.Plane.{PointModel}
 use Rattle.leg_wire.specs.contracts.corner.BesidePartialEq.TheImpl.{eq-value}
 use Rattle.leg_wire.specs.declared.corner.Beside.{Beside}
 use Rattle.leg_wire.specs.declared.piece_shape.PieceShape.{PieceShape}
-use Rattle.leg_wire.specs.Steps.SharedPoints.{are_same_pieces, first_seen, pieces_beside, spot_of, IsOnlyShared, IsSeen}
+use Rattle.leg_wire.specs.Steps.SharedPoints.{are_same_pieces, first_seen, pieces_beside, spot_of, IsOnlyShared, IsPointSeen}
 
 -- what the comparison of two keys answers
 beside_eq_is : (a b : Beside) → eq-value.it a b ≡ are_same_pieces a b
@@ -51,8 +51,8 @@ same_point (a, b) (c, d) test =
 
 other_point : (p q : ℤ × ℤ) → (int_eq p.0 q.0 && int_eq p.1 q.1) ≡ false → spot_of p ≡ spot_of q → ⊥
 other_point p q test same =
-    let x : p.0 ≡ q.0 = ap (λ (s : Spot). s.x) same in
-    let y : p.1 ≡ q.1 = ap (λ (s : Spot). s.y) same in
+    let x : p.0 ≡ q.0 = ap (λ (s : PointModel). s.x) same in
+    let y : p.1 ≡ q.1 = ap (λ (s : PointModel). s.y) same in
     let told : (int_eq p.0 q.0 && int_eq p.1 q.1) ≡ true = grind (arith, ints) in
     false≢true (sym test ∙ told)
 
@@ -61,7 +61,7 @@ module _ {S : Type 0} (before : HashMap Beside (ℤ × ℤ) S) (a b : PieceShape
   -- a point of these pieces was seen before
   pub seen_before : (first : ℤ × ℤ) (other : Bool) → get_by (eq-value.it key) before ≡ Some first
       → other ≡ not (int_eq first.0 corner.0 && int_eq first.1 corner.1)
-      → IsSeen before.entries before.entries a b other
+      → IsPointSeen before.entries before.entries a b other
   seen_before first other found is = record {
     first = first;
     there = first_seen_is before (pieces_beside a b) ∙ rw key_is at found;
@@ -78,7 +78,7 @@ module _ {S : Type 0} (before : HashMap Beside (ℤ × ℤ) S) (a b : PieceShape
   -- none was seen, and this is the first one
   pub seen_first : (after : HashMap Beside (ℤ × ℤ) S) → get_by (eq-value.it key) before ≡ None
       → ((q : Beside) → get_by (eq-value.it q) after ≡ cond (eq-value.it key q) (Some corner) (get_by (eq-value.it q) before))
-      → IsSeen before.entries after.entries a b false
+      → IsPointSeen before.entries after.entries a b false
   seen_first after none updates = record {
     first = corner;
     there = here;

@@ -6,7 +6,7 @@ use Rattle.std.proofs.lemmas.Bool.Decides.{nat_tests}
 use Rattle.std.proofs.lemmas.List.{length_push, length-map, length-set, drop_all, get_or_append_left, get_or_at, get_or_past, get_or_default, get_or-map, get_or-set_same, get_or-set_other, ext_get_or}
 use Rattle.std.proofs.lemmas.List.FromFn.{length-range_with_len, get_or-range_with_len}
 use Rattle.std.specs.List.{range_with_len}
-use Rattle.leg_wire.specs.Steps.NumberSets.{IsForest, roots_after, roots_of}
+use Rattle.leg_wire.specs.Steps.NumberSets.{AreParents, roots_after, roots_of}
 
 length-roots_after : (roots parents : List ℕ) → length (roots_after roots parents) ≡ length roots + length parents
 length-roots_after roots [] = omega arith
@@ -70,13 +70,6 @@ rooted parents k within = record {
   below = λ low. below_after [] parents k k (omega arith) within low;
 }
 
--- the root of one number more, whose parent is p
-pub roots_more : (parents roots more : List ℕ) (i p : ℕ) → i < length parents → p ≡ get_or parents i p → more ≡ roots ++ get_or roots p p ∷ []
-    → roots_after roots (drop i parents) ≡ roots_of parents → roots_after more (drop (i + 1) parents) ≡ roots_of parents
-roots_more parents roots more i p within is more_is so_far =
-    let front : drop i parents ≡ p ∷ drop (i + 1) parents = rw (drop-cons parents i p within, ← is, add-one) refl in
-    rw more_is (sym (ap (roots_after roots) front) ∙ so_far)
-
 pub roots_begun : (parents : List ℕ) → roots_after [] (drop 0 parents) ≡ roots_of parents
 unfolding roots_of
 roots_begun parents = refl
@@ -85,7 +78,7 @@ roots_begun parents = refl
 pub roots_done : (parents roots : List ℕ) (i : ℕ) → length parents ≤ i → roots_after roots (drop i parents) ≡ roots_of parents → roots ≡ roots_of parents
 roots_done parents roots i all so_far = rw (drop_all i parents all) at so_far
 
-module _ (parents : List ℕ) (forest : IsForest parents) where
+module _ (parents : List ℕ) (forest : AreParents parents) where
   -- that alone says what the roots are
   same_roots : (r s : List ℕ) → ((k : ℕ) → k < length parents → IsRootAt parents r k) → ((k : ℕ) → k < length parents → IsRootAt parents s k) → (end k : ℕ) → k < end → k < length parents → get_or r k 0 ≡ get_or s k 0
   same_roots r s of_r of_s zero k before within = absurd (omega (arith, before))
@@ -142,7 +135,7 @@ module _ (parents : List ℕ) (forest : IsForest parents) where
     grand_low : grand ≤ parent
     grand_low = forest parent (omega (arith, parent_low, within))
 
-    pub forest_halved : IsForest (set parents k grand)
+    pub forest_halved : AreParents (set parents k grand)
     forest_halved j j_in =
         let many : length (set parents k grand) ≡ length parents = length-set parents k grand in
         elim (cases_eq j k) [
@@ -195,7 +188,7 @@ module _ (parents : List ℕ) (forest : IsForest parents) where
         ]
 
 -- halving changes no root
-pub roots_halved : (parents : List ℕ) → IsForest parents → (k : ℕ) → k < length parents → roots_of (set parents k (get_or parents (get_or parents k 0) 0)) ≡ roots_of parents
+pub roots_halved : (parents : List ℕ) → AreParents parents → (k : ℕ) → k < length parents → roots_of (set parents k (get_or parents (get_or parents k 0) 0)) ≡ roots_of parents
 roots_halved parents forest k within =
     let grand = get_or parents (get_or parents k 0) 0 in
     roots_are (set parents k grand) (forest_halved parents forest k within) (roots_of parents)
@@ -212,7 +205,7 @@ pub merged-other : (low high root : ℕ) → root ≢ high → merged low high r
 merged-other low high root other = grind (arith, nat_tests)
 
 -- a root gets a parent, which is a root no higher
-module _ (parents : List ℕ) (forest : IsForest parents) (low high : ℕ) (order : low ≤ high) (within : high < length parents)
+module _ (parents : List ℕ) (forest : AreParents parents) (low high : ℕ) (order : low ≤ high) (within : high < length parents)
     (low_own : get_or parents low 0 ≡ low) (high_own : get_or parents high 0 ≡ high) where
   abbrev linked : List ℕ
   linked = set parents high low
@@ -229,7 +222,7 @@ module _ (parents : List ℕ) (forest : IsForest parents) (low high : ℕ) (orde
   linked_other : (j : ℕ) → j ≢ high → get_or linked j 0 ≡ get_or parents j 0
   linked_other j other = get_or-set_other parents high j low 0 other
 
-  pub forest_linked : IsForest (set parents high low)
+  pub forest_linked : AreParents (set parents high low)
   forest_linked j j_in =
       elim (cases_eq j high) [
         | inl same ↦ rw same (omega (arith, linked_high, order))
@@ -289,7 +282,7 @@ module _ (parents : List ℕ) (forest : IsForest parents) (low high : ℕ) (orde
       (length-map (roots_of parents) (merged low high) ∙ length-roots_of parents ∙ sym many_linked) linked_at
 
 -- at first each number is its own parent
-pub forest_alone : (count : ℕ) → IsForest (range_with_len 0 count)
+pub forest_alone : (count : ℕ) → AreParents (range_with_len 0 count)
 forest_alone count k within =
     let many : length (range_with_len 0 count) ≡ count = length-range_with_len 0 count in
     let is : get_or (range_with_len 0 count) k 0 ≡ 0 + k = get_or-range_with_len 0 count k 0 (omega (arith, many, within)) in
@@ -316,16 +309,3 @@ roots_push parents =
     let many = length-roots_after [] parents in
     roots_after_push [] parents (length parents)
     ∙ ap (λ root. roots_after [] parents ++ root ∷ []) (get_or_past (roots_after [] parents) (length parents) (length parents) (omega (arith, many)))
-
-pub forest_push : (parents : List ℕ) → IsForest parents → IsForest (parents ++ length parents ∷ [])
-forest_push parents forest k within = elim (cases_lt k (length parents)) [
-  | inl before ↦
-      let old : get_or parents k 0 ≤ k = forest k before in
-      let same : get_or (parents ++ length parents ∷ []) k 0 ≡ get_or parents k 0 = get_or_append_left parents (length parents ∷ []) 0 k before in
-      omega (arith, old, same)
-  | inr last ↦
-      let many = length_push parents (length parents) in
-      let here : k ≡ length parents = omega (arith, many, last, within) in
-      let own : get_or (parents ++ length parents ∷ []) k 0 ≡ length parents = get_or_at parents (length parents) [] 0 k (sym here) in
-      omega (arith, own, here)
-]

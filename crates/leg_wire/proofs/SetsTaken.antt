@@ -3,7 +3,8 @@ use Rattle.std.proofs.Common.{◌≡◌, ℕ, ◌<◌, ℤ, List, [], ◌∷◌,
 use Rattle.std.specs.List.{range_with_len}
 use Rattle.std.proofs.lemmas.List.Elements.{All-contains, Contains-append_left, Contains-push}
 use Rattle.std.proofs.lemmas.Option.{same_Some, slice_get_read}
-use Rattle.leg_sweep.specs.Pairs.{IsPair, TakesAll, TookPairs}
+use Rattle.leg_sweep.specs.Pairs.{TakesAll, TookPairs}
+use Rattle.leg_geom.specs.Pairs.{IsPair}
 use Rattle.leg_sweep.specs.Pairs.TakesAll.{none, more}
 use Rattle.leg_wire.specs.declared.corner.Beside.{Beside}
 use Rattle.leg_wire.specs.declared.piece_shape.PieceShape.{PieceShape}

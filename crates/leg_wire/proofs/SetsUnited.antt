@@ -4,9 +4,9 @@ use Rattle.std.proofs.lemmas.Bool.{cases_eq, cases_lt}
 use Rattle.std.proofs.lemmas.Bool.Decides.{nat_tests}
 use Rattle.std.proofs.lemmas.List.{length-map, length_push, get_or_append_left, get_or_at}
 use Rattle.std.proofs.lemmas.Option.{none-some, same_Some, slice_get-map, slice_get-get_or, slice_get_within, slice_get_read, get_or_from_slice_get}
-use Rattle.leg_wire.specs.Steps.NumberSets.{AreTogether, AreUnited, IsForest, roots_of}
+use Rattle.leg_wire.specs.Steps.NumberSets.{AreTogether, AreUnited, AreParents, roots_of}
 use Rattle.leg_wire.specs.Steps.Joins.{HasOneNumberMore}
-use Rattle.leg_wire.specs.Touch.{AreMarks, AreFirsts}
+use Rattle.leg_wire.specs.PieceMarks.{AreMarks, AreFirsts}
 use Rattle.leg_wire.proofs.SetRoots.{length-roots_of, rooted, root_within, root_own, merged, merged-high, merged-other, forest_linked, roots_linked}
 
 module _ (sets : List ℕ) where
@@ -98,7 +98,7 @@ pub record AreMarksSoFar (parents : List ℕ) (count : ℕ) (marks : List Bool) 
   pub many : length marks ≡ count
   pub is : (k : ℕ) → k < count → get_or marks k false ≡ nat_eq (get_or (roots_of parents) k 0) 0
 
-module _ (parents : List ℕ) (forest : IsForest parents) where
+module _ (parents : List ℕ) (forest : AreParents parents) where
   -- what the root of a number in the list is
   pub root_known : (k root : ℕ) → slice_get (roots_of parents) k ≡ Some root → (root < length parents) × (get_or parents root 0 ≡ root)
   root_known k root at =
@@ -111,7 +111,7 @@ module _ (parents : List ℕ) (forest : IsForest parents) where
 
   -- the root of one is given the other as its parent
   linked_is_united : (a b low high : ℕ) → slice_get (roots_of parents) a ≡ Some low → slice_get (roots_of parents) b ≡ Some high → low ≤ high
-      → IsForest (set parents high low) × AreUnited a b (roots_of parents) (roots_of (set parents high low))
+      → AreParents (set parents high low) × AreUnited a b (roots_of parents) (roots_of (set parents high low))
   linked_is_united a b low high of_a of_b order =
       let low_root = root_known a low of_a in
       let high_root = root_known b high of_b in (
@@ -120,7 +120,7 @@ module _ (parents : List ℕ) (forest : IsForest parents) where
       )
 
   pub united : (a b first second : ℕ) → slice_get (roots_of parents) a ≡ Some first → slice_get (roots_of parents) b ≡ Some second
-      → IsForest (set parents (max first second) (min first second)) × AreUnited a b (roots_of parents) (roots_of (set parents (max first second) (min first second)))
+      → AreParents (set parents (max first second) (min first second)) × AreUnited a b (roots_of parents) (roots_of (set parents (max first second) (min first second)))
   united a b first second of_a of_b =
       elim (cases_lt first second) [
         | inl less ↦
@@ -214,7 +214,7 @@ module _ (parents : List ℕ) (forest : IsForest parents) where
           slice_get-get_or (roots_of parents) 0 0 (omega (arith, some, many)) ∙ ap Some root
 
 -- a number more, the next one, is with itself alone
-pub one_number_more : (parents : List ℕ) → IsForest parents → HasOneNumberMore (roots_of parents) (roots_of parents ++ length parents ∷ [])
+pub one_number_more : (parents : List ℕ) → AreParents parents → HasOneNumberMore (roots_of parents) (roots_of parents ++ length parents ∷ [])
 one_number_more parents forest =
     let roots = roots_of parents in
     let n = length parents in

@@ -2,7 +2,7 @@
 use Rattle.std.proofs.Common.{◌≡◌, ℤ, ◌≤ℤ◌, ap, ◌∙◌, arith}
 use Rattle.std.specs.Int.{int_max}
 use Rattle.std.proofs.lemmas.Int.{ints, by_lt_z}
-use Rattle.leg_geom.specs.Plane.{Spot, Sides, SharePoint, ShareTwoPoints}
+use Rattle.leg_geom.specs.Plane.{PointModel, RectModel, SharePoint, ShareTwoPoints}
 use Rattle.leg_wire.specs.Steps.SharedPoints.{spot_of, IsShared, IsOnlyShared}
 
 -- the greater of two numbers is the least one that is below neither
@@ -16,10 +16,10 @@ max_below : (a b z : ℤ) → a ≤ℤ z → b ≤ℤ z → int_max a b ≤ℤ z
 max_below a b z first second = grind (arith, ints)
 
 -- points with equal coordinates
-same_spot : (p q : Spot) → p.x ≡ q.x → p.y ≡ q.y → p ≡ q
+same_spot : (p q : PointModel) → p.x ≡ q.x → p.y ≡ q.y → p ≡ q
 same_spot p q x y = ap (λ (u : ℤ). spot_of (u, p.y)) x ∙ ap (λ (v : ℤ). spot_of (q.x, v)) y
 
-module _ (a b : Sides) (x y : ℤ) (x_is : x ≡ int_max a.x1 b.x1) (y_is : y ≡ int_max a.y1 b.y1) where
+module _ (a b : RectModel) (x y : ℤ) (x_is : x ≡ int_max a.x1 b.x1) (y_is : y ≡ int_max a.y1 b.y1) where
   -- the lower left corner of what two rectangles share
   corner_shared : SharePoint a b → IsShared a b (spot_of (x, y))
   corner_shared meet = record {
@@ -44,7 +44,7 @@ module _ (a b : Sides) (x y : ℤ) (x_is : x ≡ int_max a.x1 b.x1) (y_is : y �
       shared : IsShared a b (spot_of (x, y))
       shared = corner_shared meet
 
-      none_other : (q : Spot) → IsShared a b q → (q ≡ spot_of (x, y) → ⊥) → ⊥
+      none_other : (q : PointModel) → IsShared a b q → (q ≡ spot_of (x, y) → ⊥) → ⊥
       none_other q in_both differ = single (record {
         p = q;
         q = spot_of (x, y);
@@ -55,16 +55,16 @@ module _ (a b : Sides) (x y : ℤ) (x_is : x ≡ int_max a.x1 b.x1) (y_is : y �
         q_in_b = shared.in_b;
       })
 
-      same_x : (q : Spot) → IsShared a b q → q.x ≡ x
+      same_x : (q : PointModel) → IsShared a b q → q.x ≡ x
       same_x q in_both =
           let above : x ≤ℤ q.x = rw x_is (max_below a.x1 b.x1 q.x in_both.in_a.left in_both.in_b.left) in
           by_lt_z x q.x
-          (λ beyond. absurd (none_other q in_both (λ same. let is : q.x ≡ x = ap (λ (s : Spot). s.x) same in omega (arith, ints, beyond, is))))
+          (λ beyond. absurd (none_other q in_both (λ same. let is : q.x ≡ x = ap (λ (s : PointModel). s.x) same in omega (arith, ints, beyond, is))))
           (λ within. omega (arith, ints, above, within))
 
-      same_y : (q : Spot) → IsShared a b q → q.y ≡ y
+      same_y : (q : PointModel) → IsShared a b q → q.y ≡ y
       same_y q in_both =
           let above : y ≤ℤ q.y = rw y_is (max_below a.y1 b.y1 q.y in_both.in_a.bottom in_both.in_b.bottom) in
           by_lt_z y q.y
-          (λ beyond. absurd (none_other q in_both (λ same. let is : q.y ≡ y = ap (λ (s : Spot). s.y) same in omega (arith, ints, beyond, is))))
+          (λ beyond. absurd (none_other q in_both (λ same. let is : q.y ≡ y = ap (λ (s : PointModel). s.y) same in omega (arith, ints, beyond, is))))
           (λ within. omega (arith, ints, above, within))

@@ -3,10 +3,10 @@ use Rattle.std.proofs.Common.{◌≡◌, ℕ, ◌+◌, ◌<◌, Some, slice_get,
 use Rattle.std.proofs.lemmas.List.Elements.{All-contains}
 use Rattle.std.proofs.lemmas.Bool.{cases_lt}
 use Rattle.std.proofs.lemmas.Option.{same_Some, get_or_from_slice_get}
-use Rattle.leg_geom.specs.Plane.{Spot, ShareTwoPoints}
+use Rattle.leg_geom.specs.Plane.{PointModel, ShareTwoPoints}
 use Rattle.leg_wire.specs.declared.piece_shape.PieceShape.{PieceShape}
-use Rattle.leg_wire.specs.Touch.{Joined}
-use Rattle.leg_wire.specs.Touch.Joined.{itself, through}
+use Rattle.leg_rules.specs.Joins.Touch.{Joined}
+use Rattle.leg_rules.specs.Joins.Touch.Joined.{itself, through}
 use Rattle.leg_wire.specs.Steps.NumberSets.{AreTogether, AreUnited}
 use Rattle.leg_wire.specs.Steps.PieceMetal.{LiesAmong, TouchAmong}
 use Rattle.leg_wire.specs.Steps.JoinSteps.{IsTouchStep, AreSomeJoined, AreSetsOf, AreKept, AreTogetherAlike}
@@ -17,7 +17,7 @@ use Rattle.leg_wire.proofs.PiecesTouch.{TouchAmong-back, touch_by_two}
 
 module _ (kinds metal : List PieceShape) (among : All (Contains metal) kinds) where
   -- what lies among some of the metal lies among all of it
-  lies_more : (a layer : ℕ) (p : Spot) → LiesAmong kinds a layer p → LiesAmong metal a layer p
+  lies_more : (a layer : ℕ) (p : PointModel) → LiesAmong kinds a layer p → LiesAmong metal a layer p
   lies_more a layer p lies = record {
     shape = lies.shape;
     has = All-contains (Contains metal) kinds lies.shape among lies.has;

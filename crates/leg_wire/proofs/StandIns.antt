@@ -4,10 +4,10 @@ use Rattle.std.proofs.lemmas.Bool.{cases_eq, cases_lt, cases_Bool, false≢true}
 use Rattle.std.proofs.lemmas.List.{get_or-set_same, get_or-set_other, length-set}
 use Rattle.std.proofs.lemmas.List.Elements.{All-append, All-weaker, All-set, All-contains, All-contains_itself, Contains-append_left}
 use Rattle.std.proofs.lemmas.Option.{same_Some, slice_get_within, slice_get_read, get_or_from_slice_get}
-use Rattle.leg_geom.specs.Plane.{Spot, ShareTwoPoints}
+use Rattle.leg_geom.specs.Plane.{PointModel, ShareTwoPoints}
 use Rattle.leg_wire.specs.declared.piece_shape.PieceShape.{PieceShape}
-use Rattle.leg_wire.specs.Touch.{Joined}
-use Rattle.leg_wire.specs.Touch.Joined.{itself, through}
+use Rattle.leg_rules.specs.Joins.Touch.{Joined}
+use Rattle.leg_rules.specs.Joins.Touch.Joined.{itself, through}
 use Rattle.leg_wire.specs.Steps.Kinds.{AreSameMetal, IsOfKind, AreKinds}
 use Rattle.leg_wire.specs.Steps.NumberSets.{AreTogether}
 use Rattle.leg_wire.specs.Steps.PieceMetal.{LiesAmong, TouchAmong}
@@ -105,18 +105,14 @@ module _ (metal kinds : List PieceShape) (numbers : List ℕ) (are_kinds : AreKi
     (are_staying : AreStaying metal kinds numbers stand_ins (length metal) staying) (rest : List PieceShape) (is_rest : IsStayingMetal metal kinds staying (length metal) rest)
     (count : ℕ) (places : All (λ shape. shape.piece < count) metal) (sets after : List ℕ) (are : AreSetsOf rest count sets)
     (some : AreSomeJoined metal count after) (kept : AreKept sets after) (alike : AreTogetherAlike metal kinds numbers (length metal) after) where
-  -- the piece itself, or that which stands for it
-  stand_in : ℕ → ℕ
-  stand_in a = cond (get_or staying a true) a (get_or stand_ins a 0)
-
   -- what lies in a piece lies in that which stands for it, and they are together
-  record IsMoved (a layer : ℕ) (p : Spot) : Type 0 where
+  record IsMoved (a layer : ℕ) (p : PointModel) : Type 0 where
     to : ℕ
     is : to ≡ cond (get_or staying a true) a (get_or stand_ins a 0)
     lies : LiesAmong rest to layer p
     together : AreTogether after a to
 
-  moved : (a layer : ℕ) (p : Spot) → LiesAmong metal a layer p → IsMoved a layer p
+  moved : (a layer : ℕ) (p : PointModel) → LiesAmong metal a layer p → IsMoved a layer p
   moved a layer p lies = elim (cases_Bool (get_or staying a true)) [
     | inl stays ↦ record {
       to = a;

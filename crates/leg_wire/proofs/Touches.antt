@@ -6,31 +6,32 @@ use Rattle.std.proofs.lemmas.List.Elements.{All-contains}
 use Rattle.std.proofs.lemmas.List.FromFn.{length-range_with_len, get_or-range_with_len}
 use Rattle.std.proofs.lemmas.Option.{same_Some, none-some, slice_get_within, slice_get-get_or, get_or_from_slice_get}
 use Rattle.leg_sweep.proofs.Lists.{All-from_contains, Contains-nil}
-use Rattle.leg_geom.specs.Plane.{Spot}
-use Rattle.leg_flat.specs.declared.piece.Piece.{Piece}
-use Rattle.leg_flat.specs.declared.shape.Shape.{Shape}
-use Rattle.leg_flat.specs.Flat.{FlatSaid}
+use Rattle.leg_geom.specs.Plane.{PointModel}
+use Rattle.leg_rules.specs.declared.piece.Piece.{Piece}
+use Rattle.leg_rules.specs.declared.shape.Shape.{Shape}
+use Rattle.leg_rules.specs.Metal.Flat.{FlatModel}
 use Rattle.leg_wire.specs.declared.corner.Beside.{Beside}
 use Rattle.leg_wire.specs.declared.piece_shape.PieceShape.{PieceShape}
 use Rattle.leg_wire.specs.Steps.NumberSets.{AreTogether}
 use Rattle.leg_wire.specs.Steps.PieceMetal.{LiesAmong, TouchAmong}
 use Rattle.leg_wire.specs.Steps.SharedPoints.{first_seen}
 use Rattle.leg_wire.specs.Steps.JoinSteps.{AreSomeJoined, AreSetsOf, AreJoinedSets}
-use Rattle.leg_wire.specs.Joins.{JoinsSaid, AreJoinsOf, ArePieceShapes}
-use Rattle.leg_wire.specs.Touch.{piece_count, IsOfPiece, LiesIn, Touch, Joined, AreJoined, AreMarks, AreFirsts}
-use Rattle.leg_wire.specs.Touch.Joined.{itself, through}
+use Rattle.leg_wire.specs.Joins.{JoinsModel, AreJoinsOf, ArePieceShapes}
+use Rattle.leg_wire.specs.PieceMarks.{AreMarks, AreFirsts}
+use Rattle.leg_rules.specs.Joins.Touch.{piece_count, IsOfPiece, LiesIn, Touch, Joined, AreJoined}
+use Rattle.leg_rules.specs.Joins.Touch.Joined.{itself, through}
 use Rattle.leg_wire.proofs.PiecesTouch.{AreSoFar}
 use Rattle.leg_wire.proofs.SetsUnited.{AreTogether-back, AreTogether-onward}
 
 -- the pieces of a net that the flat tells are counted
-pub piece_count-is : (flat : FlatSaid) (n count : ℕ) → option_map length (slice_get flat.pieces n) ≡ Some count → piece_count flat n ≡ count
+pub piece_count-is : (flat : FlatModel) (n count : ℕ) → option_map length (slice_get flat.pieces n) ≡ Some count → piece_count flat n ≡ count
 piece_count-is flat n count told = by (slice_get flat.pieces n) refl where
   by : (o : Option (List Piece)) → slice_get flat.pieces n ≡ o → piece_count flat n ≡ count
   by None is = absurd (none-some count (rw is at told))
   by (Some pieces) is = rw is (same_Some (length pieces) count (rw is at told))
 
 -- and few enough
-pub few_pieces : (flat : FlatSaid) (n : ℕ) → All (λ pieces. length pieces < 2 ^ 32) flat.pieces → piece_count flat n < 2 ^ 32
+pub few_pieces : (flat : FlatModel) (n : ℕ) → All (λ pieces. length pieces < 2 ^ 32) flat.pieces → piece_count flat n < 2 ^ 32
 few_pieces flat n few = by (slice_get flat.pieces n) refl where
   by : (o : Option (List Piece)) → slice_get flat.pieces n ≡ o → piece_count flat n < 2 ^ 32
   by None is = rw is (omega arith)
@@ -39,12 +40,12 @@ few_pieces flat n few = by (slice_get flat.pieces n) refl where
       (All-contains (λ pieces. length pieces < 2 ^ 32) flat.pieces pieces few
       (n, slice_get_within flat.pieces n pieces is, get_or_from_slice_get flat.pieces n pieces pieces is))
 
-of_piece_at : (flat : FlatSaid) (n j k : ℕ) (shape : Shape) → j ≡ k → IsOfPiece flat n j shape → IsOfPiece flat n k shape
+of_piece_at : (flat : FlatModel) (n j k : ℕ) (shape : Shape) → j ≡ k → IsOfPiece flat n j shape → IsOfPiece flat n k shape
 of_piece_at flat n j k shape piece is = rw (← piece) is
 
-module _ (flat : FlatSaid) (n : ℕ) (pieces : List PieceShape) (are : ArePieceShapes flat n pieces) where
+module _ (flat : FlatModel) (n : ℕ) (pieces : List PieceShape) (are : ArePieceShapes flat n pieces) where
   -- what lies among the metal of pieces lies in the flat's
-  lies_in : (k layer : ℕ) (p : Spot) → LiesAmong pieces k layer p → LiesIn flat n k layer p
+  lies_in : (k layer : ℕ) (p : PointModel) → LiesAmong pieces k layer p → LiesIn flat n k layer p
   lies_in k layer p lies =
       let told = are.each lies.shape lies.has in
       let says = told.2 in
@@ -69,7 +70,7 @@ module _ (flat : FlatSaid) (n : ℕ) (pieces : List PieceShape) (are : ArePieceS
   }
 
   -- and the other way round
-  lies_among : (k layer : ℕ) (p : Spot) → LiesIn flat n k layer p → LiesAmong pieces k layer p
+  lies_among : (k layer : ℕ) (p : PointModel) → LiesIn flat n k layer p → LiesAmong pieces k layer p
   lies_among k layer p lies =
       let piece : PieceShape = record { piece = k; layer = lies.shape.layer; rect = lies.shape.rect } in
       record {
@@ -147,7 +148,7 @@ module _ (flat : FlatSaid) (n : ℕ) (pieces : List PieceShape) (are : ArePieceS
   }
 
 -- the sets that are kept of a net are those of its pieces
-pub sets_of_joins : (flat : FlatSaid) (joins : JoinsSaid) → AreJoinsOf flat joins → AreSetsOf joins.metal (length joins.sets) joins.sets → AreJoinedSets flat joins.net joins.sets
+pub sets_of_joins : (flat : FlatModel) (joins : JoinsModel) → AreJoinsOf flat joins → AreSetsOf joins.metal (length joins.sets) joins.sets → AreJoinedSets flat joins.net joins.sets
 sets_of_joins flat joins are sets = sets_of_net flat joins.net joins.metal are.metal joins.sets (rw are.count at sets)
 
 -- numbers that are each in a set of its own are together with themselves alone
@@ -174,7 +175,7 @@ so_far_none pieces count seen unseen = record {
 }
 
 -- marks of what is together with the first piece are marks of what is joined to it
-pub marks_of_joined : (flat : FlatSaid) (net : ℕ) (sets : List ℕ) (marks : List Bool) → AreJoinedSets flat net sets → AreMarks (AreTogether sets 0) (length sets) marks → AreMarks (AreJoined flat net 0) (piece_count flat net) marks
+pub marks_of_joined : (flat : FlatModel) (net : ℕ) (sets : List ℕ) (marks : List Bool) → AreJoinedSets flat net sets → AreMarks (AreTogether sets 0) (length sets) marks → AreMarks (AreJoined flat net 0) (piece_count flat net) marks
 marks_of_joined flat net sets marks joined done = record {
   count = done.count ∙ joined.count;
   each = λ k mark at.
@@ -185,7 +186,7 @@ marks_of_joined flat net sets marks joined done = record {
 }
 
 -- and the least pieces that are together with each are the least that are joined to it
-pub firsts_of_joined : (flat : FlatSaid) (net : ℕ) (sets firsts : List ℕ) → AreJoinedSets flat net sets → AreFirsts (AreTogether sets) (length sets) firsts → AreFirsts (AreJoined flat net) (piece_count flat net) firsts
+pub firsts_of_joined : (flat : FlatModel) (net : ℕ) (sets firsts : List ℕ) → AreJoinedSets flat net sets → AreFirsts (AreTogether sets) (length sets) firsts → AreFirsts (AreJoined flat net) (piece_count flat net) firsts
 firsts_of_joined flat net sets firsts joined done = record {
   count = done.count ∙ joined.count;
   each = λ k first at.

@@ -2,19 +2,16 @@
 use Rattle.std.proofs.Common.{◌≡◌, ◌≢◌, ℕ, ◌<◌, ◌≤◌, List, length, get_or, set, Some, slice_get, sym, ap, ◌∙◌, refl, arith}
 use Rattle.std.proofs.lemmas.List.{length-set}
 use Rattle.std.proofs.lemmas.Option.{slice_get-get_or}
-use Rattle.leg_wire.specs.Steps.NumberSets.{IsForest, roots_of}
+use Rattle.leg_wire.specs.Steps.NumberSets.{AreParents, roots_of}
 use Rattle.leg_wire.proofs.SetRoots.{length-roots_of, rooted, forest_halved, root_by_grand, roots_halved}
 
 -- The place on the way is in the number's set, and no root has changed.
 pub record IsOnWay (start : List ℕ) (number : ℕ) (parents : List ℕ) (place parent : ℕ) : Type 0 where
-  pub forest : IsForest parents
+  pub forest : AreParents parents
   pub same : roots_of parents ≡ roots_of start
   pub within : place < length parents
   pub is : parent ≡ get_or parents place 0
   pub root : get_or (roots_of parents) place 0 ≡ get_or (roots_of start) number 0
-
-pub way_start : (start : List ℕ) (number : ℕ) → IsForest start → number < length start → IsOnWay start number start number (get_or start number 0)
-way_start start number forest within = record { forest = forest; same = refl; within = within; is = refl; root = refl }
 
 module _ (start : List ℕ) (number : ℕ) (parents : List ℕ) (place parent : ℕ) (way : IsOnWay start number parents place parent) where
   pub parent_within : parent < length parents

@@ -1,7 +1,7 @@
 -- Which nets' metal may lie somewhere (lefdef's own rule).
 use Rattle.std.specs.Prelude.{◌≡◌, ℕ, [], ◌∷◌}
-use Rattle.leg_flat.specs.declared.shape.Shape.{Shape}
-use Rattle.leg_flat.specs.Flat.{FlatSaid}
+use Rattle.leg_rules.specs.declared.shape.Shape.{Shape}
+use Rattle.leg_rules.specs.Metal.Flat.{FlatModel}
 use Rattle.leg_wire.specs.declared.access.Access.{Access}
 use Rattle.leg_wire.specs.declared.access.Access.TheVariants.{Free, Only, Blocked}
 
@@ -12,5 +12,5 @@ Admits (Only owner) net = net ≡ owner
 Admits Blocked net = ⊥
 
 -- a flat of this shape alone
-abbrev pub alone : Shape → FlatSaid
+abbrev pub alone : Shape → FlatModel
 alone shape = record { shapes = shape ∷ []; pieces = [] }

@@ -1,9 +1,5 @@
-pub mod Comparable
-pub mod Spacing
-pub mod Clean
 pub mod Access
 pub mod NetShapes
-pub mod Touch
+pub mod PieceMarks
 pub mod Joins
-pub mod Open
 pub mod Steps

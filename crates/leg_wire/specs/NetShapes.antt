@@ -1,7 +1,7 @@
 -- The shapes of a net, by their numbers.
 use Rattle.std.specs.Prelude.{◌≡◌, ◌<◌, ℕ, List, AllPairs, Contains, Some, slice_get}
-use Rattle.leg_flat.specs.declared.owner.Owner.TheVariants.{Net}
-use Rattle.leg_flat.specs.declared.shape.Shape.{Shape}
+use Rattle.leg_rules.specs.declared.owner.Owner.TheVariants.{Net}
+use Rattle.leg_rules.specs.declared.shape.Shape.{Shape}
 
 -- the shape of this number belongs to the net
 pub record IsOfNet (shapes : List Shape) (net k : ℕ) : Type 0 where

@@ -1,4 +1,4 @@
--- Intermediate state of the code. Only private contracts cite it.
+-- Intermediate state of the code, and what crates of one algorithm know of one another. No promise of a command rests on it.
 pub mod TooCloseRule
 pub mod LayerSpacing
 pub mod MeetingRule

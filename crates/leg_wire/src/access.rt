@@ -2,13 +2,13 @@
 
 ghost use Rattle.std.specs.Prelude.{◌↔◌, ℕ, IsTrue};
 ghost use Rattle.leg_wire.specs.Access.{Admits, alone};
-ghost use Rattle.leg_wire.specs.Clean.{IsClean};
+ghost use Rattle.leg_rules.specs.Spacing.Clean.{IsClean};
 
 use crate::clean_metal::spacing_at;
 use crate::too_close::are_close;
-use leg_cells::Library;
 use leg_flat::{Owner, Shape};
 use leg_geom::Rect;
+use leg_lib_records::Library;
 use std::alloc::Allocator;
 
 /// Which nets' metal may lie somewhere.

@@ -1,14 +1,14 @@
 //! Where metal of a net may lie.
 
 ghost use Rattle.std.specs.Prelude.{◌≡◌, ◌↔◌, ◌<◌, ◌^◌, map, All, IsTrue};
-ghost use Rattle.leg_cells.specs.Sound.{IsSoundLayer};
-ghost use Rattle.leg_wire.specs.Clean.{net_metal, IsClean};
+ghost use Rattle.leg_lib_records.specs.Sound.{IsSoundLayer};
+ghost use Rattle.leg_rules.specs.Spacing.Clean.{net_metal, IsClean};
 ghost use Rattle.leg_wire.specs.Steps.LayerSpacing.{spacing_at};
 
 use crate::too_close::are_closer_than;
-use leg_cells::{Layer, Library};
 use leg_flat::{Flat, Owner, Shape};
 use leg_geom::Rect;
+use leg_lib_records::{Layer, Library};
 use leg_sweep::BinIndex;
 use std::alloc::Allocator;
 

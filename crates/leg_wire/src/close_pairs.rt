@@ -9,8 +9,8 @@ ghost use Rattle.leg_wire.specs.Steps.TooCloseRule.{AreClose};
 use crate::kinds::{are_many_alike, kinds_of};
 use crate::net_shapes::{add_number, empty_lists};
 use crate::too_close::TooClose;
-use leg_cells::Items;
 use leg_flat::Shape;
+use leg_lib_records::Items;
 use leg_sweep::pairs_in_bands;
 use std::alloc::{AllocError, Allocator};
 

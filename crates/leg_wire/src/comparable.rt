@@ -1,7 +1,7 @@
 //! Which shapes are compared with one another.
 
 ghost use Rattle.std.specs.Prelude.{◌↔◌, IsTrue};
-ghost use Rattle.leg_wire.specs.Comparable.{AreOfOneComponent, AreComparable};
+ghost use Rattle.leg_rules.specs.Spacing.Comparable.{AreOfOneComponent, AreComparable};
 
 use leg_flat::Shape;
 

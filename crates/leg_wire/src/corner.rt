@@ -3,7 +3,7 @@
 ghost use Rattle.std.specs.Prelude.{◌≡◌, None, IfOk};
 ghost use Rattle.leg_geom.specs.Plane.{SharePoint, ShareTwoPoints};
 ghost use Rattle.leg_wire.specs.declared.corner.Beside.{Beside};
-ghost use Rattle.leg_wire.specs.Steps.SharedPoints.{first_seen, pieces_beside, spot_of, IsOnlyShared, IsSeen};
+ghost use Rattle.leg_wire.specs.Steps.SharedPoints.{first_seen, pieces_beside, spot_of, IsOnlyShared, IsPointSeen};
 
 use crate::piece_shape::PieceShape;
 use std::alloc::{AllocError, Allocator};
@@ -49,7 +49,7 @@ impl<A: Allocator + Copy> Corners<A> {
     pub(crate) fn has_other(&mut self, a: &PieceShape, b: &PieceShape) -> Result<bool, AllocError>
         requires meet { SharePoint a.now.rect b.now.rect }
         requires single { ShareTwoPoints a.now.rect b.now.rect → ⊥ }
-        ensures { IfOk result (λ other. IsSeen self.old self.new a.now b.now other) }
+        ensures { IfOk result (λ other. IsPointSeen self.old self.new a.now b.now other) }
     {
         let pieces = pieces_of(a, b);
         let corner = corner_of(a, b);

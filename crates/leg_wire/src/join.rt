@@ -1,7 +1,8 @@
 //! Which pieces of a net are joined: to its first one, and to each other.
 
 ghost use Rattle.std.specs.Prelude.{◌<◌, length, IfOk};
-ghost use Rattle.leg_wire.specs.Touch.{piece_count, AreJoined, AreMarks, AreFirsts};
+ghost use Rattle.leg_wire.specs.PieceMarks.{AreMarks, AreFirsts};
+ghost use Rattle.leg_rules.specs.Joins.Touch.{piece_count, AreJoined};
 ghost use Rattle.leg_wire.specs.NetShapes.{AreNumbersOf};
 
 use crate::joining::joined_sets;

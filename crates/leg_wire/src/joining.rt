@@ -2,7 +2,7 @@
 
 ghost use Rattle.std.specs.Prelude.{◌≡◌, ◌<◌, ◌^◌, IsTrue, length, All, Contains, IfOk, OnOk};
 ghost use Rattle.leg_wire.specs.Joins.{ArePieceShapes};
-ghost use Rattle.leg_wire.specs.Steps.JoinSteps.{HavePlaces, TellsTouch, IsJoinStep, TakesPair, IsTouchStep, AreSomeJoined, AreSetsOf, AreJoinedSets, AreKept, AreTogetherAlike};
+ghost use Rattle.leg_wire.specs.Steps.JoinSteps.{HavePlaces, AnswersTouch, IsJoinStep, TakesPair, IsTouchStep, AreSomeJoined, AreSetsOf, AreJoinedSets, AreKept, AreTogetherAlike};
 
 use crate::corner::Corners;
 use crate::kinds::{are_many_alike, kinds_of};
@@ -74,7 +74,7 @@ fn do_touch<A: Allocator + Copy>(
     a: &PieceShape,
     b: &PieceShape,
 ) -> Result<bool, AllocError>
-    ensures { IfOk result (λ touch. TellsTouch a.now b.now corners.old corners.new touch) }
+    ensures { IfOk result (λ touch. AnswersTouch a.now b.now corners.old corners.new touch) }
 {
     if a.rect.touches(&b.rect) {
         return Ok(true);

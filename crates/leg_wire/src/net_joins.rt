@@ -1,8 +1,9 @@
 //! Which pieces of a net are joined, while the net gets wires.
 
 ghost use Rattle.std.specs.Prelude.{◌≡◌, ◌↔◌, ◌<◌, ◌≤◌, ◌+◌, ◌^◌, ◌++◌, ℕ, IsTrue, true, length, map, IfOk, OnOk};
-ghost use Rattle.leg_flat.specs.Flat.{FlatSaid};
-ghost use Rattle.leg_wire.specs.Touch.{piece_count, AreJoined, AreMarks};
+ghost use Rattle.leg_rules.specs.Metal.Flat.{FlatModel};
+ghost use Rattle.leg_wire.specs.PieceMarks.{AreMarks};
+ghost use Rattle.leg_rules.specs.Joins.Touch.{piece_count, AreJoined};
 ghost use Rattle.leg_wire.specs.NetShapes.{AreNumbersOf};
 ghost use Rattle.leg_wire.specs.Joins.{AreJoinsOf, HasOnePieceMore, metal_of_piece};
 ghost use Rattle.leg_wire.specs.Steps.JoinSteps.{HavePlaces};
@@ -34,14 +35,14 @@ pub struct NetJoins<A: Allocator> {
 }
 
 impl<A: Allocator> Model for NetJoins<A> {
-    ghost use Rattle.leg_wire.specs.Joins.{JoinsSaid};
-    ghost use Rattle.leg_wire.specs.Steps.Joins.{IsKept};
+    ghost use Rattle.leg_wire.specs.Joins.{JoinsModel};
+    ghost use Rattle.leg_wire.specs.Steps.Joins.{IsKeptSet};
 
-    ghost Value = { JoinsSaid };
+    ghost Value = { JoinsModel };
 
     ghost view = { λ j. record { net = j.net; is_whole = j.is_whole; metal = j.metal.items; sets = j.sets } };
 
-    ghost invariant = { λ j. IsKept j.metal.items j.index j.sets };
+    ghost invariant = { λ j. IsKeptSet j.metal.items j.index j.sets };
 }
 
 impl<A: Allocator + Copy> NetJoins<A> {
@@ -77,7 +78,7 @@ impl<A: Allocator + Copy> NetJoins<A> {
 
     /// For each piece whether it is joined to the first one. It fails only when out of memory.
     pub fn marks(&self, alloc: A) -> Result<Vec<bool, A>, AllocError>
-        ensures { IfOk result (λ marks. (flat : FlatSaid) → AreJoinsOf flat self.now
+        ensures { IfOk result (λ marks. (flat : FlatModel) → AreJoinsOf flat self.now
             → AreMarks (AreJoined flat self.now.net 0) (piece_count flat self.now.net) marks.items) }
     {
         self.sets.marks(alloc)

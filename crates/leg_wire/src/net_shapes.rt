@@ -1,11 +1,11 @@
 //! The shapes of each net.
 
 ghost use Rattle.std.specs.Prelude.{◌≡◌, ◌↔◌, ◌<◌, ◌^◌, ◌++◌, ◌∷◌, [], ℕ, IsTrue, Some, get_or, replicate, slice_set, length, IfOk, OnOk};
-ghost use Rattle.leg_flat.specs.declared.owner.Owner.TheVariants.{Net};
+ghost use Rattle.leg_rules.specs.declared.owner.Owner.TheVariants.{Net};
 ghost use Rattle.leg_wire.specs.NetShapes.{AreNumbersOf};
 
-use leg_cells::Items;
 use leg_flat::{Owner, Shape};
+use leg_lib_records::Items;
 use std::alloc::{AllocError, Allocator};
 
 /// For each net below this number the numbers of its shapes, in increasing order.

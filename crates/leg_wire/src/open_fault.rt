@@ -1,15 +1,15 @@
 //! Nets that are open.
 
 ghost use Rattle.std.specs.Prelude.{◌<◌, ◌^◌, length, IfOk, OnOk};
-ghost use Rattle.leg_block.specs.Violation.{IsListOf};
-ghost use Rattle.leg_flat.specs.Flat.{IsFlatOf};
-ghost use Rattle.leg_wire.specs.Open.{Holds};
-ghost use Rattle.leg_wire.specs.Steps.OpenViolations.{TellsUnmarked};
+ghost use Rattle.leg_design_records.specs.Violation.{IsListOf};
+ghost use Rattle.leg_rules.specs.Metal.Flat.{IsFlatOf};
+ghost use Rattle.leg_rules.specs.Joins.Violations.{IsOpenViolation};
+ghost use Rattle.leg_wire.specs.Steps.OpenViolations.{NamesOnlyUnmarked};
 ghost use Rattle.leg_wire.specs.Steps.AddedFaults.{AreAdded};
 
 use crate::join::joined_among;
 use crate::net_shapes::numbers_by_net;
-use leg_block::{Design, Fault};
+use leg_design_records::{Design, Fault};
 use leg_flat::Flat;
 use std::alloc::{AllocError, Allocator};
 
@@ -23,7 +23,7 @@ pub fn open_faults<A: Allocator + Copy>(
     flat: &Flat<A>,
 ) -> Result<Vec<Fault, A>, AllocError>
     requires { IsFlatOf design.now flat.now }
-    ensures { IfOk result (λ found. IsListOf (Holds design.now flat.now) found.items) }
+    ensures { IfOk result (λ found. IsListOf (IsOpenViolation design.now flat.now) found.items) }
 {
     let nets = design.nets().len() as u32;
     prove!(nets <= flat.net_count());
@@ -43,7 +43,7 @@ fn push_open<A: Allocator>(
     found: &mut Vec<Fault, A>,
 ) -> Result<(), AllocError>
     requires { length marks.now < 2 ^ 32 }
-    ensures { OnOk result (AreAdded (TellsUnmarked net marks.now) found.old.items found.new.items) }
+    ensures { OnOk result (AreAdded (NamesOnlyUnmarked net marks.now) found.old.items found.new.items) }
 {
     for (piece, joined) in marks.iter().enumerate() {
         if !joined {

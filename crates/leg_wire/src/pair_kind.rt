@@ -3,7 +3,7 @@
 ghost use Rattle.std.specs.Prelude.{◌≡◌, ◌↔◌, IsTrue};
 ghost use Rattle.leg_wire.specs.Steps.PairViolations.{fault_of, IsOfKind};
 
-use leg_block::Fault;
+use leg_design_records::Fault;
 use leg_flat::Shape;
 
 /// A kind of violation of two comparable shapes that are too close.

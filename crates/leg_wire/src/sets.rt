@@ -2,9 +2,9 @@
 
 ghost use Rattle.std.specs.Prelude.{◌≡◌, ◌↔◌, ◌<◌, ◌^◌, IsTrue, length, Some, IfOk, OnOk, slice_get};
 ghost use Rattle.std.specs.List.{range_with_len};
-ghost use Rattle.leg_wire.specs.Touch.{AreMarks, AreFirsts};
+ghost use Rattle.leg_wire.specs.PieceMarks.{AreMarks, AreFirsts};
 ghost use Rattle.leg_wire.specs.Steps.Joins.{HasOneNumberMore};
-ghost use Rattle.leg_wire.specs.Steps.NumberSets.{AreTogether, AreUnited, IsForest, roots_of};
+ghost use Rattle.leg_wire.specs.Steps.NumberSets.{AreTogether, AreUnited, AreParents, roots_of};
 
 use std::alloc::{AllocError, Allocator};
 use std::marker::Model;
@@ -20,13 +20,13 @@ pub(crate) struct Sets<A: Allocator> {
 impl<A: Allocator> Model for Sets<A> {
     ghost use Rattle.std.specs.Prelude.{ℕ, List};
     ghost use Rattle.leg_wire.specs.Steps.Joins.{HasOneNumberMore};
-    ghost use Rattle.leg_wire.specs.Steps.NumberSets.{IsForest, roots_of};
+    ghost use Rattle.leg_wire.specs.Steps.NumberSets.{AreParents, roots_of};
 
     ghost Value = { List ℕ };
 
     ghost view = { λ s. roots_of s.parents.items };
 
-    ghost invariant = { λ s. IsForest s.parents.items };
+    ghost invariant = { λ s. AreParents s.parents.items };
 }
 
 impl<A: Allocator> Sets<A> {
@@ -132,11 +132,11 @@ fn numbers_below<A: Allocator>(alloc: A, count: u32) -> Result<Vec<u32, A>, Allo
 
 /// The root of the number's tree. Each number on the way gets its parent's parent (path halving), which changes no root.
 fn root<A: Allocator>(parents: &mut Vec<u32, A>, number: u32) -> u32
-    requires forest { IsForest parents.old.items }
+    requires forest { AreParents parents.old.items }
     requires within { number < length parents.old.items }
     ensures is { slice_get (roots_of parents.old.items) number ≡ Some result }
     ensures same { roots_of parents.new.items ≡ roots_of parents.old.items }
-    ensures forest { IsForest parents.new.items }
+    ensures forest { AreParents parents.new.items }
 {
     let mut at = number;
     let mut parent = parents[at as usize];

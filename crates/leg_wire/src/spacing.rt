@@ -2,17 +2,17 @@
 
 ghost use Rattle.std.specs.Prelude.{◌<◌, length, All, AllPairs, IfOk, OnOk};
 ghost use Rattle.leg_sweep.specs.Pairs.{Before};
-ghost use Rattle.leg_block.specs.Violation.{IsListOf};
-ghost use Rattle.leg_wire.specs.Spacing.{Holds};
-ghost use Rattle.leg_wire.specs.Steps.PairViolations.{IsToldAs};
+ghost use Rattle.leg_design_records.specs.Violation.{IsListOf};
+ghost use Rattle.leg_rules.specs.Spacing.Violations.{IsSpacingViolation};
+ghost use Rattle.leg_wire.specs.Steps.PairViolations.{IsPairViolationOf};
 ghost use Rattle.leg_wire.specs.Steps.AddedFaults.{AreAdded};
 
 use crate::close_pairs::close_pairs;
 use crate::pair_kind::PairKind;
 use crate::too_close::TooClose;
-use leg_block::Fault;
-use leg_cells::Library;
+use leg_design_records::Fault;
 use leg_flat::{Flat, Shape};
+use leg_lib_records::Library;
 use std::alloc::{AllocError, Allocator};
 
 /// The pairs of comparable shapes that share a point, and those that share none and lie nearer than their layer's spacing:
@@ -25,7 +25,7 @@ pub fn spacing_faults<A: Allocator + Copy>(
     library: &Library<'_, A>,
     flat: &Flat<A>,
 ) -> Result<Vec<Fault, A>, AllocError>
-    ensures { IfOk result (λ found. IsListOf (Holds library.now flat.now) found.items) }
+    ensures { IfOk result (λ found. IsListOf (IsSpacingViolation library.now flat.now) found.items) }
 {
     let shapes = flat.shapes();
     let mut rule = TooClose::new(library.layers());
@@ -46,7 +46,7 @@ fn push_pairs<A: Allocator>(
     requires increasing { AllPairs Before close.now }
     requires first { All (λ p. p.0 < length shapes.now) close.now }
     requires second { All (λ p. p.1 < length shapes.now) close.now }
-    ensures { OnOk result (AreAdded (IsToldAs kind shapes.now close.now) found.old.items found.new.items) }
+    ensures { OnOk result (AreAdded (IsPairViolationOf kind shapes.now close.now) found.old.items found.new.items) }
 {
     for (i, j) in close {
         if kind.holds(&shapes[*i as usize], &shapes[*j as usize]) {

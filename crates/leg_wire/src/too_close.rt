@@ -3,14 +3,14 @@
 ghost use Rattle.std.specs.Prelude.{◌≡◌, ◌≤◌, ◌<◌, ◌+◌, ◌^◌, ◌↔◌, ◌⊎◌, length, min, All, IsTrue, unsigned_abs};
 ghost use Rattle.std.proofs.Common.{ap};
 ghost use Rattle.leg_geom.specs.Plane.{SharePoint};
-ghost use Rattle.leg_cells.specs.Sound.{IsSoundLayer};
-ghost use Rattle.leg_wire.specs.Spacing.{AreNearer};
+ghost use Rattle.leg_lib_records.specs.Sound.{IsSoundLayer};
+ghost use Rattle.leg_rules.specs.Spacing.Violations.{AreNearer};
 ghost use Rattle.leg_wire.specs.Steps.TooCloseRule.{AreCloserThan, AreClose, limit_at, AreClose-symmetric, AreClose-near, AreClose-near_on_layer};
 
 use crate::comparable::are_comparable;
-use leg_cells::Layer;
 use leg_flat::Shape;
 use leg_geom::Rect;
+use leg_lib_records::Layer;
 use leg_sweep::{LayeredRule, PairRule};
 
 /// Holds of comparable shapes that share a point or lie nearer than the spacing of their layer, as far as that is within

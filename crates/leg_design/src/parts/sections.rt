@@ -2,22 +2,22 @@
 
 ghost use Rattle.std.specs.Prelude.{◌≡◌};
 ghost use Rattle.leg_lex.specs.Words.{Reads};
-ghost use Rattle.leg_design.specs.Parts.{known, vias_form, components_form, pins_form, blockages_form, nets_form, special_form};
+ghost use Rattle.leg_grammar.specs.Def.Parts.{known, vias_form, components_form, pins_form, blockages_form, nets_form, special_form};
 
 use crate::parts::{Parts, once};
-use leg_floorplan::blockage::blockages;
-use leg_floorplan::component::components;
-use leg_floorplan::pin::pins;
-use leg_floorplan::via::vias;
+use leg_design_common::Known;
+use leg_design_floorplan::blockage::blockages;
+use leg_design_floorplan::component::components;
+use leg_design_floorplan::pin::pins;
+use leg_design_floorplan::via::vias;
+use leg_design_nets::nets;
 use leg_lex::{Cursor, ReadFault};
-use leg_nets::nets;
-use leg_section::Known;
 use std::alloc::Allocator;
 use std::mem::replace;
 
 impl<'a, A: Allocator + Copy> Parts<'a, A> {
     /// The section `VIAS`, once.
-    #[tactic(auto, unfolding(crate::specs::Parts::vias_form))]
+    #[tactic(auto, unfolding(leg_grammar::specs::Def::Parts::vias_form))]
     pub(crate) fn vias_form(
         &mut self,
         alloc: A,
@@ -33,7 +33,7 @@ impl<'a, A: Allocator + Copy> Parts<'a, A> {
     }
 
     /// The section `COMPONENTS`, once.
-    #[tactic(auto, unfolding(crate::specs::Parts::components_form))]
+    #[tactic(auto, unfolding(leg_grammar::specs::Def::Parts::components_form))]
     pub(crate) fn components_form(
         &mut self,
         alloc: A,
@@ -49,7 +49,7 @@ impl<'a, A: Allocator + Copy> Parts<'a, A> {
     }
 
     /// The section `PINS`, once.
-    #[tactic(auto, unfolding(crate::specs::Parts::pins_form))]
+    #[tactic(auto, unfolding(leg_grammar::specs::Def::Parts::pins_form))]
     pub(crate) fn pins_form(
         &mut self,
         alloc: A,
@@ -65,7 +65,7 @@ impl<'a, A: Allocator + Copy> Parts<'a, A> {
     }
 
     /// The section `BLOCKAGES`, once.
-    #[tactic(auto, unfolding(crate::specs::Parts::blockages_form))]
+    #[tactic(auto, unfolding(leg_grammar::specs::Def::Parts::blockages_form))]
     pub(crate) fn blockages_form(
         &mut self,
         alloc: A,
@@ -81,7 +81,7 @@ impl<'a, A: Allocator + Copy> Parts<'a, A> {
     }
 
     /// The section `NETS`, once.
-    #[tactic(auto, unfolding(crate::specs::Parts::nets_form))]
+    #[tactic(auto, unfolding(leg_grammar::specs::Def::Parts::nets_form))]
     pub(crate) fn nets_form(
         &mut self,
         alloc: A,
@@ -97,7 +97,7 @@ impl<'a, A: Allocator + Copy> Parts<'a, A> {
     }
 
     /// The section `SPECIALNETS`, once.
-    #[tactic(auto, unfolding(crate::specs::Parts::special_form))]
+    #[tactic(auto, unfolding(leg_grammar::specs::Def::Parts::special_form))]
     pub(crate) fn special_form(
         &mut self,
         alloc: A,

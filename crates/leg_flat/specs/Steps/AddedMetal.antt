@@ -2,16 +2,16 @@
 use Rattle.std.specs.Prelude.{◌≡◌, ℕ, List, ◌++◌, All, Option, None, Some, slice_get}
 use Rattle.leg_lex.specs.Words.{◌>>=◌}
 use Rattle.leg_geom.specs.declared.place.Place.{Place}
-use Rattle.leg_cells.specs.declared.records.Shape as library
-use Rattle.leg_cells.specs.Scale.{OneForOne}
-use Rattle.leg_cells.specs.Records.{MasterSaid}
-use Rattle.leg_block.specs.declared.records.Wire.{Wire}
-use Rattle.leg_block.specs.declared.records.Wire.TheVariants.{Segment, ViaAt, Patch}
-use Rattle.leg_block.specs.Records.{DesignContents, PortSaid}
-use Rattle.leg_block.specs.WellFormedParts.{IsPosition}
-use Rattle.leg_flat.specs.declared.shape.Shape.{Shape}
-use Rattle.leg_flat.specs.Metal.{Metal}
-use Rattle.leg_flat.specs.Flat.{IsShapeOf}
+use Rattle.leg_lib_records.specs.declared.records.Shape as library
+use Rattle.leg_lib_records.specs.Scale.{OneForOne}
+use Rattle.leg_lib_records.specs.Records.{MasterModel}
+use Rattle.leg_design_records.specs.declared.records.Wire.{Wire}
+use Rattle.leg_design_records.specs.declared.records.Wire.TheVariants.{Segment, ViaAt, Patch}
+use Rattle.leg_design_records.specs.Records.{DesignModel, PortModel}
+use Rattle.leg_design_records.specs.WellFormedParts.{IsPosition}
+use Rattle.leg_rules.specs.declared.shape.Shape.{Shape}
+use Rattle.leg_rules.specs.Metal.Metal.{Metal}
+use Rattle.leg_rules.specs.Metal.Flat.{IsShapeOf}
 use Rattle.leg_flat.specs.Steps.Bounds.{IsLineWithin, IsDrawnWithin}
 
 -- shapes of this metal, in order, come after those that were there before
@@ -25,7 +25,7 @@ abbrev pub AreDrawnWithin : List library.Shape → Type 0
 AreDrawnWithin shapes = All (λ shape. IsDrawnWithin shape.rect) shapes
 
 -- the macro of a component
-abbrev pub master_of : DesignContents → ℕ → Option MasterSaid
+abbrev pub master_of : DesignModel → ℕ → Option MasterModel
 master_of design c = slice_get design.components c >>= λ component. slice_get design.library.masters component.master
 
 -- a port of the design that can be drawn, if it has a place
@@ -33,7 +33,7 @@ abbrev pub IsPlaceWithin : Option Place → Type 0
 IsPlaceWithin None = Unit {0}
 IsPlaceWithin (Some place) = IsPosition place.at
 
-pub record IsPortWithin (port : PortSaid) : Type 0 where
+pub record IsPortWithin (port : PortModel) : Type 0 where
   pub place : IsPlaceWithin port.place
   pub shapes : AreDrawnWithin port.shapes
 

@@ -1,11 +1,11 @@
 -- Where terminals are in the nets below a number, as they are found net by net.
 use Rattle.std.specs.Prelude.{◌≡◌, ℕ, zero, suc, ◌+◌, List, ◌++◌, length, map, filter, Option, None, Some, is_none, option_map}
-use Rattle.leg_block.specs.declared.records.Terminal.{Terminal}
-use Rattle.leg_block.specs.Records.{DesignContents}
-use Rattle.leg_flat.specs.declared.piece.Piece.{Piece}
-use Rattle.leg_flat.specs.declared.piece.Piece.TheVariants.{Term}
-use Rattle.leg_flat.specs.Nets.{terminals_of}
-use Rattle.leg_flat.specs.Owner.{place_among}
+use Rattle.leg_design_records.specs.declared.records.Terminal.{Terminal}
+use Rattle.leg_design_records.specs.Records.{DesignModel}
+use Rattle.leg_rules.specs.declared.piece.Piece.{Piece}
+use Rattle.leg_rules.specs.declared.piece.Piece.TheVariants.{Term}
+use Rattle.leg_rules.specs.Metal.Nets.{terminals_of}
+use Rattle.leg_rules.specs.Metal.Owner.{place_among}
 use Rattle.leg_flat.specs.Steps.Places.{place_in}
 
 -- the one, or else the other
@@ -28,7 +28,7 @@ pub record ArePiecesAdded (net : ℕ) (terminals : List Terminal) (before : List
   pub places : (terminal : Terminal) → place_in after terminal ≡ with_pieces (place_in before terminal) net (length pieces) (new_among before terminals) terminal
 
 -- the first net below n that has the terminal, and which piece of it the terminal is
-unfoldable pub place_below : DesignContents → ℕ → Terminal → Option (ℕ × ℕ)
+unfoldable pub place_below : DesignModel → ℕ → Terminal → Option (ℕ × ℕ)
 place_below design zero terminal = None
 place_below design (suc n) terminal =
     with_pieces (place_below design n terminal) n 0 (terminals_of design n) terminal

@@ -1,7 +1,7 @@
 -- Sites that rows have, and marks of them.
 use Rattle.std.specs.Prelude.{◌≡◌, ◌↔◌, ℕ, ◌<◌, Bool, true, List, length, Contains, Some, slice_get}
-use Rattle.leg_block.specs.Records.{DesignContents}
-use Rattle.leg_block.specs.declared.records.Row.{Row}
+use Rattle.leg_design_records.specs.Records.{DesignModel}
+use Rattle.leg_design_records.specs.declared.records.Row.{Row}
 
 -- one of the rows has the site of this number
 pub record HasRow (rows : List Row) (number : ℕ) : Type 0 where
@@ -18,11 +18,11 @@ pub record HasRowBelow (rows : List Row) (end number : ℕ) : Type 0 where
   pub same : row.site ≡ number
 
 -- a mark for each site of the library, whether one of the rows of a number below end has it
-pub record AreSiteMarksBelow (design : DesignContents) (end : ℕ) (marks : List Bool) : Type 0 where
+pub record AreSiteMarksBelow (design : DesignModel) (end : ℕ) (marks : List Bool) : Type 0 where
   pub count : length marks ≡ length design.library.sites
   pub each : (number : ℕ) → (slice_get marks number ≡ Some true) ↔ HasRowBelow design.rows end number
 
 -- a mark for each site of the library, whether a row has it
-pub record AreSiteMarks (design : DesignContents) (marks : List Bool) : Type 0 where
+pub record AreSiteMarks (design : DesignModel) (marks : List Bool) : Type 0 where
   pub count : length marks ≡ length design.library.sites
   pub each : (number : ℕ) → (slice_get marks number ≡ Some true) ↔ HasRow design.rows number

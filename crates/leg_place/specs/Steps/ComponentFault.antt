@@ -1,7 +1,7 @@
 -- The violations that are asked of one component by itself.
 use Rattle.std.specs.Prelude.{ℕ}
-use Rattle.leg_block.specs.declared.fault.Fault.{Fault}
-use Rattle.leg_block.specs.declared.fault.Fault.TheVariants as faults
+use Rattle.leg_design_records.specs.declared.fault.Fault.{Fault}
+use Rattle.leg_design_records.specs.declared.fault.Fault.TheVariants as faults
 use Rattle.leg_place.specs.declared.component_fault.ComponentFault.{ComponentFault}
 use Rattle.leg_place.specs.declared.component_fault.ComponentFault.TheVariants.{Unplaced, Outside, OffSite, Blocked}
 

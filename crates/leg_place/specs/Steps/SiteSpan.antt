@@ -3,11 +3,11 @@ use Rattle.std.specs.Prelude.{ℕ, Bool, ◌&&◌, ◌==◌, ◌+ℤ◌, ◌*ℤ
 use Rattle.std.specs.Int.{int_rem_euclid}
 use Rattle.std.specs.declared.cmp.Ordering.{Ordering}
 use Rattle.std.specs.Ordering.{nat_cmp, int_cmp, int_eq, ordering_then, is_le}
-use Rattle.leg_geom.specs.Plane.{Sides}
+use Rattle.leg_geom.specs.Plane.{RectModel}
 use Rattle.leg_geom.specs.declared.orient.Orient.{Orient}
 use Rattle.leg_geom.specs.declared.orient.Orient.TheVariants.{N, S, W, E, FN, FS, FW, FE}
-use Rattle.leg_cells.specs.Measure.{Lengths}
-use Rattle.leg_block.specs.declared.records.Row.{Row}
+use Rattle.leg_lib_records.specs.Measure.{ExtentModel}
+use Rattle.leg_design_records.specs.declared.records.Row.{Row}
 use Rattle.leg_place.specs.declared.site_span.SiteLine.{SiteLine}
 use Rattle.leg_place.specs.declared.site_span.SiteSpan.{SiteSpan}
 
@@ -24,7 +24,7 @@ orient_rank FE = 7
 
 -- the sites of this number, size and orientation, one of which begins at the box's lower left corner, from its left
 -- edge to its right one
-abbrev pub span_of : ℕ → Lengths → Orient → Sides → SiteSpan
+abbrev pub span_of : ℕ → ExtentModel → Orient → RectModel → SiteSpan
 span_of site size orient box = record {
   line = record { site = site; orient = orient_rank orient; bottom = box.y1; shift = int_rem_euclid box.x1 size.width };
   left = box.x1;
@@ -32,7 +32,7 @@ span_of site size orient box = record {
 }
 
 -- the box of all sites of a row, which are of this size
-abbrev pub row_box : Row → Lengths → Sides
+abbrev pub row_box : Row → ExtentModel → RectModel
 row_box row size = record { x1 = row.at.x; y1 = row.at.y; x2 = row.at.x +ℤ row.count *ℤ size.width; y2 = row.at.y +ℤ size.height }
 
 abbrev pub is_same_line : SiteLine → SiteLine → Bool

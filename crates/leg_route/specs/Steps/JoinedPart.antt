@@ -1,29 +1,29 @@
 -- What is kept of the joined part of a net from walk to walk, while other metal may come.
 use Rattle.std.specs.Prelude.{◌≡◌, ◌↔◌, ◌<◌, ◌≤◌, ℕ, Bool, true, List, length, All, Contains, Some, slice_get}
-use Rattle.leg_flat.specs.Flat.{FlatSaid}
-use Rattle.leg_wire.specs.Touch.{piece_count, LiesIn, Touch, AreJoined}
-use Rattle.leg_grid.specs.declared.node.Node.{Node}
-use Rattle.leg_grid.specs.declared.slot_box.SlotBox.{SlotBox}
-use Rattle.leg_grid.specs.Bound.{AreBoxed}
-use Rattle.leg_grid.specs.Grid.{GridSaid, IsNumberOf, slot_total}
-use Rattle.leg_grid.specs.Numbered.{IsOneOf}
+use Rattle.leg_rules.specs.Metal.Flat.{FlatModel}
+use Rattle.leg_rules.specs.Joins.Touch.{piece_count, LiesIn, Touch, AreJoined}
+use Rattle.leg_rules.specs.declared.node.Node.{Node}
+use Rattle.leg_route_grid.specs.declared.slot_box.SlotBox.{SlotBox}
+use Rattle.leg_route_grid.specs.Steps.WalkBounds.{AreBoxed}
+use Rattle.leg_route_grid.specs.Steps.Grid.{GridModel, IsNumberOf, slot_total}
+use Rattle.leg_route_grid.specs.Steps.NodeNumbers.{IsOneOf}
 
 -- marks for the first pieces of a net, and slots with the boxes in which they lie
-pub record PartSaid : Type 0 where
+pub record PartModel : Type 0 where
   pub net : ℕ
   pub joined : List Bool
   pub boxes : List SlotBox
   pub slots : List ℕ
 
 -- the node meets a piece of the net that is marked
-pub record MeetsPart (flat : FlatSaid) (net : ℕ) (joined : List Bool) (node : Node) : Type 0 where
+pub record MeetsPart (flat : FlatModel) (net : ℕ) (joined : List Bool) (node : Node) : Type 0 where
   pub piece : ℕ
   pub marked : slice_get joined piece ≡ Some true
   pub meets : LiesIn flat net piece node.layer node.at
 
 -- The marked pieces are joined to the net's first one, which is one of them, and no other of these pieces touches them. The slots are
 -- exactly those of nodes that meet them.
-pub record IsPart (grid : GridSaid) (flat : FlatSaid) (part : PartSaid) : Type 0 where
+pub record IsJoinedPart (grid : GridModel) (flat : FlatModel) (part : PartModel) : Type 0 where
   pub few : length part.joined ≤ piece_count flat part.net
   pub still : (k : ℕ) → slice_get part.joined k ≡ Some true → AreJoined flat part.net 0 k
   pub begun : 0 < length part.joined → slice_get part.joined 0 ≡ Some true

@@ -1,13 +1,13 @@
 -- Which slots lie in the metal of a net, and what a search over slots answers.
 use Rattle.std.specs.Prelude.{◌≡◌, ◌↔◌, ◌<◌, ℕ, Bool, List, All, Contains, Option, None, Some, slice_get}
-use Rattle.leg_flat.specs.declared.shape.Shape.{Shape}
-use Rattle.leg_flat.specs.Flat.{FlatSaid}
-use Rattle.leg_grid.specs.declared.node.Node.{Node}
-use Rattle.leg_grid.specs.declared.slot_box.SlotBox.{SlotBox}
-use Rattle.leg_grid.specs.Bound.{AreBoxed}
-use Rattle.leg_grid.specs.Grid.{GridSaid, IsNumberOf, slot_total}
-use Rattle.leg_grid.specs.Numbered.{IsOneOf, IsNextWalkAt, HasNoWalkAt}
-use Rattle.leg_grid.specs.InRect.{LiesInRect}
+use Rattle.leg_rules.specs.declared.shape.Shape.{Shape}
+use Rattle.leg_rules.specs.Metal.Flat.{FlatModel}
+use Rattle.leg_rules.specs.declared.node.Node.{Node}
+use Rattle.leg_route_grid.specs.declared.slot_box.SlotBox.{SlotBox}
+use Rattle.leg_route_grid.specs.Steps.WalkBounds.{AreBoxed}
+use Rattle.leg_route_grid.specs.Steps.Grid.{GridModel, IsNumberOf, slot_total}
+use Rattle.leg_route_grid.specs.Steps.NodeNumbers.{IsOneOf, IsNextWalkAt, HasNoWalkAt}
+use Rattle.leg_route_grid.specs.Steps.NodesInRect.{LiesInRect}
 
 -- the piece is one of those that have marks, and its mark is this one
 pub record HasMark (marks : List Bool) (mark : Bool) (piece : Option ℕ) : Type 0 where
@@ -25,12 +25,12 @@ pub record MeetsMarked (shapes : List Shape) (marks : List Bool) (mark : Bool) (
   pub lies : LiesInRect shape.layer shape.rect node
 
 -- exactly the slots of such nodes, which lie in these boxes
-pub record AreMarkedSlots (grid : GridSaid) (shapes : List Shape) (marks : List Bool) (mark : Bool) (numbers : List ℕ) (boxes : List SlotBox) (slots : List ℕ) : Type 0 where
+pub record AreMarkedSlots (grid : GridModel) (shapes : List Shape) (marks : List Bool) (mark : Bool) (numbers : List ℕ) (boxes : List SlotBox) (slots : List ℕ) : Type 0 where
   pub are : (n : ℕ) → Contains slots n ↔ IsOneOf (IsNumberOf grid) (MeetsMarked shapes marks mark numbers) n
   pub within : All (λ n. n < slot_total grid) slots
   pub boxed : AreBoxed grid boxes slots
 
 -- the numbers of the slots of a shortest open walk from the net's joined part to the rest, or none where there is no such walk
-abbrev pub IsNextAnswerAt : GridSaid → FlatSaid → ℕ → Option (List ℕ) → Type 0
+abbrev pub IsNextAnswerAt : GridModel → FlatModel → ℕ → Option (List ℕ) → Type 0
 IsNextAnswerAt grid flat net None = HasNoWalkAt grid flat net
 IsNextAnswerAt grid flat net (Some numbers) = IsNextWalkAt grid flat net numbers

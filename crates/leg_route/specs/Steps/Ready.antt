@@ -1,43 +1,43 @@
 -- What is kept in addition to a flat that grows, so that nets can be searched in it.
 use Rattle.std.specs.Prelude.{◌≡◌, ◌<◌, ◌≤◌, ℕ, true, List, [], length, get_or, Option, Some, IfSome}
-use Rattle.leg_block.specs.Records.{DesignContents}
-use Rattle.leg_flat.specs.declared.shape.Shape.{Shape}
-use Rattle.leg_flat.specs.Flat.{FlatSaid}
+use Rattle.leg_design_records.specs.Records.{DesignModel}
+use Rattle.leg_rules.specs.declared.shape.Shape.{Shape}
+use Rattle.leg_rules.specs.Metal.Flat.{FlatModel}
 use Rattle.leg_wire.specs.NetShapes.{AreNumbersOf}
-use Rattle.leg_wire.specs.Joins.{JoinsSaid, AreJoinsOf, HasOnePieceMore}
-use Rattle.leg_walk.specs.declared.mark.Mark.{Mark}
-use Rattle.leg_walk.specs.Marks.{AreUnseen}
-use Rattle.leg_grid.specs.declared.slot_access.SlotAccess.{SlotAccess}
-use Rattle.leg_grid.specs.Grid.{GridSaid, slot_total}
-use Rattle.leg_grid.specs.Told.{TellsSlots}
-use Rattle.leg_route.specs.Steps.JoinedPart.{PartSaid, IsPart}
+use Rattle.leg_wire.specs.Joins.{JoinsModel, AreJoinsOf, HasOnePieceMore}
+use Rattle.leg_route_search.specs.declared.mark.Mark.{Mark}
+use Rattle.leg_route_search.specs.Steps.FreshMarks.{AreUnseen}
+use Rattle.leg_route_grid.specs.declared.slot_access.SlotAccess.{SlotAccess}
+use Rattle.leg_route_grid.specs.Steps.Grid.{GridModel, slot_total}
+use Rattle.leg_route_grid.specs.Steps.AccessTable.{IsAccessTable}
+use Rattle.leg_route.specs.Steps.JoinedPart.{PartModel, IsJoinedPart}
 
 -- for each of the first `nets` nets the numbers of its shapes
-pub record AreNumbersByNet (nets : ℕ) (flat : FlatSaid) (lists : List (List ℕ)) : Type 0 where
+pub record AreNumbersByNet (nets : ℕ) (flat : FlatModel) (lists : List (List ℕ)) : Type 0 where
   pub one_each : length lists ≡ nets
   pub each : (net : ℕ) → net < nets → AreNumbersOf flat.shapes net (get_or lists net [])
 
 -- this is known of all slots for each flat of these shapes
-abbrev pub TellsShapes : GridSaid → List Shape → List SlotAccess → Type 0
-TellsShapes grid shapes slots = (flat : FlatSaid) → flat.shapes ≡ shapes → TellsSlots grid flat slots
+abbrev pub HasSlotsOf : GridModel → List Shape → List SlotAccess → Type 0
+HasSlotsOf grid shapes slots = (flat : FlatModel) → flat.shapes ≡ shapes → IsAccessTable grid flat slots
 
 -- the grid is that of the design, each slot has what is open in the flat, each net of NETS has the numbers of its shapes,
 -- no slot is marked, and what is kept of the joined part of a net, and of which of its pieces are joined, is right
-pub record AreReady (design : DesignContents) (grid : GridSaid) (flat : FlatSaid) (slots : List SlotAccess) (lists : List (List ℕ)) (marks : List Mark) (touched : List ℕ) (part : PartSaid)
-    (joins : Option JoinsSaid) : Type 0 where
+pub record IsReadyGround (design : DesignModel) (grid : GridModel) (flat : FlatModel) (slots : List SlotAccess) (lists : List (List ℕ)) (marks : List Mark) (touched : List ℕ) (part : PartModel)
+    (joins : Option JoinsModel) : Type 0 where
   pub of_design : grid.design ≡ design
-  pub told : TellsShapes grid flat.shapes slots
+  pub told : HasSlotsOf grid flat.shapes slots
   pub within : length design.nets ≤ length flat.pieces
   pub numbers : AreNumbersByNet (length design.nets) flat lists
   pub count : length marks ≡ slot_total grid
   pub unseen : AreUnseen marks
   pub untouched : touched ≡ []
-  pub part_is : IsPart grid flat part
+  pub part_is : IsJoinedPart grid flat part
   pub joins_are : IfSome joins (AreJoinsOf flat)
 
 -- what was kept is of this net, and has the piece of these shapes more
-pub record IsWithWire (joins : Option JoinsSaid) (net : ℕ) (shapes : List Shape) (after : JoinsSaid) : Type 0 where
-  pub before : JoinsSaid
+pub record IsWithWire (joins : Option JoinsModel) (net : ℕ) (shapes : List Shape) (after : JoinsModel) : Type 0 where
+  pub before : JoinsModel
   pub is : joins ≡ Some before
   pub of_net : before.net ≡ net
   pub is_whole : before.is_whole ≡ true

@@ -1,8 +1,8 @@
 -- Bands, in which items wait for later ones. Items and bands go by their numbers.
 use Rattle.std.specs.Prelude.{◌≡◌, ℕ, zero, suc, ◌+◌, ◌-◌, ◌≤◌, ◌<◌, Bool, true, ◌&&◌, nat_le, List, [], ◌∷◌, ◌++◌, length, filter, sum_by, slice_index, slice_index_or, Contains}
-use Rattle.leg_geom.specs.Plane.{Sides}
+use Rattle.leg_geom.specs.Plane.{RectModel}
 use Rattle.leg_sweep.specs.declared.band.Stretch.{Stretch}
-use Rattle.leg_sweep.specs.Pairs.{IsPair}
+use Rattle.leg_geom.specs.Pairs.{IsPair}
 use Rattle.leg_sweep.specs.Counts.{near_along_x, near_along_both}
 use Rattle.leg_sweep.specs.Steps.Sweep.{test_at, AreInReach, CanMeet}
 
@@ -39,15 +39,15 @@ abbrev pub reach_at : List Stretch → List Waiting → ℕ → ℕ
 reach_at stretches bands x = (waiting_at bands (stretch_at stretches x).first).reach
 
 -- two items are in a common band, and their x gap is within its reach
-abbrev pub near_in_band : List Sides → List Stretch → List Waiting → ℕ → ℕ → Bool
+abbrev pub near_in_band : List RectModel → List Stretch → List Waiting → ℕ → ℕ → Bool
 near_in_band rects stretches bands x y = share_band stretches x y && test_at (near_along_x (reach_at stretches bands x)) rects x y
 
 -- two items are in a common band, and both gaps are within its reach
-abbrev pub near_both_in_band : List Sides → List Stretch → List Waiting → ℕ → ℕ → Bool
+abbrev pub near_both_in_band : List RectModel → List Stretch → List Waiting → ℕ → ℕ → Bool
 near_both_in_band rects stretches bands x y = share_band stretches x y && test_at (near_along_both (reach_at stretches bands x)) rects x y
 
 -- Each item is in bands of one reach. Two items for which the rule holds are in a common band, whose reach both gaps are within.
-pub record AreStretches {Item : Type 0} (Holds : Item → Item → Type 0) (rect_of : Item → Sides) (items : List Item) (stretches : List Stretch) (bands : List Waiting) : Type 0 where
+pub record AreStretches {Item : Type 0} (Holds : Item → Item → Type 0) (rect_of : Item → RectModel) (items : List Item) (stretches : List Stretch) (bands : List Waiting) : Type 0 where
   pub count : length stretches ≡ length items
   pub upward : (x : ℕ) → x < length items → (stretch_at stretches x).first ≤ (stretch_at stretches x).last
   pub there : (x : ℕ) → x < length items → (stretch_at stretches x).last < length bands
@@ -81,7 +81,7 @@ abbrev pub waiting_count : List Waiting → ℕ
 waiting_count bands = sum_by (λ band. length band.begun + length band.passing) bands
 
 -- A new item can visit the bands from the first to the last: it can meet those that wait there, none of which it would meet twice.
-pub record CanVisit {Item : Type 0} (Holds : Item → Item → Type 0) (rect_of : Item → Sides) (items : List Item) (bands : List Waiting) (first last new : ℕ) : Type 0 where
+pub record CanVisit {Item : Type 0} (Holds : Item → Item → Type 0) (rect_of : Item → RectModel) (items : List Item) (bands : List Waiting) (first last new : ℕ) : Type 0 where
   pub upward : first ≤ last
   pub there : last < length bands
   pub one_reach : (k : ℕ) → first ≤ k → k ≤ last → (waiting_at bands k).reach ≡ (waiting_at bands first).reach

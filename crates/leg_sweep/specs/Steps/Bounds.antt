@@ -1,7 +1,7 @@
 -- Bounds that enclose rectangles, in steps of 8 database units, and windows that they reach into.
 use Rattle.std.specs.Prelude.{◌≡◌, ℕ, Bool, ◌&&◌, ℤ, pos, ◌+ℤ◌, ◌-ℤ◌, ◌≤ℤ◌, int_le}
 use Rattle.std.specs.Int.{int_div_euclid}
-use Rattle.leg_geom.specs.Plane.{Sides, IsRect}
+use Rattle.leg_geom.specs.Plane.{RectModel, IsRect}
 use Rattle.leg_sweep.specs.declared.bounds.Bounds.{Bounds}
 use Rattle.leg_sweep.specs.declared.bounds.Window.{Window}
 
@@ -10,7 +10,7 @@ abbrev pub step_of : ℤ → ℤ
 step_of z = int_div_euclid z (pos 8)
 
 -- the bounds of a rectangle with what lies around it
-abbrev pub bounds_around : Sides → ℕ → Bounds
+abbrev pub bounds_around : RectModel → ℕ → Bounds
 bounds_around r reach = record {
   x1 = step_of (r.x1 -ℤ pos reach);
   y1 = step_of (r.y1 -ℤ pos reach);

@@ -1,7 +1,7 @@
 -- The bands of each layer, and what they are made from. A height is above the lowest coordinate.
 use Rattle.std.specs.Prelude.{◌≡◌, ℕ, ◌+◌, ◌-◌, ◌*◌, ◌/◌, ◌^◌, ◌≤◌, ◌<◌, ◌==◌, min, max, ℤ, pos, ◌+ℤ◌, unsigned_abs, List, length, take, count_by, sum_by, slice_index_or, All, if◌then◌else◌}
 use Rattle.leg_geom.specs.declared.limits.TheConstants.{COORDINATE_LIMIT}
-use Rattle.leg_geom.specs.Plane.{Sides, IsRect}
+use Rattle.leg_geom.specs.Plane.{RectModel, IsRect}
 use Rattle.leg_sweep.specs.declared.band.Stretch.{Stretch}
 use Rattle.leg_sweep.specs.declared.grid.LayerSpan.{LayerSpan}
 use Rattle.leg_sweep.specs.declared.grid.LayerBands.{LayerBands}
@@ -12,7 +12,7 @@ abbrev pub height_of : ℤ → ℕ
 height_of y = unsigned_abs (y +ℤ pos COORDINATE_LIMIT)
 
 -- the height of a rectangle
-abbrev pub rect_height : Sides → ℕ
+abbrev pub rect_height : RectModel → ℕ
 rect_height rect = height_of rect.y2 - height_of rect.y1
 
 -- what no items span
@@ -23,7 +23,7 @@ abbrev pub span_at : List LayerSpan → ℕ → LayerSpan
 span_at spans layer = slice_index_or spans layer no_span
 
 -- what they span together with one more rectangle
-abbrev pub span_with : LayerSpan → Sides → LayerSpan
+abbrev pub span_with : LayerSpan → RectModel → LayerSpan
 span_with span rect = record {
   count = span.count + 1;
   total = span.total + rect_height rect;
@@ -37,7 +37,7 @@ pub record IsSmall (span : LayerSpan) : Type 0 where
   pub highest : span.highest ≤ 2 * COORDINATE_LIMIT
 
 -- what the items on a layer span: how many they are, the sum of their heights, and between which heights the bottom edges lie
-pub record IsSpan {Item : Type 0} (rect_of : Item → Sides) (layer_of : Item → ℕ) (items : List Item) (layer : ℕ) (span : LayerSpan) : Type 0 where
+pub record IsSpan {Item : Type 0} (rect_of : Item → RectModel) (layer_of : Item → ℕ) (items : List Item) (layer : ℕ) (span : LayerSpan) : Type 0 where
   pub count : span.count ≡ count_by (λ a. layer_of a == layer) items
   pub total : span.total ≡ sum_by (λ a. if layer_of a == layer then rect_height (rect_of a) else 0) items
   pub lowest : All (λ a. layer_of a ≡ layer → span.lowest ≤ height_of (rect_of a).y1) items
@@ -45,7 +45,7 @@ pub record IsSpan {Item : Type 0} (rect_of : Item → Sides) (layer_of : Item �
   pub small : IsSmall span
 
 -- what the items on each of this many layers span, where all items lie
-pub record AreSpans {Item : Type 0} (rect_of : Item → Sides) (layer_of : Item → ℕ) (layers : ℕ) (items : List Item) (spans : List LayerSpan) : Type 0 where
+pub record AreSpans {Item : Type 0} (rect_of : Item → RectModel) (layer_of : Item → ℕ) (layers : ℕ) (items : List Item) (spans : List LayerSpan) : Type 0 where
   pub many : length spans ≡ layers
   pub proper : All (λ a. IsRect (rect_of a)) items
   pub layered : All (λ a. layer_of a < layers) items
@@ -76,7 +76,7 @@ pub record IsGrid (reach_of : ℕ → ℕ) (layers : ℕ) (spans : List LayerSpa
   pub few : sum_by (λ bands. bands.count) grid ≤ sum_by (λ span. span.count) (take layers spans)
 
 -- The rectangle begins in one of the bands. Their numbers are 32 bits long.
-pub record BeginsIn (bands : LayerBands) (rect : Sides) : Type 0 where
+pub record BeginsIn (bands : LayerBands) (rect : RectModel) : Type 0 where
   pub tall : 0 < bands.height
   pub above : bands.low ≤ height_of rect.y1
   pub below : (height_of rect.y1 - bands.low) / bands.height < bands.count
@@ -84,7 +84,7 @@ pub record BeginsIn (bands : LayerBands) (rect : Sides) : Type 0 where
   pub numbers : bands.first + bands.count < 2 ^ 32
 
 -- from the band of the bottom edge to that of what lies the reach above the top edge, or to the topmost
-abbrev pub stretch_in : LayerBands → Sides → Stretch
+abbrev pub stretch_in : LayerBands → RectModel → Stretch
 stretch_in bands rect = record {
   first = bands.first + (height_of rect.y1 - bands.low) / bands.height;
   last = bands.first + min ((height_of rect.y2 + bands.reach - bands.low) / bands.height) (bands.count - 1);

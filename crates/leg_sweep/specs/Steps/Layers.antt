@@ -1,7 +1,7 @@
 -- The numbers of the items on each layer, and the nodes of their rectangles.
 use Rattle.std.specs.Prelude.{◌≡◌, ℕ, ◌<◌, ◌==◌, Bool, List, [], length, map, slice_index, slice_index_or}
 use Rattle.std.specs.List.{filter, range_with_len}
-use Rattle.leg_geom.specs.Plane.{Sides}
+use Rattle.leg_geom.specs.Plane.{RectModel}
 use Rattle.leg_sweep.specs.declared.node.Node.{Node}
 use Rattle.leg_sweep.specs.Steps.Nodes.{AreNodesOf}
 
@@ -19,6 +19,6 @@ pub record AreKeysByLayer (layer_of : List ℕ) (layers bound : ℕ) (keys : Lis
   pub each : (layer : ℕ) → layer < layers → map (λ key. key.1) (slice_index_or keys layer []) ≡ numbers_on layer_of layer bound
 
 -- for each layer the nodes of the rectangles on it
-pub record AreNodesByLayer (rects : List Sides) (layer_of : List ℕ) (layers : ℕ) (nodes : List (List Node)) : Type 0 where
+pub record AreNodesByLayer (rects : List RectModel) (layer_of : List ℕ) (layers : ℕ) (nodes : List (List Node)) : Type 0 where
   pub many : length nodes ≡ layers
   pub each : (layer : ℕ) → layer < layers → AreNodesOf rects (numbers_on layer_of layer (length rects)) (slice_index_or nodes layer [])

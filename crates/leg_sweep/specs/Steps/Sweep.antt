@@ -3,24 +3,24 @@ use Rattle.std.specs.Prelude.{◌≡◌, ◌≢◌, ℕ, ◌≤◌, ◌<◌, min
 use Rattle.std.specs.Ordering.{nat_cmp, ordering_then}
 use Rattle.std.specs.declared.cmp.Ordering.{Ordering}
 use Rattle.std.specs.List.{range_with_len}
-use Rattle.leg_geom.specs.Plane.{Sides, IsRect}
+use Rattle.leg_geom.specs.Plane.{RectModel, IsRect}
 use Rattle.leg_geom.specs.Gap.{x_gap, y_gap}
 use Rattle.leg_sweep.specs.Pairs.{TakesAll}
 
 -- a rectangle for a number that no item has
-abbrev pub unit_square : Sides
+abbrev pub unit_square : RectModel
 unit_square = record { x1 = pos 0; y1 = pos 0; x2 = pos 1; y2 = pos 1 }
 
 -- the rectangle with the number
-abbrev pub rect_numbered : List Sides → ℕ → Sides
+abbrev pub rect_numbered : List RectModel → ℕ → RectModel
 rect_numbered rects i = slice_index_or rects i unit_square
 
 -- a test of two rectangles by their numbers
-abbrev pub test_at : (Sides → Sides → Bool) → List Sides → ℕ → ℕ → Bool
+abbrev pub test_at : (RectModel → RectModel → Bool) → List RectModel → ℕ → ℕ → Bool
 test_at test rects i j = test (rect_numbered rects i) (rect_numbered rects j)
 
 -- what the items are sorted by: the left edge, and then the number
-abbrev pub key_at : List Sides → ℕ → ℤ × ℕ
+abbrev pub key_at : List RectModel → ℕ → ℤ × ℕ
 key_at rects i = ((rect_numbered rects i).x1, i)
 
 -- two numbers, the lower one first
@@ -32,18 +32,18 @@ abbrev pub pair_cmp : ℕ × ℕ → ℕ × ℕ → Ordering
 pair_cmp p q = ordering_then (nat_cmp p.0 q.0) (nat_cmp p.1 q.1)
 
 -- the numbers of all rectangles, each once, in the order of their left edges
-pub record IsLeftToRight (rects : List Sides) (order : List ℕ) : Type 0 where
+pub record IsLeftToRight (rects : List RectModel) (order : List ℕ) : Type 0 where
   pub proper : All IsRect rects
   pub numbers : IsPermutation (range_with_len 0 (length rects)) order
   pub rising : (a b : ℕ) → a ≤ b → b < length order → (rect_numbered rects (slice_index order a)).x1 ≤ℤ (rect_numbered rects (slice_index order b)).x1
 
 -- If the rule holds of the items with these numbers, their gaps are within the reach.
-abbrev pub AreInReach : {Item : Type 0} → (Item → Item → Type 0) → (Item → Sides) → List Item → ℕ → ℕ → ℕ → Type 0
+abbrev pub AreInReach : {Item : Type 0} → (Item → Item → Type 0) → (Item → RectModel) → List Item → ℕ → ℕ → ℕ → Type 0
 AreInReach {Item} Holds rect_of items reach x y =
     (a b : Item) → slice_get items x ≡ Some a → slice_get items y ≡ Some b → Holds a b → (x_gap (rect_of a) (rect_of b) ≤ reach) × (y_gap (rect_of a) (rect_of b) ≤ reach)
 
 -- waiting items, each once, and a new one that is none of them
-pub record CanMeet {Item : Type 0} (Holds : Item → Item → Type 0) (rect_of : Item → Sides) (items : List Item) (reach : ℕ) (waiting : List ℕ) (new : ℕ) : Type 0 where
+pub record CanMeet {Item : Type 0} (Holds : Item → Item → Type 0) (rect_of : Item → RectModel) (items : List Item) (reach : ℕ) (waiting : List ℕ) (new : ℕ) : Type 0 where
   pub new_in : new < length items
   pub waiting_in : All (λ x. x < length items) waiting
   pub others : All (λ x. x ≢ new) waiting

@@ -1,13 +1,13 @@
 -- What a search for metal that meets has found: the sets of a net's pieces, and the single points that were seen.
 use Rattle.std.specs.Prelude.{◌≡◌, ◌≢◌, ◌↔◌, ◌+◌, ◌<◌, ◌≤◌, ℕ, ℤ, Bool, true, false, List, ◌++◌, All, Contains, length, get_or, Some, slice_get}
 use Rattle.leg_geom.specs.Plane.{SharePoint, ShareTwoPoints}
-use Rattle.leg_flat.specs.Flat.{FlatSaid}
+use Rattle.leg_rules.specs.Metal.Flat.{FlatModel}
 use Rattle.leg_wire.specs.declared.corner.Beside.{Beside}
 use Rattle.leg_wire.specs.declared.piece_shape.PieceShape.{PieceShape}
-use Rattle.leg_wire.specs.Touch.{piece_count, Joined, AreJoined}
+use Rattle.leg_rules.specs.Joins.Touch.{piece_count, Joined, AreJoined}
 use Rattle.leg_wire.specs.Steps.PieceMetal.{TouchAmong}
 use Rattle.leg_wire.specs.Steps.NumberSets.{AreTogether, AreUnited}
-use Rattle.leg_wire.specs.Steps.SharedPoints.{IsSeen}
+use Rattle.leg_wire.specs.Steps.SharedPoints.{IsPointSeen}
 use Rattle.leg_wire.specs.Steps.Kinds.{AreSameMetal}
 
 -- each piece whose metal is there has a number in the sets
@@ -16,17 +16,17 @@ HavePlaces sets shapes = All (λ shape. shape.piece < length sets) shapes
 
 -- whether two rectangles make their pieces touch, with the points that were seen before and after: they share two points, or
 -- none, or a single one, and another one was seen or wasn't
-pub data TellsTouch (a b : PieceShape) (before after : List (Beside × (ℤ × ℤ))) (touch : Bool) : Type 0 where
-  share_two : touch ≡ true → ShareTwoPoints a.rect b.rect → after ≡ before → TellsTouch a b before after touch
-  share_none : touch ≡ false → (SharePoint a.rect b.rect → ⊥) → after ≡ before → TellsTouch a b before after touch
-  share_one : IsSeen before after a b touch → TellsTouch a b before after touch
+pub data AnswersTouch (a b : PieceShape) (before after : List (Beside × (ℤ × ℤ))) (touch : Bool) : Type 0 where
+  share_two : touch ≡ true → ShareTwoPoints a.rect b.rect → after ≡ before → AnswersTouch a b before after touch
+  share_none : touch ≡ false → (SharePoint a.rect b.rect → ⊥) → after ≡ before → AnswersTouch a b before after touch
+  share_one : IsPointSeen before after a b touch → AnswersTouch a b before after touch
 
 -- The sets of a net's pieces and the points seen, before and after two rectangles of its pieces were taken: the pieces were
 -- together, or they touch and are united, or they don't touch by these.
 pub data IsJoinStep (a b : PieceShape) (sets sets_after : List ℕ) (seen seen_after : List (Beside × (ℤ × ℤ))) : Type 0 where
   were_together : AreTogether sets a.piece b.piece → sets_after ≡ sets → seen_after ≡ seen → IsJoinStep a b sets sets_after seen seen_after
-  are_united : TellsTouch a b seen seen_after true → AreUnited a.piece b.piece sets sets_after → IsJoinStep a b sets sets_after seen seen_after
-  stay_apart : TellsTouch a b seen seen_after false → sets_after ≡ sets → IsJoinStep a b sets sets_after seen seen_after
+  are_united : AnswersTouch a b seen seen_after true → AreUnited a.piece b.piece sets sets_after → IsJoinStep a b sets sets_after seen seen_after
+  stay_apart : AnswersTouch a b seen seen_after false → sets_after ≡ sets → IsJoinStep a b sets sets_after seen seen_after
 
 -- the pieces of two rectangles that share two points are made one set, or the sets stay
 pub data IsTouchStep (a b : PieceShape) (sets sets_after : List ℕ) : Type 0 where
@@ -56,7 +56,7 @@ pub record AreSetsOf (metal : List PieceShape) (count : ℕ) (sets : List ℕ) :
   pub all : (a b : ℕ) → a < count → Joined (TouchAmong metal) a b → AreTogether sets a b
 
 -- the sets of a net's pieces: together are those that are joined
-pub record AreJoinedSets (flat : FlatSaid) (net : ℕ) (sets : List ℕ) : Type 0 where
+pub record AreJoinedSets (flat : FlatModel) (net : ℕ) (sets : List ℕ) : Type 0 where
   pub count : length sets ≡ piece_count flat net
   pub each : (a b : ℕ) → a < piece_count flat net → AreTogether sets a b ↔ AreJoined flat net a b
 

@@ -1,7 +1,8 @@
 -- How one piece more is joined to those of a net: the sets with a number more, and the pairs of metal that are taken for it.
 use Rattle.std.specs.Prelude.{◌≡◌, ◌⊎◌, ℕ, ◌+◌, ◌≤◌, ◌<◌, ℤ, List, All, Contains, length, map, take, None}
-use Rattle.leg_geom.specs.Plane.{Sides}
-use Rattle.leg_sweep.specs.Pairs.{IsPair, TakesAll}
+use Rattle.leg_geom.specs.Plane.{RectModel}
+use Rattle.leg_sweep.specs.Pairs.{TakesAll}
+use Rattle.leg_geom.specs.Pairs.{IsPair}
 use Rattle.leg_wire.specs.declared.corner.Beside.{Beside}
 use Rattle.leg_wire.specs.declared.piece_shape.PieceShape.{PieceShape}
 use Rattle.leg_wire.specs.Steps.MeetingRule.{DoMeet}
@@ -16,7 +17,7 @@ pub record HasOneNumberMore (before after : List ℕ) : Type 0 where
   pub no_more : (a b : ℕ) → AreTogether after a b → AreTogether before a b ⊎ (a ≡ b)
 
 -- the rectangles of the first so many shapes
-abbrev pub first_rects : ℕ → List PieceShape → List Sides
+abbrev pub first_rects : ℕ → List PieceShape → List RectModel
 first_rects count shapes = map (λ shape. shape.rect) (take count shapes)
 
 -- Pairs of one of the first `few` shapes and one from these on and below `end`, which meet, were taken: all of them, and no other.
@@ -34,7 +35,7 @@ pub record JoinsNew (shapes : List PieceShape) (few : ℕ) (sets sets_after : Li
   pub takes : TakesNew shapes few few (length shapes) sets sets_after seen seen_after
 
 -- the sets are those of this metal, each of its pieces is in one, and the index has the rectangles of the first shapes
-pub record IsKept (metal : List PieceShape) (index : List Sides) (sets : List ℕ) : Type 0 where
+pub record IsKeptSet (metal : List PieceShape) (index : List RectModel) (sets : List ℕ) : Type 0 where
   pub sets_are : AreSetsOf metal (length sets) sets
   pub places : HavePlaces sets metal
   pub within : length index ≤ length metal

@@ -2,7 +2,7 @@
 use Rattle.std.specs.Prelude.{◌≡◌, ◌↔◌, ◌≤◌, ◌<◌, ℕ, List, length, map, Some, slice_get, get_or, All, Contains, []}
 use Rattle.std.specs.List.{flat_map}
 use Rattle.leg_sweep.specs.Steps.Sweep.{ordered}
-use Rattle.leg_flat.specs.declared.shape.Shape.{Shape}
+use Rattle.leg_rules.specs.declared.shape.Shape.{Shape}
 use Rattle.leg_wire.specs.declared.piece_shape.PieceShape.{PieceShape}
 
 -- the same metal of one owner and one component: whatever is compared with the one shape is compared with the other

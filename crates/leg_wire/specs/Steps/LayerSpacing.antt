@@ -1,6 +1,6 @@
 -- The spacing of a layer by its number.
 use Rattle.std.specs.Prelude.{ℕ, unsigned_abs, List, Option, None, Some, slice_get}
-use Rattle.leg_cells.specs.declared.records.Layer.{Layer}
+use Rattle.leg_lib_records.specs.declared.records.Layer.{Layer}
 
 -- 0 where there is no such layer
 abbrev pub spacing_at : List Layer → ℕ → ℕ

@@ -16,8 +16,8 @@ pub record AreUnited (a b : ℕ) (before after : List ℕ) : Type 0 where
       → AreTogether before x y ⊎ ((AreTogether before x a × AreTogether before b y) ⊎ (AreTogether before x b × AreTogether before a y))
 
 -- The sets are kept as trees: a number's parent is in its set and isn't above it, and the least one is its own parent.
-abbrev pub IsForest : List ℕ → Type 0
-IsForest parents = (k : ℕ) → k < length parents → slice_index parents k ≤ k
+abbrev pub AreParents : List ℕ → Type 0
+AreParents parents = (k : ℕ) → k < length parents → slice_index parents k ≤ k
 
 -- the roots that are known, and those of the numbers after them, whose parents these are: a parent's root, or the number itself
 abbrev pub roots_after : List ℕ → List ℕ → List ℕ

@@ -1,9 +1,9 @@
 -- Pairs of shapes listed as violations of one kind.
 use Rattle.std.specs.Prelude.{◌≡◌, ℕ, List, Some, Contains, slice_get}
 use Rattle.leg_geom.specs.Plane.{SharePoint}
-use Rattle.leg_block.specs.declared.fault.Fault.{Fault}
-use Rattle.leg_block.specs.declared.fault.Fault.TheVariants as faults
-use Rattle.leg_flat.specs.declared.shape.Shape.{Shape}
+use Rattle.leg_design_records.specs.declared.fault.Fault.{Fault}
+use Rattle.leg_design_records.specs.declared.fault.Fault.TheVariants as faults
+use Rattle.leg_rules.specs.declared.shape.Shape.{Shape}
 use Rattle.leg_wire.specs.declared.pair_kind.PairKind.{PairKind}
 use Rattle.leg_wire.specs.declared.pair_kind.PairKind.TheVariants.{Short, TooNear}
 
@@ -24,7 +24,7 @@ fault_of Short = faults.Short
 fault_of TooNear = faults.TooNear
 
 -- the violation names one of the pairs, whose shapes pass the test
-pub record IsTold (fault_of : ℕ → ℕ → Fault) (Test : Shape → Shape → Type 0) (shapes : List Shape) (pairs : List (ℕ × ℕ)) (fault : Fault) : Type 0 where
+pub record IsPairViolation (fault_of : ℕ → ℕ → Fault) (Test : Shape → Shape → Type 0) (shapes : List Shape) (pairs : List (ℕ × ℕ)) (fault : Fault) : Type 0 where
   pub p : ℕ × ℕ
   pub is : fault ≡ fault_of p.0 p.1
   pub among : Contains pairs p
@@ -35,5 +35,5 @@ pub record IsTold (fault_of : ℕ → ℕ → Fault) (Test : Shape → Shape →
   pub test : Test a b
 
 -- the violation is of this kind, and names one of the pairs that are
-abbrev pub IsToldAs : PairKind → List Shape → List (ℕ × ℕ) → Fault → Type 0
-IsToldAs kind = IsTold (fault_of kind) (IsOfKind kind)
+abbrev pub IsPairViolationOf : PairKind → List Shape → List (ℕ × ℕ) → Fault → Type 0
+IsPairViolationOf kind = IsPairViolation (fault_of kind) (IsOfKind kind)

@@ -1,7 +1,7 @@
 -- The metal of a net's pieces, and which of them touch by it.
 use Rattle.std.specs.Prelude.{◌≡◌, ◌≢◌, ◌<◌, ℕ, List, Contains, Some}
-use Rattle.leg_geom.specs.Plane.{Spot, HasPoint}
-use Rattle.leg_flat.specs.declared.shape.Shape.{Shape}
+use Rattle.leg_geom.specs.Plane.{PointModel, HasPoint}
+use Rattle.leg_rules.specs.declared.shape.Shape.{Shape}
 use Rattle.leg_wire.specs.declared.piece_shape.PieceShape.{PieceShape}
 
 -- the metal is that of a shape of one of this many pieces
@@ -12,7 +12,7 @@ pub record SaysShape (count : ℕ) (shape : Shape) (piece : PieceShape) : Type 0
   pub rect : piece.rect ≡ shape.rect
 
 -- the point lies in a piece's metal, on this layer
-pub record LiesAmong (pieces : List PieceShape) (piece layer : ℕ) (p : Spot) : Type 0 where
+pub record LiesAmong (pieces : List PieceShape) (piece layer : ℕ) (p : PointModel) : Type 0 where
   pub shape : PieceShape
   pub has : Contains pieces shape
   pub of_piece : shape.piece ≡ piece
@@ -23,8 +23,8 @@ pub record LiesAmong (pieces : List PieceShape) (piece layer : ℕ) (p : Spot) :
 pub record TouchAmong (pieces : List PieceShape) (a b : ℕ) : Type 0 where
   pub others : a ≢ b
   pub layer : ℕ
-  pub p : Spot
-  pub q : Spot
+  pub p : PointModel
+  pub q : PointModel
   pub differ : p ≢ q
   pub p_in_a : LiesAmong pieces a layer p
   pub p_in_b : LiesAmong pieces b layer p

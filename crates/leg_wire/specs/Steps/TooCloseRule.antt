@@ -5,10 +5,10 @@ use Rattle.std.proofs.lemmas.Option.{slice_get_past}
 use Rattle.leg_geom.specs.Plane.{SharePoint}
 use Rattle.leg_geom.specs.Gap.{apart, x_gap, y_gap}
 use Rattle.leg_geom.proofs.Gaps.{SharePoint-symmetric, SharePoint-gaps, x_gap-least, y_gap-least, square_distance-symmetric, less_from_squares}
-use Rattle.leg_cells.specs.declared.records.Layer.{Layer}
-use Rattle.leg_flat.specs.declared.shape.Shape.{Shape}
-use Rattle.leg_wire.specs.Comparable.{AreComparable}
-use Rattle.leg_wire.specs.Spacing.{AreNearer}
+use Rattle.leg_lib_records.specs.declared.records.Layer.{Layer}
+use Rattle.leg_rules.specs.declared.shape.Shape.{Shape}
+use Rattle.leg_rules.specs.Spacing.Comparable.{AreComparable}
+use Rattle.leg_rules.specs.Spacing.Violations.{AreNearer}
 
 -- the spacing of the layer of this number, within the reach
 abbrev pub limit_at : List Layer → ℕ → ℕ → ℕ

@@ -1,4 +1,4 @@
-use Rattle.leg_input.specs.declared.command.Command.TheVariants.{Legalise, Route, Flow, Finish}
+use Rattle.leg_app_input.specs.declared.command.Command.TheVariants.{Legalise, Route, Flow, Finish}
 use Rattle.leg_app.proofs.AnswerLemmas.{ok_weaker, ok_both, made_answer}
 use Rattle.leg_app.proofs.Reasons.{explains_texts}
 use Rattle.leg_app.proofs.answer.design_answer.Goals as goal

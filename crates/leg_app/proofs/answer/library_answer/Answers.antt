@@ -1,7 +1,7 @@
 use Rattle.std.proofs.Common.{◌∙◌, ap, sym}
 use Rattle.leg_app.specs.Reason.{needed_master}
 use Rattle.leg_app.proofs.AnswerLemmas.{ok_weaker}
-use Rattle.leg_app.proofs.Sayings.{say_under, no_design}
+use Rattle.leg_app.proofs.Denotations.{say_under, no_design}
 use Rattle.leg_app.proofs.answer.library_answer.Goals as goal
 
 pub returns-in-Ok : goal.returns-in-Ok

@@ -1,5 +1,5 @@
 use Rattle.std.proofs.Common.{None}
-use Rattle.leg_input.specs.declared.command.Command.TheVariants.{PlaceCheck}
+use Rattle.leg_app_input.specs.declared.command.Command.TheVariants.{PlaceCheck}
 use Rattle.leg_app.proofs.AnswerLemmas.{ok_weaker, ok_both, nothing_there, listed_answer}
 use Rattle.leg_app.proofs.Reasons.{explains_listing}
 use Rattle.leg_app.proofs.answer.placement_answer.Goals as goal

@@ -1,5 +1,5 @@
 use Rattle.std.proofs.Common.{Some}
-use Rattle.leg_input.specs.declared.command.Command.TheVariants.{Check}
+use Rattle.leg_app_input.specs.declared.command.Command.TheVariants.{Check}
 use Rattle.leg_app.proofs.AnswerLemmas.{ok_weaker, ok_both, listed_answer}
 use Rattle.leg_app.proofs.Reasons.{explains_listing}
 use Rattle.leg_app.proofs.answer.whole_answer.Goals as goal

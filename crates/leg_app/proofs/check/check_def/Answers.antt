@@ -1,6 +1,6 @@
 use Rattle.std.proofs.Common.{◌∙◌}
 use Rattle.leg_app.proofs.AnswerLemmas.{ok_weaker, err_weaker}
-use Rattle.leg_app.proofs.Sayings.{say_under, no_design}
+use Rattle.leg_app.proofs.Denotations.{say_under, no_design}
 use Rattle.leg_app.proofs.check.check_def.Goals as goal
 
 pub returns-in-Ok-clause-found : goal.returns-in-Ok-clause-found

@@ -1,6 +1,6 @@
 -- The three lists stand one behind the other.
 use Rattle.std.proofs.Common.{◌≡◌, ◌++◌, ◌∙◌, ap, append_assoc}
-use Rattle.leg_rules.proofs.ListsOfKinds.{all_violations}
+use Rattle.leg_check.proofs.ListsOfKinds.{all_violations}
 use Rattle.leg_app.proofs.check.check_design.Goals as goal
 
 pub returns-clause-list : goal.returns-clause-list

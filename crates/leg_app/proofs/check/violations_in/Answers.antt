@@ -1,6 +1,6 @@
 use Rattle.std.proofs.lemmas.Result.{err_from_is_err_and}
 use Rattle.leg_app.proofs.AnswerLemmas.{ok_weaker, err_weaker, refuses_weaker}
-use Rattle.leg_app.proofs.Sayings.{nothing_under}
+use Rattle.leg_app.proofs.Denotations.{nothing_under}
 use Rattle.leg_app.proofs.check.violations_in.Goals as goal
 
 pub returns-in_err-library-clause-refused : goal.returns-in_err-library-clause-refused

@@ -1,8 +1,8 @@
 use Rattle.std.proofs.Common.{map}
-use Rattle.leg_app.specs.Say.{SayNothing}
-use Rattle.leg_app.specs.Steps.SaidLibrary.{SayNoLibrary}
+use Rattle.leg_grammar.specs.Texts.{DenoteNothing}
+use Rattle.leg_app.specs.Steps.OneLibrary.{DenoteNoLibrary}
 use Rattle.leg_app.proofs.AnswerLemmas.{ok_weaker, refuses_weaker, master_of_none}
-use Rattle.leg_app.proofs.Sayings.{nothing_under}
+use Rattle.leg_app.proofs.Denotations.{nothing_under}
 use Rattle.leg_app.proofs.compare.compare_texts.Goals as goal
 
 pub returns-in-Ok : goal.returns-in-Ok
@@ -17,5 +17,5 @@ returns-in-Err g c =
     let fault = c.in-Err.fault in
     let none = c.in-Err.ensures.none in
     ok_weaker _ _ c.refusal.result
-    (λ answer all. all lefs before c.args.after.now (refuses_weaker {nothing = SayNoLibrary lefs before} {other = SayNothing lefs before} {much = ⊥} {more = ⊥} fault (nothing_under lefs before) (λ much. much) none) c.in-Err.ensures.units (master_of_none lefs before fault none))
+    (λ answer all. all lefs before c.args.after.now (refuses_weaker {nothing = DenoteNoLibrary lefs before} {other = DenoteNothing lefs before} {much = ⊥} {more = ⊥} fault (nothing_under lefs before) (λ much. much) none) c.in-Err.ensures.units (master_of_none lefs before fault none))
     c.refusal.ensures

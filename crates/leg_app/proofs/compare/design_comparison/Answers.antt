@@ -1,9 +1,9 @@
 use Rattle.std.proofs.Common.{map, sym, ◌∙◌, subst}
-use Rattle.leg_lex.specs.Say.{Says}
-use Rattle.leg_lex.proofs.Saying.{says_one}
-use Rattle.leg_design.specs.Header.{units_in}
+use Rattle.leg_lex.specs.Denotes.{Denotes}
+use Rattle.leg_lex.proofs.Denotations.{says_one}
+use Rattle.leg_grammar.specs.Def.Header.{units_in}
 use Rattle.leg_app.proofs.AnswerLemmas.{ok_weaker}
-use Rattle.leg_app.proofs.Sayings.{no_units, nothing_under}
+use Rattle.leg_app.proofs.Denotations.{no_units, nothing_under}
 use Rattle.leg_app.proofs.Comparisons.{say_design, just_other}
 use Rattle.leg_app.proofs.compare.design_comparison.Goals as goal
 
@@ -14,7 +14,7 @@ returns-then-units g c =
     let after = c.args.after.now in
     let same = c.if-units.true ∙ c.units.ensures in
     ok_weaker _ _ c.second_comparison.result
-    (λ answer all before just says. all lefs before (say_design lefs before library c.args.first.now just says) (just_other lefs before after library (subst (Says units_in after) same c.in-Ok.ensures.units) just))
+    (λ answer all before just says. all lefs before (say_design lefs before library c.args.first.now just says) (just_other lefs before after library (subst (Denotes units_in after) same c.in-Ok.ensures.units) just))
     (rw c.in-Ok.ensures.text at c.second_comparison.ensures)
 
 pub returns-in-Ok : goal.returns-in-Ok

@@ -1,8 +1,8 @@
 use Rattle.std.proofs.Common.{map, sym, ◌∙◌}
-use Rattle.leg_app.specs.Say.{SayNothing}
-use Rattle.leg_app.specs.Steps.SaidLibrary.{SayNoLibrary}
+use Rattle.leg_grammar.specs.Texts.{DenoteNothing}
+use Rattle.leg_app.specs.Steps.OneLibrary.{DenoteNoLibrary}
 use Rattle.leg_app.proofs.AnswerLemmas.{ok_weaker, refuses_weaker, master_of_none}
-use Rattle.leg_app.proofs.Sayings.{nothing_under}
+use Rattle.leg_app.proofs.Denotations.{nothing_under}
 use Rattle.leg_app.proofs.compare.other_units.Goals as goal
 
 pub returns-in-Ok : goal.returns-in-Ok
@@ -24,5 +24,5 @@ returns-in-Err g c =
     let fault = c.in-Err.fault in
     let none = c.in-Err.ensures.none in
     ok_weaker _ _ c.refusal.result
-    (λ answer all before first say apart. all lefs before after (refuses_weaker {nothing = SayNoLibrary lefs after} {other = SayNothing lefs after} {much = ⊥} {more = ⊥} fault (nothing_under lefs after) (λ much. much) none) c.in-Err.ensures.units (master_of_none lefs after fault none))
+    (λ answer all before first say apart. all lefs before after (refuses_weaker {nothing = DenoteNoLibrary lefs after} {other = DenoteNothing lefs after} {much = ⊥} {more = ⊥} fault (nothing_under lefs after) (λ much. much) none) c.in-Err.ensures.units (master_of_none lefs after fault none))
     c.refusal.ensures

@@ -1,5 +1,5 @@
 use Rattle.std.proofs.Common.{◌≢◌, inr}
-use Rattle.leg_cells.specs.declared.scale_fault.ScaleKind.TheVariants as scale
+use Rattle.leg_lib_records.specs.declared.scale_fault.ScaleKind.TheVariants as scale
 use Rattle.leg_app.proofs.AnswerLemmas.{ok_weaker}
 use Rattle.leg_app.proofs.Comparisons.{nothing_of}
 use Rattle.leg_app.proofs.compare.refusal.Goals as goal

@@ -1,5 +1,5 @@
 use Rattle.std.proofs.Common.{◌∙◌, sym, subst}
-use Rattle.leg_app.specs.Say.{SayDesign}
+use Rattle.leg_grammar.specs.Texts.{DenoteDesign}
 use Rattle.leg_app.proofs.AnswerLemmas.{ok_weaker}
 use Rattle.leg_app.proofs.Comparisons.{say_design, library_of}
 use Rattle.leg_app.proofs.compare.second_comparison.Goals as goal
@@ -14,8 +14,8 @@ returns-in-Ok g c =
     let second = c.in-Ok.second in
     ok_weaker _ _ c.comparison.result
     (λ answer all lefs before say just. all lefs before c.args.after
-    (subst (λ l. SayDesign lefs before l first) (sym c.requires) say)
-    (subst (λ l. SayDesign lefs c.args.after l second) (sym c.requires) (say_design lefs c.args.after library second just c.in-Ok.ensures.found)))
+    (subst (λ l. DenoteDesign lefs before l first) (sym c.requires) say)
+    (subst (λ l. DenoteDesign lefs c.args.after l second) (sym c.requires) (say_design lefs c.args.after library second just c.in-Ok.ensures.found)))
     c.comparison.ensures
 
 pub returns-in-Err : goal.returns-in-Err

@@ -2,7 +2,7 @@ use Rattle.std.proofs.Common.{◌∙◌, ap, sym}
 use Rattle.leg_app.specs.Reason.{needed_master}
 use Rattle.leg_app.specs.Comparison.{def_of}
 use Rattle.leg_app.proofs.AnswerLemmas.{ok_weaker}
-use Rattle.leg_app.proofs.Sayings.{no_design}
+use Rattle.leg_app.proofs.Denotations.{no_design}
 use Rattle.leg_app.proofs.compare.unread.Goals as goal
 
 pub returns : goal.returns

@@ -1,6 +1,6 @@
 use Rattle.std.proofs.Common.{◌≡◌, take}
 use Rattle.std.specs.List.{flat_map}
-use Rattle.leg_app.specs.CompareLines.{difference_line}
+use Rattle.leg_output.specs.Commands.Compare.{difference_line}
 use Rattle.leg_app.proofs.compare_lines.comparison_text.Given as goal
 
 -- a line for each difference so far

@@ -2,8 +2,8 @@ use Rattle.std.proofs.Common.{◌≡◌, ℕ, List, ◌++◌, length, codes, sym
 use Rattle.std.specs.Prelude.{decimal}
 use Rattle.std.specs.List.{flat_map}
 use Rattle.leg_flat.proofs.OneFlat.{one_flat}
-use Rattle.leg_app.specs.FinishLines.{unfinished_line}
-use Rattle.leg_app.specs.Finished.TellsNotFinished.{not_clean, grid_too_large, unreachable, unfinished, too_many}
+use Rattle.leg_output.specs.Commands.Finish.{unfinished_line}
+use Rattle.leg_app.specs.FinishResult.ReportsNotFinished.{not_clean, grid_too_large, unreachable, unfinished, too_many}
 use Rattle.leg_app.proofs.finish_answer.not_finished.Goals as goal
 
 in_one_row : (lines word digits end : List ℕ) → lines ++ (word ++ digits ++ end) ≡ lines ++ word ++ digits ++ end

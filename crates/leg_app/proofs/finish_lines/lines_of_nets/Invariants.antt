@@ -1,6 +1,6 @@
 use Rattle.std.proofs.Common.{◌≡◌, take}
 use Rattle.std.specs.List.{flat_map}
-use Rattle.leg_app.specs.FinishLines.{unfinished_line}
+use Rattle.leg_output.specs.Commands.Finish.{unfinished_line}
 use Rattle.leg_app.proofs.finish_lines.lines_of_nets.Given as goal
 
 -- a line for each net so far

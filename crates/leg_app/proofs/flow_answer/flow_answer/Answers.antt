@@ -1,5 +1,5 @@
-use Rattle.leg_app.specs.Legalised.{Legalises}
-use Rattle.leg_app.specs.Flow.TellsFlowStopped.{not_legalised}
+use Rattle.leg_app.specs.LegaliseResult.{Legalises}
+use Rattle.leg_app.specs.FlowResult.ReportsFlowStopped.{not_legalised}
 use Rattle.leg_app.proofs.AnswerLemmas.{ok_weaker, ok_both}
 use Rattle.leg_app.proofs.flow_answer.flow_answer.Goals as goal
 

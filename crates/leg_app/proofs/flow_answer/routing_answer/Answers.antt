@@ -1,6 +1,6 @@
 use Rattle.std.proofs.Common.{refl}
-use Rattle.leg_input.specs.declared.command.Command.TheVariants.{Flow}
-use Rattle.leg_app.specs.Flow.TellsFlowStopped.{not_routed}
+use Rattle.leg_app_input.specs.declared.command.Command.TheVariants.{Flow}
+use Rattle.leg_app.specs.FlowResult.ReportsFlowStopped.{not_routed}
 use Rattle.leg_app.proofs.AnswerLemmas.{ok_weaker, ok_both}
 use Rattle.leg_app.proofs.flow_answer.routing_answer.Goals as goal
 

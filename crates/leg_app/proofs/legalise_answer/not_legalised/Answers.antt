@@ -1,4 +1,4 @@
-use Rattle.leg_app.specs.Legalised.TellsNotLegalised.{fixed_illegal, no_site, no_room}
+use Rattle.leg_app.specs.LegaliseResult.ReportsNotLegalised.{fixed_illegal, no_site, no_room}
 use Rattle.leg_app.proofs.legalise_answer.not_legalised.Goals as goal
 
 pub returns-in_ok-text-in-FixedIllegal-clause-tells : goal.returns-in_ok-text-in-FixedIllegal-clause-tells

@@ -3,7 +3,7 @@ use Rattle.std.specs.Iterator.Adapters.{zip_first, zip_second}
 use Rattle.std.specs.Slice.Iter.{iter_rest}
 use Rattle.std.proofs.lemmas.Int.{to_z-of_z}
 use Rattle.std.proofs.lemmas.Slice.Zip.{Zip-more, either_empty_from_Zip}
-use Rattle.leg_app.proofs.MovesTold.{next_line, no_line_yet, lines_end}
+use Rattle.leg_app.proofs.MoveLines.{next_line, no_line_yet, lines_end}
 use Rattle.leg_app.proofs.legalise_lines.legalised_text.Goals as goal
 
 pub returns : goal.returns

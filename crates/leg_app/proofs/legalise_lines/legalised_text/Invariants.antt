@@ -1,8 +1,8 @@
 use Rattle.std.proofs.Common.{◌≡◌, ◌++◌}
 use Rattle.std.specs.Iterator.Adapters.{zip_first, zip_second}
 use Rattle.std.specs.Slice.Iter.{iter_rest}
-use Rattle.leg_print.specs.Text.Whole.{design_text}
-use Rattle.leg_app.specs.LegaliseLines.{move_lines}
+use Rattle.leg_output.specs.Text.Whole.{design_text}
+use Rattle.leg_output.specs.Commands.Legalise.{move_lines}
 use Rattle.leg_app.proofs.legalise_lines.legalised_text.Given as goal
 
 -- with the lines of the components that are left, the text has a line for each

@@ -1,4 +1,4 @@
-use Rattle.leg_app.specs.Routed.TellsNotRouted.{not_clean, grid_too_large, unroutable, too_many}
+use Rattle.leg_app.specs.RouteResult.ReportsNotRouted.{not_clean, grid_too_large, unroutable, too_many}
 use Rattle.leg_app.proofs.route_answer.not_routed.Goals as goal
 
 pub not_clean_text-requires : goal.not_clean_text-requires

@@ -1,6 +1,6 @@
 use Rattle.leg_app.proofs.AnswerLemmas.{ok_weaker, ok_both}
 use Rattle.std.proofs.Common.{refl}
-use Rattle.leg_input.specs.declared.command.Command.TheVariants.{Route}
+use Rattle.leg_app_input.specs.declared.command.Command.TheVariants.{Route}
 use Rattle.leg_app.proofs.route_answer.route_answer.Goals as goal
 
 pub returns-in_ok-text-in-Ok-clause-is : goal.returns-in_ok-text-in-Ok-clause-is

@@ -1,7 +1,7 @@
 use Rattle.std.proofs.Common.{refl}
 use Rattle.std.proofs.lemmas.Result.{err_from_is_err_and}
 use Rattle.leg_app.specs.declared.status.Status.TheVariants.{Memory}
-use Rattle.leg_app.specs.Lines.{memory_text}
+use Rattle.leg_output.specs.Commands.Check.{memory_text}
 use Rattle.leg_app.proofs.run_command.run_explained.Goals as goal
 
 pub returns-in_err-status-in-Err-clause-cut : goal.returns-in_err-status-in-Err-clause-cut

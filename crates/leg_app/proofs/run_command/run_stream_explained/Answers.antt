@@ -1,7 +1,7 @@
 use Rattle.std.proofs.Common.{inr, refl}
 use Rattle.std.proofs.lemmas.Result.{err_from_is_err_and}
 use Rattle.leg_app.specs.declared.status.Status.TheVariants.{Refused}
-use Rattle.leg_app.specs.Lines.{no_library_text}
+use Rattle.leg_output.specs.Commands.Check.{no_library_text}
 use Rattle.leg_app.proofs.AnswerLemmas.{no_library_is}
 use Rattle.leg_app.proofs.run_command.run_stream_explained.Goals as goal
 

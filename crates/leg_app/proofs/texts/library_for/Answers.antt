@@ -1,7 +1,7 @@
 use Rattle.std.proofs.Common.{◌∙◌}
-use Rattle.leg_lex.proofs.Saying.{says_nothing}
-use Rattle.leg_design.specs.Header.{units_in}
-use Rattle.leg_app.proofs.Sayings.{no_units, no_scaled, only_scaled}
+use Rattle.leg_lex.proofs.Denotations.{says_nothing}
+use Rattle.leg_grammar.specs.Def.Header.{units_in}
+use Rattle.leg_app.proofs.Denotations.{no_units, no_scaled, only_scaled}
 use Rattle.leg_app.proofs.texts.library_for.Goals as goal
 
 pub returns-in-Err-clause-none : goal.returns-in-Err-clause-none

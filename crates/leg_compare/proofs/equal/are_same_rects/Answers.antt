@@ -1,5 +1,5 @@
 use Rattle.std.proofs.lemmas.Bool.Decides.{Decides-at}
-use Rattle.leg_compare.proofs.Decided.{rects_decide}
+use Rattle.leg_compare.proofs.Decisions.{rects_decide}
 use Rattle.leg_compare.proofs.equal.are_same_rects.Goals as goal
 
 pub returns : goal.returns

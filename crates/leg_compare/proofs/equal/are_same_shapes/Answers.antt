@@ -1,5 +1,5 @@
 use Rattle.std.proofs.lemmas.Bool.Decides.{Decides-at}
-use Rattle.leg_compare.proofs.Decided.{shapes_decide}
+use Rattle.leg_compare.proofs.Decisions.{shapes_decide}
 use Rattle.leg_compare.proofs.equal.are_same_shapes.Goals as goal
 
 pub returns : goal.returns

@@ -1,4 +1,4 @@
-use Rattle.leg_compare.proofs.Between.{all_listed}
+use Rattle.leg_compare.proofs.BetweenRanks.{all_listed}
 use Rattle.leg_compare.proofs.listing.differences.Goals as goal
 
 pub returns : goal.returns

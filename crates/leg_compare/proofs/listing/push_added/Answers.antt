@@ -1,9 +1,9 @@
 use Rattle.std.proofs.Common.{◌≡◌, ℕ, ◌+◌, ◌<◌, length, subst, arith}
-use Rattle.leg_compare.specs.declared.difference.Difference.TheVariants.{Added}
-use Rattle.leg_compare.specs.Sections.{names_of, IsMissing}
-use Rattle.leg_compare.specs.Order.{section_number}
-use Rattle.leg_compare.specs.Steps.Listed.{at, AreListedTo}
-use Rattle.leg_compare.proofs.Between.{with_one, without_one, added_on, added_end}
+use Rattle.leg_rules.specs.declared.difference.Difference.TheVariants.{Added}
+use Rattle.leg_rules.specs.Compare.Sections.{names_of, IsMissing}
+use Rattle.leg_rules.specs.Compare.Order.{section_number}
+use Rattle.leg_compare.specs.Steps.Listing.{at, AreListedTo}
+use Rattle.leg_compare.proofs.BetweenRanks.{with_one, without_one, added_on, added_end}
 use Rattle.leg_compare.proofs.Entries.{is_missing, not_missing, is_nothing, is_something}
 use Rattle.leg_compare.proofs.listing.push_added.Goals as goal
 use Rattle.leg_compare.proofs.listing.push_added.Goals.{then-is_none+in_ok-push, else-is_none}

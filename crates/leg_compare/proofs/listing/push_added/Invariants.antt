@@ -1,6 +1,6 @@
 use Rattle.std.proofs.Common.{◌+◌}
-use Rattle.leg_compare.specs.Order.{section_number}
-use Rattle.leg_compare.specs.Steps.Listed.{at, AreListedTo}
+use Rattle.leg_rules.specs.Compare.Order.{section_number}
+use Rattle.leg_compare.specs.Steps.Listing.{at, AreListedTo}
 use Rattle.leg_compare.proofs.listing.push_added.Given as goal
 
 abbrev pub invariant-loop-j : goal.invariant-loop-j

@@ -1,8 +1,8 @@
 use Rattle.std.proofs.Common.{◌≡◌, ℕ, true, subst}
-use Rattle.leg_compare.specs.declared.difference.Difference.TheVariants.{Changed}
-use Rattle.leg_compare.specs.Sections.{names_of}
-use Rattle.leg_compare.specs.Differences.{HasChanged}
-use Rattle.leg_compare.proofs.Between.{with_one, without_one}
+use Rattle.leg_rules.specs.declared.difference.Difference.TheVariants.{Changed}
+use Rattle.leg_rules.specs.Compare.Sections.{names_of}
+use Rattle.leg_rules.specs.Compare.Differences.{HasChanged}
+use Rattle.leg_compare.proofs.BetweenRanks.{with_one, without_one}
 use Rattle.leg_compare.proofs.Named.{found_within}
 use Rattle.leg_compare.proofs.listing.push_change.Goals as goal
 

@@ -1,6 +1,6 @@
 use Rattle.std.proofs.lemmas.Result.{on_ok_weaker}
-use Rattle.leg_compare.specs.declared.difference.Difference.TheVariants.{Gone}
-use Rattle.leg_compare.proofs.Between.{without_one, changes_on}
+use Rattle.leg_rules.specs.declared.difference.Difference.TheVariants.{Gone}
+use Rattle.leg_compare.proofs.BetweenRanks.{without_one, changes_on}
 use Rattle.leg_compare.proofs.listing.push_changes.Goals as goal
 
 pub push_change-requires-clause-listed : goal.push_change-requires-clause-listed

@@ -1,9 +1,9 @@
 use Rattle.std.proofs.Common.{◌≡◌, ℕ, ◌<◌, length, subst, arith}
-use Rattle.leg_compare.specs.declared.difference.Difference.TheVariants.{Gone}
-use Rattle.leg_compare.specs.Sections.{names_of, IsMissing}
-use Rattle.leg_compare.specs.Order.{section_number}
-use Rattle.leg_compare.specs.Steps.Listed.{at, AreListedTo}
-use Rattle.leg_compare.proofs.Between.{with_one, gone_on, entries_end}
+use Rattle.leg_rules.specs.declared.difference.Difference.TheVariants.{Gone}
+use Rattle.leg_rules.specs.Compare.Sections.{names_of, IsMissing}
+use Rattle.leg_rules.specs.Compare.Order.{section_number}
+use Rattle.leg_compare.specs.Steps.Listing.{at, AreListedTo}
+use Rattle.leg_compare.proofs.BetweenRanks.{with_one, gone_on, entries_end}
 use Rattle.leg_compare.proofs.Entries.{is_missing}
 use Rattle.leg_compare.proofs.listing.push_entries.Goals as goal
 use Rattle.leg_compare.proofs.listing.push_entries.Goals.{in-None+in_ok-push-in-None, in-Some+in_ok-push_changes-in-Some}

@@ -1,5 +1,5 @@
-use Rattle.leg_compare.specs.Order.{section_number}
-use Rattle.leg_compare.specs.Steps.Listed.{at, AreListedTo}
+use Rattle.leg_rules.specs.Compare.Order.{section_number}
+use Rattle.leg_compare.specs.Steps.Listing.{at, AreListedTo}
 use Rattle.leg_compare.proofs.listing.push_entries.Given as goal
 
 abbrev pub invariant-loop-i : goal.invariant-loop-i

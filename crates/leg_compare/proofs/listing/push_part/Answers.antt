@@ -1,6 +1,6 @@
 use Rattle.std.proofs.Common.{◌≡◌, true}
-use Rattle.leg_compare.specs.declared.difference.Difference.TheVariants.{Whole}
-use Rattle.leg_compare.proofs.Between.{with_one, without_one, part_on}
+use Rattle.leg_rules.specs.declared.difference.Difference.TheVariants.{Whole}
+use Rattle.leg_compare.proofs.BetweenRanks.{with_one, without_one, part_on}
 use Rattle.leg_compare.proofs.listing.push_part.Goals as goal
 
 pub returns-in_ok-push : goal.returns-in_ok-push

@@ -1,5 +1,5 @@
 use Rattle.std.proofs.lemmas.Result.{on_ok_weaker}
-use Rattle.leg_compare.proofs.Between.{none_listed, parts_end}
+use Rattle.leg_compare.proofs.BetweenRanks.{none_listed, parts_end}
 use Rattle.leg_compare.proofs.listing.push_parts.Goals as goal
 
 pub push_part-requires : goal.push_part-requires

@@ -1,5 +1,5 @@
 use Rattle.std.proofs.Common.{◌≡◌, true, refl, sym, ap, ◌∙◌, arith}
-use Rattle.leg_block.specs.Records.{blockage_said}
+use Rattle.leg_design_records.specs.Records.{blockage_said}
 use Rattle.leg_compare.proofs.ListsAlike.{all_alike, alike_at}
 use Rattle.leg_compare.proofs.lists.are_same_blockages.Goals as goal
 

@@ -1,5 +1,5 @@
 use Rattle.std.proofs.Common.{◌≡◌, ℕ, ◌<◌, get_or}
-use Rattle.leg_block.specs.declared.records.Row.{Row}
+use Rattle.leg_design_records.specs.declared.records.Row.{Row}
 use Rattle.leg_compare.proofs.lists.are_same_rows.Given as goal
 
 abbrev pub invariant-loop-i : goal.invariant-loop-i

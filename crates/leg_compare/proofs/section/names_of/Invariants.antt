@@ -1,5 +1,5 @@
 use Rattle.std.proofs.Common.{◌≡◌, take}
-use Rattle.leg_compare.specs.Sections.{names_of}
+use Rattle.leg_rules.specs.Compare.Sections.{names_of}
 use Rattle.leg_compare.proofs.section.names_of.Given as goal
 
 abbrev pub invariant-loop-number : goal.invariant-loop-number

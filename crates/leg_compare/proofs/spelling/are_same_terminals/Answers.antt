@@ -1,5 +1,5 @@
 use Rattle.std.proofs.Common.{◌≡◌, true, refl, arith}
-use Rattle.leg_compare.specs.Spelling.{spelled_terminal}
+use Rattle.leg_rules.specs.Compare.Spelling.{spelled_terminal}
 use Rattle.leg_compare.proofs.ListsAlike.{all_alike, alike_at, same_lengths}
 use Rattle.leg_compare.proofs.spelling.are_same_terminals.Goals as goal
 

@@ -1,5 +1,5 @@
 use Rattle.std.proofs.Common.{◌≡◌, true, refl, sym, ap, ◌∙◌, arith}
-use Rattle.leg_compare.specs.Spelling.{spelled_wire}
+use Rattle.leg_rules.specs.Compare.Spelling.{spelled_wire}
 use Rattle.leg_compare.proofs.Growth.{goes_on, no_shorter, alike}
 use Rattle.leg_compare.proofs.spelling.go_on.Goals as goal
 

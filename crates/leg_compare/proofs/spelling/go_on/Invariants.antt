@@ -1,6 +1,6 @@
 use Rattle.std.proofs.Common.{◌≡◌, ℕ, ◌<◌, get_or}
-use Rattle.leg_block.specs.declared.records.Wire.{Wire}
-use Rattle.leg_compare.specs.Spelling.{spelled_wire}
+use Rattle.leg_design_records.specs.declared.records.Wire.{Wire}
+use Rattle.leg_rules.specs.Compare.Spelling.{spelled_wire}
 use Rattle.leg_compare.proofs.spelling.go_on.Given as goal
 
 abbrev pub invariant-loop-i : goal.invariant-loop-i

@@ -1,4 +1,4 @@
-use Rattle.leg_compare.proofs.Decided.{segment_alike, patch_alike}
+use Rattle.leg_compare.proofs.Decisions.{segment_alike, patch_alike}
 use Rattle.leg_compare.proofs.spelling.is_same_wire.Goals as goal
 
 pub returns-in-Segment : goal.returns-in-Segment

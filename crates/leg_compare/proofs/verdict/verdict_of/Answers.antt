@@ -1,5 +1,5 @@
 use Rattle.std.proofs.Common.{rules, arith}
-use Rattle.leg_compare.proofs.Counted.{next_move, next_growth}
+use Rattle.leg_compare.proofs.Counts.{next_move, next_growth}
 use Rattle.leg_compare.proofs.verdict.verdict_of.Goals as goal
 use Rattle.leg_compare.proofs.verdict.verdict_of.Goals.{then-is_move, else-is_move+then-is_growth}
 

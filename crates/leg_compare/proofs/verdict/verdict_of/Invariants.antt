@@ -1,5 +1,5 @@
 use Rattle.std.proofs.Common.{take}
-use Rattle.leg_compare.proofs.Counted.{AreCounted}
+use Rattle.leg_compare.proofs.Counts.{AreCounted}
 use Rattle.leg_compare.proofs.verdict.verdict_of.Given as goal
 
 abbrev pub invariant-loop-difference : goal.invariant-loop-difference

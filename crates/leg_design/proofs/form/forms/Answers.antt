@@ -1,5 +1,5 @@
 use Rattle.std.proofs.lemmas.Result.{err_from_is_err_and}
-use Rattle.leg_design.specs.Parts.{no_parts}
+use Rattle.leg_grammar.specs.Def.Parts.{no_parts}
 use Rattle.leg_design.proofs.Forms.{forms_failed}
 use Rattle.leg_design.proofs.form.forms.Goals as goal
 

@@ -1,8 +1,8 @@
 use Rattle.std.proofs.Common.{◌≡◌, length}
 use Rattle.leg_lex.specs.Until.{until}
 use Rattle.leg_lex.specs.Statements.{at_end}
-use Rattle.leg_design.specs.Parts.{no_parts}
-use Rattle.leg_design.specs.Form.{def_form_at}
+use Rattle.leg_grammar.specs.Def.Parts.{no_parts}
+use Rattle.leg_grammar.specs.Def.Form.{def_form_at}
 use Rattle.leg_design.proofs.form.forms.Given as goal
 
 abbrev pub invariant-forms : goal.invariant-forms

@@ -1,6 +1,6 @@
 use Rattle.std.proofs.Common.{◌≡◌, length}
 use Rattle.leg_lex.specs.Past.{past}
-use Rattle.leg_design.specs.Header.{microns_at}
+use Rattle.leg_grammar.specs.Def.Header.{microns_at}
 use Rattle.leg_design.proofs.header.past_microns.Given as goal
 
 abbrev pub invariant-words : goal.invariant-words

@@ -1,6 +1,6 @@
 use Rattle.std.proofs.Common.{sym}
-use Rattle.leg_lex.proofs.Saying.{says_one}
-use Rattle.leg_design.specs.Form.{design_in}
+use Rattle.leg_lex.proofs.Denotations.{says_one}
+use Rattle.leg_grammar.specs.Def.Form.{design_in}
 use Rattle.leg_design.proofs.laws.text_says_one_design.Goals as goal
 
 pub returns : goal.returns

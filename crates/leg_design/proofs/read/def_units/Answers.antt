@@ -1,6 +1,6 @@
 use Rattle.std.proofs.lemmas.Result.{err_from_is_err_and}
-use Rattle.leg_lex.proofs.Saying.{says_nothing}
-use Rattle.leg_design.specs.Header.{units_in}
+use Rattle.leg_lex.proofs.Denotations.{says_nothing}
+use Rattle.leg_grammar.specs.Def.Header.{units_in}
 use Rattle.leg_design.proofs.read.def_units.Goals as goal
 
 pub returns-in_err-def-clause-none : goal.returns-in_err-def-clause-none

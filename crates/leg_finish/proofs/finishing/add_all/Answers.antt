@@ -1,10 +1,10 @@
 use Rattle.std.proofs.Common.{◌≡◌, false, List, All, length, map, sum_by, count_by, sym, ◌∙◌, arith}
-use Rattle.leg_block.specs.WellFormed.{IsWellFormed}
-use Rattle.leg_block.specs.declared.records.Wire.{Wire}
+use Rattle.leg_design_records.specs.WellFormed.{IsWellFormed}
+use Rattle.leg_design_records.specs.declared.records.Wire.{Wire}
 use Rattle.leg_rules.specs.Legal.{IsLegal}
-use Rattle.leg_grown.specs.Finished.{finished}
-use Rattle.leg_block.specs.WellFormedNets.{IsWire}
-use Rattle.leg_finish.specs.Wires.{wire_length, is_via}
+use Rattle.leg_route_laws.specs.Finished.{finished}
+use Rattle.leg_design_records.specs.WellFormedNets.{IsWire}
+use Rattle.leg_rules.specs.Finish.Wires.{wire_length, is_via}
 use Rattle.leg_finish.proofs.WithWires.{few_shapes, few_wires, few_added, legal_then, sum_mapped, all_before}
 use Rattle.leg_finish.proofs.AddedWires.{adds_to_open, have_totals}
 use Rattle.leg_finish.proofs.finishing.add_all.Goals as goal

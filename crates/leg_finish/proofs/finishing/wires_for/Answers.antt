@@ -1,10 +1,10 @@
 use Rattle.std.proofs.Common.{◌≡◌, [], length, map, replicate, inr, subst, ap, ◌∙◌, arith}
 use Rattle.std.proofs.lemmas.Bool.Decides.{nat_tests}
-use Rattle.leg_flat.specs.Flat.{FlatSaid}
+use Rattle.leg_rules.specs.Metal.Flat.{FlatModel}
 use Rattle.leg_finish.specs.Steps.OpenNets.{AreOpenNets}
-use Rattle.leg_finish.proofs.Judged.{none_open}
-use Rattle.leg_finish.proofs.LaidOut.{laid_first}
-use Rattle.leg_grown.proofs.Within.{nets_within}
+use Rattle.leg_finish.proofs.Judgement.{none_open}
+use Rattle.leg_finish.proofs.WiresByNet.{laid_first}
+use Rattle.leg_route_laws.proofs.Within.{nets_within}
 use Rattle.leg_finish.proofs.finishing.wires_for.Goals as goal
 
 pub open_nets-requires : goal.open_nets-requires
@@ -33,4 +33,4 @@ why_unfinished-requires-clause-nets g c = λ other is_other.
     let flat = c.in_ok-flat.flat in
     let nets = c.in_ok-nets.nets.items in
     let same : flat ≡ other = c.design_has_one_flat.ensures design flat other c.in_ok-flat.ensures.clean.judged.is_flat is_other in
-    rw c.deref-in-Left.ensures.value (subst (λ (f : FlatSaid). AreOpenNets design f nets) same c.in_ok-nets.ensures.are)
+    rw c.deref-in-Left.ensures.value (subst (λ (f : FlatModel). AreOpenNets design f nets) same c.in_ok-nets.ensures.are)

@@ -1,5 +1,5 @@
 use Rattle.std.proofs.Common.{IsTrue, arith}
-use Rattle.leg_grown.proofs.Within.{nets_within}
+use Rattle.leg_route_laws.proofs.Within.{nets_within}
 use Rattle.leg_finish.proofs.found.found_wires.Goals as goal
 
 pub lay_out-requires-clause-in_range : goal.lay_out-requires-clause-in_range

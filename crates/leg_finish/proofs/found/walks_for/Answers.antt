@@ -1,14 +1,14 @@
 use Rattle.std.proofs.Common.{◌<◌, All, length, sym, arith}
 use Rattle.std.proofs.lemmas.List.Elements.{All-weaker}
-use Rattle.leg_grid.specs.Told.{TellsSlots}
+use Rattle.leg_route_grid.specs.Steps.AccessTable.{IsAccessTable}
 use Rattle.leg_finish.specs.declared.groups.OpenNet.{OpenNet}
 use Rattle.leg_finish.specs.Steps.OpenNets.{IsOpenWith}
-use Rattle.leg_grown.proofs.Within.{numbers_within}
+use Rattle.leg_route_laws.proofs.Within.{numbers_within}
 use Rattle.leg_finish.proofs.found.walks_for.Goals as goal
 
 pub nets_to_join-requires-clause-count : goal.nets_to_join-requires-clause-count
 nets_to_join-requires-clause-count g c =
-    let told : TellsSlots c.args.grid.now c.args.flat.now c.in_ok-slots.slots.items = c.in_ok-slots.ensures c.args.flat.now (sym c.shapes.ensures.is) in
+    let told : IsAccessTable c.args.grid.now c.args.flat.now c.in_ok-slots.slots.items = c.in_ok-slots.ensures c.args.flat.now (sym c.shapes.ensures.is) in
     rw c.deref.ensures.value told.count
 
 pub nets_to_join-requires-clause-shapes : goal.nets_to_join-requires-clause-shapes
@@ -20,7 +20,7 @@ nets_to_join-requires-clause-shapes g c =
 
 pub invariant_of-lattice : goal.invariant_of-lattice
 invariant_of-lattice g c =
-    let told : TellsSlots c.args.grid.now c.args.flat.now c.in_ok-slots.slots.items = c.in_ok-slots.ensures c.args.flat.now (sym c.shapes.ensures.is) in
+    let told : IsAccessTable c.args.grid.now c.args.flat.now c.in_ok-slots.slots.items = c.in_ok-slots.ensures c.args.flat.now (sym c.shapes.ensures.is) in
     record { count = rw c.deref-2.ensures.value told.count }
 
 pub negotiate-requires-clause-parts : goal.negotiate-requires-clause-parts

@@ -1,5 +1,6 @@
 use Rattle.std.proofs.Common.{IsTrue, refl}
-use Rattle.leg_wire.specs.Touch.{piece_count, AreJoined, AreFirsts}
+use Rattle.leg_wire.specs.PieceMarks.{AreFirsts}
+use Rattle.leg_rules.specs.Joins.Touch.{piece_count, AreJoined}
 use Rattle.leg_finish.proofs.OpenNets.{open_by_firsts, firsts_by_open, open_skip, open_more}
 use Rattle.leg_finish.proofs.groups.push_if_open.Goals as goal
 

@@ -1,6 +1,6 @@
 -- The flat grew by the wires so far.
 use Rattle.std.proofs.Common.{◌≡◌, length, take}
-use Rattle.leg_grown.specs.Growth.{Grows, of_net}
+use Rattle.leg_route_laws.specs.Growth.{Grows, of_net}
 use Rattle.leg_finish.proofs.grow.add_wires.Given as goal
 
 abbrev pub invariant-loop-wire : goal.invariant-loop-wire

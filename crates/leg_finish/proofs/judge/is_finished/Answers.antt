@@ -1,7 +1,7 @@
 use Rattle.std.proofs.Common.{◌≡◌, ◌<◌, length, inl, inr, arith}
 use Rattle.std.proofs.lemmas.Bool.{cases_eq}
 use Rattle.std.proofs.lemmas.Bool.Decides.{nat_tests}
-use Rattle.leg_finish.proofs.Judged.{no_fault, some_fault, none_open, some_open}
+use Rattle.leg_finish.proofs.Judgement.{no_fault, some_fault, none_open, some_open}
 use Rattle.leg_finish.proofs.judge.is_finished.Goals as goal
 
 pub returns-then-not-is_empty-clause-is : goal.returns-then-not-is_empty-clause-is

@@ -1,7 +1,7 @@
 use Rattle.std.proofs.Common.{IsTrue, map, get_or, ◌∙◌}
 use Rattle.std.proofs.lemmas.List.Elements.{All-get_or}
 use Rattle.leg_finish.specs.Steps.OpenNets.{IsOpenWith}
-use Rattle.leg_finish.proofs.LaidOut.{laid_next}
+use Rattle.leg_finish.proofs.WiresByNet.{laid_next}
 use Rattle.leg_finish.proofs.layout.lay_out.Goals as goal
 
 pub loop-place-preserved : goal.loop-place-preserved

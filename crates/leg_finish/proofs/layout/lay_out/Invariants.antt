@@ -1,6 +1,6 @@
 -- The walks of the nets so far are laid out.
 use Rattle.std.proofs.Common.{◌≡◌, length, map}
-use Rattle.leg_finish.specs.Steps.Judged.{IsLaidOut}
+use Rattle.leg_finish.specs.Steps.Judgement.{IsLaidOut}
 use Rattle.leg_finish.proofs.layout.lay_out.Given as goal
 
 abbrev pub invariant-loop-place : goal.invariant-loop-place

@@ -1,6 +1,6 @@
 use Rattle.std.proofs.Common.{◌≢◌, get_or, ap, ◌∙◌}
 use Rattle.std.proofs.lemmas.List.Elements.{All-get_or}
-use Rattle.leg_grown.proofs.Within.{nets_within}
+use Rattle.leg_route_laws.proofs.Within.{nets_within}
 use Rattle.leg_finish.specs.declared.groups.OpenNet.{OpenNet}
 use Rattle.leg_finish.proofs.one_net.first_unreachable_piece.Goals as goal
 

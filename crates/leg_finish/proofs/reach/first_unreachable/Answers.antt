@@ -4,7 +4,7 @@ use Rattle.std.proofs.Math.Seq.{take-append_seam}
 use Rattle.std.proofs.lemmas.List.Elements.{All-get_or, AllWithin-more, AllWithin-upto, at_read}
 use Rattle.leg_finish.specs.declared.groups.OpenNet.{OpenNet}
 use Rattle.leg_finish.specs.Steps.OpenNets.{IsOpenWith}
-use Rattle.leg_finish.proofs.FirstReached.{IsReached, all_reached, first_of_all}
+use Rattle.leg_finish.proofs.FirstReach.{IsReached, all_reached, first_of_all}
 use Rattle.leg_finish.proofs.reach.first_unreachable.Goals as goal
 
 pub unreachable_piece-requires-clause-told : goal.unreachable_piece-requires-clause-told

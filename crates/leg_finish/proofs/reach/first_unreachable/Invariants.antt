@@ -1,9 +1,9 @@
 -- Each piece of the nets so far can be reached.
 use Rattle.std.proofs.Common.{◌≡◌, [], length}
 use Rattle.std.specs.List.{AllWithin}
-use Rattle.leg_walk.specs.Marks.{AreUnseen}
-use Rattle.leg_grid.specs.Grid.{slot_total}
-use Rattle.leg_finish.proofs.FirstReached.{IsReached}
+use Rattle.leg_route_search.specs.Steps.FreshMarks.{AreUnseen}
+use Rattle.leg_route_grid.specs.Steps.Grid.{slot_total}
+use Rattle.leg_finish.proofs.FirstReach.{IsReached}
 use Rattle.leg_finish.proofs.reach.first_unreachable.Given as goal
 
 abbrev pub invariant-loop-net : goal.invariant-loop-net

@@ -1,7 +1,7 @@
 use Rattle.std.proofs.Common.{true, false}
-use Rattle.leg_finish.specs.Reach.{MeetsJoinedTo, MeetsOthers}
+use Rattle.leg_rules.specs.Finish.Reach.{MeetsJoinedTo, MeetsOthers}
 use Rattle.leg_finish.specs.Steps.GroupSlots.{IsJoinedAs, AreSlotsOf}
-use Rattle.leg_grown.proofs.Within.{numbers_within}
+use Rattle.leg_route_laws.proofs.Within.{numbers_within}
 use Rattle.leg_finish.proofs.GroupNodes.{known_within, starts_are, ends_are}
 use Rattle.leg_finish.proofs.Ways.{same_way}
 use Rattle.leg_finish.proofs.reach.is_unreachable.Goals as goal

@@ -1,7 +1,7 @@
 -- One piece more: another one of its group was looked at before, or it is looked at now.
 use Rattle.std.proofs.Common.{◌≡◌, ◌<◌, length, get_or, true≢false, refl, sym, subst, ◌∙◌, below_more, arith}
 use Rattle.std.proofs.lemmas.Option.{slice_get-get_or}
-use Rattle.leg_finish.specs.Reach.{IsUnreachable}
+use Rattle.leg_rules.specs.Finish.Reach.{IsUnreachable}
 use Rattle.leg_finish.proofs.GroupNodes.{own_at, not_least}
 use Rattle.leg_finish.proofs.reach.unreachable_piece.Goals as goal
 

@@ -1,7 +1,7 @@
 -- The pieces so far can be reached.
 use Rattle.std.proofs.Common.{◌≡◌, ℕ, ◌<◌, []}
-use Rattle.leg_walk.specs.Marks.{AreUnseen}
-use Rattle.leg_finish.specs.Reach.{IsUnreachable}
+use Rattle.leg_route_search.specs.Steps.FreshMarks.{AreUnseen}
+use Rattle.leg_rules.specs.Finish.Reach.{IsUnreachable}
 use Rattle.leg_finish.proofs.reach.unreachable_piece.Given as goal
 
 abbrev pub invariant-loop-piece : goal.invariant-loop-piece

@@ -1,4 +1,4 @@
-use Rattle.leg_grid.specs.Grid.{slot_total}
+use Rattle.leg_route_grid.specs.Steps.Grid.{slot_total}
 use Rattle.leg_finish.proofs.to_join.group_of.Goals as goal
 
 pub group_slots-requires : goal.group_slots-requires

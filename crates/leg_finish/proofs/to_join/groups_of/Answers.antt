@@ -1,7 +1,7 @@
 -- One piece more is the least of a group, or it isn't.
 use Rattle.std.proofs.lemmas.List.Elements.{All-push}
-use Rattle.leg_grid.specs.Grid.{slot_total}
-use Rattle.leg_ripup.specs.Slots.{AreSlots}
+use Rattle.leg_route_grid.specs.Steps.Grid.{slot_total}
+use Rattle.leg_finish_search.specs.Slots.{AreSlots}
 use Rattle.leg_finish.proofs.to_join.groups_of.Goals as goal
 use Rattle.leg_finish.proofs.to_join.groups_of.Goals.{then-first-piece+in_ok-group_of+in_ok-push, else-first-piece}
 

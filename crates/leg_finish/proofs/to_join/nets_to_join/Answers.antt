@@ -1,9 +1,9 @@
 use Rattle.std.proofs.Common.{◌+◌, ◌<◌, All, length, ap, sym, subst, ◌∙◌}
 use Rattle.std.proofs.lemmas.List.{length_push}
 use Rattle.std.proofs.lemmas.List.Elements.{All-get_or, All-push}
-use Rattle.leg_grid.specs.Grid.{slot_total}
-use Rattle.leg_ripup.specs.declared.net.NetToJoin.{NetToJoin}
-use Rattle.leg_ripup.specs.Slots.{AreSlotLists}
+use Rattle.leg_route_grid.specs.Steps.Grid.{slot_total}
+use Rattle.leg_finish_search.specs.declared.net.NetToJoin.{NetToJoin}
+use Rattle.leg_finish_search.specs.Slots.{AreSlotLists}
 use Rattle.leg_finish.specs.declared.groups.OpenNet.{OpenNet}
 use Rattle.leg_finish.proofs.to_join.nets_to_join.Goals as goal
 

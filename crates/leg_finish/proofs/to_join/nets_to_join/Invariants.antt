@@ -1,8 +1,8 @@
 -- A net for each so far, with groups of slots of the grid.
 use Rattle.std.proofs.Common.{◌≡◌, All, length}
-use Rattle.leg_grid.specs.Grid.{slot_total}
-use Rattle.leg_ripup.specs.declared.net.NetToJoin.{NetToJoin}
-use Rattle.leg_ripup.specs.Slots.{AreSlotLists}
+use Rattle.leg_route_grid.specs.Steps.Grid.{slot_total}
+use Rattle.leg_finish_search.specs.declared.net.NetToJoin.{NetToJoin}
+use Rattle.leg_finish_search.specs.Slots.{AreSlotLists}
 use Rattle.leg_finish.proofs.to_join.nets_to_join.Given as goal
 
 abbrev pub invariant-loop-net : goal.invariant-loop-net

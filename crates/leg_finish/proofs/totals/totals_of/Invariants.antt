@@ -1,7 +1,7 @@
 -- The totals of the lists so far, and how large they can be.
 use Rattle.std.proofs.Common.{◌≡◌, ◌≤◌, ◌*◌, length, take, sum_by, count_by}
 use Rattle.leg_geom.specs.declared.limits.TheConstants.{COORDINATE_LIMIT}
-use Rattle.leg_finish.specs.Wires.{wire_length, is_via}
+use Rattle.leg_rules.specs.Finish.Wires.{wire_length, is_via}
 use Rattle.leg_finish.proofs.totals.totals_of.Given as goal
 
 abbrev pub invariant-loop-wires : goal.invariant-loop-wires

@@ -1,8 +1,8 @@
 -- A flat keeps its limits: shapes were counted, and the nets of a design are few.
 use Rattle.std.proofs.Common.{length}
-use Rattle.leg_flat.specs.Metal.{metal_of}
-use Rattle.leg_flat.specs.Flat.{IsShapeOf}
-use Rattle.leg_flat.proofs.Counted.{counted_within}
+use Rattle.leg_rules.specs.Metal.Metal.{metal_of}
+use Rattle.leg_rules.specs.Metal.Flat.{IsShapeOf}
+use Rattle.leg_flat.proofs.Counts.{counted_within}
 use Rattle.leg_flat.proofs.FlatWithin.{same_length}
 use Rattle.leg_flat.proofs.flat.flatten.Goals as goal
 

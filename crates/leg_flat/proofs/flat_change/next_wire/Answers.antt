@@ -1,6 +1,6 @@
 -- The last piece tells the number of the next wire.
 use Rattle.std.proofs.Common.{rules, ◌≡◌, ◌-◌, length, Some, slice_get, arith}
-use Rattle.leg_flat.specs.declared.piece.Piece.TheVariants.{Term, Wire}
+use Rattle.leg_rules.specs.declared.piece.Piece.TheVariants.{Term, Wire}
 use Rattle.leg_flat.proofs.LastPiece.{length_of_pieces, wires_by_wire, wires_by_terminal}
 use Rattle.leg_flat.proofs.flat_change.next_wire.Goals as goal
 

@@ -1,4 +1,4 @@
-use Rattle.leg_flat.proofs.MetalAdded.{adds_none}
+use Rattle.leg_flat.proofs.MoreMetal.{adds_none}
 use Rattle.leg_flat.proofs.metal.add_blockage.Goals as goal
 
 pub add_rects-requires : goal.add_rects-requires

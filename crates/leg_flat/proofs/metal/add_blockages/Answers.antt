@@ -1,8 +1,8 @@
 use Rattle.std.proofs.Common.{◌≡◌, length, sym, ap, ◌∙◌, zero-add}
 use Rattle.std.proofs.lemmas.List.{length-map}
-use Rattle.leg_block.specs.WellFormedParts.{IsBlockage}
-use Rattle.leg_block.specs.Records.{blockage_said}
-use Rattle.leg_flat.proofs.MetalAdded.{adds_at, adds_all}
+use Rattle.leg_design_records.specs.WellFormedParts.{IsBlockage}
+use Rattle.leg_design_records.specs.Records.{blockage_said}
+use Rattle.leg_flat.proofs.MoreMetal.{adds_at, adds_all}
 use Rattle.leg_flat.proofs.MetalWalks.{one_blockage, blockages_walk}
 use Rattle.leg_flat.proofs.MetalKnown.{all_at}
 use Rattle.leg_flat.proofs.MetalSizes.{read_said}

@@ -1,7 +1,7 @@
 use Rattle.std.proofs.Common.{◌≡◌, Some, None, slice_get, sym}
-use Rattle.leg_cells.specs.Sound.{IsSoundMaster}
+use Rattle.leg_lib_records.specs.Sound.{IsSoundMaster}
 use Rattle.leg_flat.specs.Steps.AddedMetal.{master_of}
-use Rattle.leg_flat.proofs.MetalAdded.{adds_none, adds_same, adds_both}
+use Rattle.leg_flat.proofs.MoreMetal.{adds_none, adds_same, adds_both}
 use Rattle.leg_flat.proofs.MetalWalks.{no_place, no_master}
 use Rattle.leg_flat.proofs.MetalKnown.{all_at}
 use Rattle.leg_flat.proofs.MetalKept.{on_ok}

@@ -1,7 +1,7 @@
 use Rattle.std.proofs.Common.{◌≡◌, sym, zero-add, rules}
-use Rattle.leg_block.specs.WellFormedParts.{IsPin, IsPort}
+use Rattle.leg_design_records.specs.WellFormedParts.{IsPin, IsPort}
 use Rattle.leg_flat.specs.Steps.AddedMetal.{IsPortWithin}
-use Rattle.leg_flat.proofs.MetalAdded.{adds_at, adds_all}
+use Rattle.leg_flat.proofs.MoreMetal.{adds_at, adds_all}
 use Rattle.leg_flat.proofs.MetalWalks.{design_pin_metal, design_pins_walk}
 use Rattle.leg_flat.proofs.MetalKnown.{all_at, all_follow, port_within}
 use Rattle.leg_flat.proofs.MetalSizes.{read_at}

@@ -1,5 +1,5 @@
 use Rattle.std.proofs.Common.{sym, zero-add}
-use Rattle.leg_flat.proofs.MetalAdded.{adds_more, adds_all}
+use Rattle.leg_flat.proofs.MoreMetal.{adds_more, adds_all}
 use Rattle.leg_flat.proofs.MetalWalks.{port_metal, ports_walk}
 use Rattle.leg_flat.proofs.metal.add_ports.Goals as goal
 

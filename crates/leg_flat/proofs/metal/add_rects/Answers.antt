@@ -1,6 +1,6 @@
 use Rattle.std.proofs.Common.{◌≡◌, Some, slice_get, refl, sym, zero-add}
-use Rattle.leg_block.specs.WellFormedParts.{IsArea}
-use Rattle.leg_flat.proofs.MetalAdded.{adds_none, adds_one, adds_at, adds_all}
+use Rattle.leg_design_records.specs.WellFormedParts.{IsArea}
+use Rattle.leg_flat.proofs.MoreMetal.{adds_none, adds_one, adds_at, adds_all}
 use Rattle.leg_flat.proofs.MetalWalks.{rect_metal, rects_walk}
 use Rattle.leg_flat.proofs.MetalKnown.{all_at}
 use Rattle.leg_flat.proofs.MetalSizes.{read_at}

@@ -1,9 +1,9 @@
 use Rattle.std.proofs.Common.{◌≡◌, length, sym, ap, ◌∙◌, zero-add}
 use Rattle.std.proofs.lemmas.List.{length-map}
-use Rattle.leg_block.specs.Records.{blockage_said}
+use Rattle.leg_design_records.specs.Records.{blockage_said}
 use Rattle.leg_flat.proofs.MetalWalks.{one_blockage, blockages_walk}
 use Rattle.leg_flat.proofs.MetalSizes.{read_said}
-use Rattle.leg_flat.proofs.Counted.{counts_at, counts_all}
+use Rattle.leg_flat.proofs.Counts.{counts_at, counts_all}
 use Rattle.leg_flat.proofs.metal_count.count_blockages.Goals as goal
 
 pub loop-blockage-preserved : goal.loop-blockage-preserved

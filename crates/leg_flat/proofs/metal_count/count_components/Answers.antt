@@ -1,7 +1,7 @@
 use Rattle.std.proofs.Common.{length, refl, sym, zero-add}
 use Rattle.leg_flat.proofs.MetalWalks.{one_component, components_walk}
 use Rattle.leg_flat.proofs.MetalSizes.{read_at}
-use Rattle.leg_flat.proofs.Counted.{counts_at, counts_all}
+use Rattle.leg_flat.proofs.Counts.{counts_at, counts_all}
 use Rattle.leg_flat.proofs.metal_count.count_components.Goals as goal
 
 pub loop-component-preserved : goal.loop-component-preserved

@@ -1,6 +1,6 @@
 use Rattle.std.proofs.Common.{◌≡◌, length, take}
 use Rattle.leg_flat.specs.Steps.ShapeCount.{counted}
-use Rattle.leg_flat.proofs.MetalAdded.{walk}
+use Rattle.leg_flat.proofs.MoreMetal.{walk}
 use Rattle.leg_flat.proofs.MetalWalks.{one_component}
 use Rattle.leg_flat.proofs.metal_count.count_components.Given as goal
 

@@ -1,7 +1,7 @@
 use Rattle.std.proofs.Common.{◌≡◌, ◌+◌, length, refl, sym, zero-add, rules}
-use Rattle.leg_flat.specs.Nets.{number_of_special, terminals_of, regular_entry, entry_wires}
+use Rattle.leg_rules.specs.Metal.Nets.{number_of_special, terminals_of, regular_entry, entry_wires}
 use Rattle.leg_flat.proofs.MetalWalks.{net_metal, nets_walk, one_special, specials_walk}
-use Rattle.leg_flat.proofs.Counted.{counts_more, counts_all}
+use Rattle.leg_flat.proofs.Counts.{counts_more, counts_all}
 use Rattle.leg_flat.proofs.metal_count.count_nets.Goals as goal
 
 pub loop-net-preserved : goal.loop-net-preserved

@@ -1,6 +1,6 @@
 use Rattle.std.proofs.Common.{◌≡◌, length, take}
 use Rattle.leg_flat.specs.Steps.ShapeCount.{counted}
-use Rattle.leg_flat.proofs.MetalAdded.{walk}
+use Rattle.leg_flat.proofs.MoreMetal.{walk}
 use Rattle.leg_flat.proofs.MetalWalks.{net_metal, one_special}
 use Rattle.leg_flat.proofs.metal_count.count_nets.Given as goal
 

@@ -1,6 +1,6 @@
 use Rattle.std.proofs.Common.{◌≡◌, length, sym, ap, ◌∙◌, zero-add, rules}
 use Rattle.leg_flat.proofs.MetalWalks.{pin_metal, pins_walk}
-use Rattle.leg_flat.proofs.Counted.{drawn_length, counts_more, counts_all}
+use Rattle.leg_flat.proofs.Counts.{drawn_length, counts_more, counts_all}
 use Rattle.leg_flat.proofs.metal_count.count_pins.Goals as goal
 
 pub loop-pin-preserved : goal.loop-pin-preserved

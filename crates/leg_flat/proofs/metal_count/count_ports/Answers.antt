@@ -1,6 +1,6 @@
 use Rattle.std.proofs.Common.{sym, zero-add}
 use Rattle.leg_flat.proofs.MetalWalks.{port_drawn, ports_drawn_walk}
-use Rattle.leg_flat.proofs.Counted.{counts_more, counts_all}
+use Rattle.leg_flat.proofs.Counts.{counts_more, counts_all}
 use Rattle.leg_flat.proofs.metal_count.count_ports.Goals as goal
 
 pub loop-port-preserved : goal.loop-port-preserved

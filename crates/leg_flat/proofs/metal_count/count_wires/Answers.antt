@@ -1,6 +1,6 @@
 use Rattle.std.proofs.Common.{refl, sym, ◌∙◌}
 use Rattle.leg_flat.proofs.MetalWalks.{wire_metal, wires_walk}
-use Rattle.leg_flat.proofs.Counted.{belonging_length, counts_more, counts_all}
+use Rattle.leg_flat.proofs.Counts.{belonging_length, counts_more, counts_all}
 use Rattle.leg_flat.proofs.metal_count.count_wires.Goals as goal
 
 pub loop-wire-preserved : goal.loop-wire-preserved

@@ -1,6 +1,6 @@
 -- The parts are counted one after the other.
 use Rattle.std.proofs.Common.{refl}
-use Rattle.leg_flat.proofs.Counted.{metal_counted}
+use Rattle.leg_flat.proofs.Counts.{metal_counted}
 use Rattle.leg_flat.proofs.metal_count.shape_count.Goals as goal
 
 pub returns : goal.returns

@@ -1,6 +1,6 @@
 use Rattle.std.proofs.Common.{w64, refl, sym, zero-add}
 use Rattle.std.proofs.lemmas.Int.{to_z-of_z}
-use Rattle.leg_flat.proofs.MetalAdded.{adds_none, adds_one, adds_more, adds_all}
+use Rattle.leg_flat.proofs.MoreMetal.{adds_none, adds_one, adds_more, adds_all}
 use Rattle.leg_flat.proofs.MetalWalks.{drawn_metal, drawn_walk}
 use Rattle.leg_flat.proofs.metal_parts.add_drawn.Goals as goal
 

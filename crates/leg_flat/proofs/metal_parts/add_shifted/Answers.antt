@@ -1,5 +1,5 @@
 use Rattle.std.proofs.Common.{refl, sym, zero-add}
-use Rattle.leg_flat.proofs.MetalAdded.{adds_none, adds_one, adds_more, adds_all}
+use Rattle.leg_flat.proofs.MoreMetal.{adds_none, adds_one, adds_more, adds_all}
 use Rattle.leg_flat.proofs.MetalWalks.{shifted_metal, shifted_walk}
 use Rattle.leg_flat.proofs.metal_parts.add_shifted.Goals as goal
 

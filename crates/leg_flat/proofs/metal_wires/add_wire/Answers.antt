@@ -1,5 +1,5 @@
 use Rattle.std.proofs.Common.{refl}
-use Rattle.leg_flat.proofs.MetalAdded.{adds_one}
+use Rattle.leg_flat.proofs.MoreMetal.{adds_one}
 use Rattle.leg_flat.proofs.MetalKept.{on_ok, segment_adds}
 use Rattle.leg_flat.proofs.metal_wires.add_wire.Goals as goal
 

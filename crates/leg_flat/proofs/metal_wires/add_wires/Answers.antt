@@ -1,5 +1,5 @@
 use Rattle.std.proofs.Common.{refl}
-use Rattle.leg_flat.proofs.MetalAdded.{adds_more, adds_all}
+use Rattle.leg_flat.proofs.MoreMetal.{adds_more, adds_all}
 use Rattle.leg_flat.proofs.MetalWalks.{wire_metal, wires_walk}
 use Rattle.leg_flat.proofs.metal_wires.add_wires.Goals as goal
 

@@ -1,6 +1,6 @@
 use Rattle.std.proofs.Common.{take}
 use Rattle.leg_flat.specs.Steps.AddedMetal.{AddsMetal}
-use Rattle.leg_flat.proofs.MetalAdded.{walk}
+use Rattle.leg_flat.proofs.MoreMetal.{walk}
 use Rattle.leg_flat.proofs.MetalWalks.{wire_metal}
 use Rattle.leg_flat.proofs.metal_wires.add_wires.Given as goal
 

@@ -1,5 +1,5 @@
 use Rattle.std.proofs.Common.{◌≡◌, take}
-use Rattle.leg_block.specs.Records.{net_names}
+use Rattle.leg_design_records.specs.Records.{net_names}
 use Rattle.leg_flat.proofs.net_index.names_of.Given as goal
 
 abbrev pub invariant-loop-net : goal.invariant-loop-net

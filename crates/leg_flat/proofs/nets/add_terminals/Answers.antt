@@ -1,6 +1,6 @@
 use Rattle.std.proofs.Common.{◌≡◌, length, refl, ◌∙◌, arith}
 use Rattle.std.proofs.lemmas.List.{get_or_default}
-use Rattle.leg_flat.proofs.PlacesAdded.{asked, added_skipped, added_more}
+use Rattle.leg_flat.proofs.MorePlaces.{asked, added_skipped, added_more}
 use Rattle.leg_flat.proofs.nets.add_terminals.Goals as goal
 use Rattle.leg_flat.proofs.nets.add_terminals.Goals.{then-is_none+in_ok-push+in_ok-push-2, else-is_none}
 

@@ -1,7 +1,7 @@
 use Rattle.std.proofs.Common.{[], ◌∷◌, map, append_assoc, arith}
 use Rattle.std.specs.List.{range_with_len}
 use Rattle.std.proofs.lemmas.List.FromFn.{map-range_with_len_more}
-use Rattle.leg_flat.specs.declared.piece.Piece.TheVariants.{Wire}
+use Rattle.leg_rules.specs.declared.piece.Piece.TheVariants.{Wire}
 use Rattle.leg_flat.proofs.nets.add_wires.Goals as goal
 
 pub loop-wire-preserved : goal.loop-wire-preserved

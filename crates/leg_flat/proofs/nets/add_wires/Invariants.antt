@@ -1,6 +1,6 @@
 use Rattle.std.proofs.Common.{◌≡◌, ◌++◌, map}
 use Rattle.std.specs.List.{range_with_len}
-use Rattle.leg_flat.specs.declared.piece.Piece.TheVariants.{Wire}
+use Rattle.leg_rules.specs.declared.piece.Piece.TheVariants.{Wire}
 use Rattle.leg_flat.proofs.nets.add_wires.Given as goal
 
 abbrev pub invariant-loop-wire : goal.invariant-loop-wire

@@ -1,8 +1,8 @@
 use Rattle.std.proofs.Common.{◌≡◌, ◌≤◌, ◌+◌, length, refl, ap, ◌∙◌, arith}
-use Rattle.leg_block.specs.declared.limits.TheConstants.{PART_LIMIT}
-use Rattle.leg_flat.specs.Nets.{special_entry, regular_entry, entry_terminals, entry_wires}
+use Rattle.leg_design_records.specs.declared.limits.TheConstants.{PART_LIMIT}
+use Rattle.leg_rules.specs.Metal.Nets.{special_entry, regular_entry, entry_terminals, entry_wires}
 use Rattle.leg_flat.proofs.NetSizes.{once_special, few_terminals, few_wires}
-use Rattle.leg_flat.proofs.NetMade.{first_count, all_pieces, net_made, net_counted, net_fits, net_placed}
+use Rattle.leg_flat.proofs.NetPieces.{first_count, all_pieces, net_made, net_counted, net_fits, net_placed}
 use Rattle.leg_flat.proofs.nets.net_pieces.Goals as goal
 
 pub add_terminals-requires-clause-few : goal.add_terminals-requires-clause-few

@@ -1,6 +1,6 @@
 use Rattle.std.proofs.Common.{◌≡◌, ◌+◌, length, ap, arith}
 use Rattle.leg_flat.proofs.FlatWithin.{few_nets, all_few_pieces, all_are_pieces}
-use Rattle.leg_flat.proofs.NetDone.{nets_started, nets_more, nets_done}
+use Rattle.leg_flat.proofs.AllNets.{nets_started, nets_more, nets_done}
 use Rattle.leg_flat.proofs.nets.nets_of.Goals as goal
 
 pub loop-n-init : goal.loop-n-init

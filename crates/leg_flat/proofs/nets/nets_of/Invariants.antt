@@ -1,5 +1,5 @@
 use Rattle.leg_flat.specs.Steps.Places.{AreSpecialNumbers}
-use Rattle.leg_flat.proofs.NetDone.{AreNetsBelow}
+use Rattle.leg_flat.proofs.AllNets.{AreNetsBelow}
 use Rattle.leg_flat.proofs.nets.nets_of.Given as goal
 
 abbrev pub invariant-loop-n : goal.invariant-loop-n

@@ -1,10 +1,10 @@
 -- A placement blockage takes its rectangles away, and one of a layer nothing.
 use Rattle.std.proofs.Common.{◌++◌, map, take, arith}
 use Rattle.std.proofs.lemmas.List.{append-nil, take_all}
-use Rattle.leg_block.specs.Records.{blockage_said, placement_rects}
+use Rattle.leg_design_records.specs.Records.{blockage_said, placement_rects}
 use Rattle.leg_place.proofs.BlockageRects.{rects_of_placement, rects_of_layer, rects_more}
-use Rattle.leg_legal.specs.Steps.Taking.{KnowBlockages}
-use Rattle.leg_legal.proofs.UnderWay.{blockages_none, blockages_more, blockages_all}
+use Rattle.leg_legal.specs.Steps.Boxes.{KnowBlockages}
+use Rattle.leg_legal.proofs.RunBoxes.{blockages_none, blockages_more, blockages_all}
 use Rattle.leg_legal.proofs.blockages.take_blockages.Goals as goal
 use Rattle.leg_legal.proofs.blockages.take_blockages.Goals.{in-Placement+in_ok-take_rects, in_default}
 

@@ -1,7 +1,7 @@
 -- The rectangles of the placement blockages so far are taken.
 use Rattle.std.proofs.Common.{map, take}
-use Rattle.leg_block.specs.Records.{blockage_said, placement_rects}
-use Rattle.leg_legal.specs.Steps.Taking.{KnowBlockages}
+use Rattle.leg_design_records.specs.Records.{blockage_said, placement_rects}
+use Rattle.leg_legal.specs.Steps.Boxes.{KnowBlockages}
 use Rattle.leg_legal.proofs.blockages.take_blockages.Given as goal
 
 abbrev pub invariant-loop-blockage : goal.invariant-loop-blockage

@@ -1,6 +1,6 @@
 -- It is the greatest of the first distances.
 use Rattle.std.proofs.Common.{◌≡◌, take}
-use Rattle.leg_legal.specs.Moves.{greatest_of}
+use Rattle.leg_rules.specs.Legalise.Moves.{greatest_of}
 use Rattle.leg_legal.proofs.distances.greatest_of.Given as goal
 
 abbrev pub invariant-loop-distance : goal.invariant-loop-distance

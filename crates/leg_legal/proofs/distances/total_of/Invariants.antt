@@ -1,7 +1,7 @@
 -- It is the sum of the first distances.
 use Rattle.std.proofs.Common.{◌≡◌, ◌*◌, pos, ◌≤ℤ◌, take}
 use Rattle.leg_geom.specs.declared.limits.TheConstants.{COORDINATE_LIMIT}
-use Rattle.leg_legal.specs.Moves.{total_of}
+use Rattle.leg_rules.specs.Legalise.Moves.{total_of}
 use Rattle.leg_legal.proofs.distances.total_of.Given as goal
 
 abbrev pub invariant-loop-distance : goal.invariant-loop-distance

@@ -1,6 +1,6 @@
 -- A design without violations stays as it is.
-use Rattle.leg_place.specs.Faults.{IsLegallyPlaced}
-use Rattle.leg_legal.proofs.Chosen.{chosen_none}
+use Rattle.leg_rules.specs.Placement.Violations.{IsLegallyPlaced}
+use Rattle.leg_legal.proofs.Choices.{chosen_none}
 use Rattle.leg_legal.proofs.legaliser.chosen_places.Goals as goal
 
 pub returns-then-placed-clause-chosen : goal.returns-then-placed-clause-chosen

@@ -2,8 +2,8 @@
 use Rattle.std.proofs.Common.{◌≡◌, [], length, sym, ◌∙◌}
 use Rattle.std.proofs.lemmas.Bool.{eqb-true}
 use Rattle.std.proofs.lemmas.Result.{IfOk-weaker, IfErr-weaker}
-use Rattle.leg_legal.specs.Refusals.{AreSuited}
-use Rattle.leg_legal.proofs.Chosen.{none_there, staying_from_none, chosen_run, refusal_of}
+use Rattle.leg_rules.specs.Legalise.Refusals.{AreSuited}
+use Rattle.leg_legal.proofs.Choices.{none_there, staying_from_none, chosen_run, refusal_of}
 use Rattle.leg_legal.proofs.legaliser.places_of.Goals as goal
 
 pub returns-clause-chosen : goal.returns-clause-chosen

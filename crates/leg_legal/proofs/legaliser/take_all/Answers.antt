@@ -1,7 +1,7 @@
 -- All components of the keys are all movable ones, in order.
 use Rattle.std.proofs.lemmas.Result.{IfOk-weaker, IfErr-weaker}
 use Rattle.leg_legal.specs.Steps.TurnKeys.{AreInOrder}
-use Rattle.leg_legal.proofs.Chosen.{run_of_keys, run_fault_of}
+use Rattle.leg_legal.proofs.Choices.{run_of_keys, run_fault_of}
 use Rattle.leg_legal.proofs.legaliser.take_all.Goals as goal
 
 pub returns-clause-run : goal.returns-clause-run

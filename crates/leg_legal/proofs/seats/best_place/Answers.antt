@@ -2,10 +2,11 @@
 use Rattle.std.proofs.Common.{◌≡◌, ◌<◌, length, pos, ◌+ℤ◌, ◌*ℤ◌, slice_get, Some, refl, sym, ap, subst, ◌∙◌, arith}
 use Rattle.std.proofs.lemmas.Option.{slice_get_within, slice_get_read, same_Some}
 use Rattle.leg_lex.specs.Number.{IsNumber}
-use Rattle.leg_block.specs.declared.records.Row.{Row}
-use Rattle.leg_sites.specs.declared.candidate.Candidate.{Candidate}
-use Rattle.leg_sites.specs.BestPosition.{IsCandidate, IsNoWorse}
-use Rattle.leg_legal.specs.Standing.{Takes}
+use Rattle.leg_design_records.specs.declared.records.Row.{Row}
+use Rattle.leg_rules.specs.declared.position.Candidate.{Candidate}
+use Rattle.leg_legal_sites.specs.Steps.BestPosition.{IsCandidate}
+use Rattle.leg_rules.specs.Legalise.Preference.{IsNoWorse}
+use Rattle.leg_rules.specs.Legalise.Places.{Takes}
 use Rattle.leg_legal.proofs.BestSeat.{ready, of_its_site, some_many, site_within, position_of, none_best, best_is}
 use Rattle.leg_legal.proofs.seats.best_place.Goals as goal
 

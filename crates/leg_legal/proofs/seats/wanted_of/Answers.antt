@@ -1,8 +1,8 @@
 -- What the component, its macro and its site say.
 use Rattle.std.proofs.Common.{◌≡◌, ◌<◌, ◌/◌, length, slice_get, Some, unsigned_abs, refl, sym, ap, ◌∙◌}
 use Rattle.std.proofs.lemmas.Option.{slice_get_within, slice_get_read}
-use Rattle.leg_legal.specs.Standing.{orient_of}
-use Rattle.leg_block.proofs.ComponentMacro.{component_read, master_read}
+use Rattle.leg_rules.specs.Legalise.Places.{orient_of}
+use Rattle.leg_design_records.proofs.ComponentMacro.{component_read, master_read}
 use Rattle.leg_legal.proofs.BestSeat.{site_inside, wanted_is}
 use Rattle.leg_legal.proofs.seats.wanted_of.Goals as goal
 

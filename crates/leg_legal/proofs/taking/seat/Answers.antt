@@ -1,6 +1,6 @@
 -- The best place, and its box.
 use Rattle.std.proofs.Common.{◌≡◌, refl}
-use Rattle.leg_place.specs.Box.{placed_box}
+use Rattle.leg_rules.specs.Placement.Box.{placed_box}
 use Rattle.leg_legal.specs.Steps.Seats.{IsBestAmong}
 use Rattle.leg_legal.proofs.taking.seat.Goals as goal
 

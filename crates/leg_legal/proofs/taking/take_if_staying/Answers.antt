@@ -3,9 +3,9 @@ use Rattle.std.proofs.Common.{◌≡◌, ◌<◌, length, slice_get, None, Some,
 use Rattle.std.proofs.lemmas.Bool.{false≢true}
 use Rattle.std.proofs.lemmas.Option.{same_Some, none-some}
 use Rattle.std.proofs.lemmas.Result.{on_ok_weaker}
-use Rattle.leg_place.specs.Box.{box_of}
-use Rattle.leg_block.proofs.ComponentMacro.{component_read}
-use Rattle.leg_legal.proofs.UnderWay.{staying_skip, staying_more}
+use Rattle.leg_rules.specs.Placement.Box.{box_of}
+use Rattle.leg_design_records.proofs.ComponentMacro.{component_read}
+use Rattle.leg_legal.proofs.RunBoxes.{staying_skip, staying_more}
 use Rattle.leg_legal.proofs.taking.take_if_staying.Goals as goal
 
 pub returns-then-is_movable : goal.returns-then-is_movable

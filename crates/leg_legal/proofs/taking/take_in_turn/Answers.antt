@@ -2,7 +2,7 @@
 use Rattle.std.proofs.Common.{◌≡◌, ◌<◌, pos, length, get_or, arith}
 use Rattle.std.proofs.lemmas.List.{get_or_default}
 use Rattle.leg_legal.specs.declared.turns.TurnKey.{TurnKey}
-use Rattle.leg_legal.proofs.UnderWay.{begin_taking, next_taken, taking_fault_of, all_taken}
+use Rattle.leg_legal.proofs.RunBoxes.{begin_taking, next_taken, taking_fault_of, all_taken}
 use Rattle.leg_legal.proofs.taking.take_in_turn.Goals as goal
 
 pub seat-requires-clause-suited : goal.seat-requires-clause-suited

@@ -1,6 +1,6 @@
 -- At the end they all are.
 use Rattle.std.proofs.Common.{◌≡◌, length, arith}
-use Rattle.leg_legal.proofs.UnderWay.{staying_none}
+use Rattle.leg_legal.proofs.RunBoxes.{staying_none}
 use Rattle.leg_legal.proofs.taking.take_staying.Goals as goal
 
 pub loop-i-init : goal.loop-i-init

@@ -1,8 +1,8 @@
 -- The key is read of the component and its macro.
 use Rattle.std.proofs.Common.{◌≡◌, ◌<◌, ◌≤◌, length, slice_get, Some, pos, ◌-ℤ◌, ap, ◌∙◌, arith}
 use Rattle.std.proofs.lemmas.Option.{slice_get_within}
-use Rattle.leg_block.specs.declared.limits.TheConstants.{ENTRY_LIMIT}
-use Rattle.leg_block.proofs.ComponentMacro.{component_read, master_read}
+use Rattle.leg_design_records.specs.declared.limits.TheConstants.{ENTRY_LIMIT}
+use Rattle.leg_design_records.proofs.ComponentMacro.{component_read, master_read}
 use Rattle.leg_legal.proofs.TurnsSorted.{key_of_movable}
 use Rattle.leg_legal.proofs.turns.turn_key.Goals as goal
 

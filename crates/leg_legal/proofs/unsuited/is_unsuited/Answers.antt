@@ -2,9 +2,9 @@
 use Rattle.std.proofs.Common.{◌≡◌, ◌↔◌, ◌<◌, length, IsTrue, slice_get, Some, None, refl, sym, ap, ◌∙◌}
 use Rattle.std.proofs.lemmas.Bool.{false≢true}
 use Rattle.std.proofs.lemmas.Option.{slice_get_within}
-use Rattle.leg_block.specs.Movable.{IsMovable}
-use Rattle.leg_legal.specs.Refusals.{HasRowFor}
-use Rattle.leg_block.proofs.ComponentMacro.{component_read, master_read}
+use Rattle.leg_design_records.specs.Movable.{IsMovable}
+use Rattle.leg_rules.specs.Legalise.Refusals.{HasRowFor}
+use Rattle.leg_design_records.proofs.ComponentMacro.{component_read, master_read}
 use Rattle.leg_legal.proofs.Misfits.{has_site, unsuited_just_where}
 use Rattle.leg_legal.proofs.unsuited.is_unsuited.Goals as goal
 

@@ -1,5 +1,5 @@
 use Rattle.leg_lex.specs.Statements.{clauses_of}
-use Rattle.leg_lex.proofs.Asked.{clause_more}
+use Rattle.leg_lex.proofs.StatementSearch.{clause_more}
 use Rattle.leg_lex.proofs.block.clauses.Goals as goal
 
 pub clauses-preserved : goal.clauses-preserved

@@ -1,5 +1,5 @@
 use Rattle.std.proofs.Common.{sym, ◌∙◌}
-use Rattle.leg_lex.proofs.Asked.{found_second, looked_through}
+use Rattle.leg_lex.proofs.StatementSearch.{found_second, looked_through}
 use Rattle.leg_lex.proofs.block.only.Goals as goal
 
 pub returns-then-is_some-clause-means : goal.returns-then-is_some-clause-means

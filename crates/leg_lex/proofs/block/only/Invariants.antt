@@ -1,5 +1,5 @@
 use Rattle.std.proofs.Common.{◌≡◌}
-use Rattle.leg_lex.proofs.Asked.{those_before, as_list}
+use Rattle.leg_lex.proofs.StatementSearch.{those_before, as_list}
 use Rattle.leg_lex.proofs.block.only.Given as goal
 
 abbrev pub invariant-loop-statement : goal.invariant-loop-statement

@@ -1,6 +1,6 @@
 use Rattle.std.proofs.Common.{◌≡◌, length}
 use Rattle.leg_lex.specs.Until.{until}
-use Rattle.leg_lib.specs.Form.{lef_form_at, at_last}
+use Rattle.leg_grammar.specs.Lef.Form.{lef_form_at, at_last}
 use Rattle.leg_lib.proofs.form.forms.Given as goal
 
 abbrev pub invariant-forms : goal.invariant-forms

@@ -1,5 +1,5 @@
 use Rattle.std.proofs.Common.{sym, ◌∙◌}
-use Rattle.leg_lib.proofs.Drawn.{nothing_more_said}
+use Rattle.leg_lib.proofs.DrawnShapes.{nothing_more_said}
 use Rattle.leg_lib.proofs.geometry.nothing_said.Goals as goal
 
 pub words-preserved : goal.words-preserved

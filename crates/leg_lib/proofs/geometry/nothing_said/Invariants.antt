@@ -1,6 +1,6 @@
 use Rattle.std.proofs.Common.{◌≡◌, length}
 use Rattle.std.specs.List.{list_all}
-use Rattle.leg_lib.specs.Geometry.{says_nothing}
+use Rattle.leg_grammar.specs.Lef.Geometry.{says_nothing}
 use Rattle.leg_lib.proofs.geometry.nothing_said.Given as goal
 
 abbrev pub invariant-words : goal.invariant-words

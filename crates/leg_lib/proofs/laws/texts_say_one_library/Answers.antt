@@ -1,4 +1,4 @@
-use Rattle.leg_cells.specs.Records.{empty_library}
+use Rattle.leg_lib_records.specs.Records.{empty_library}
 use Rattle.leg_lib.proofs.Readings.{extend_one}
 use Rattle.leg_lib.proofs.laws.texts_say_one_library.Goals as goal
 

@@ -1,5 +1,5 @@
 use Rattle.std.proofs.Common.{◌≡◌, drop}
-use Rattle.leg_lib.specs.Layer.{first_of_one_word}
+use Rattle.leg_grammar.specs.Lef.Layer.{first_of_one_word}
 use Rattle.leg_lib.proofs.layer.first_of_one_word.Given as goal
 
 abbrev pub invariant-loop-statement : goal.invariant-loop-statement

@@ -1,6 +1,6 @@
 use Rattle.std.proofs.Common.{refl}
 use Rattle.std.proofs.lemmas.Result.{err_from_is_err_and}
-use Rattle.leg_lib.specs.Macro.{macro_at}
+use Rattle.leg_grammar.specs.Lef.Macro.{macro_at}
 use Rattle.leg_lib.proofs.macros.master.Goals as goal
 
 pub returns-in_err-macro_parts : goal.returns-in_err-macro_parts

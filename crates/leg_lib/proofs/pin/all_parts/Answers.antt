@@ -2,7 +2,7 @@ use Rattle.std.proofs.Common.{◌≡◌, ◌∙◌, false, sym}
 use Rattle.std.proofs.lemmas.Result.{err_from_is_err_and}
 use Rattle.leg_lex.specs.Statements.{at_end}
 use Rattle.leg_lex.proofs.Until.{ends, goes_on, fails}
-use Rattle.leg_lib.specs.Pin.{pin_part}
+use Rattle.leg_grammar.specs.Lef.Pin.{pin_part}
 use Rattle.leg_lib.proofs.Pins.{pin_part_shortens, pin_part_shorter}
 use Rattle.leg_lib.proofs.pin.all_parts.Goals as goal
 

@@ -1,7 +1,7 @@
 use Rattle.std.proofs.Common.{◌≡◌, length}
 use Rattle.leg_lex.specs.Until.{until}
 use Rattle.leg_lex.specs.Statements.{at_end}
-use Rattle.leg_lib.specs.Pin.{no_pin_parts, pin_part}
+use Rattle.leg_grammar.specs.Lef.Pin.{no_pin_parts, pin_part}
 use Rattle.leg_lib.proofs.pin.all_parts.Given as goal
 
 abbrev pub invariant-parts : goal.invariant-parts

@@ -1,6 +1,6 @@
 use Rattle.std.proofs.lemmas.Result.{err_from_is_err_and}
-use Rattle.leg_lib.specs.Form.{lef_in}
-use Rattle.leg_lex.proofs.Saying.{says_nothing, means_only, means_none}
+use Rattle.leg_grammar.specs.Lef.Form.{lef_in}
+use Rattle.leg_lex.proofs.Denotations.{says_nothing, means_only, means_none}
 use Rattle.leg_lib.proofs.read.add_lef.Goals as goal
 
 pub returns-in_err-words-clause-none : goal.returns-in_err-words-clause-none

@@ -1,6 +1,6 @@
 use Rattle.std.proofs.Common.{add-one}
 use Rattle.std.proofs.lemmas.Result.{err_from_is_err_and}
-use Rattle.leg_cells.specs.Records.{empty_library}
+use Rattle.leg_lib_records.specs.Records.{empty_library}
 use Rattle.leg_lib.proofs.Readings.{extend_more, rest_more, rest_none}
 use Rattle.leg_lib.proofs.read.all_lefs.Goals as goal
 

@@ -1,6 +1,6 @@
 use Rattle.std.proofs.Common.{◌≡◌, drop}
 use Rattle.std.specs.List.{find}
-use Rattle.leg_lib.specs.Layer.{is_table}
+use Rattle.leg_grammar.specs.Lef.Layer.{is_table}
 use Rattle.leg_lib.proofs.spacing.first_table.Given as goal
 
 abbrev pub invariant-loop-statement : goal.invariant-loop-statement

@@ -1,6 +1,6 @@
 use Rattle.std.proofs.Common.{◌≡◌, drop}
 use Rattle.leg_lex.specs.Until.{over}
-use Rattle.leg_lib.specs.Via.{no_via_parts, via_part}
+use Rattle.leg_grammar.specs.Lef.Via.{no_via_parts, via_part}
 use Rattle.leg_lib.proofs.via.parts.Given as goal
 
 abbrev pub invariant-loop-statement : goal.invariant-loop-statement

@@ -1,7 +1,7 @@
 -- The first component that is misplaced ends the search.
 use Rattle.std.proofs.Common.{◌≡◌, length, arith}
 use Rattle.std.proofs.lemmas.Bool.{false≢true}
-use Rattle.leg_place.proofs.Misplaced.{none_at_first, none_so_far}
+use Rattle.leg_place.proofs.AnyViolation.{none_at_first, none_so_far}
 use Rattle.leg_place.proofs.placed.is_one_misplaced.Goals as goal
 
 pub loop-i-init : goal.loop-i-init

@@ -1,7 +1,7 @@
 -- No violation holds just where no component is misplaced and no two overlap.
 use Rattle.std.proofs.Common.{refl}
 use Rattle.std.proofs.lemmas.Bool.{false≢true}
-use Rattle.leg_place.proofs.Misplaced.{misplaced_holds, none_by_overlap}
+use Rattle.leg_place.proofs.AnyViolation.{misplaced_holds, none_by_overlap}
 use Rattle.leg_place.proofs.placed.is_placed.Goals as goal
 
 pub returns-then-is_one_misplaced : goal.returns-then-is_one_misplaced

@@ -1,7 +1,7 @@
 -- A placement blockage adds its rectangles, and one of a layer none.
 use Rattle.std.proofs.Common.{◌≡◌, ◌++◌, refl, ap, arith}
 use Rattle.std.proofs.lemmas.List.{take_all, append-nil}
-use Rattle.leg_block.specs.Records.{placement_rects}
+use Rattle.leg_design_records.specs.Records.{placement_rects}
 use Rattle.leg_place.proofs.BlockageRects.{rects_of_placement, rects_of_layer, rects_more, rects_few}
 use Rattle.leg_place.proofs.placement_blockages.placement_rects.Goals as goal
 use Rattle.leg_place.proofs.placement_blockages.placement_rects.Goals.{in-Placement+in_ok-extend_from_slice, in_default}

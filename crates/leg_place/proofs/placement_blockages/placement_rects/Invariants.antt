@@ -1,6 +1,6 @@
 -- The rectangles of the placement blockages so far are listed.
 use Rattle.std.proofs.Common.{◌≡◌, map, take}
-use Rattle.leg_block.specs.Records.{blockage_said, placement_rects}
+use Rattle.leg_design_records.specs.Records.{blockage_said, placement_rects}
 use Rattle.leg_place.proofs.placement_blockages.placement_rects.Given as goal
 
 abbrev pub invariant-loop-blockage : goal.invariant-loop-blockage

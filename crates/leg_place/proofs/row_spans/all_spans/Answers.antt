@@ -1,7 +1,7 @@
 -- The sites of one more row.
 use Rattle.std.proofs.Common.{◌≡◌, length, ◌<◌, slice_get, Some, refl, ap, ◌∙◌, arith}
 use Rattle.std.proofs.lemmas.Option.{slice_get_read, slice_get_within}
-use Rattle.leg_block.specs.WellFormedParts.{IsRow}
+use Rattle.leg_design_records.specs.WellFormedParts.{IsRow}
 use Rattle.leg_place.specs.Steps.RowSpans.{IsRowSpan}
 use Rattle.leg_place.proofs.KeptSpans.{spans_more}
 use Rattle.leg_place.proofs.Places.{All-at}

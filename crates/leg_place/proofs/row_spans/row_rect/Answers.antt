@@ -3,10 +3,10 @@ use Rattle.std.proofs.Common.{rules, ◌≡◌, ℤ, pos, ◌+ℤ◌, ◌*ℤ◌
 use Rattle.std.proofs.lemmas.Int.{to_z-of_z}
 use Rattle.std.proofs.lemmas.Option.{same_Some}
 use Rattle.leg_lex.specs.Number.{IsNumber}
-use Rattle.leg_geom.specs.Plane.{Sides, IsRect}
-use Rattle.leg_cells.specs.Measure.{Lengths, IsExtent}
-use Rattle.leg_block.specs.WellFormedParts.{IsPosition}
-use Rattle.leg_block.specs.declared.records.Row.{Row}
+use Rattle.leg_geom.specs.Plane.{RectModel, IsRect}
+use Rattle.leg_lib_records.specs.Measure.{ExtentModel, IsExtent}
+use Rattle.leg_design_records.specs.WellFormedParts.{IsPosition}
+use Rattle.leg_design_records.specs.declared.records.Row.{Row}
 use Rattle.leg_place.specs.Steps.SiteSpan.{row_box}
 use Rattle.leg_place.proofs.RowSites.{between_fits, number_fits, sum_fits, row_box_proper}
 use Rattle.leg_place.proofs.row_spans.row_rect.Goals as goal
@@ -16,7 +16,7 @@ abbrev passed : ℤ → ℤ
 passed z = to_z w64 (of_z w64 z)
 
 -- the box by its parts, as they are computed
-abbrev computed_box : ℤ → ℤ → ℤ → ℤ → ℤ → Sides
+abbrev computed_box : ℤ → ℤ → ℤ → ℤ → ℤ → RectModel
 computed_box left bottom count width height = record {
   x1 = passed left;
   y1 = passed bottom;
@@ -24,11 +24,11 @@ computed_box left bottom count width height = record {
   y2 = passed (passed bottom +ℤ passed height);
 }
 
-found : (r : Option Sides) (box : Sides) → SomeIff r (IsRect box) box → IsRect box → r ≡ Some box
+found : (r : Option RectModel) (box : RectModel) → SomeIff r (IsRect box) box → IsRect box → r ≡ Some box
 found None box told proper = absurd (told proper)
 found (Some s) box told proper = rw told.1 refl
 
-row_found : (row : Row) (size : Lengths) (r : Option Sides) → IsPosition row.at → pos 1 ≤ℤ row.count → IsNumber row.count → IsNumber (row.at.x +ℤ row.count *ℤ size.width) → IsExtent size → SomeIff r (IsRect (computed_box row.at.x row.at.y row.count size.width size.height)) (computed_box row.at.x row.at.y row.count size.width size.height) → r ≡ Some (row_box row size)
+row_found : (row : Row) (size : ExtentModel) (r : Option RectModel) → IsPosition row.at → pos 1 ≤ℤ row.count → IsNumber row.count → IsNumber (row.at.x +ℤ row.count *ℤ size.width) → IsExtent size → SomeIff r (IsRect (computed_box row.at.x row.at.y row.count size.width size.height)) (computed_box row.at.x row.at.y row.count size.width size.height) → r ≡ Some (row_box row size)
 row_found row size r at some few end extent told =
     let left = to_z-of_z w64 row.at.x (number_fits row.at.x at.x) in
     let bottom = to_z-of_z w64 row.at.y (number_fits row.at.y at.y) in
@@ -40,7 +40,7 @@ row_found row size r at some few end extent told =
     let top = to_z-of_z w64 (row.at.y +ℤ size.height) (sum_fits row.at.y size.height at.y extent.height) in
     found r (row_box row size) (rw (left, bottom, count, width, height, product, right, top) at told) (row_box_proper row size at some end extent)
 
-some_found : (r : Option Sides) (box : Sides) → r ≡ Some box → IsSome r
+some_found : (r : Option RectModel) (box : RectModel) → r ≡ Some box → IsSome r
 some_found r box is = rw is (search rules)
 
 pub unwrap-requires : goal.unwrap-requires

@@ -2,7 +2,7 @@
 use Rattle.std.proofs.Common.{◌≡◌, ◌<◌, length, slice_get, Some, refl, sym, ap, ◌∙◌}
 use Rattle.std.proofs.lemmas.Bool.{false≢true}
 use Rattle.std.proofs.lemmas.Option.{slice_get_read}
-use Rattle.leg_block.specs.WellFormedParts.{IsComponent}
+use Rattle.leg_design_records.specs.WellFormedParts.{IsComponent}
 use Rattle.leg_place.proofs.Places.{All-at}
 use Rattle.leg_place.proofs.OnRows.{off_site_test, on_no_site}
 use Rattle.leg_place.proofs.sites.is_off_site.Goals as goal

@@ -2,7 +2,7 @@
 use Rattle.std.proofs.Common.{◌≡◌, ◌≤◌, slice_get, length, Some, refl, sym, ap, ◌∙◌}
 use Rattle.std.proofs.lemmas.Bool.{false≢true}
 use Rattle.std.proofs.lemmas.Option.{slice_get_read}
-use Rattle.leg_place.specs.Box.{placed_box}
+use Rattle.leg_rules.specs.Placement.Box.{placed_box}
 use Rattle.leg_place.proofs.OnSites.{IsWide}
 use Rattle.leg_place.proofs.OnRows.{whole_on_row, sites_on_row, on_row_of_sites, on_no_row}
 use Rattle.leg_place.proofs.sites.is_on_some_row.Goals as goal

@@ -1,8 +1,8 @@
 use Rattle.std.proofs.Common.{codes, rules, sym, ap, ◌∙◌, ◌++◌}
 use Rattle.std.proofs.lemmas.Result.{on_ok_weaker}
-use Rattle.leg_text.specs.Spaced.{line}
-use Rattle.leg_block.specs.Records.{blockage_said}
-use Rattle.leg_print.specs.Text.Blockages.{blockage_words}
+use Rattle.leg_output.specs.Words.{line}
+use Rattle.leg_design_records.specs.Records.{blockage_said}
+use Rattle.leg_output.specs.Text.Blockages.{blockage_words}
 use Rattle.leg_print.proofs.SectionText.{section_pushed, section_of}
 use Rattle.leg_print.proofs.blockages.push_blockages.Goals as goal
 

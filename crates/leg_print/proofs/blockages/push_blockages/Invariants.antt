@@ -1,8 +1,8 @@
 use Rattle.std.proofs.Common.{◌≡◌, ◌++◌, take}
 use Rattle.std.specs.List.{flat_map}
-use Rattle.leg_text.specs.Spaced.{line}
-use Rattle.leg_block.specs.Records.{blockage_said}
-use Rattle.leg_print.specs.Text.Blockages.{blockage_words}
+use Rattle.leg_output.specs.Words.{line}
+use Rattle.leg_design_records.specs.Records.{blockage_said}
+use Rattle.leg_output.specs.Text.Blockages.{blockage_words}
 use Rattle.leg_print.proofs.blockages.push_blockages.Given as goal
 
 abbrev pub invariant-loop-blockage : goal.invariant-loop-blockage

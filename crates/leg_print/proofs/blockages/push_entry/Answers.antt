@@ -1,8 +1,8 @@
 use Rattle.std.proofs.Common.{codes, rules}
 use Rattle.std.specs.List.{flat_map}
 use Rattle.std.proofs.lemmas.Result.{on_ok_weaker}
-use Rattle.leg_print.specs.Text.Blockages.{blocked_layer_words, rect_words}
-use Rattle.leg_print.proofs.InTurn.{entry_pushed}
+use Rattle.leg_output.specs.Text.Blockages.{blocked_layer_words, rect_words}
+use Rattle.leg_print.proofs.Appends.{entry_pushed}
 use Rattle.leg_print.proofs.blockages.push_entry.Goals as goal
 
 pub returns : goal.returns

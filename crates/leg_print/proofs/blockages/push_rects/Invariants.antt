@@ -1,7 +1,7 @@
 use Rattle.std.proofs.Common.{◌≡◌, ◌++◌, take}
 use Rattle.std.specs.List.{flat_map}
-use Rattle.leg_text.specs.Spaced.{spaced}
-use Rattle.leg_print.specs.Text.Blockages.{rect_words}
+use Rattle.leg_output.specs.Words.{spaced}
+use Rattle.leg_output.specs.Text.Blockages.{rect_words}
 use Rattle.leg_print.proofs.blockages.push_rects.Given as goal
 
 abbrev pub invariant-loop-rect : goal.invariant-loop-rect

@@ -1,6 +1,6 @@
 use Rattle.std.proofs.Common.{◌≡◌, ◌++◌, map, take}
-use Rattle.leg_text.specs.Spaced.{spaced}
-use Rattle.leg_print.specs.Text.Clauses.{clause_words, shape_clause}
+use Rattle.leg_output.specs.Words.{spaced}
+use Rattle.leg_output.specs.Text.Clauses.{clause_words, shape_clause}
 use Rattle.leg_print.proofs.clauses.push_shapes.Given as goal
 
 abbrev pub invariant-loop-shape : goal.invariant-loop-shape

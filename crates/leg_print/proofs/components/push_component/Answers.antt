@@ -1,8 +1,8 @@
 use Rattle.std.proofs.Common.{[], ◌∷◌, codes, rules}
 use Rattle.std.proofs.lemmas.Result.{on_ok_weaker}
-use Rattle.leg_print.specs.Names.{master_name}
-use Rattle.leg_print.specs.Text.Clauses.{placement_clause}
-use Rattle.leg_print.proofs.InTurn.{entry_pushed}
+use Rattle.leg_output.specs.Names.{master_name}
+use Rattle.leg_output.specs.Text.Clauses.{placement_clause}
+use Rattle.leg_print.proofs.Appends.{entry_pushed}
 use Rattle.leg_print.proofs.components.push_component.Goals as goal
 
 pub returns : goal.returns

@@ -1,7 +1,7 @@
 use Rattle.std.proofs.Common.{◌≡◌, ◌++◌, take}
 use Rattle.std.specs.List.{flat_map}
-use Rattle.leg_text.specs.Spaced.{line}
-use Rattle.leg_print.specs.Text.Components.{component_words}
+use Rattle.leg_output.specs.Words.{line}
+use Rattle.leg_output.specs.Text.Components.{component_words}
 use Rattle.leg_print.proofs.components.push_components.Given as goal
 
 abbrev pub invariant-loop-component : goal.invariant-loop-component

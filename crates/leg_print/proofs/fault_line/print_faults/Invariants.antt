@@ -1,6 +1,6 @@
 use Rattle.std.proofs.Common.{◌≡◌, option_map, take}
 use Rattle.std.specs.List.{flat_map}
-use Rattle.leg_print.specs.Lines.{violation_line}
+use Rattle.leg_output.specs.Lines.{violation_line}
 use Rattle.leg_print.proofs.fault_line.print_faults.Given as goal
 
 -- a line for each violation so far

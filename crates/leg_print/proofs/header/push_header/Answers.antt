@@ -1,8 +1,8 @@
 use Rattle.std.proofs.Common.{◌++◌, codes, ap, ◌∙◌, rules}
 use Rattle.std.proofs.lemmas.Result.{on_ok_weaker}
-use Rattle.leg_text.specs.Spaced.{line}
-use Rattle.leg_print.specs.Text.Header.{version_words, word_words, kept_line, units_words, die_words, naming_text, frame_text}
-use Rattle.leg_print.proofs.InTurn.{two_parts, three_parts}
+use Rattle.leg_output.specs.Words.{line}
+use Rattle.leg_output.specs.Text.Header.{version_words, word_words, kept_line, units_words, die_words, naming_text, frame_text}
+use Rattle.leg_print.proofs.Appends.{two_parts, three_parts}
 use Rattle.leg_print.proofs.header.push_header.Goals as goal
 
 pub returns : goal.returns

@@ -1,10 +1,10 @@
 use Rattle.std.proofs.Common.{[], ◌∷◌, ◌++◌, codes, rules}
 use Rattle.std.specs.List.{flat_map}
 use Rattle.std.proofs.lemmas.Result.{on_ok_weaker}
-use Rattle.leg_text.specs.Spaced.{spaced}
-use Rattle.leg_print.specs.Text.Clauses.{clause_words, kept_clause}
-use Rattle.leg_print.specs.Text.Nets.{terminal_words, net_head, wire_line, wiring_words}
-use Rattle.leg_print.proofs.InTurn.{three_parts, start_pushed}
+use Rattle.leg_output.specs.Words.{spaced}
+use Rattle.leg_output.specs.Text.Clauses.{clause_words, kept_clause}
+use Rattle.leg_output.specs.Text.Nets.{terminal_words, net_head, wire_line, wiring_words}
+use Rattle.leg_print.proofs.Appends.{three_parts, start_pushed}
 use Rattle.leg_print.proofs.nets.push_net.Goals as goal
 
 pub returns : goal.returns

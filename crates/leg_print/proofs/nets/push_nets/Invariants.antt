@@ -1,6 +1,6 @@
 use Rattle.std.proofs.Common.{◌≡◌, ◌++◌, take}
 use Rattle.std.specs.List.{flat_map}
-use Rattle.leg_print.specs.Text.Nets.{net_text}
+use Rattle.leg_output.specs.Text.Nets.{net_text}
 use Rattle.leg_print.proofs.nets.push_nets.Given as goal
 
 abbrev pub invariant-loop-net : goal.invariant-loop-net

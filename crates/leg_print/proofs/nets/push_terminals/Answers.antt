@@ -1,7 +1,7 @@
 use Rattle.std.proofs.Common.{◌++◌, sym, ap, ◌∙◌}
-use Rattle.leg_text.specs.Spaced.{spaced}
-use Rattle.leg_print.specs.Text.Nets.{terminal_words}
-use Rattle.leg_print.proofs.InTurn.{next_run}
+use Rattle.leg_output.specs.Words.{spaced}
+use Rattle.leg_output.specs.Text.Nets.{terminal_words}
+use Rattle.leg_print.proofs.Appends.{next_run}
 use Rattle.leg_print.proofs.nets.push_terminals.Goals as goal
 
 pub loop-terminal-preserved : goal.loop-terminal-preserved

@@ -1,7 +1,7 @@
 use Rattle.std.proofs.Common.{codes, map}
 use Rattle.std.proofs.lemmas.Result.{on_ok_weaker}
-use Rattle.leg_print.specs.Text.Wires.{wire_words}
-use Rattle.leg_print.proofs.InTurn.{start_pushed}
+use Rattle.leg_output.specs.Text.Wires.{wire_words}
+use Rattle.leg_print.proofs.Appends.{start_pushed}
 use Rattle.leg_print.proofs.nets.push_wire_line.Goals as goal
 
 pub returns : goal.returns

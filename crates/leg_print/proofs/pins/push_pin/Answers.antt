@@ -1,9 +1,9 @@
 use Rattle.std.proofs.Common.{[], ◌∷◌, ◌++◌, codes, rules}
 use Rattle.std.specs.List.{flat_map}
 use Rattle.std.proofs.lemmas.Result.{on_ok_weaker}
-use Rattle.leg_print.specs.Text.Clauses.{clause_words, kept_clause}
-use Rattle.leg_print.specs.Text.Pins.{kept_clauses, port_clauses, pin_clauses}
-use Rattle.leg_print.proofs.InTurn.{clauses_pushed, entry_pushed}
+use Rattle.leg_output.specs.Text.Clauses.{clause_words, kept_clause}
+use Rattle.leg_output.specs.Text.Pins.{kept_clauses, port_clauses, pin_clauses}
+use Rattle.leg_print.proofs.Appends.{clauses_pushed, entry_pushed}
 use Rattle.leg_print.proofs.pins.push_pin.Goals as goal
 
 pub returns : goal.returns

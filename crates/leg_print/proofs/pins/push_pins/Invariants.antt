@@ -1,7 +1,7 @@
 use Rattle.std.proofs.Common.{◌≡◌, ◌++◌, take}
 use Rattle.std.specs.List.{flat_map}
-use Rattle.leg_text.specs.Spaced.{line}
-use Rattle.leg_print.specs.Text.Pins.{pin_words}
+use Rattle.leg_output.specs.Words.{line}
+use Rattle.leg_output.specs.Text.Pins.{pin_words}
 use Rattle.leg_print.proofs.pins.push_pins.Given as goal
 
 abbrev pub invariant-loop-pin : goal.invariant-loop-pin

@@ -1,8 +1,8 @@
 use Rattle.std.proofs.Common.{◌≡◌, ◌++◌, take}
 use Rattle.std.specs.List.{flat_map}
-use Rattle.leg_text.specs.Spaced.{spaced}
-use Rattle.leg_print.specs.Text.Clauses.{clause_words}
-use Rattle.leg_print.specs.Text.Pins.{port_clauses}
+use Rattle.leg_output.specs.Words.{spaced}
+use Rattle.leg_output.specs.Text.Clauses.{clause_words}
+use Rattle.leg_output.specs.Text.Pins.{port_clauses}
 use Rattle.leg_print.proofs.pins.push_ports.Given as goal
 
 abbrev pub invariant-loop-port : goal.invariant-loop-port

@@ -1,10 +1,10 @@
 use Rattle.std.proofs.Common.{[], ◌∷◌, codes, rules}
 use Rattle.std.specs.Fmt.{signed_decimal}
 use Rattle.std.proofs.lemmas.Result.{on_ok_weaker}
-use Rattle.leg_print.specs.Names.{site_name}
-use Rattle.leg_print.specs.Text.Points.{orient_word}
-use Rattle.leg_print.specs.Text.Rows.{width_of_site}
-use Rattle.leg_print.proofs.InTurn.{entry_pushed}
+use Rattle.leg_output.specs.Names.{site_name}
+use Rattle.leg_output.specs.Text.Points.{orient_word}
+use Rattle.leg_output.specs.Text.Rows.{width_of_site}
+use Rattle.leg_print.proofs.Appends.{entry_pushed}
 use Rattle.leg_print.proofs.rows.push_row.Goals as goal
 
 pub returns : goal.returns

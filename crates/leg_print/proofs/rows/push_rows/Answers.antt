@@ -1,7 +1,7 @@
 use Rattle.std.proofs.Common.{arith}
-use Rattle.leg_text.specs.Spaced.{line}
-use Rattle.leg_print.specs.Text.Rows.{row_words}
-use Rattle.leg_print.proofs.InTurn.{one_more}
+use Rattle.leg_output.specs.Words.{line}
+use Rattle.leg_output.specs.Text.Rows.{row_words}
+use Rattle.leg_print.proofs.Appends.{one_more}
 use Rattle.leg_print.proofs.rows.push_rows.Goals as goal
 
 pub loop-row-preserved : goal.loop-row-preserved

@@ -1,7 +1,7 @@
 use Rattle.std.proofs.Common.{◌≡◌, ◌++◌, take}
 use Rattle.std.specs.List.{flat_map}
-use Rattle.leg_text.specs.Spaced.{line}
-use Rattle.leg_print.specs.Text.Rows.{row_words}
+use Rattle.leg_output.specs.Words.{line}
+use Rattle.leg_output.specs.Text.Rows.{row_words}
 use Rattle.leg_print.proofs.rows.push_rows.Given as goal
 
 abbrev pub invariant-loop-row : goal.invariant-loop-row

@@ -1,6 +1,6 @@
 use Rattle.std.proofs.Common.{◌≡◌, ◌++◌, map, take}
-use Rattle.leg_text.specs.Spaced.{spaced}
-use Rattle.leg_print.specs.Names.{layer_name}
+use Rattle.leg_output.specs.Words.{spaced}
+use Rattle.leg_output.specs.Names.{layer_name}
 use Rattle.leg_print.proofs.tracks.push_layers.Given as goal
 
 abbrev pub invariant-loop-layer : goal.invariant-loop-layer

@@ -1,8 +1,8 @@
 use Rattle.std.proofs.Common.{[], ◌∷◌, codes, rules}
 use Rattle.std.specs.Fmt.{signed_decimal}
 use Rattle.std.proofs.lemmas.Result.{on_ok_weaker}
-use Rattle.leg_print.specs.Text.Tracks.{axis_word, layer_words}
-use Rattle.leg_print.proofs.InTurn.{entry_pushed}
+use Rattle.leg_output.specs.Text.Tracks.{axis_word, layer_words}
+use Rattle.leg_print.proofs.Appends.{entry_pushed}
 use Rattle.leg_print.proofs.tracks.push_track.Goals as goal
 
 pub returns : goal.returns

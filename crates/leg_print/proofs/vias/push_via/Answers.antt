@@ -1,7 +1,7 @@
 use Rattle.std.proofs.Common.{[], ◌∷◌, codes, map, rules}
 use Rattle.std.proofs.lemmas.Result.{on_ok_weaker}
-use Rattle.leg_print.specs.Text.Clauses.{clause_words, shape_clause}
-use Rattle.leg_print.proofs.InTurn.{entry_pushed}
+use Rattle.leg_output.specs.Text.Clauses.{clause_words, shape_clause}
+use Rattle.leg_print.proofs.Appends.{entry_pushed}
 use Rattle.leg_print.proofs.vias.push_via.Goals as goal
 
 pub returns : goal.returns

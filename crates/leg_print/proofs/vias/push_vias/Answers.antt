@@ -1,7 +1,7 @@
 use Rattle.std.proofs.Common.{codes, rules}
 use Rattle.std.proofs.lemmas.Result.{on_ok_weaker}
-use Rattle.leg_text.specs.Spaced.{line}
-use Rattle.leg_print.specs.Text.Vias.{via_words}
+use Rattle.leg_output.specs.Words.{line}
+use Rattle.leg_output.specs.Text.Vias.{via_words}
 use Rattle.leg_print.proofs.SectionText.{section_pushed}
 use Rattle.leg_print.proofs.vias.push_vias.Goals as goal
 

@@ -1,7 +1,7 @@
 use Rattle.std.proofs.Common.{◌≡◌, ◌++◌, take}
 use Rattle.std.specs.List.{flat_map}
-use Rattle.leg_text.specs.Spaced.{line}
-use Rattle.leg_print.specs.Text.Vias.{via_words}
+use Rattle.leg_output.specs.Words.{line}
+use Rattle.leg_output.specs.Text.Vias.{via_words}
 use Rattle.leg_print.proofs.vias.push_vias.Given as goal
 
 abbrev pub invariant-loop-via : goal.invariant-loop-via

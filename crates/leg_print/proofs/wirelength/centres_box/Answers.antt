@@ -1,5 +1,5 @@
-use Rattle.leg_block.specs.declared.records.Terminal.{Terminal}
-use Rattle.leg_print.specs.Wirelength.{IsTerminalCentre}
+use Rattle.leg_design_records.specs.declared.records.Terminal.{Terminal}
+use Rattle.leg_rules.specs.Wirelength.{IsTerminalCentre}
 use Rattle.leg_print.proofs.PointsOfSome.{next_one, all_taken}
 use Rattle.leg_print.proofs.TerminalCentres.{centres_among}
 use Rattle.leg_print.proofs.wirelength.centres_box.Goals as goal

@@ -1,6 +1,6 @@
 use Rattle.std.proofs.Common.{take}
-use Rattle.leg_block.specs.declared.records.Terminal.{Terminal}
-use Rattle.leg_print.specs.Wirelength.{IsLeastBoxIfAny, IsTerminalCentre}
+use Rattle.leg_design_records.specs.declared.records.Terminal.{Terminal}
+use Rattle.leg_rules.specs.Wirelength.{IsLeastBoxIfAny, IsTerminalCentre}
 use Rattle.leg_print.specs.Steps.Wirelength.{IsOfSome}
 use Rattle.leg_print.proofs.wirelength.centres_box.Given as goal
 

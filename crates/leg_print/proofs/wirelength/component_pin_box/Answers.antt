@@ -1,7 +1,7 @@
 use Rattle.std.proofs.Common.{◌≡◌, ◌∙◌, ap}
 use Rattle.std.proofs.lemmas.Option.{slice_get_past}
-use Rattle.leg_cells.specs.Measure.{Lengths}
-use Rattle.leg_cells.specs.Records.{MasterSaid, MasterPinSaid}
+use Rattle.leg_lib_records.specs.Measure.{ExtentModel}
+use Rattle.leg_lib_records.specs.Records.{MasterModel, MasterPinModel}
 use Rattle.leg_print.proofs.BoxesKept.{register, number_kept}
 use Rattle.leg_print.proofs.TerminalsKnown.{looked_up, component_position, pin_within}
 use Rattle.leg_print.proofs.TerminalCentres.{no_pin, component_pin_least, sized_least}
@@ -13,7 +13,7 @@ returns-in_err-pin g c =
     let component = c.in_ok-component.component.now in
     let master = c.in_ok-master.master.now in
     let found = looked_up c.components.result.now design.components c.args.component component c.components.ensures.is c.in_ok-component.ensures.lookup.0 c.in_ok-component.ensures.lookup.1 in
-    let listed : c.as_slice.result.now ≡ master.pins = c.as_slice.ensures ∙ ap (λ (m : MasterSaid). m.pins) c.master.view_is in
+    let listed : c.as_slice.result.now ≡ master.pins = c.as_slice.ensures ∙ ap (λ (m : MasterModel). m.pins) c.master.view_is in
     let made = looked_up c.masters.result.now c.library.result.now.masters component.master master c.masters.ensures.is c.in_ok-master.ensures.lookup.0 c.in_ok-master.ensures.lookup.1 in
     let none = slice_get_past c.as_slice.result.now c.args.pin c.in_err-pin.ensures.lookup.3 in
     rw c.from_residual-in_err-pin.ensures
@@ -30,8 +30,8 @@ drawn_box-requires-clause-within g c =
     let component = c.in_ok-component.component.now in
     let master = c.in_ok-master.master.now in
     let pin = c.in_ok-pin.pin.now in
-    let listed : c.as_slice.result.now ≡ master.pins = c.as_slice.ensures ∙ ap (λ (m : MasterSaid). m.pins) c.master.view_is in
-    let drawn : c.as_slice-2.result.now ≡ pin.shapes = c.as_slice-2.ensures ∙ ap (λ (p : MasterPinSaid). p.shapes) c.pin.view_is in
+    let listed : c.as_slice.result.now ≡ master.pins = c.as_slice.ensures ∙ ap (λ (m : MasterModel). m.pins) c.master.view_is in
+    let drawn : c.as_slice-2.result.now ≡ pin.shapes = c.as_slice-2.ensures ∙ ap (λ (p : MasterPinModel). p.shapes) c.pin.view_is in
     let made = looked_up c.masters.result.now c.library.result.now.masters component.master master c.masters.ensures.is c.in_ok-master.ensures.lookup.0 c.in_ok-master.ensures.lookup.1 in
     let there = looked_up c.as_slice.result.now master.pins c.args.pin pin listed c.in_ok-pin.ensures.lookup.0 c.in_ok-pin.ensures.lookup.1 in
     rw drawn (pin_within c.library.result.now component.master c.args.pin master pin c.masters.ensures.proper made there)
@@ -43,13 +43,13 @@ returns g c =
     let master = c.in_ok-master.master.now in
     let pin = c.in_ok-pin.pin.now in
     let found = looked_up c.components.result.now design.components c.args.component component c.components.ensures.is c.in_ok-component.ensures.lookup.0 c.in_ok-component.ensures.lookup.1 in
-    let listed : c.as_slice.result.now ≡ master.pins = c.as_slice.ensures ∙ ap (λ (m : MasterSaid). m.pins) c.master.view_is in
-    let drawn : c.as_slice-2.result.now ≡ pin.shapes = c.as_slice-2.ensures ∙ ap (λ (p : MasterPinSaid). p.shapes) c.pin.view_is in
+    let listed : c.as_slice.result.now ≡ master.pins = c.as_slice.ensures ∙ ap (λ (m : MasterModel). m.pins) c.master.view_is in
+    let drawn : c.as_slice-2.result.now ≡ pin.shapes = c.as_slice-2.ensures ∙ ap (λ (p : MasterPinModel). p.shapes) c.pin.view_is in
     let made = looked_up c.masters.result.now c.library.result.now.masters component.master master c.masters.ensures.is c.in_ok-master.ensures.lookup.0 c.in_ok-master.ensures.lookup.1 in
     let there = looked_up c.as_slice.result.now master.pins c.args.pin pin listed c.in_ok-pin.ensures.lookup.0 c.in_ok-pin.ensures.lookup.1 in
     let size = c.master.inside.size in
-    let same : size ≡ master.size = ap (λ (m : MasterSaid). m.size) c.master.view_is in
-    let width = number_kept c.width-width.result size.width c.width-width.ensures.is c.width-width.ensures.proper.width ∙ ap (λ (s : Lengths). s.width) same in
-    let height = number_kept c.height-height.result size.height c.height-height.ensures.is c.height-height.ensures.proper.height ∙ ap (λ (s : Lengths). s.height) same in
+    let same : size ≡ master.size = ap (λ (m : MasterModel). m.size) c.master.view_is in
+    let width = number_kept c.width-width.result size.width c.width-width.ensures.is c.width-width.ensures.proper.width ∙ ap (λ (s : ExtentModel). s.width) same in
+    let height = number_kept c.height-height.result size.height c.height-height.ensures.is c.height-height.ensures.proper.height ∙ ap (λ (s : ExtentModel). s.height) same in
     component_pin_least design c.args.component c.args.pin component found master (rw c.library.ensures.is at made) c.in_ok-place.place pin c.drawn_box.result c.in_ok-place.was there
     (sized_least c.in_ok-place.place (register c.width-width.result) (register c.height-height.result) master.size c.as_slice-2.result.now pin.shapes c.drawn_box.result width height drawn c.drawn_box.ensures)

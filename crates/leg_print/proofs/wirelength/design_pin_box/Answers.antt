@@ -1,5 +1,5 @@
 use Rattle.std.proofs.Common.{◌≡◌, ◌∙◌, ap}
-use Rattle.leg_block.specs.Records.{PinSaid}
+use Rattle.leg_design_records.specs.Records.{PinModel}
 use Rattle.leg_print.proofs.TerminalsKnown.{looked_up}
 use Rattle.leg_print.proofs.TerminalCentres.{design_pin_least}
 use Rattle.leg_print.proofs.wirelength.design_pin_box.Goals as goal
@@ -8,5 +8,5 @@ pub returns : goal.returns
 returns g c =
     let pin = c.in_ok-pin.pin.now in
     let there = looked_up c.pins.result.now c.args.design.now.pins c.args.pin pin c.pins.ensures.is c.in_ok-pin.ensures.lookup.0 c.in_ok-pin.ensures.lookup.1 in
-    let ports : c.as_slice.result.now ≡ pin.ports = c.as_slice.ensures ∙ ap (λ (p : PinSaid). p.ports) c.pin.view_is in
+    let ports : c.as_slice.result.now ≡ pin.ports = c.as_slice.ensures ∙ ap (λ (p : PinModel). p.ports) c.pin.view_is in
     design_pin_least c.args.design.now c.args.pin pin c.ports_box.result there (rw ports at c.ports_box.ensures)

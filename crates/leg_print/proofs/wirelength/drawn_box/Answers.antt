@@ -1,6 +1,6 @@
 use Rattle.std.proofs.Common.{Some, w64}
 use Rattle.std.proofs.lemmas.Int.{to_z-of_z}
-use Rattle.leg_cells.specs.declared.records.Shape.{Shape}
+use Rattle.leg_lib_records.specs.declared.records.Shape.{Shape}
 use Rattle.leg_print.specs.Steps.Wirelength.{IsOfShape}
 use Rattle.leg_print.proofs.PointsOfSome.{one_more, all_taken}
 use Rattle.leg_print.proofs.wirelength.drawn_box.Goals as goal

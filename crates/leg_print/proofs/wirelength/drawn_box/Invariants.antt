@@ -1,6 +1,6 @@
 use Rattle.std.proofs.Common.{take}
-use Rattle.leg_cells.specs.declared.records.Shape.{Shape}
-use Rattle.leg_print.specs.Wirelength.{IsLeastBoxIfAny}
+use Rattle.leg_lib_records.specs.declared.records.Shape.{Shape}
+use Rattle.leg_rules.specs.Wirelength.{IsLeastBoxIfAny}
 use Rattle.leg_print.specs.Steps.Wirelength.{IsOfSome, IsOfShape}
 use Rattle.leg_print.proofs.wirelength.drawn_box.Given as goal
 

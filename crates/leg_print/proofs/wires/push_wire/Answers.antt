@@ -2,10 +2,10 @@ use Rattle.std.proofs.Common.{ℤ, ◌∷◌, ◌++◌, ap, sym, ◌∙◌, rule
 use Rattle.std.proofs.lemmas.Int.{to_z-of_z}
 use Rattle.std.proofs.lemmas.Result.{on_ok_weaker}
 use Rattle.leg_lex.specs.Words.{Words}
-use Rattle.leg_text.specs.Spaced.{spaced}
-use Rattle.leg_print.specs.Names.{layer_name}
-use Rattle.leg_print.specs.Text.Wires.{width_words, point_words, given_extension, wire_words}
-use Rattle.leg_print.proofs.InTurn.{three_runs, same_run}
+use Rattle.leg_output.specs.Words.{spaced}
+use Rattle.leg_output.specs.Names.{layer_name}
+use Rattle.leg_output.specs.Text.Wires.{width_words, point_words, given_extension, wire_words}
+use Rattle.leg_print.proofs.Appends.{three_runs, same_run}
 use Rattle.leg_print.proofs.wires.push_wire.Goals as goal
 
 pub returns-in_ok-push_segment_end-in-Segment : goal.returns-in_ok-push_segment_end-in-Segment

@@ -1,11 +1,11 @@
 use Rattle.std.proofs.Common.{◌≡◌, ◌≤◌, false, All, length, map, arith}
 use Rattle.std.proofs.lemmas.List.Elements.{All-map}
-use Rattle.leg_block.specs.WellFormedNets.{IsWire}
-use Rattle.leg_block.specs.declared.limits.TheConstants.{PART_LIMIT}
-use Rattle.leg_flat.specs.Metal.{metal_of}
-use Rattle.leg_flat.specs.Flat.{IsJudgedBy}
+use Rattle.leg_design_records.specs.WellFormedNets.{IsWire}
+use Rattle.leg_design_records.specs.declared.limits.TheConstants.{PART_LIMIT}
+use Rattle.leg_rules.specs.Metal.Metal.{metal_of}
+use Rattle.leg_rules.specs.Metal.Flat.{IsJudgedBy}
 use Rattle.leg_rules.specs.Legal.{IsLegal}
-use Rattle.leg_grown.specs.Finished.{finished}
+use Rattle.leg_route_laws.specs.Finished.{finished}
 use Rattle.leg_route.proofs.finish.finish.Goals as goal
 
 pub with_all_wires-requires-clause-few : goal.with_all_wires-requires-clause-few

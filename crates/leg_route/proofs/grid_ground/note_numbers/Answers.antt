@@ -1,6 +1,6 @@
 use Rattle.std.proofs.Common.{◌≡◌, ◌+◌, ◌-◌, ◌++◌, refl, ap, ◌∙◌, arith}
 use Rattle.std.specs.List.{range_with_len}
-use Rattle.leg_route.proofs.Noted.{none_yet, numbers_next}
+use Rattle.leg_route.proofs.NewShapes.{none_yet, numbers_next}
 use Rattle.leg_route.proofs.grid_ground.note_numbers.Goals as goal
 
 pub loop-number-init : goal.loop-number-init

@@ -1,4 +1,4 @@
-use Rattle.leg_route.proofs.Finished.{routed_then, legal_then, as_many}
+use Rattle.leg_route.proofs.RunEnds.{routed_then, legal_then, as_many}
 use Rattle.leg_route.proofs.laws.finished_run.Goals as goal
 
 pub returns : goal.returns

@@ -1,13 +1,13 @@
 use Rattle.std.proofs.Common.{◌<◌, ◌+◌, suc, false, length, refl, take, drop, subst, sym, ◌∙◌}
 use Rattle.std.proofs.lemmas.Result.{err_from_is_err_and}
-use Rattle.leg_block.specs.declared.limits.TheConstants.{PART_LIMIT}
-use Rattle.leg_block.specs.WellFormedNets.{IsWire}
-use Rattle.leg_flat.specs.Metal.{wire_outlines}
-use Rattle.leg_flat.specs.MoreWires.{HasOneMoreWire}
-use Rattle.leg_grid.specs.MoreWires.{HasMoreWires}
-use Rattle.leg_grid.specs.MoreWires.HasMoreWires.{none}
+use Rattle.leg_design_records.specs.declared.limits.TheConstants.{PART_LIMIT}
+use Rattle.leg_design_records.specs.WellFormedNets.{IsWire}
+use Rattle.leg_rules.specs.Metal.Metal.{wire_outlines}
+use Rattle.leg_rules.specs.Metal.MoreWires.{HasOneMoreWire}
+use Rattle.leg_rules.specs.Route.MoreWires.{HasMoreWires}
+use Rattle.leg_rules.specs.Route.MoreWires.HasMoreWires.{none}
 use Rattle.leg_route.proofs.MoreWires.{more_then}
-use Rattle.leg_route.proofs.Turn.{all_at, take_next, split_at}
+use Rattle.leg_route.proofs.NetTurn.{all_at, take_next, split_at}
 use Rattle.leg_route.proofs.net_turn.add_wires.Goals as goal
 
 pub loop-wire-init : goal.loop-wire-init

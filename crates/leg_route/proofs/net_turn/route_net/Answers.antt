@@ -1,9 +1,9 @@
 use Rattle.std.proofs.Common.{◌++◌, ◌<◌, false, length, subst, sym, ap, ◌∙◌}
 use Rattle.std.proofs.lemmas.List.Elements.{All-nil}
-use Rattle.leg_block.specs.WellFormedNets.{IsWire}
+use Rattle.leg_design_records.specs.WellFormedNets.{IsWire}
 use Rattle.leg_route.specs.Steps.NetRun.{NetRun}
 use Rattle.leg_route.specs.Steps.NetRun.NetRun.{begun}
-use Rattle.leg_route.proofs.Turn.{turn_more, turn_less, spelled_more}
+use Rattle.leg_route.proofs.NetTurn.{turn_more, turn_less, spelled_more}
 use Rattle.leg_route.proofs.net_turn.route_net.Goals as goal
 
 pub walks-init : goal.walks-init

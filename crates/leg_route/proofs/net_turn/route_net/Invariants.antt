@@ -1,9 +1,10 @@
 -- The net got the wires so far, walk by walk; each walk gives it another piece at least.
 use Rattle.std.proofs.Common.{◌≡◌, false, All, ◌-◌, ◌*◌}
-use Rattle.leg_block.specs.declared.limits.TheConstants.{PART_LIMIT}
-use Rattle.leg_block.specs.WellFormedNets.{IsWire}
-use Rattle.leg_flat.specs.Flat.{IsWithin}
-use Rattle.leg_wire.specs.Touch.{piece_count, AreJoined, AreMarks}
+use Rattle.leg_design_records.specs.declared.limits.TheConstants.{PART_LIMIT}
+use Rattle.leg_design_records.specs.WellFormedNets.{IsWire}
+use Rattle.leg_flat.specs.Limits.{IsWithinLimits}
+use Rattle.leg_wire.specs.PieceMarks.{AreMarks}
+use Rattle.leg_rules.specs.Joins.Touch.{piece_count, AreJoined}
 use Rattle.leg_route.specs.Steps.NetRun.{NetRun}
 use Rattle.leg_route.proofs.net_turn.route_net.Given as goal
 
@@ -11,7 +12,7 @@ abbrev pub invariant-walks : goal.invariant-walks
 invariant-walks g l =
     let ground = g.G.Ground in record {
       same : ground.design l.ground ≡ ground.design l.fn.ground;
-      within : IsWithin (ground.flat l.ground);
+      within : IsWithinLimits (ground.flat l.ground);
       ready : ground.IsReady l.ground;
       joined : AreMarks (AreJoined (ground.flat l.ground) l.net 0) (piece_count (ground.flat l.ground) l.net) l.joined.items;
       spelled : All (IsWire (ground.design l.fn.ground).library (ground.design l.fn.ground).vias false) l.wires.items;

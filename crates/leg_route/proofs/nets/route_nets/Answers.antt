@@ -1,6 +1,6 @@
 use Rattle.std.proofs.Common.{map}
 use Rattle.std.proofs.lemmas.Result.{err_from_is_err_and}
-use Rattle.leg_route.proofs.Onward.{refused_then, finished_underway}
+use Rattle.leg_route.proofs.NetByNet.{refused_then, finished_underway}
 use Rattle.leg_route.proofs.nets.route_nets.Goals as goal
 
 pub returns-clause-run : goal.returns-clause-run

@@ -1,10 +1,10 @@
 use Rattle.std.proofs.Common.{false, All, refl, map, subst, ◌∙◌}
 use Rattle.std.proofs.lemmas.Result.{err_from_is_err_and}
 use Rattle.std.proofs.lemmas.List.Elements.{All-nil}
-use Rattle.leg_block.specs.WellFormedNets.{IsWire}
+use Rattle.leg_design_records.specs.WellFormedNets.{IsWire}
 use Rattle.leg_route.specs.Steps.Stops.{IsNetStop}
-use Rattle.leg_route.proofs.Turn.{all_last}
-use Rattle.leg_route.proofs.Onward.{underway_first, underway_step, run_stops}
+use Rattle.leg_route.proofs.NetTurn.{all_last}
+use Rattle.leg_route.proofs.NetByNet.{underway_first, underway_step, run_stops}
 use Rattle.leg_route.proofs.nets.turns.Goals as goal
 
 pub loop-net-init : goal.loop-net-init

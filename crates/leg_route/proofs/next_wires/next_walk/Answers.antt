@@ -1,9 +1,9 @@
 use Rattle.std.proofs.Common.{◌≡◌, ◌↔◌, ℕ, Contains, length, arith}
 use Rattle.std.proofs.lemmas.Bool.Decides.{nat_tests}
 use Rattle.std.proofs.lemmas.List.{nil_from_length}
-use Rattle.leg_grid.specs.Grid.{IsNumberOf}
-use Rattle.leg_grid.specs.Meets.{MeetsJoined, MeetsRest}
-use Rattle.leg_grid.specs.Numbered.{IsOneOf}
+use Rattle.leg_route_grid.specs.Steps.Grid.{IsNumberOf}
+use Rattle.leg_rules.specs.Route.Meets.{MeetsJoined, MeetsRest}
+use Rattle.leg_route_grid.specs.Steps.NodeNumbers.{IsOneOf}
 use Rattle.leg_route.proofs.NextWalk.{no_starts, no_ends, answer_at, answer_within}
 use Rattle.leg_route.proofs.next_wires.next_walk.Goals as goal
 

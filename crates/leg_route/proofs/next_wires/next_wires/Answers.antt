@@ -1,10 +1,10 @@
 use Rattle.std.proofs.Common.{false}
 use Rattle.std.specs.List.{AllZip}
-use Rattle.leg_grid.specs.Grid.{IsNumberOf}
-use Rattle.leg_grid.specs.Numbered.{IsNextWalkAt}
-use Rattle.leg_grid.specs.Run.{IsNextWalk}
+use Rattle.leg_route_grid.specs.Steps.Grid.{IsNumberOf}
+use Rattle.leg_route_grid.specs.Steps.NodeNumbers.{IsNextWalkAt}
+use Rattle.leg_rules.specs.Route.Run.{IsNextWalk}
 use Rattle.leg_route.specs.Steps.NetSlots.{AreMarkedSlots}
-use Rattle.leg_grown.proofs.Within.{numbers_within}
+use Rattle.leg_route_laws.proofs.Within.{numbers_within}
 use Rattle.leg_route.proofs.NetSlots.{starts_are, ends_are}
 use Rattle.leg_route.proofs.NextWalk.{walk_of}
 use Rattle.leg_route.proofs.next_wires.next_wires.Goals as goal

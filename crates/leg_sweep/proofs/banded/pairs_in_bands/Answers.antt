@@ -1,6 +1,6 @@
 use Rattle.std.proofs.Common.{◌≡◌, ◌≤◌, length}
 use Rattle.leg_sweep.proofs.Apart.{pairs_from_sort}
-use Rattle.leg_sweep.proofs.Taken.{takes_listed}
+use Rattle.leg_sweep.proofs.SinkPairs.{takes_listed}
 use Rattle.leg_sweep.proofs.banded.pairs_in_bands.Goals as goal
 
 pub returns-clause-tests : goal.returns-clause-tests

@@ -1,5 +1,5 @@
 use Rattle.std.proofs.Common.{◌≡◌, ℕ, ◌+◌, ◌-◌, ◌≤◌, length, refl, ◌∙◌, arith}
-use Rattle.leg_sweep.specs.Pairs.{IsPair}
+use Rattle.leg_geom.specs.Pairs.{IsPair}
 use Rattle.leg_sweep.specs.Counts.{near_on_layer}
 use Rattle.leg_sweep.proofs.FewPairs.{found_below_none, found_below_more, found_below_all, pairs_grow, looks_more}
 use Rattle.leg_sweep.proofs.few.few_pairs.Goals as goal

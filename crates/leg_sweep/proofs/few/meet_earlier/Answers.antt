@@ -3,7 +3,7 @@ use Rattle.std.specs.List.{range_with_len}
 use Rattle.std.proofs.lemmas.Bool.{both_ways}
 use Rattle.std.proofs.lemmas.List.Sums.{sum_by_more}
 use Rattle.std.proofs.lemmas.Option.{slice_get_read}
-use Rattle.leg_sweep.specs.Pairs.{IsPair}
+use Rattle.leg_geom.specs.Pairs.{IsPair}
 use Rattle.leg_sweep.specs.Counts.{near_along_both, near_on_layer}
 use Rattle.leg_sweep.specs.Steps.Sweep.{ordered}
 use Rattle.leg_sweep.proofs.FewPairs.{numbers_more, number_below, pairs_more, cond_both, cond_once}

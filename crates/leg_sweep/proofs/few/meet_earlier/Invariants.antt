@@ -1,7 +1,7 @@
 -- What the earlier items so far give.
 use Rattle.std.proofs.Common.{◌≡◌, ◌≤◌, ◌+◌, ◌-◌, take, count_by}
 use Rattle.std.specs.List.{range_with_len}
-use Rattle.leg_sweep.specs.Pairs.{IsPair}
+use Rattle.leg_geom.specs.Pairs.{IsPair}
 use Rattle.leg_sweep.specs.Counts.{near_on_layer}
 use Rattle.leg_sweep.specs.Steps.Sweep.{AreNewPairs}
 use Rattle.leg_sweep.proofs.few.meet_earlier.Given as goal

@@ -1,13 +1,13 @@
 use Rattle.std.proofs.Common.{◌≡◌, ℕ, ◌<◌, ◌≤◌, List, [], ◌∷◌, ◌++◌, length, drop, map, ap, length-append, arith, rules}
 use Rattle.std.proofs.lemmas.List.{take_at, map-append}
-use Rattle.leg_geom.specs.Plane.{Sides}
+use Rattle.leg_geom.specs.Plane.{RectModel}
 use Rattle.leg_sweep.specs.declared.node.Node.{Node}
 use Rattle.leg_sweep.specs.declared.bounds.Bounds.{Bounds}
 use Rattle.leg_sweep.specs.Steps.Nodes.{AreGrouped}
 use Rattle.leg_sweep.proofs.NodeGroups.{grouped_both, grouped_closed, members_within}
 use Rattle.leg_sweep.proofs.groups.+push_group.Goals as goal
 
-longer : (rects : List Sides) (numbers : List ℕ) (bounds : Bounds) (before after : List Node) → AreGrouped rects numbers bounds before after → length before ≤ length after
+longer : (rects : List RectModel) (numbers : List ℕ) (bounds : Bounds) (before after : List Node) → AreGrouped rects numbers bounds before after → length before ≤ length after
 longer rects numbers bounds before after group = let is = group.are in omega (arith, ap length is, length-append before group.nodes)
 
 in_front : (before after : List Node) (node : Node) → length (before ++ node ∷ []) ≤ length after → length before < length after

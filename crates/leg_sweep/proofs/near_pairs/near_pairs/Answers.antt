@@ -1,7 +1,7 @@
 use Rattle.std.proofs.Common.{◌≡◌, ℕ, ◌+◌, ◌-◌, ◌≤◌, length, take, map, refl, ◌∙◌, arith}
 use Rattle.std.proofs.lemmas.List.{length-map, length-take-le}
 use Rattle.std.proofs.lemmas.Nat.{mul-le}
-use Rattle.leg_sweep.specs.Pairs.{IsPair}
+use Rattle.leg_geom.specs.Pairs.{IsPair}
 use Rattle.leg_sweep.specs.Counts.{near_on_layer, count_pairs}
 use Rattle.leg_sweep.proofs.Counts.{count_pairs_square}
 use Rattle.leg_sweep.proofs.FewPairs.{found_below_none, found_below_more, found_below_all}

@@ -1,6 +1,6 @@
 -- The pairs among the items so far are found.
 use Rattle.std.proofs.Common.{◌≡◌, ◌≤◌, ◌+◌, take}
-use Rattle.leg_sweep.specs.Pairs.{IsPair}
+use Rattle.leg_geom.specs.Pairs.{IsPair}
 use Rattle.leg_sweep.specs.Counts.{near_on_layer, count_pairs}
 use Rattle.leg_sweep.proofs.FewPairs.{FoundBelow}
 use Rattle.leg_sweep.proofs.near_pairs.near_pairs.Given as goal

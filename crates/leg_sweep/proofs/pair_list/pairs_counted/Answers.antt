@@ -4,7 +4,7 @@ use Rattle.leg_sweep.specs.Steps.Bands.{entries_at}
 use Rattle.leg_sweep.proofs.Apart.{pairs_from_sort}
 use Rattle.leg_sweep.proofs.OneBand.{lowest, one_stretch, one_empty, one_entry, one_near, one_near_both}
 use Rattle.leg_sweep.proofs.Places.{length_order, near_in_order, both_in_order}
-use Rattle.leg_sweep.proofs.Taken.{takes_listed}
+use Rattle.leg_sweep.proofs.SinkPairs.{takes_listed}
 use Rattle.leg_sweep.proofs.pair_list.pairs_counted.Goals as goal
 
 pub sweep-requires-clause-stretches : goal.sweep-requires-clause-stretches

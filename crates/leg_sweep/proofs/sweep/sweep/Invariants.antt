@@ -1,6 +1,6 @@
 -- The items up to the next place of the order are in. Each look keeps an item waiting, which is a near pair, or retires it.
 use Rattle.std.proofs.Common.{◌≡◌, ℕ, ◌≤◌, ◌+◌, length, map, take, sum_by}
-use Rattle.leg_sweep.specs.Pairs.{IsPair}
+use Rattle.leg_geom.specs.Pairs.{IsPair}
 use Rattle.leg_sweep.specs.Counts.{count_pairs}
 use Rattle.leg_sweep.specs.Steps.Bands.{waiting_at, waiting_count, entries_at, near_in_band, near_both_in_band}
 use Rattle.leg_sweep.proofs.FoundSoFar.{FoundTo}

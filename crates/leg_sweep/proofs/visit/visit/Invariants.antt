@@ -1,6 +1,6 @@
 -- The bands up to the next one are visited.
 use Rattle.std.proofs.Common.{◌≡◌, ◌≤◌, ◌+◌, ◌-◌, length, map, count_by}
-use Rattle.leg_sweep.specs.Pairs.{IsPair}
+use Rattle.leg_geom.specs.Pairs.{IsPair}
 use Rattle.leg_sweep.specs.Counts.{near_along_x, near_along_both}
 use Rattle.leg_sweep.specs.Steps.Bands.{waiting_at, met, waiting_count, AreVisited}
 use Rattle.leg_sweep.specs.Steps.Sweep.{test_at, AreNewPairs}

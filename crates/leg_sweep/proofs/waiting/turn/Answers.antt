@@ -3,7 +3,7 @@ use Rattle.std.proofs.lemmas.Bool.{both_ways}
 use Rattle.std.proofs.lemmas.List.{take_more, take_all}
 use Rattle.std.proofs.lemmas.List.Sums.{sum_by_more, sum_by_push}
 use Rattle.std.proofs.lemmas.Option.{slice_get_read}
-use Rattle.leg_sweep.specs.Pairs.{IsPair}
+use Rattle.leg_geom.specs.Pairs.{IsPair}
 use Rattle.leg_sweep.specs.Counts.{near_along_x, near_along_both}
 use Rattle.leg_sweep.specs.Steps.Sweep.{test_at, ordered}
 use Rattle.leg_sweep.proofs.Progress.{place_in_front}

@@ -1,6 +1,6 @@
 -- What the waiting items so far give.
 use Rattle.std.proofs.Common.{◌≡◌, ◌+◌, map, take, filter, count_by}
-use Rattle.leg_sweep.specs.Pairs.{IsPair}
+use Rattle.leg_geom.specs.Pairs.{IsPair}
 use Rattle.leg_sweep.specs.Counts.{near_along_x, near_along_both}
 use Rattle.leg_sweep.specs.Steps.Sweep.{test_at, AreNewPairs}
 use Rattle.leg_sweep.proofs.waiting.turn.Given as goal

@@ -3,8 +3,8 @@ use Rattle.std.proofs.Common.{◌≡◌, ◌+◌, ◌++◌, ◌∷◌, [], ◌�
 use Rattle.std.proofs.lemmas.Bool.{false≢true}
 use Rattle.std.proofs.lemmas.List.{take_all, take_more}
 use Rattle.std.proofs.lemmas.List.Elements.{All-push, All-contains}
-use Rattle.leg_flat.specs.declared.shape.Shape.{Shape}
-use Rattle.leg_wire.specs.Clean.{net_metal}
+use Rattle.leg_rules.specs.declared.shape.Shape.{Shape}
+use Rattle.leg_rules.specs.Spacing.Clean.{net_metal}
 use Rattle.leg_wire.specs.Steps.TooCloseRule.{AreCloserThan}
 use Rattle.leg_wire.specs.Steps.LayerSpacing.{spacing_at}
 use Rattle.leg_wire.proofs.CleanMetal.{none_close, is_clean}

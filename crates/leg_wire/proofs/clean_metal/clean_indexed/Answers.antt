@@ -5,7 +5,7 @@ use Rattle.std.proofs.lemmas.List.{append-nil}
 use Rattle.std.proofs.lemmas.List.Elements.{All-push}
 use Rattle.std.proofs.lemmas.Option.{slice_get_read}
 use Rattle.leg_sweep.specs.Near.{AreNear}
-use Rattle.leg_wire.specs.Clean.{net_metal}
+use Rattle.leg_rules.specs.Spacing.Clean.{net_metal}
 use Rattle.leg_wire.specs.Steps.LayerSpacing.{spacing_at}
 use Rattle.leg_wire.specs.Steps.TooCloseRule.{AreCloserThan}
 use Rattle.leg_wire.proofs.CleanMetal.{rects_of, IsFarAt, next_within, far_at, far_from_all, none_close, is_clean}

@@ -4,7 +4,7 @@ use Rattle.std.proofs.lemmas.Grind.{common_steps}
 use Rattle.leg_sweep.specs.Pairs.{ArePairs}
 use Rattle.leg_wire.specs.Steps.TooCloseRule.{AreClose}
 use Rattle.leg_wire.specs.Steps.Kinds.{AreAlike, AreKinds, AreMembers, pairs_among}
-use Rattle.leg_wire.proofs.AllTold.{first_within, second_within}
+use Rattle.leg_wire.proofs.SpacingLists.{first_within, second_within}
 use Rattle.leg_wire.proofs.KindPairs.{pairs_of_kinds}
 use Rattle.leg_wire.proofs.close_pairs.close_pairs.Goals as goal
 

@@ -1,7 +1,8 @@
 -- The roots are those of the net's sets.
 use Rattle.std.proofs.Common.{length}
 use Rattle.std.proofs.lemmas.Result.{IfOk-weaker}
-use Rattle.leg_wire.specs.Touch.{piece_count, AreJoined, AreFirsts}
+use Rattle.leg_wire.specs.PieceMarks.{AreFirsts}
+use Rattle.leg_rules.specs.Joins.Touch.{piece_count, AreJoined}
 use Rattle.leg_wire.specs.Steps.NumberSets.{AreTogether}
 use Rattle.leg_wire.proofs.Touches.{firsts_of_joined}
 use Rattle.leg_wire.proofs.join.groups_among.Goals as goal

@@ -1,7 +1,7 @@
 -- The sets by all metal, or by one shape of each kind, where these join all pieces.
 use Rattle.std.proofs.Common.{◌≡◌, All, IsTrue, refl}
 use Rattle.std.proofs.lemmas.Result.{IfOk-weaker}
-use Rattle.leg_wire.specs.Touch.{piece_count}
+use Rattle.leg_rules.specs.Joins.Touch.{piece_count}
 use Rattle.leg_wire.specs.Steps.JoinSteps.{AreSomeJoined, AreSetsOf, AreJoinedSets}
 use Rattle.leg_wire.proofs.Touches.{piece_count-is, places_below, sets_of_net, sets_of_one, all_marked}
 use Rattle.leg_wire.proofs.joining.joined_sets.Goals as goal

@@ -1,4 +1,4 @@
-use Rattle.leg_wire.specs.Touch.{Touch}
+use Rattle.leg_rules.specs.Joins.Touch.{Touch}
 use Rattle.leg_wire.proofs.JoinedLaws.{Joined-onward}
 use Rattle.leg_wire.proofs.laws.joined_onward.Goals as goal
 

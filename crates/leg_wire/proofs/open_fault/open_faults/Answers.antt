@@ -1,8 +1,8 @@
 -- The pieces of one net after the other that aren't joined.
 use Rattle.std.proofs.Common.{◌≡◌, ◌<◌, ◌^◌, [], length, get_or, ap, ◌∙◌, arith}
 use Rattle.std.proofs.lemmas.List.{get_or_read}
-use Rattle.leg_wire.specs.Touch.{piece_count}
-use Rattle.leg_wire.specs.Steps.OpenViolations.{TellsUnmarked}
+use Rattle.leg_rules.specs.Joins.Touch.{piece_count}
+use Rattle.leg_wire.specs.Steps.OpenViolations.{NamesOnlyUnmarked}
 use Rattle.leg_wire.specs.Steps.AddedFaults.{AreAdded}
 use Rattle.leg_wire.proofs.Touches.{few_pieces}
 use Rattle.leg_wire.proofs.OpenPieces.{nets_within, open_more, open_end}
@@ -31,7 +31,7 @@ loop-net-preserved g c =
     let design = c.args.design.now in
     let net = c.loop-net.net in
     let marks = c.in_ok-marks.marks.items in
-    let added : AreAdded (TellsUnmarked net marks) c.loop-net.found.items c.push_open.new.found.items = rw c.deref.ensures.value at c.in_ok-push_open.ensures in
+    let added : AreAdded (NamesOnlyUnmarked net marks) c.loop-net.found.items c.push_open.new.found.items = rw c.deref.ensures.value at c.in_ok-push_open.ensures in
     let entry : net < length design.nets = omega (arith, ap length c.nets.ensures.is) in
     open_more design c.args.flat.now net marks entry c.in_ok-marks.ensures c.loop-net.found.items c.push_open.new.found.items c.loop-net.invariant added
 

@@ -1,5 +1,5 @@
 -- The pieces of the nets so far that aren't joined are listed.
-use Rattle.leg_block.specs.Violation.{IsListOf}
+use Rattle.leg_design_records.specs.Violation.{IsListOf}
 use Rattle.leg_wire.proofs.OpenPieces.{HoldsBelow}
 use Rattle.leg_wire.proofs.open_fault.open_faults.Given as goal
 

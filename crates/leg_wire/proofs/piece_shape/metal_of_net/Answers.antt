@@ -3,7 +3,7 @@ use Rattle.std.proofs.Common.{◌≡◌, ◌+◌, ◌++◌, ◌∷◌, [], Some,
 use Rattle.std.proofs.lemmas.List.{take_more, take_all}
 use Rattle.std.proofs.lemmas.List.Elements.{Contains-get_or}
 use Rattle.std.proofs.lemmas.Option.{slice_get_read, slice_get_within}
-use Rattle.leg_wire.specs.Touch.{piece_count}
+use Rattle.leg_rules.specs.Joins.Touch.{piece_count}
 use Rattle.leg_wire.specs.NetShapes.{IsOfNet}
 use Rattle.leg_wire.proofs.NetNumbers.{few_numbers}
 use Rattle.leg_wire.proofs.Touches.{piece_count-is}

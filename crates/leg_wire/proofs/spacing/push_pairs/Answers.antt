@@ -2,7 +2,7 @@
 use Rattle.std.proofs.Common.{◌≡◌, refl, sym, ◌∙◌, Some, slice_get, get_or}
 use Rattle.std.proofs.lemmas.Bool.{false≢true}
 use Rattle.std.proofs.lemmas.Option.{slice_get_read}
-use Rattle.leg_wire.proofs.ToldPairs.{told_more, told_skip}
+use Rattle.leg_wire.proofs.PairLists.{told_more, told_skip}
 use Rattle.leg_wire.proofs.spacing.push_pairs.Goals as goal
 use Rattle.leg_wire.proofs.spacing.push_pairs.Goals.{then-holds+in_ok-push, else-holds}
 

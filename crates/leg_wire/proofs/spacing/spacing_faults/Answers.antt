@@ -1,11 +1,11 @@
 -- The pairs that the search finds are the shorts and the shapes too near one another.
 use Rattle.std.proofs.Common.{◌≡◌, ◌++◌, All, unsigned_abs, ◌≤◌}
 use Rattle.leg_sweep.specs.Pairs.{ArePairs}
-use Rattle.leg_block.specs.declared.fault.Fault.TheVariants.{Short, TooNear}
-use Rattle.leg_block.specs.Violation.{IsListOf}
+use Rattle.leg_design_records.specs.declared.fault.Fault.TheVariants.{Short, TooNear}
+use Rattle.leg_design_records.specs.Violation.{IsListOf}
 use Rattle.leg_wire.specs.Steps.TooCloseRule.{AreClose}
-use Rattle.leg_wire.specs.Steps.PairViolations.{DoShare, ShareNoPoint, IsTold}
-use Rattle.leg_wire.proofs.AllTold.{first_within, second_within, listing_told}
+use Rattle.leg_wire.specs.Steps.PairViolations.{DoShare, ShareNoPoint, IsPairViolation}
+use Rattle.leg_wire.proofs.SpacingLists.{first_within, second_within, listing_told}
 use Rattle.leg_wire.proofs.spacing.spacing_faults.Goals as goal
 
 pub push_pairs-requires-clause-increasing : goal.push_pairs-requires-clause-increasing
@@ -33,7 +33,7 @@ returns g c =
     let are : ArePairs (AreClose library.layers reach) flat.shapes close = rw (c.new-rule.ensures.layers, c.layers.ensures.is, c.shapes-shapes.ensures.is) at c.in_ok-close.ensures in
     let s = c.in_ok-push_pairs.ensures in
     let n = c.in_ok-push_pairs-2.ensures in
-    let shorts : IsListOf (IsTold Short DoShare flat.shapes close) s.more = rw (c.deref.ensures.value, c.shapes-shapes.ensures.is) at s.list in
-    let near : IsListOf (IsTold TooNear ShareNoPoint flat.shapes close) n.more = rw (c.deref-2.ensures.value, c.shapes-shapes.ensures.is) at n.list in
+    let shorts : IsListOf (IsPairViolation Short DoShare flat.shapes close) s.more = rw (c.deref.ensures.value, c.shapes-shapes.ensures.is) at s.list in
+    let near : IsListOf (IsPairViolation TooNear ShareNoPoint flat.shapes close) n.more = rw (c.deref-2.ensures.value, c.shapes-shapes.ensures.is) at n.list in
     let found : c.push_pairs-2.new.found.items ≡ s.more ++ n.more = rw (n.is, s.is, c.new-found.ensures.items) in
     rw found (listing_told library reach within flat close are s.more n.more shorts near)

@@ -3,8 +3,8 @@ use Rattle.std.proofs.Common.{rules, ◌≡◌, ◌+◌, ◌++◌, ◌∷◌, []
 use Rattle.std.proofs.lemmas.Int.{ints}
 use Rattle.std.proofs.lemmas.List.{take_all, take_more}
 use Rattle.std.proofs.lemmas.List.Elements.{All-push, All-weaker}
-use Rattle.leg_cells.specs.declared.records.Layer.{Layer}
-use Rattle.leg_cells.specs.Sound.{IsSoundLayer}
+use Rattle.leg_lib_records.specs.declared.records.Layer.{Layer}
+use Rattle.leg_lib_records.specs.Sound.{IsSoundLayer}
 use Rattle.leg_wire.proofs.too_close.greatest_spacing.Goals as goal
 
 pub loop-layer-preserved : goal.loop-layer-preserved

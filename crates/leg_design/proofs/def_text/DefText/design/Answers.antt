@@ -1,4 +1,4 @@
-use Rattle.leg_design.specs.Form.{design_in}
+use Rattle.leg_grammar.specs.Def.Form.{design_in}
 use Rattle.leg_design.proofs.Readings.{read_only, read_none}
 use Rattle.leg_design.proofs.def_text.DefText.design.Goals as goal
 

@@ -1,4 +1,4 @@
-use Rattle.leg_design.specs.Header.{units_in}
+use Rattle.leg_grammar.specs.Def.Header.{units_in}
 use Rattle.leg_design.proofs.Readings.{read_only, read_none}
 use Rattle.leg_design.proofs.def_text.DefText.units.Goals as goal
 

@@ -1,7 +1,7 @@
 -- The totals of the wires so far, and how large they can be.
 use Rattle.std.proofs.Common.{◌≡◌, ◌≤◌, ◌+◌, ◌*◌, take, sum_by, count_by}
 use Rattle.leg_geom.specs.declared.limits.TheConstants.{COORDINATE_LIMIT}
-use Rattle.leg_finish.specs.Wires.{wire_length, is_via}
+use Rattle.leg_rules.specs.Finish.Wires.{wire_length, is_via}
 use Rattle.leg_finish.proofs.totals.WireTotals.with.Given as goal
 
 abbrev pub invariant-loop-wire : goal.invariant-loop-wire

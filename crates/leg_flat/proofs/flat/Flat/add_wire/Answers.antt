@@ -1,11 +1,11 @@
 -- The flat has the wire's shapes behind the others, and keeps its limits.
 use Rattle.std.proofs.Common.{rules, ◌≡◌, ◌++◌, ◌∷◌, [], ◌<◌, ◌∙◌, List, false, length, set, sym, ap, subst, arith}
 use Rattle.std.proofs.lemmas.List.{get_or_default}
-use Rattle.leg_flat.specs.declared.piece.Piece.{Piece}
-use Rattle.leg_flat.specs.declared.piece.Piece.TheVariants.{Wire}
-use Rattle.leg_flat.specs.declared.shape.Shape.{Shape}
-use Rattle.leg_flat.specs.Flat.{FlatSaid}
-use Rattle.leg_flat.specs.MoreWires.{HasOneMoreWire}
+use Rattle.leg_rules.specs.declared.piece.Piece.{Piece}
+use Rattle.leg_rules.specs.declared.piece.Piece.TheVariants.{Wire}
+use Rattle.leg_rules.specs.declared.shape.Shape.{Shape}
+use Rattle.leg_rules.specs.Metal.Flat.{FlatModel}
+use Rattle.leg_rules.specs.Metal.MoreWires.{HasOneMoreWire}
 use Rattle.leg_flat.proofs.MetalLines.{wire_within}
 use Rattle.leg_flat.proofs.OneMoreWire.{some_outlines, metal_count, GetsWire, is_within, has_more, same_pieces, has_pieces, on_err_anyway}
 use Rattle.leg_flat.proofs.flat.Flat.add_wire.Given.{Over}
@@ -18,8 +18,8 @@ shapes_of_wire-requires-clause-within g c =
 
 pub next_wire-number-requires-clause-are : goal.next_wire-number-requires-clause-are
 next_wire-number-requires-clause-are g c =
-    let before : FlatSaid = record { shapes = c.self.inside.shapes.items; pieces = c.self.inside.pieces.items } in
-    let within = subst (λ (f : FlatSaid). c.args.net < length f.pieces) (sym c.self.view_is) c.requires.in_range in
+    let before : FlatModel = record { shapes = c.self.inside.shapes.items; pieces = c.self.inside.pieces.items } in
+    let within = subst (λ (f : FlatModel). c.args.net < length f.pieces) (sym c.self.view_is) c.requires.in_range in
     rw c.as_slice-pieces.ensures (has_pieces before c.args.net c.index.result.now c.self.invariant within c.index.ensures)
 
 pub returns-in_err-push-clause-unchanged : goal.returns-in_err-push-clause-unchanged
@@ -34,7 +34,7 @@ gets g c =
     let net = c.args.net in
     let nets = c.self.inside.pieces.items in
     let old : List Piece = c.index_mut.result.now in
-    let within : net < length nets = subst (λ (f : FlatSaid). net < length f.pieces) (sym c.self.view_is) c.requires.in_range in
+    let within : net < length nets = subst (λ (f : FlatModel). net < length f.pieces) (sym c.self.view_is) c.requires.in_range in
     let first : List Piece = c.index.result.now in
     let same : old ≡ first = c.index_mut.ensures.value ∙ get_or_default nets net old first within ∙ sym c.index.ensures in
     let count = metal_count design net _ c.args.wire.now c.in_ok-added.added.items c.in_ok-added.ensures in
@@ -50,7 +50,7 @@ gets g c =
 
 pub invariant_of-self-2 : goal.invariant_of-self-2
 invariant_of-self-2 g c =
-    let before : FlatSaid = record { shapes = c.self.inside.shapes.items; pieces = c.self.inside.pieces.items } in
+    let before : FlatModel = record { shapes = c.self.inside.shapes.items; pieces = c.self.inside.pieces.items } in
     let old : List Piece = c.index_mut.result.now in
     let added : List Shape = c.in_ok-added.added.items in
     let shapes : c.append.new.self.items ≡ before.shapes ++ added = search rules in
@@ -59,7 +59,7 @@ invariant_of-self-2 g c =
 
 pub returns-clause-added : goal.returns-clause-added
 returns-clause-added g c =
-    let before : FlatSaid = record { shapes = c.self.inside.shapes.items; pieces = c.self.inside.pieces.items } in
+    let before : FlatModel = record { shapes = c.self.inside.shapes.items; pieces = c.self.inside.pieces.items } in
     let old : List Piece = c.index_mut.result.now in
     let added : List Shape = c.in_ok-added.added.items in
     let shapes : c.append.new.self.items ≡ before.shapes ++ added = search rules in
@@ -73,6 +73,6 @@ returns-clause-added g c =
     let same : length old ≡ length c.as_slice-pieces.result.now =
     ap length (c.index_mut.ensures.value ∙ get_or_default nets net old first within ∙ sym c.index.ensures ∙ sym c.as_slice-pieces.ensures) in
     let made = has_more before net old number added (gets g c) c.args.design.now c.args.wire.now (rw same each) in
-    let after : FlatSaid = record { shapes = c.append.new.self.items; pieces = set nets net c.push.new.self } in
+    let after : FlatModel = record { shapes = c.append.new.self.items; pieces = set nets net c.push.new.self } in
     let has : HasOneMoreWire c.args.design.now net c.args.wire.now before after = rw (shapes, pieces) made in
-    subst (λ (f : FlatSaid). HasOneMoreWire c.args.design.now net c.args.wire.now f after) c.self.view_is has
+    subst (λ (f : FlatModel). HasOneMoreWire c.args.design.now net c.args.wire.now f after) c.self.view_is has

@@ -1,12 +1,12 @@
 use Rattle.std.proofs.Common.{◌≡◌, ℕ, List, Option, Some, length, get_or, nat_lt, option_map, Bor, sym, ◌∙◌}
 use Rattle.std.specs.Option.{is_some, IfSome}
 use Rattle.leg_lex.specs.NameLookup.{place_of}
-use Rattle.leg_block.specs.Records.{DesignContents, NetSaid, net_names}
-use Rattle.leg_flat.specs.Nets.{special_named}
-use Rattle.leg_flat.proofs.GotElements.{got_is}
+use Rattle.leg_design_records.specs.Records.{DesignModel, NetModel, net_names}
+use Rattle.leg_rules.specs.Metal.Nets.{special_named}
+use Rattle.leg_flat.proofs.Elements.{got_is}
 use Rattle.leg_flat.proofs.net_index.NetIndex.special_named.Goals as goal
 
-named : (design inside : DesignContents) (names : List (List ℕ)) (name : List ℕ) (found : Option ℕ) (k : ℕ) (special : List NetSaid) (got : Option (Bor NetSaid)) → inside ≡ design → names ≡ net_names inside.special → found ≡ place_of name names → found ≡ Some k → special ≡ inside.special → is_some got ≡ nat_lt k (length special) → IfSome got (λ x. x.now ≡ get_or special k x.now) → option_map (λ x. x.now) got ≡ special_named design name
+named : (design inside : DesignModel) (names : List (List ℕ)) (name : List ℕ) (found : Option ℕ) (k : ℕ) (special : List NetModel) (got : Option (Bor NetModel)) → inside ≡ design → names ≡ net_names inside.special → found ≡ place_of name names → found ≡ Some k → special ≡ inside.special → is_some got ≡ nat_lt k (length special) → IfSome got (λ x. x.now ≡ get_or special k x.now) → option_map (λ x. x.now) got ≡ special_named design name
 named design inside names name found k special got same all is was entries there item =
     let place : place_of name (net_names design.special) ≡ Some k = rw (← same, ← all) (sym is ∙ was) in
     rw (place, ← same, ← entries) (got_is special k got there item)

@@ -1,5 +1,5 @@
 use Rattle.std.proofs.Common.{sym, ◌∙◌}
-use Rattle.leg_block.proofs.SameTerminal.{terminal_eq_is}
+use Rattle.leg_design_records.proofs.SameTerminal.{terminal_eq_is}
 use Rattle.leg_flat.proofs.PieceTables.{place_by}
 use Rattle.leg_flat.proofs.piece_numbers.PieceNumbers.place_of.Goals as goal
 

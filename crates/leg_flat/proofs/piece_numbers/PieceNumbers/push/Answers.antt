@@ -1,4 +1,4 @@
-use Rattle.leg_block.proofs.SameTerminal.{terminal_eq_is}
+use Rattle.leg_design_records.proofs.SameTerminal.{terminal_eq_is}
 use Rattle.leg_flat.proofs.PieceTables.{placed_by}
 use Rattle.leg_flat.proofs.piece_numbers.PieceNumbers.push.Goals as goal
 

@@ -1,7 +1,7 @@
 use Rattle.std.proofs.Common.{◌≡◌, ◌≤◌, ◌*◌, ℤ, ◌+ℤ◌, unsigned_abs, FitsSigned, w64, to_z, of_z, ap, arith}
 use Rattle.std.proofs.lemmas.Int.{ints, to_z-of_z, fits_signed_from_abs}
 use Rattle.leg_geom.specs.declared.limits.TheConstants.{COORDINATE_LIMIT}
-use Rattle.leg_geom.specs.Plane.{Spot, IsCoordinate}
+use Rattle.leg_geom.specs.Plane.{PointModel, IsCoordinate}
 use Rattle.leg_geom.specs.Orientation.{turned}
 use Rattle.leg_geom.proofs.Points.{same_spot}
 use Rattle.leg_geom.proofs.place.Place.point.Goals as goal
@@ -70,6 +70,6 @@ returns c =
     let height = to_z-of_z w64 c.args.height c.ranges.height in
     let turned_x = rw (width, height) at c.turned-x.ensures.x in
     let turned_y = rw (width, height) at c.turned-x.ensures.y in
-    let x = ap (λ (s : Spot). s.x) c.known.ensures in
-    let y = ap (λ (s : Spot). s.y) c.known.ensures in
+    let x = ap (λ (s : PointModel). s.x) c.known.ensures in
+    let y = ap (λ (s : PointModel). s.y) c.known.ensures in
     same_spot _ _ _ _ (omega (arith, ints)) (omega (arith, ints))

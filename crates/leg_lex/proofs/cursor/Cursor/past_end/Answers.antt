@@ -1,6 +1,6 @@
 use Rattle.std.proofs.Common.{sym, ◌∙◌}
 use Rattle.leg_lex.specs.Words.{end_at}
-use Rattle.leg_lex.proofs.Passed.{past_here}
+use Rattle.leg_lex.proofs.ReadPast.{past_here}
 use Rattle.leg_lex.proofs.cursor.Cursor.past_end.Goals as goal
 
 pub returns-clause-reads : goal.returns-clause-reads

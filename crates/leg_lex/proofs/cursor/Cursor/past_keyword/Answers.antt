@@ -1,5 +1,5 @@
 use Rattle.std.proofs.Common.{sym, ◌∙◌}
-use Rattle.leg_lex.proofs.Passed.{keyword_here}
+use Rattle.leg_lex.proofs.ReadPast.{keyword_here}
 use Rattle.leg_lex.proofs.cursor.Cursor.past_keyword.Goals as goal
 
 pub returns-clause-reads : goal.returns-clause-reads

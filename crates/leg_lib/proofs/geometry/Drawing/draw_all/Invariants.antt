@@ -1,6 +1,6 @@
 use Rattle.std.proofs.Common.{◌≡◌, drop}
 use Rattle.leg_lex.specs.Until.{over}
-use Rattle.leg_lib.specs.Geometry.{geometry_part}
+use Rattle.leg_grammar.specs.Lef.Geometry.{geometry_part}
 use Rattle.leg_lib.proofs.geometry.Drawing.draw_all.Given as goal
 
 abbrev pub invariant-loop-statement : goal.invariant-loop-statement

@@ -1,5 +1,5 @@
 -- A violation of a component holds where the test of its kind says so.
-use Rattle.leg_place.specs.Faults.Holds.{unplaced, outside, off_site, blocked}
+use Rattle.leg_rules.specs.Placement.Violations.IsPlacementViolation.{unplaced, outside, off_site, blocked}
 use Rattle.leg_place.proofs.PlaceFaults.{unplaced_there, outside_there, off_site_there, blocked_there}
 use Rattle.leg_place.proofs.component_fault.ComponentFault.holds.Goals as goal
 

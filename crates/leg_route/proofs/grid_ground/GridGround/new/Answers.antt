@@ -1,5 +1,5 @@
 use Rattle.std.proofs.Common.{◌≡◌, length, ap, sym, ◌∙◌, arith}
-use Rattle.leg_grown.proofs.Within.{nets_within}
+use Rattle.leg_route_laws.proofs.Within.{nets_within}
 use Rattle.leg_route.proofs.JoinedParts.{part_none}
 use Rattle.leg_route.proofs.grid_ground.GridGround.new.Goals as goal
 

@@ -2,10 +2,11 @@ use Rattle.std.proofs.Common.{◌≡◌, ◌++◌, [], true, length, take, drop,
 use Rattle.std.proofs.Math.Seq.{take-append_seam}
 use Rattle.std.proofs.lemmas.List.{get_or_read}
 use Rattle.leg_wire.specs.NetShapes.{AreNumbersOf}
-use Rattle.leg_wire.specs.Touch.{piece_count, AreJoined, AreMarks}
-use Rattle.leg_grown.proofs.Within.{numbers_within}
+use Rattle.leg_wire.specs.PieceMarks.{AreMarks}
+use Rattle.leg_rules.specs.Joins.Touch.{piece_count, AreJoined}
+use Rattle.leg_route_laws.proofs.Within.{numbers_within}
 use Rattle.leg_route.specs.Steps.NetSlots.{AreMarkedSlots}
-use Rattle.leg_route.specs.Steps.JoinedPart.{PartSaid}
+use Rattle.leg_route.specs.Steps.JoinedPart.{PartModel}
 use Rattle.leg_route.proofs.JoinedParts.{part_had, part_of, part_still}
 use Rattle.leg_route.proofs.grid_ground.GridGroundGround.next_wires.Goals as goal
 
@@ -22,13 +23,13 @@ joined_slots-requires-clause-numbers g c =
 pub joined_slots-requires-clause-still : goal.joined_slots-requires-clause-still
 joined_slots-requires-clause-still g c =
     let ground = c.args.self.now in
-    let part : PartSaid = record { net = ground.part.net; joined = ground.part.joined.items; boxes = ground.part.slots.boxes.items; slots = ground.part.slots.slots.items } in
+    let part : PartModel = record { net = ground.part.net; joined = ground.part.joined.items; boxes = ground.part.slots.boxes.items; slots = ground.part.slots.slots.items } in
     rw c.replace-part.ensures.value (λ same. part_still ground.grid ground.flat part c.args.net c.args.joined.now same c.requires.ready.part_is c.requires.joined)
 
 pub joined_slots-requires-clause-had : goal.joined_slots-requires-clause-had
 joined_slots-requires-clause-had g c =
     let ground = c.args.self.now in
-    let part : PartSaid = record { net = ground.part.net; joined = ground.part.joined.items; boxes = ground.part.slots.boxes.items; slots = ground.part.slots.slots.items } in
+    let part : PartModel = record { net = ground.part.net; joined = ground.part.joined.items; boxes = ground.part.slots.boxes.items; slots = ground.part.slots.slots.items } in
     let numbers = c.requires.ready.numbers in
     let lists = ground.numbers.items in
     let net = c.args.net in

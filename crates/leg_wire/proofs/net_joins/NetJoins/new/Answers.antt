@@ -1,7 +1,7 @@
 -- The sets are those of the net's metal, and nothing is in the index.
 use Rattle.std.proofs.Common.{◌≡◌, length, [], refl, arith}
 use Rattle.std.proofs.lemmas.Bool.Decides.{nat_tests}
-use Rattle.leg_wire.specs.Touch.{piece_count}
+use Rattle.leg_rules.specs.Joins.Touch.{piece_count}
 use Rattle.leg_wire.specs.Steps.JoinSteps.{AreJoinedSets}
 use Rattle.leg_wire.proofs.Touches.{sets_of_metal, places_below}
 use Rattle.leg_wire.proofs.net_joins.NetJoins.new.Goals as goal

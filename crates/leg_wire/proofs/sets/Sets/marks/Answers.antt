@@ -1,7 +1,7 @@
 -- A number has its parent's mark, and one that is its own parent has one where it is 0.
 use Rattle.std.proofs.Common.{◌≡◌, ◌<◌, false, length, get_or, nat_eq, ◌∙◌, arith}
 use Rattle.std.proofs.lemmas.List.{get_or_read}
-use Rattle.leg_wire.specs.Steps.NumberSets.{IsForest, roots_of}
+use Rattle.leg_wire.specs.Steps.NumberSets.{AreParents, roots_of}
 use Rattle.leg_wire.proofs.SetsUnited.{mark_by_parent, mark_of_own, marks_more, marks_done}
 use Rattle.leg_wire.proofs.sets.Sets.marks.Goals as goal
 use Rattle.leg_wire.proofs.sets.Sets.marks.Goals.{then-parent-number, else-parent-number}
@@ -9,7 +9,7 @@ use Rattle.leg_wire.proofs.sets.Sets.marks.Goals.{then-parent-number, else-paren
 pub loop-number-preserved : goal.loop-number-preserved
 loop-number-preserved g c =
     let parents = c.as_slice-parents.result.now in
-    let forest : IsForest parents = rw c.as_slice-parents.ensures.value c.self.invariant in
+    let forest : AreParents parents = rw c.as_slice-parents.ensures.value c.self.invariant in
     let k = c.loop-number.number in
     let marks = c.loop-number.marks.items in
     let done = c.loop-number.invariant in
@@ -28,6 +28,6 @@ loop-number-preserved g c =
 pub returns : goal.returns
 returns g c =
     let parents = c.as_slice-parents.result.now in
-    let forest : IsForest parents = rw c.as_slice-parents.ensures.value c.self.invariant in
+    let forest : AreParents parents = rw c.as_slice-parents.ensures.value c.self.invariant in
     let all : c.loop-number.number ≡ length parents = omega arith in
     rw (← c.self.view_is, ← c.as_slice-parents.ensures.value) (marks_done parents forest c.loop-number.number c.loop-number.marks.items all c.loop-number.invariant)

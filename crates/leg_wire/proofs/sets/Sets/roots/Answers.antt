@@ -1,6 +1,6 @@
 -- All numbers have their roots.
 use Rattle.std.proofs.Common.{◌≡◌, arith}
-use Rattle.leg_wire.specs.Steps.NumberSets.{IsForest, roots_of}
+use Rattle.leg_wire.specs.Steps.NumberSets.{AreParents, roots_of}
 use Rattle.leg_wire.proofs.SetRoots.{roots_begun, roots_done}
 use Rattle.leg_wire.proofs.SetsUnited.{firsts_are}
 use Rattle.leg_wire.proofs.sets.Sets.roots.Goals as goal
@@ -11,6 +11,6 @@ loop-parent-init g c = rw c.in_ok-roots.ensures.items (roots_begun c.as_slice-pa
 pub returns : goal.returns
 returns g c =
     let parents = c.as_slice-parents.result.now in
-    let forest : IsForest parents = rw c.as_slice-parents.ensures.value c.self.invariant in
+    let forest : AreParents parents = rw c.as_slice-parents.ensures.value c.self.invariant in
     let done : c.loop-parent.roots.items ≡ roots_of parents = roots_done parents c.loop-parent.roots.items c.loop-parent.parent-index (omega arith) c.loop-parent.invariant in
     rw (← c.self.view_is, ← c.as_slice-parents.ensures.value, done) (firsts_are parents forest)

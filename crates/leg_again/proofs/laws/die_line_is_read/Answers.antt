@@ -1,5 +1,0 @@
-use Rattle.leg_again.proofs.HeaderLines.{die_line}
-use Rattle.leg_again.proofs.laws.die_line_is_read.Goals as goal
-
-pub returns : goal.returns
-returns c = λ die is. die_line die is

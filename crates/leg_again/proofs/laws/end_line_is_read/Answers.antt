@@ -1,5 +1,0 @@
-use Rattle.leg_again.proofs.Sections.{design_end_line}
-use Rattle.leg_again.proofs.laws.end_line_is_read.Goals as goal
-
-pub returns : goal.returns
-returns c = design_end_line

@@ -1,7 +1,0 @@
-use Rattle.std.proofs.Common.{subst}
-use Rattle.leg_cells.specs.Sound.{IsSound}
-use Rattle.leg_again.proofs.Whole.{text_says}
-use Rattle.leg_again.proofs.laws.printed_design_is_read_again.Goals as goal
-
-pub returns : goal.returns
-returns g c = λ one fits. text_says c.args.design.now (subst IsSound c.library-library.ensures.is c.layers-layers.ensures.proper) c.die-die.ensures.proper one fits

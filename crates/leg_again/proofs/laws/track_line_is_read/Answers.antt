@@ -1,5 +1,0 @@
-use Rattle.leg_again.proofs.Tracks.{track_line}
-use Rattle.leg_again.proofs.laws.track_line_is_read.Goals as goal
-
-pub returns : goal.returns
-returns c = λ design track sound is one. track_line design sound track is one

@@ -1,5 +1,0 @@
-use Rattle.leg_again.proofs.HeaderLines.{units_line}
-use Rattle.leg_again.proofs.laws.units_line_is_read.Goals as goal
-
-pub returns : goal.returns
-returns c = λ n some most. units_line n some most

@@ -1,5 +1,0 @@
-use Rattle.leg_again.proofs.Forms.{version_line}
-use Rattle.leg_again.proofs.laws.version_line_is_read.Goals as goal
-
-pub returns : goal.returns
-returns c = λ parts. version_line parts

@@ -1,3 +1,0 @@
-pub mod SaysForm
-pub mod PrintedNames
-pub mod Known

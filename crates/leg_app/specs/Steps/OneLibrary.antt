@@ -1,0 +1,13 @@
+-- What is known of the library that texts denote, before their DEF is read.
+use Rattle.std.specs.Prelude.{◌≡◌, ℕ, List}
+use Rattle.leg_lib_records.specs.Records.{LibraryModel}
+use Rattle.leg_grammar.specs.Texts.{DenoteLibraryFor}
+
+-- this library is denoted, and no other
+pub record DenotesJust (lefs : List (List ℕ)) (def : List ℕ) (library : LibraryModel) : Type 0 where
+  pub found : DenoteLibraryFor lefs def library
+  pub only : (said : LibraryModel) → DenoteLibraryFor lefs def said → said ≡ library
+
+-- no library is denoted
+abbrev pub DenoteNoLibrary : List (List ℕ) → List ℕ → Type 0
+DenoteNoLibrary lefs def = (library : LibraryModel) → ¬ DenoteLibraryFor lefs def library

@@ -1,0 +1,24 @@
+use Rattle.std.proofs.Common.{inl, inr}
+use Rattle.std.proofs.lemmas.Result.{IfOk-weaker}
+use Rattle.leg_app_message.proofs.scaling.scale_message.Goals as goal
+
+pub returns-in-Some : goal.returns-in-Some
+returns-in-Some g c =
+    let shown = c.in-Some.written in
+    let there = rw c.text.ensures at c.in-Some.ensures.there in
+    IfOk-weaker c.written_message.result _ _
+    (λ m is. inl (record {
+      number = c.loop-number.number;
+      line = shown.line;
+      form = shown.form.now;
+      written = shown.length.now;
+      words = there.0;
+      are = there.1;
+      there = there.2;
+      has = c.in-Some.ensures.has;
+      is = is;
+    }))
+    c.written_message.ensures
+
+pub returns : goal.returns
+returns g c = IfOk-weaker c.name_message.result _ _ (λ m is. inr is) c.name_message.ensures

@@ -1,0 +1,170 @@
+//! What to do where a command stops without a design.
+
+ghost use Rattle.std.specs.Prelude.{◌≡◌, ◌++◌, OnOk};
+ghost use Rattle.leg_app_message.specs.Advice.{front_of, name_of, middle_of, limit_text, piece_of, end_of, advice_of};
+
+use crate::parts::push_number;
+use crate::text_line::push_shown_bytes;
+use leg_app_reason::{Reason, Stage};
+use std::alloc::{AllocError, Allocator};
+
+/// What is said first.
+fn front_of<B: Allocator>(reason: &Reason<'_, B>) -> &'static [u8]
+    ensures { result.now ≡ front_of reason.now }
+{
+    match reason {
+        Reason::Read(_, _) => b"",
+        Reason::NoLibrary => b"",
+        Reason::Scale(_, _) => b"",
+        Reason::TooMany =>
+            b"the block has, or would get, more than 4,000,000 shapes: take out what need not be judged, such as fillers (tools/drop-fillers), or take a part of it",
+        Reason::FixedIllegal =>
+            b"components that are not moved (FIXED, COVER, or of a macro without a SITE) are not legally placed: move those that are listed above, or make them PLACED",
+        Reason::NoSite(_) => b"component ",
+        Reason::NoRoom(_) => b"component ",
+        Reason::NotClean(Stage::Given) =>
+            b"only a block whose only violations are open nets is routed: repair those that are listed above, and run it again",
+        Reason::NotClean(Stage::Legalised) =>
+            b"only a block whose only violations are open nets is routed, and those that are listed above are of the legalised block: repair them in what legalise prints, and route that",
+        Reason::GridTooLarge(_) => b"the grid of TRACKS is too large: all together may have ",
+        Reason::Unroutable(_, None) => b"net ",
+        Reason::Unroutable(_, Some(_)) => b"net ",
+        Reason::Unreachable(_, _) => b"net ",
+        Reason::Unfinished =>
+            b"no room was found for the wires of these nets beside one another: give the block more room (rows, tracks or layers), or another placement",
+    }
+}
+
+/// The component or the net that is named then.
+fn name_of<'r, B: Allocator>(reason: &'r Reason<'_, B>) -> &'r [u8]
+    ensures { result.now ≡ name_of reason.now }
+{
+    match reason {
+        Reason::Read(_, _) => b"",
+        Reason::NoLibrary => b"",
+        Reason::Scale(_, _) => b"",
+        Reason::TooMany => b"",
+        Reason::FixedIllegal => b"",
+        Reason::NoSite(component) => component.as_slice(),
+        Reason::NoRoom(component) => component.as_slice(),
+        Reason::NotClean(Stage::Given) => b"",
+        Reason::NotClean(Stage::Legalised) => b"",
+        Reason::GridTooLarge(_) => b"",
+        Reason::Unroutable(net, None) => net.as_slice(),
+        Reason::Unroutable(net, Some(_)) => net.as_slice(),
+        Reason::Unreachable(net, _) => net.as_slice(),
+        Reason::Unfinished => b"",
+    }
+}
+
+/// What is said of it.
+fn middle_of<B: Allocator>(reason: &Reason<'_, B>) -> &'static [u8]
+    ensures { result.now ≡ middle_of reason.now }
+{
+    match reason {
+        Reason::Read(_, _) => b"",
+        Reason::NoLibrary => b"",
+        Reason::Scale(_, _) => b"",
+        Reason::TooMany => b"",
+        Reason::FixedIllegal => b"",
+        Reason::NoSite(_) =>
+            b" fits no row: its macro has to be exactly as high as its SITE and a whole number of sites wide, and a ROW has to have that site. A cell of several rows' height is not moved: make it FIXED",
+        Reason::NoRoom(_) =>
+            b": no free stretch of sites was long enough for it at its turn: take out fillers (tools/drop-fillers) or placement blockages, give the block more rows, or lower the utilisation",
+        Reason::NotClean(Stage::Given) => b"",
+        Reason::NotClean(Stage::Legalised) => b"",
+        Reason::GridTooLarge(_) => b"",
+        Reason::Unroutable(_, None) =>
+            b": no way on the tracks was left at its turn, though each of its pieces can be reached in the block as it was given. Wires that are laid stay: try the command finish, which lays them again, or a lower density, or what tools/ease-routing makes of the block, with --first and the name of this net (docs/RECIPES.md)",
+        Reason::Unroutable(_, Some(_)) => b": nothing leads from ",
+        Reason::Unreachable(_, _) => b": nothing leads from ",
+        Reason::Unfinished => b"",
+    }
+}
+
+/// Adds the limit that is told then, if one is.
+fn push_limit<A: Allocator, B: Allocator>(
+    message: &mut Vec<u8, A>,
+    reason: &Reason<'_, B>,
+) -> Result<(), AllocError>
+    ensures { OnOk result (message.new.items ≡ message.old.items ++ limit_text reason.now) }
+{
+    match reason {
+        Reason::Read(_, _) => Ok(()),
+        Reason::NoLibrary => Ok(()),
+        Reason::Scale(_, _) => Ok(()),
+        Reason::TooMany => Ok(()),
+        Reason::FixedIllegal => Ok(()),
+        Reason::NoSite(_) => Ok(()),
+        Reason::NoRoom(_) => Ok(()),
+        Reason::NotClean(Stage::Given) => Ok(()),
+        Reason::NotClean(Stage::Legalised) => Ok(()),
+        Reason::GridTooLarge(limit) => push_number(message, *limit as usize),
+        Reason::Unroutable(_, None) => Ok(()),
+        Reason::Unroutable(_, Some(_)) => Ok(()),
+        Reason::Unreachable(_, _) => Ok(()),
+        Reason::Unfinished => Ok(()),
+    }
+}
+
+/// The piece of a net that is named then.
+fn piece_of<'r, B: Allocator>(reason: &'r Reason<'_, B>) -> &'r [u8]
+    ensures { result.now ≡ piece_of reason.now }
+{
+    match reason {
+        Reason::Read(_, _) => b"",
+        Reason::NoLibrary => b"",
+        Reason::Scale(_, _) => b"",
+        Reason::TooMany => b"",
+        Reason::FixedIllegal => b"",
+        Reason::NoSite(_) => b"",
+        Reason::NoRoom(_) => b"",
+        Reason::NotClean(Stage::Given) => b"",
+        Reason::NotClean(Stage::Legalised) => b"",
+        Reason::GridTooLarge(_) => b"",
+        Reason::Unroutable(_, None) => b"",
+        Reason::Unroutable(_, Some(piece)) => piece.as_slice(),
+        Reason::Unreachable(_, piece) => piece.as_slice(),
+        Reason::Unfinished => b"",
+    }
+}
+
+/// What is said last.
+fn end_of<B: Allocator>(reason: &Reason<'_, B>) -> &'static [u8]
+    ensures { result.now ≡ end_of reason.now }
+{
+    match reason {
+        Reason::Read(_, _) => b"",
+        Reason::NoLibrary => b"",
+        Reason::Scale(_, _) => b"",
+        Reason::TooMany => b"",
+        Reason::FixedIllegal => b"",
+        Reason::NoSite(_) => b"",
+        Reason::NoRoom(_) => b"",
+        Reason::NotClean(Stage::Given) => b"",
+        Reason::NotClean(Stage::Legalised) => b"",
+        Reason::GridTooLarge(_) =>
+            b" tracks, and as many slots, one for each routing layer, x value and y value: use coarser tracks, or take a part of the block",
+        Reason::Unroutable(_, None) => b"",
+        Reason::Unroutable(_, Some(_)) =>
+            b" to the rest of it, even with no other net routed: it may be unplaced or off the tracks, or have obstructions, blockages or wires of the block around it. Give the block tracks through it, or try what tools/ease-routing makes of the block (docs/RECIPES.md)",
+        Reason::Unreachable(_, _) =>
+            b" to another piece of it, whatever other nets do: look for obstructions, blockages and wires around it, give the block tracks through its pin, or try finish on what tools/ease-routing makes of the block (docs/RECIPES.md)",
+        Reason::Unfinished => b"",
+    }
+}
+
+/// Adds what to do about this reason; nothing where a text is refused.
+pub(crate) fn push_advice<A: Allocator, B: Allocator>(
+    message: &mut Vec<u8, A>,
+    reason: &Reason<'_, B>,
+) -> Result<(), AllocError>
+    ensures { OnOk result (message.new.items ≡ message.old.items ++ advice_of reason.now) }
+{
+    message.extend_from_slice(front_of(reason))?;
+    push_shown_bytes(message, name_of(reason))?;
+    message.extend_from_slice(middle_of(reason))?;
+    push_limit(message, reason)?;
+    push_shown_bytes(message, piece_of(reason))?;
+    message.extend_from_slice(end_of(reason))
+}

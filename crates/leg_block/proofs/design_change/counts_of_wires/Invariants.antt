@@ -1,7 +1,0 @@
--- The entries so far have their counts.
-use Rattle.std.proofs.Common.{◌≡◌, length, take, map}
-use Rattle.leg_block.specs.Records.{NetSaid}
-use Rattle.leg_block.proofs.design_change.counts_of_wires.Given as goal
-
-abbrev pub invariant-loop-net : goal.invariant-loop-net
-invariant-loop-net g l = l.counts.items ≡ map (λ (net : NetSaid). length net.wires) (take l.net-index l.nets)

@@ -1,0 +1,2 @@
+mod OutOfMemory
+mod ReasonModels

@@ -1,0 +1,8 @@
+use Rattle.std.proofs.Common.{◌≡◌, length}
+use Rattle.leg_c_memory.proofs.free.FreeParts.lowered.Given as goal
+
+abbrev pub invariant-loop-part : goal.invariant-loop-part
+invariant-loop-part l = (l.below.object ≡ l.fn.self.above.object) × (l.above.object ≡ l.fn.self.above.object) × (l.memory ≡ l.fn.memory)
+
+abbrev pub decreases-loop-part : goal.decreases-loop-part
+decreases-loop-part l = length l.below.spans

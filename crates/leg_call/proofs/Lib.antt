@@ -1,2 +1,0 @@
-mod OutOfMemory
-mod Said

@@ -1,4 +1,0 @@
-use Rattle.leg_cells.proofs.library.Library.masters.Goals as goal
-
-pub returns-clause-proper : goal.returns-clause-proper
-returns-clause-proper g c = rw (← c.self.view_is) c.self.invariant

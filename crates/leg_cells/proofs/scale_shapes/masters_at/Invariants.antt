@@ -1,6 +1,0 @@
-use Rattle.std.proofs.Common.{take}
-use Rattle.leg_cells.specs.Scale.{IsMasterAt, OneForOne}
-use Rattle.leg_cells.proofs.scale_shapes.masters_at.Given as goal
-
-abbrev pub invariant-loop-master : goal.invariant-loop-master
-invariant-loop-master g l = OneForOne (IsMasterAt l.n) (take l.master-index l.master-items) l.masters.items

@@ -1,0 +1,80 @@
+//! What the layers of a library are for (LEF/DEF 5.8, "Layer"; that only routing and cut layers carry metal is lefdef's
+//! own rule).
+
+ghost use Rattle.std.specs.Prelude.{◌≡◌, OnOk, ◌≢◌, IfErr};
+ghost use Rattle.leg_lex.specs.declared.read_fault.FaultKind.TheVariants.{Memory};
+ghost use Rattle.leg_lex.specs.Words.{Reads};
+ghost use Rattle.leg_grammar.specs.Def.Layers.{layer_named_at, with_rect};
+ghost use Rattle.leg_design_records.specs.Layers.{wire_width, width_of_layer, is_routing, has_metal};
+
+use leg_geom::Rect;
+use leg_lex::{Cursor, FaultKind, NameKind, Need, ReadFault};
+use leg_lib_records::{LayerKind, Library, Shape};
+use std::alloc::{AllocError, Allocator};
+
+/// A layer of the library, by its number.
+#[tactic(auto, unfolding(leg_grammar::specs::Def::Layers::layer_named_at))]
+pub fn layer<A: Allocator + Copy>(
+    library: &Library<'_, A>,
+    words: &mut Cursor<'_, '_>,
+) -> Result<usize, ReadFault>
+    ensures reads { Reads (λ number. number) result words.new (layer_named_at library.now words.old) }
+    ensures no_memory { IfErr result (λ fault. fault.kind ≢ Memory) }
+{
+    let first = words.again();
+    let name = words.name()?;
+    match library.layer_named(name) {
+        Some(number) => Ok(number),
+        None => Err(first.need(FaultKind::UnknownName, Need::Known(NameKind::Layer))),
+    }
+}
+
+/// The width of the wires on a layer of this kind, if there are wires.
+fn wire_width(kind: LayerKind) -> Option<i64>
+    ensures { result ≡ wire_width kind }
+{
+    match kind {
+        LayerKind::Routing { width, .. } => Some(width),
+        LayerKind::Cut | LayerKind::Other => None,
+    }
+}
+
+/// The width of the wires on the routing layer of this number.
+pub fn width_of_layer<A: Allocator + Copy>(library: &Library<'_, A>, number: usize) -> Option<i64>
+    ensures { result ≡ width_of_layer library.now number }
+{
+    wire_width(library.layers().get(number)?.kind)
+}
+
+/// Whether wires run on the layer of this number.
+pub fn is_routing<A: Allocator + Copy>(library: &Library<'_, A>, number: usize) -> bool
+    ensures { result ≡ is_routing library.now number }
+{
+    width_of_layer(library, number).is_some()
+}
+
+/// Whether the layer of this number carries metal.
+pub fn has_metal<A: Allocator + Copy>(library: &Library<'_, A>, number: usize) -> bool
+    ensures { result ≡ has_metal library.now number }
+{
+    match library.layers().get(number) {
+        Some(layer) => matches!(layer.kind, LayerKind::Routing { .. } | LayerKind::Cut),
+        None => false,
+    }
+}
+
+/// Adds a rectangle, where its layer carries metal; on another layer it is dropped.
+pub fn push_rect<A: Allocator + Copy>(
+    library: &Library<'_, A>,
+    layer: usize,
+    rect: Rect,
+    shapes: &mut Vec<Shape, A>,
+) -> Result<(), AllocError>
+    ensures { OnOk result (shapes.new.items ≡ with_rect library.now layer rect shapes.old.items) }
+{
+    if has_metal(library, layer) {
+        shapes.reserve(1)?;
+        shapes.push(Shape { layer, rect }).unwrap();
+    }
+    Ok(())
+}

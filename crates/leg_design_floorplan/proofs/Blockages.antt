@@ -1,0 +1,112 @@
+-- Blockages: each clause, each rectangle and each entry takes a word, and how many rectangles there are.
+use Rattle.std.proofs.Common.{◌≡◌, ℕ, ◌+◌, ◌<◌, true, false, List, [], ◌∷◌, ◌++◌, length, map, None, Some, codes, refl, arith}
+use Rattle.std.proofs.lemmas.Bool.{false≢true}
+use Rattle.std.proofs.lemmas.List.{map_push}
+use Rattle.std.specs.Char.{to_ascii_lowercase}
+use Rattle.leg_lex.specs.Words.{Words, is_at, is_keyword, keyword_at, next_at}
+use Rattle.leg_lex.proofs.NameLookup.{same_name}
+use Rattle.leg_lex.proofs.Shorter.{keyword_below, mark_below, name_below}
+use Rattle.leg_lex.specs.NameLookup.{place_of}
+use Rattle.leg_lex.proofs.Until.{Below, Shortens, below_some, below_bind, below_ask, below_if, below_more, until_below}
+use Rattle.leg_geom.specs.Plane.{RectModel}
+use Rattle.leg_lib_records.specs.Measure.{rect_between}
+use Rattle.leg_lib_records.specs.Records.{LibraryModel, layer_names}
+use Rattle.leg_design_records.specs.declared.records.Blockage.{Blockage}
+use Rattle.leg_design_records.specs.Records.{BlockageModel, blockage_said, rect_count}
+use Rattle.leg_grammar.specs.Def.Guard.{when}
+use Rattle.leg_grammar.specs.Def.Layers.{layer_named_at}
+use Rattle.leg_grammar.specs.Def.Placement.{rect_at}
+use Rattle.leg_design_common.proofs.Sections.{section_below}
+use Rattle.leg_grammar.specs.Def.Blockage.{blocked_layer_at, push_down, at_no_plus, one_rect, at_semicolon, rects_at, blockage_at, is_kept, is_room_for, blockage_entry, blockages_at}
+use Rattle.leg_design_floorplan.proofs.Spots.{spot_below}
+
+pub push_down_shortens : Shortens push_down
+unfolding push_down
+push_down_shortens before words =
+    below_bind (omega arith) (mark_below 43 words) (λ plus less.
+    below_more (omega arith) (keyword_below (codes "PUSHDOWN") plus.1))
+
+pub push_down_shorter : (before more : Unit {0}) (words rest : Words) → push_down before words ≡ Some (more, rest) → length rest < length words
+push_down_shorter before more words rest said = (push_down_shortens before words).left more rest said
+
+-- POLYGON isn't RECT.
+pub no_polygon : (words : Words) → is_at (codes "POLYGON") words ≡ true → keyword_at (codes "RECT") words ≡ None
+unfolding keyword_at next_at
+no_polygon [] there = absurd (false≢true there)
+no_polygon (word ∷ words) there =
+    let same : map to_ascii_lowercase word ≡ map to_ascii_lowercase (codes "POLYGON") = same_name (map to_ascii_lowercase word) (map to_ascii_lowercase (codes "POLYGON")) there in
+    let other : is_keyword (codes "RECT") word ≡ false = rw same refl in
+    rw other refl
+
+rect_below : (words : Words) → Below (length words) (rect_at words)
+unfolding rect_at
+rect_below words =
+    below_bind (omega arith) (spot_below words) (λ p less.
+    below_bind (omega arith) (spot_below p.1) (λ q fewer.
+    below_ask (rect_between p.0 q.0) (λ rect. below_some rect q.1 fewer)))
+
+pub one_rect_shortens : Shortens one_rect
+unfolding one_rect
+one_rect_shortens rects words =
+    below_bind (omega arith) (keyword_below (codes "RECT") words) (λ start less.
+    below_bind (omega arith) (rect_below start.1) (λ rect fewer. below_some (rects ++ rect.0 ∷ []) rect.1 fewer))
+
+pub one_rect_shorter : (rects more : List RectModel) (words rest : Words) → one_rect rects words ≡ Some (more, rest) → length rest < length words
+one_rect_shorter rects more words rest said = (one_rect_shortens rects words).left more rest said
+
+rects_below : (words : Words) → Below (length words) (rects_at words)
+unfolding rects_at
+rects_below words =
+    below_bind (omega arith) (one_rect_shortens [] words) (λ first less.
+    below_bind (omega arith) (until_below at_semicolon one_rect one_rect_shortens first.0 first.1) (λ rects no_more.
+    below_bind (omega arith) (mark_below 59 rects.1) (λ end last. below_some rects.0 end.1 last)))
+
+layer_below : (library : LibraryModel) (words : Words) → Below (length words) (layer_named_at library words)
+unfolding layer_named_at
+layer_below library words =
+    below_bind (omega arith) (name_below words) (λ name less.
+    below_ask (place_of name.0 (layer_names library)) (λ number. below_some number name.1 less))
+
+blocked_layer_below : (library : LibraryModel) (words : Words) → Below (length words) (blocked_layer_at library words)
+unfolding blocked_layer_at
+blocked_layer_below library words =
+    below_if (is_at (codes "PLACEMENT") words)
+    (below_bind (omega arith) (keyword_below (codes "PLACEMENT") words) (λ start less. below_some None start.1 less))
+    (below_bind (omega arith) (keyword_below (codes "LAYER") words) (λ start less.
+    below_bind (omega arith) (layer_below library start.1) (λ layer fewer. below_some (Some layer.0) layer.1 fewer)))
+
+blockage_below : (library : LibraryModel) (words : Words) → Below (length words) (blockage_at library words)
+unfolding blockage_at
+blockage_below library words =
+    below_bind (omega arith) (mark_below 45 words) (λ dash less.
+    below_bind (omega arith) (blocked_layer_below library dash.1) (λ layer fewer.
+    below_bind (omega arith) (until_below at_no_plus push_down push_down_shortens tt layer.1) (λ past no_more.
+    below_bind (omega arith) (rects_below past.1) (λ rects last.
+    below_some (record { layer = layer.0; rects = rects.0 }) rects.1 last))))
+
+pub entry_shortens : (library : LibraryModel) → Shortens (blockage_entry library)
+unfolding blockage_entry
+entry_shortens library blockages words =
+    below_bind (omega arith) (blockage_below library words) (λ blockage less.
+    below_if (is_kept library blockage.0.layer)
+    (below_ask (when (is_room_for blockage.0 blockages)) (λ room. below_some (blockages ++ blockage.0 ∷ []) blockage.1 less))
+    (below_some blockages blockage.1 less))
+
+pub entry_shorter : (library : LibraryModel) (blockages more : List BlockageModel) (words rest : Words) → blockage_entry library blockages words ≡ Some (more, rest) → length rest < length words
+entry_shorter library blockages more words rest said = (entry_shortens library blockages words).left more rest said
+
+pub blockages_below : (library : LibraryModel) (words : Words) → Below (length words) (blockages_at library words)
+unfolding blockages_at
+blockages_below library words = section_below (codes "BLOCKAGES") (blockage_entry library) (entry_shortens library) [] words
+
+-- One blockage more has so many rectangles more.
+pub rect_count_push : (blockages : List BlockageModel) (blockage : BlockageModel) → rect_count (blockages ++ blockage ∷ []) ≡ rect_count blockages + length blockage.rects
+rect_count_push [] blockage = omega arith
+rect_count_push (first ∷ blockages) blockage =
+    let more = rect_count_push blockages blockage in
+    omega (arith, more)
+
+-- the same, where the rectangles so far were counted
+pub more_counted : {A : Type 0} (blockages all : List (Blockage A)) (blockage : Blockage A) (rects more : ℕ) → rects ≡ rect_count (map blockage_said blockages) → more ≡ length (blockage_said blockage).rects → all ≡ blockages ++ blockage ∷ [] → rects + more ≡ rect_count (map blockage_said all)
+more_counted blockages all blockage rects more counted so_many is =
+    rw (counted, so_many, is, map_push blockage_said blockages blockage, rect_count_push (map blockage_said blockages) (blockage_said blockage)) refl

@@ -1,0 +1,86 @@
+-- Blockages that are read are on layers with metal, have rectangles with area, and aren't too many.
+use Rattle.std.proofs.Common.{◌≡◌, ℕ, ◌≤◌, ◌+◌, true, nat_lt, nat_le, List, [], ◌∷◌, ◌++◌, length, All, Option, None, Some, codes, arith}
+use Rattle.std.proofs.lemmas.Bool.{and_parts}
+use Rattle.std.proofs.lemmas.Bool.Decides.{nat_tests}
+use Rattle.std.proofs.lemmas.List.{length_push}
+use Rattle.std.proofs.lemmas.List.Elements.{All-push, All-nil}
+use Rattle.leg_lex.specs.Words.{Words, keyword_at, mark_at}
+use Rattle.leg_lex.specs.Until.{until}
+use Rattle.leg_geom.specs.Plane.{RectModel}
+use Rattle.leg_lib_records.specs.Records.{LibraryModel}
+use Rattle.leg_design_records.specs.declared.limits.TheConstants.{ENTRY_LIMIT, PART_LIMIT}
+use Rattle.leg_design_records.specs.Records.{BlockageModel, rect_count}
+use Rattle.leg_design_records.specs.WellFormedParts.{IsArea, IsLayerOfBlockage, IsBlockage, AreBlockages}
+use Rattle.leg_design_common.proofs.Gives.{Gives, gives_some, gives_bind, gives_skip, gives_choice, when_gives, until_gives, section_gives}
+use Rattle.leg_design_common.proofs.ReadPlacement.{rect_gives}
+use Rattle.leg_grammar.specs.Def.Blockage.{blocked_layer_at, push_down, at_no_plus, one_rect, at_semicolon, rects_at, blockage_at, is_kept, is_room_for, blockage_entry, blockages_at}
+use Rattle.leg_design_floorplan.proofs.Blockages.{rect_count_push}
+
+-- one rectangle at least, and each has area
+abbrev AreRects : List RectModel → Type 0
+AreRects rects = All IsArea rects × (1 ≤ length rects)
+
+one_more : (rects : List RectModel) (rect : RectModel) → 1 ≤ length (rects ++ rect ∷ [])
+one_more rects rect = rw (length_push rects rect) (omega arith)
+
+one_rect_gives : (rects : List RectModel) (words : Words) → All IsArea rects → Gives (λ said. AreRects said.0) (one_rect rects words)
+unfolding one_rect
+one_rect_gives rects words each =
+    gives_skip (keyword_at (codes "RECT") words) (λ start.
+    gives_bind (rect_gives start.1) (λ rect area.
+    gives_some _ (All-push IsArea rects rect.0 each area, one_more rects rect.0)))
+
+rects_give : (words : Words) → Gives (λ said. AreRects said.0) (rects_at words)
+unfolding rects_at
+rects_give words =
+    gives_bind (one_rect_gives [] words (All-nil IsArea)) (λ first one.
+    gives_bind (until_gives AreRects at_semicolon one_rect (λ rects left some. one_rect_gives rects left some.0) first.0 first.1 one) (λ rects some.
+    gives_skip (mark_at 59 rects.1) (λ end.
+    gives_some _ some)))
+
+blockage_gives : (library : LibraryModel) (words : Words) → Gives (λ said. AreRects said.0.rects) (blockage_at library words)
+unfolding blockage_at
+blockage_gives library words =
+    gives_skip (mark_at 45 words) (λ dash.
+    gives_skip (blocked_layer_at library dash.1) (λ layer.
+    gives_skip (until at_no_plus push_down tt layer.1) (λ past.
+    gives_bind (rects_give past.1) (λ rects some.
+    gives_some _ some))))
+
+layer_of_kept : (library : LibraryModel) (layer : Option ℕ) → is_kept library layer ≡ true → IsLayerOfBlockage library layer
+layer_of_kept library None kept = tt
+layer_of_kept library (Some layer) kept = kept
+
+with_blockage : (library : LibraryModel) (blockages : List BlockageModel) (blockage : BlockageModel) → AreBlockages library blockages → IsBlockage library blockage → is_room_for blockage blockages ≡ true → AreBlockages library (blockages ++ blockage ∷ [])
+with_blockage library blockages blockage before holds room =
+    let parts = and_parts (nat_lt (length blockages) ENTRY_LIMIT) (nat_le (rect_count blockages + length blockage.rects) PART_LIMIT) room in
+    let few = parts.0 in
+    let few_rects = parts.1 in
+    record {
+      each = All-push (IsBlockage library) blockages blockage before.each holds;
+      few = rw (length_push blockages blockage) (grind (arith, nat_tests));
+      few_rects = rw (rect_count_push blockages blockage) (grind (arith, nat_tests));
+    }
+
+entry_gives : (library : LibraryModel) (blockages : List BlockageModel) (words : Words) → AreBlockages library blockages → Gives (λ said. AreBlockages library said.0) (blockage_entry library blockages words)
+unfolding blockage_entry
+entry_gives library blockages words before =
+    gives_bind (blockage_gives library words) (λ blockage some.
+    gives_choice (is_kept library blockage.0.layer)
+    (λ kept.
+    gives_bind (when_gives (is_room_for blockage.0 blockages)) (λ free room.
+    let holds : IsBlockage library blockage.0 = record { layer = layer_of_kept library blockage.0.layer kept; some = some.1; rects = some.0 } in
+    gives_some _ (with_blockage library blockages blockage.0 before holds room)))
+    (λ dropped. gives_some _ before))
+
+pub no_blockages : (library : LibraryModel) → AreBlockages library []
+no_blockages library = record {
+  each = All-nil (IsBlockage library);
+  few = omega arith;
+  few_rects = omega arith;
+}
+
+pub blockages_give : (library : LibraryModel) (words : Words) → Gives (λ said. AreBlockages library said.0) (blockages_at library words)
+unfolding blockages_at
+blockages_give library words =
+    section_gives (AreBlockages library) (codes "BLOCKAGES") (blockage_entry library) (entry_gives library) [] words (no_blockages library)

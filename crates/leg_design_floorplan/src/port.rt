@@ -1,0 +1,97 @@
+//! Ports of a pin (LEF/DEF 5.8, "Pins").
+
+ghost use Rattle.std.specs.Prelude.{◌≡◌};
+ghost use Rattle.leg_lex.specs.Words.{Reads, Means};
+ghost use Rattle.leg_grammar.specs.Def.Port.{empty_port, past_number, past_rules, layer_rect};
+
+use leg_design_common::clause::rect_or_mask;
+use leg_design_common::layers::layer;
+use leg_design_records::{Port, Status};
+use leg_geom::{Place, Rect};
+use leg_lex::{Cursor, ReadFault};
+use leg_lib_records::{Items, Library, Shape};
+use std::alloc::Allocator;
+use std::marker::Model;
+
+/// A port to which clauses may still add.
+#[derive(Drop)]
+pub(crate) struct OpenPort<A: Allocator> {
+    pub(crate) shapes: Vec<Shape, A>,
+    pub(crate) status: Status,
+    pub(crate) place: Option<Place>,
+}
+
+impl<A: Allocator> Model for OpenPort<A> {
+    ghost use Rattle.leg_design_records.specs.Records.{PortModel};
+
+    ghost Value = { PortModel };
+
+    ghost view = { λ p. record { shapes = p.shapes.items; status = p.status; place = p.place } };
+}
+
+impl<A: Allocator + Copy> OpenPort<A> {
+    /// A port of which nothing is given.
+    pub(crate) fn new(alloc: A) -> OpenPort<A>
+        ensures { result ≡ empty_port }
+    {
+        OpenPort {
+            shapes: Vec::new(alloc),
+            status: Status::Unplaced,
+            place: None,
+        }
+    }
+
+    /// The port as it is.
+    pub(crate) fn into_port(self) -> Port<A>
+        ensures { result ≡ self }
+    {
+        let OpenPort {
+            shapes,
+            status,
+            place,
+        } = self;
+        Port {
+            shapes: Items::from_vec(shapes),
+            status,
+            place,
+        }
+    }
+}
+
+/// Reads past this keyword and a number, if the keyword is next.
+#[tactic(auto, unfolding(leg_grammar::specs::Def::Port::past_number))]
+fn past_number(keyword: &[u8], clause: &mut Cursor<'_, '_>) -> Result<(), ReadFault>
+    ensures { Reads (λ x. x) result clause.new (past_number keyword.now clause.old) }
+{
+    if clause.is_at(keyword) {
+        clause.keyword(keyword)?;
+        clause.whole()?;
+    }
+    Ok(())
+}
+
+/// Reads past the spacing and the width that a rectangle is taken for.
+#[tactic(auto, unfolding(leg_grammar::specs::Def::Port::past_rules))]
+fn past_rules(clause: &mut Cursor<'_, '_>) -> Result<(), ReadFault>
+    ensures { Reads (λ x. x) result clause.new (past_rules clause.old) }
+{
+    past_number(b"SPACING", clause)?;
+    past_number(b"DESIGNRULEWIDTH", clause)
+}
+
+/// The layer's number and the rectangle of a clause `LAYER`.
+#[tactic(auto, unfolding(leg_grammar::specs::Def::Port::layer_rect))]
+pub(crate) fn layer_rect<A: Allocator + Copy>(
+    library: &Library<'_, A>,
+    clause: &mut Cursor<'_, '_>,
+) -> Result<(usize, Rect), ReadFault>
+    ensures { Means (λ on. on) result (layer_rect library.now clause.old) }
+{
+    clause.keyword(b"LAYER")?;
+    let layer = layer(library, clause)?;
+    let is_masked = clause.is_at(b"MASK");
+    past_rules(clause)?;
+    let rect = rect_or_mask(is_masked, clause)?;
+    clause.nothing_more()?;
+    Ok((layer, rect))
+}

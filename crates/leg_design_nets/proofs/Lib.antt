@@ -1,0 +1,28 @@
+-- What leg_design cites: that each entry shortens the words that are left, and that the nets of a text are well-formed.
+pub mod NetEntries
+pub mod ReadTerminals
+pub mod ReadNets
+pub mod MoreKnown
+pub mod ReadLonePins
+pub mod LonePinsListed
+pub mod LonePins
+-- Pins of macros by their names.
+mod NamedNumbers
+mod PinTables
+mod PinLookups
+mod PinsOfAll
+-- Terminals, and which entry lists them.
+mod TerminalLists
+mod ListedNets
+mod ReadListed
+mod MoreTerminals
+-- Paths, item by item.
+mod Paths
+mod ViaLayers
+mod Walks
+mod PathItems
+mod ReadPaths
+-- Clauses of an entry, and the wiring in them.
+mod Wirings
+mod ReadWiring
+mod NetClauses

@@ -1,0 +1,142 @@
+-- The items of a path: each takes a word at least, and where they end.
+use Rattle.std.proofs.Common.{◌≡◌, ℕ, suc, ◌<◌, Bool, true, false, not, ◌&&◌, ◌||◌, List, [], ◌∷◌, ◌++◌, length, map, get_or, nat_lt, ◌+◌, None, Some, codes, int_lt, pos, refl, sym, ap, ◌∙◌, arith}
+use Rattle.std.specs.Char.{to_ascii_lowercase}
+use Rattle.std.specs.Str.{bytes_eq}
+use Rattle.std.proofs.lemmas.Bool.Decides.{nat_tests}
+use Rattle.leg_lex.specs.Words.{Words, is_keyword, is_at, next_at, mark_at}
+use Rattle.leg_lex.proofs.NameLookup.{same_name, names_apart}
+use Rattle.leg_lex.proofs.Until.{Below, Shortens, below_some, below_bind, below_ask, below_if, below_more}
+use Rattle.leg_lex.proofs.Shorter.{keyword_below, mark_below, name_below, whole_below}
+use Rattle.leg_lib_records.specs.Joins.{is_wiring_word}
+use Rattle.leg_lib_records.specs.Measure.{rect_between}
+use Rattle.leg_grammar.specs.declared.path_item.Item.{Item}
+use Rattle.leg_grammar.specs.declared.path_item.Item.TheVariants.{ToPoint, AtVia, AtRect}
+use Rattle.leg_grammar.specs.Def.Guard.{unless}
+use Rattle.leg_grammar.specs.Def.Namespace.{KnownModel, via_named}
+use Rattle.leg_grammar.specs.Def.PathItem.{count_at, coordinate_at, extension_in_point, point_item, first_point_at, rect_item, past_north, via_item, item_at, one_item, at_path_end}
+
+-- a word that isn't this keyword isn't this mark
+pub no_mark : (words : Words) → is_at (codes "(") words ≡ false → mark_at 40 words ≡ None
+unfolding mark_at next_at
+no_mark [] other = refl
+no_mark (word ∷ words) other = by (bytes_eq word (40 ∷ [])) refl where
+  by : (test : Bool) → bytes_eq word (40 ∷ []) ≡ test → mark_at 40 (word ∷ words) ≡ None
+  by true is =
+      let same = same_name word (40 ∷ []) is in
+      absurd (let e : ⊥ = cc (rw same at other) in e)
+  by false is = rw is refl
+
+pub count_below : (words : Words) → Below (length words) (count_at words)
+unfolding count_at
+count_below words =
+    below_bind (omega arith) (whole_below words) (λ z less.
+    below_ask (unless (int_lt z.0 (pos 0))) (λ some.
+    below_some z.0 z.1 less))
+
+coordinate_below : (words : Words) → Below (length words) (coordinate_at words)
+unfolding coordinate_at
+coordinate_below words =
+    below_if (is_at (codes "*") words)
+    (below_bind (omega arith) (mark_below 42 words) (λ star less. below_some None star.1 less))
+    (below_bind (omega arith) (whole_below words) (λ z less. below_some (Some z.0) z.1 less))
+
+-- a point may lack an extension
+extension_below : (words : Words) → Below (suc (length words)) (extension_in_point words)
+unfolding extension_in_point
+extension_below words =
+    below_if (is_at (codes ")") words)
+    (below_some None words (omega arith))
+    (below_bind (omega arith) (count_below words) (λ z less. below_some (Some z.0) z.1 less))
+
+point_item_below : (words : Words) → Below (length words) (point_item words)
+unfolding point_item
+point_item_below words =
+    below_bind (omega arith) (mark_below 40 words) (λ open_ less.
+    below_bind (omega arith) (coordinate_below open_.1) (λ x fewer.
+    below_bind (omega arith) (coordinate_below x.1) (λ y shorter.
+    below_bind (omega arith) (extension_below y.1) (λ extension no_more.
+    below_bind (omega arith) (mark_below 41 extension.1) (λ close last.
+    below_some (ToPoint x.0 y.0 extension.0) close.1 last)))))
+
+pub first_point_below : (words : Words) → Below (length words) (first_point_at words)
+unfolding first_point_at
+first_point_below words =
+    below_bind (omega arith) (mark_below 40 words) (λ open_ less.
+    below_bind (omega arith) (whole_below open_.1) (λ x fewer.
+    below_bind (omega arith) (whole_below x.1) (λ y shorter.
+    below_bind (omega arith) (extension_below y.1) (λ extension no_more.
+    below_bind (omega arith) (mark_below 41 extension.1) (λ close last.
+    below_some (record { x = x.0; y = y.0 }, extension.0) close.1 last)))))
+
+rect_item_below : (words : Words) → Below (length words) (rect_item words)
+unfolding rect_item
+rect_item_below words =
+    below_bind (omega arith) (keyword_below (codes "RECT") words) (λ start first.
+    below_bind (omega arith) (mark_below 40 start.1) (λ open_ less.
+    below_bind (omega arith) (whole_below open_.1) (λ a w.
+    below_bind (omega arith) (whole_below a.1) (λ b x.
+    below_bind (omega arith) (whole_below b.1) (λ c y.
+    below_bind (omega arith) (whole_below c.1) (λ d z.
+    below_bind (omega arith) (mark_below 41 d.1) (λ close last.
+    below_ask (rect_between (record { x = a.0; y = b.0 }) (record { x = c.0; y = d.0 })) (λ rect.
+    below_some (AtRect rect) close.1 last))))))))
+
+past_north_below : (words : Words) → Below (suc (length words)) (past_north words)
+unfolding past_north
+past_north_below words =
+    below_if (is_at (codes "N") words)
+    (below_more (omega arith) (keyword_below (codes "N") words))
+    (below_some tt words (omega arith))
+
+via_item_below : (known : KnownModel) (words : Words) → Below (length words) (via_item known words)
+unfolding via_item
+via_item_below known words =
+    below_bind (omega arith) (name_below words) (λ name less.
+    below_ask (unless (is_wiring_word name.0)) (λ other.
+    below_ask (via_named known name.0) (λ via.
+    below_bind (omega arith) (past_north_below name.1) (λ north last.
+    below_some (AtVia via) north.1 last))))
+
+item_below : (known : KnownModel) (special : Bool) (words : Words) → Below (length words) (item_at known special words)
+unfolding item_at
+item_below known special words =
+    below_if (is_at (codes "(") words) (point_item_below words)
+    (below_if (is_at (codes "RECT") words && not special) (rect_item_below words) (via_item_below known words))
+
+pub one_item_shortens : (known : KnownModel) (special : Bool) → Shortens (one_item known special)
+unfolding one_item
+one_item_shortens known special items words =
+    below_bind (omega arith) (item_below known special words) (λ item less. below_some (items ++ item.0 ∷ []) item.1 less)
+
+pub one_item_shorter : (known : KnownModel) (special : Bool) (items next : List Item) (words rest : Words) → one_item known special items words ≡ Some (next, rest) → length rest < length words
+one_item_shorter known special items next words rest said = (one_item_shortens known special items words).left next rest said
+
+-- in small letters, only the plus is the plus
+small_plus : (b : ℕ) → to_ascii_lowercase b ≡ 43 → b ≡ 43
+small_plus b is = by (nat_lt b 65) refl (nat_lt b 91) refl where
+  by : (low : Bool) → nat_lt b 65 ≡ low → (high : Bool) → nat_lt b 91 ≡ high → b ≡ 43
+  by true low high _ = rw low at is
+  by false low true high = absurd (let sum : b + 32 ≡ 43 = rw (low, high) at is in grind (arith, nat_tests, sum, low))
+  by false low false high = rw (low, high) at is
+
+plus_alone : (word : List ℕ) → map to_ascii_lowercase word ≡ 43 ∷ [] → word ≡ 43 ∷ []
+plus_alone [] is = absurd (let e : ⊥ = cc in e)
+plus_alone (b ∷ []) is = ap (λ c. c ∷ []) (small_plus b (ap (λ bytes. get_or bytes 0 0) is))
+plus_alone (b ∷ c ∷ bytes) is = absurd (let e : ⊥ = cc in e)
+
+-- whether a word is the plus, asked in small letters or not
+plus_either_way : (word : List ℕ) → is_keyword (codes "+") word ≡ bytes_eq word (codes "+")
+plus_either_way word = by (bytes_eq word (43 ∷ [])) refl (bytes_eq (map to_ascii_lowercase word) (43 ∷ [])) refl where
+  by : (plain : Bool) → bytes_eq word (43 ∷ []) ≡ plain → (small : Bool) → bytes_eq (map to_ascii_lowercase word) (43 ∷ []) ≡ small → is_keyword (codes "+") word ≡ bytes_eq word (codes "+")
+  by true p true q = q ∙ sym p
+  by false p false q = q ∙ sym p
+  by true p false q = absurd (names_apart (map to_ascii_lowercase word) (43 ∷ []) q (ap (map to_ascii_lowercase) (same_name word (43 ∷ []) p)))
+  by false p true q = absurd (names_apart word (43 ∷ []) p (plus_alone word (same_name (map to_ascii_lowercase word) (43 ∷ []) q)))
+
+-- where the items end
+pub path_ends : (words : Words) → words ≡ [] → at_path_end words ≡ true
+path_ends words none = rw none refl
+
+pub path_ends_at_word : (words : Words) → (words ≡ [] → ⊥) → at_path_end words ≡ (is_at (codes "NEW") words || is_at (codes "+") words)
+path_ends_at_word [] some = absurd (some refl)
+path_ends_at_word (word ∷ words) some = rw (plus_either_way word) refl

@@ -1,0 +1,164 @@
+-- The wires that wiring says are such as a DEF can spell.
+use Rattle.std.proofs.Common.{◌≡◌, ℤ, pos, ◌≤ℤ◌, Bool, true, false, not, ◌&&◌, int_lt, List, [], All, Option, Some, codes, refl, sym, arith}
+use Rattle.std.proofs.lemmas.Int.{ints}
+use Rattle.std.proofs.lemmas.List.Elements.{All-nil, All-push, All-append}
+use Rattle.leg_lex.specs.Words.{Words, is_at, keyword_at, mark_at, name_at}
+use Rattle.leg_lex.specs.Until.{until}
+use Rattle.leg_lex.specs.Number.{IsNumber}
+use Rattle.leg_lex.specs.NameLookup.{place_of}
+use Rattle.leg_geom.specs.Plane.{PointModel}
+use Rattle.leg_lib_records.specs.Joins.{is_wiring_word}
+use Rattle.leg_lib_records.specs.Records.{layer_names}
+use Rattle.leg_design_records.specs.declared.records.Wire.{Wire}
+use Rattle.leg_grammar.specs.Def.Guard.{unless}
+use Rattle.leg_design_records.specs.Layers.{is_routing}
+use Rattle.leg_grammar.specs.Def.Namespace.{KnownModel, via_named}
+use Rattle.leg_grammar.specs.declared.path_item.Item.{Item}
+use Rattle.leg_grammar.specs.Def.Path.{}
+use Rattle.leg_grammar.specs.Def.PathItem.{count_at, coordinate_at, extension_in_point, point_item, first_point_at, rect_item, past_north, via_item, item_at, one_item, at_path_end}
+use Rattle.leg_grammar.specs.Def.Wiring.{routing_at, past_taper, written_width_at, at_no_shape, past_shape, written_at, path_at, at_no_new, new_path, paths_at, wiring_start, wiring_at}
+use Rattle.leg_design_records.specs.Wires.{is_even}
+use Rattle.leg_design_records.specs.WellFormedParts.{IsPosition}
+use Rattle.leg_design_records.specs.WellFormedNets.{IsWire}
+use Rattle.leg_design_common.proofs.Gives.{Gives, gives_some, gives_bind, gives_skip, gives_choice, gives_if, when_gives, unless_gives, until_gives}
+use Rattle.leg_design_common.proofs.ReadPlacement.{whole_gives, between_gives}
+use Rattle.leg_design_nets.proofs.ReadPaths.{IsGiven, IsNumberIfAny, IsItem, IsWritten, AreWires, path_gives}
+
+least_is : (z : ℤ) → int_lt z (pos 0) ≡ false → pos 0 ≤ℤ z
+least_is z other = grind (arith, ints)
+
+count_gives : (words : Words) → Gives (λ said. IsNumber said.0 × (pos 0 ≤ℤ said.0)) (count_at words)
+unfolding count_at
+count_gives words =
+    gives_bind (whole_gives words) (λ z number.
+    gives_bind (unless_gives (int_lt z.0 (pos 0))) (λ some least.
+    gives_some _ (number, least_is z.0 least)))
+
+coordinate_gives : (words : Words) → Gives (λ said. IsNumberIfAny said.0) (coordinate_at words)
+unfolding coordinate_at
+coordinate_gives words =
+    gives_if (is_at (codes "*") words)
+    (gives_skip (mark_at 42 words) (λ star. gives_some _ tt))
+    (gives_bind (whole_gives words) (λ z number. gives_some _ number))
+
+extension_gives : (words : Words) → Gives (λ said. IsGiven said.0) (extension_in_point words)
+unfolding extension_in_point
+extension_gives words =
+    gives_if (is_at (codes ")") words) (gives_some _ tt) (gives_bind (count_gives words) (λ z count. gives_some _ count))
+
+-- a point with its extension
+abbrev IsStart : PointModel × Option ℤ → Type 0
+IsStart point = IsPosition point.0 × IsGiven point.1
+
+first_point_gives : (words : Words) → Gives (λ said. IsStart said.0) (first_point_at words)
+unfolding first_point_at
+first_point_gives words =
+    gives_skip (mark_at 40 words) (λ open_.
+    gives_bind (whole_gives open_.1) (λ x wide.
+    gives_bind (whole_gives x.1) (λ y high.
+    gives_bind (extension_gives y.1) (λ extension given.
+    gives_skip (mark_at 41 extension.1) (λ close.
+    gives_some _ (record { x = wide; y = high }, given))))))
+
+module _ (known : KnownModel) (special : Bool) where
+  point_item_gives : (words : Words) → Gives (λ said. IsItem special said.0) (point_item words)
+  unfolding point_item
+  point_item_gives words =
+      gives_skip (mark_at 40 words) (λ open_.
+      gives_bind (coordinate_gives open_.1) (λ x wide.
+      gives_bind (coordinate_gives x.1) (λ y high.
+      gives_bind (extension_gives y.1) (λ extension given.
+      gives_skip (mark_at 41 extension.1) (λ close.
+      gives_some _ (wide, high, given))))))
+
+  rect_item_gives : special ≡ false → (words : Words) → Gives (λ said. IsItem special said.0) (rect_item words)
+  unfolding rect_item
+  rect_item_gives in_nets words =
+      gives_skip (keyword_at (codes "RECT") words) (λ start.
+      gives_skip (mark_at 40 start.1) (λ open_.
+      gives_bind (whole_gives open_.1) (λ a a_is.
+      gives_bind (whole_gives a.1) (λ b b_is.
+      gives_bind (whole_gives b.1) (λ c c_is.
+      gives_bind (whole_gives c.1) (λ d d_is.
+      gives_skip (mark_at 41 d.1) (λ close.
+      gives_bind (between_gives (record { x = a.0; y = b.0 }) (record { x = c.0; y = d.0 }) (record { x = a_is; y = b_is }) (record { x = c_is; y = d_is })) (λ rect area.
+      gives_some _ (in_nets, area)))))))))
+
+  via_item_gives : (words : Words) → Gives (λ said. IsItem special said.0) (via_item known words)
+  unfolding via_item
+  via_item_gives words =
+      gives_skip (name_at words) (λ name.
+      gives_skip (unless (is_wiring_word name.0)) (λ other.
+      gives_skip (via_named known name.0) (λ via.
+      gives_skip (past_north name.1) (λ north.
+      gives_some _ tt))))
+
+  not_special : (test special : Bool) → (test && not special) ≡ true → special ≡ false
+  not_special true false is = refl
+  not_special true true is = sym is
+  not_special false special is = absurd (let e : ⊥ = cc in e)
+
+  item_gives : (words : Words) → Gives (λ said. IsItem special said.0) (item_at known special words)
+  unfolding item_at
+  item_gives words =
+      gives_if (is_at (codes "(") words) (point_item_gives words)
+      (gives_choice (is_at (codes "RECT") words && not special) (λ rect. rect_item_gives (not_special (is_at (codes "RECT") words) special rect) words) (λ via. via_item_gives words))
+
+  abbrev AreItems : List Item → Type 0
+  AreItems items = All (IsItem special) items
+
+  one_item_gives : (items : List Item) (words : Words) → AreItems items → Gives (λ said. AreItems said.0) (one_item known special items words)
+  unfolding one_item
+  one_item_gives items words each =
+      gives_bind (item_gives words) (λ item is.
+      gives_some _ (All-push (IsItem special) items item.0 each is))
+
+  routing_gives : (words : Words) → Gives (λ said. is_routing known.library said.0 ≡ true) (routing_at known.library words)
+  unfolding routing_at
+  routing_gives words =
+      gives_skip (name_at words) (λ name.
+      gives_skip (place_of name.0 (layer_names known.library)) (λ number.
+      gives_bind (when_gives (is_routing known.library number)) (λ routes is.
+      gives_some _ is)))
+
+  written_gives : (words : Words) → Gives (λ said. IsWritten special said.0) (written_at special words)
+  unfolding written_at written_width_at
+  written_gives words = by special where
+    by : (special : Bool) → Gives (λ said. IsWritten special said.0) (written_at special words)
+    by true =
+        gives_bind (width_gives words) (λ width is.
+        gives_skip (until at_no_shape past_shape tt width.1) (λ shapes.
+        gives_some _ is)) where
+          width_gives : (words : Words) → Gives (λ said. IsWritten true (Some said.0)) (written_width_at words)
+          width_gives words =
+              gives_bind (count_gives words) (λ width count.
+              gives_bind (when_gives (is_even width.0)) (λ even is.
+              gives_some _ (count.0, count.1, is)))
+    by false = gives_skip (past_taper words) (λ taper. gives_some _ tt)
+
+  path_at_gives : (words : Words) → Gives (λ said. AreWires known special said.0) (path_at known special words)
+  unfolding path_at
+  path_at_gives words =
+      gives_bind (routing_gives words) (λ layer routes.
+      gives_bind (written_gives layer.1) (λ written is_written.
+      gives_bind (first_point_gives written.1) (λ first starts.
+      gives_bind (until_gives AreItems at_path_end (one_item known special) one_item_gives [] first.1 (All-nil (IsItem special))) (λ items each.
+      gives_bind (path_gives known special written.0 layer.0 first.0.0 first.0.1 items.0 is_written routes starts.0 starts.1 each) (λ wires are.
+      gives_some _ are)))))
+
+  new_path_gives : (wires : List Wire) (words : Words) → AreWires known special wires → Gives (λ said. AreWires known special said.0) (new_path known special wires words)
+  unfolding new_path
+  new_path_gives wires words are =
+      gives_skip (keyword_at (codes "NEW") words) (λ start.
+      gives_bind (path_at_gives start.1) (λ path more.
+      gives_some _ (All-append (IsWire known.library known.vias special) wires path.0 are more)))
+
+  paths_give : (words : Words) → Gives (λ said. AreWires known special said.0) (paths_at known special words)
+  unfolding paths_at
+  paths_give words =
+      gives_bind (path_at_gives words) (λ first are.
+      until_gives (AreWires known special) at_no_new (new_path known special) new_path_gives first.0 first.1 are)
+
+  pub wiring_gives : (clause : Words) → Gives (λ said. AreWires known special said.0) (wiring_at known special clause)
+  unfolding wiring_at
+  wiring_gives clause = gives_skip (wiring_start clause) (λ start. paths_give start.1)

@@ -1,0 +1,98 @@
+-- Paths of wiring, and clauses that say them: each takes a word at least.
+use Rattle.std.proofs.Common.{◌≡◌, suc, ◌<◌, Bool, List, [], ◌++◌, length, None, Some, codes, arith}
+use Rattle.leg_lex.specs.Words.{Words, is_at}
+use Rattle.leg_lex.specs.NameLookup.{place_of}
+use Rattle.leg_lex.proofs.Until.{Below, Shortens, below_some, below_bind, below_ask, below_if, below_more, until_below}
+use Rattle.leg_lex.proofs.Shorter.{next_below, keyword_below, mark_below, name_below, word_below}
+use Rattle.leg_lib_records.specs.Records.{LibraryModel, layer_names}
+use Rattle.leg_design_records.specs.declared.records.Wire.{Wire}
+use Rattle.leg_grammar.specs.Def.Guard.{when}
+use Rattle.leg_design_records.specs.Layers.{is_routing}
+use Rattle.leg_grammar.specs.Def.Namespace.{KnownModel}
+use Rattle.leg_grammar.specs.Def.Path.{path_wires}
+use Rattle.leg_grammar.specs.Def.PathItem.{one_item, at_path_end}
+use Rattle.leg_grammar.specs.Def.Wiring.{routing_at, past_taper, written_width_at, at_no_shape, past_shape, written_at, path_at, at_no_new, new_path, paths_at, wiring_start, wiring_at}
+use Rattle.leg_design_records.specs.Wires.{is_even}
+use Rattle.leg_design_nets.proofs.PathItems.{count_below, first_point_below, one_item_shortens}
+
+routing_below : (library : LibraryModel) (words : Words) → Below (length words) (routing_at library words)
+unfolding routing_at
+routing_below library words =
+    below_bind (omega arith) (name_below words) (λ name less.
+    below_ask (place_of name.0 (layer_names library)) (λ number.
+    below_ask (when (is_routing library number)) (λ routes.
+    below_some number name.1 less)))
+
+past_taper_below : (words : Words) → Below (suc (length words)) (past_taper words)
+unfolding past_taper
+past_taper_below words =
+    below_if (is_at (codes "TAPER") words)
+    (below_more (omega arith) (keyword_below (codes "TAPER") words))
+    (below_some tt words (omega arith))
+
+written_width_below : (words : Words) → Below (length words) (written_width_at words)
+unfolding written_width_at
+written_width_below words =
+    below_bind (omega arith) (count_below words) (λ width less.
+    below_ask (when (is_even width.0)) (λ even.
+    below_some width.0 width.1 less))
+
+pub past_shape_shortens : Shortens past_shape
+unfolding past_shape
+past_shape_shortens before words =
+    below_bind (omega arith) (mark_below 43 words) (λ plus less.
+    below_bind (omega arith) (keyword_below (codes "SHAPE") plus.1) (λ start fewer.
+    below_bind (omega arith) (word_below start.1) (λ word last.
+    below_some tt word.1 last)))
+
+pub past_shape_shorter : (before next : Unit {0}) (words rest : Words) → past_shape before words ≡ Some (next, rest) → length rest < length words
+past_shape_shorter before next words rest said = (past_shape_shortens before words).left next rest said
+
+written_below : (special : Bool) (words : Words) → Below (suc (length words)) (written_at special words)
+unfolding written_at
+written_below special words =
+    below_if special
+    (below_bind (omega arith) (written_width_below words) (λ width less.
+    below_bind (omega arith) (until_below at_no_shape past_shape past_shape_shortens tt width.1) (λ shapes fewer.
+    below_some (Some width.0) shapes.1 (omega arith))))
+    (below_bind (omega arith) (past_taper_below words) (λ taper less. below_some None taper.1 less))
+
+path_below : (known : KnownModel) (special : Bool) (words : Words) → Below (length words) (path_at known special words)
+unfolding path_at
+path_below known special words =
+    below_bind (omega arith) (routing_below known.library words) (λ layer less.
+    below_bind (omega arith) (written_below special layer.1) (λ written fewer.
+    below_bind (omega arith) (first_point_below written.1) (λ first shorter.
+    below_bind (omega arith) (until_below at_path_end (one_item known special) (one_item_shortens known special) [] first.1) (λ items last.
+    below_ask (path_wires known written.0 layer.0 first.0.0 first.0.1 items.0) (λ wires.
+    below_some wires items.1 last)))))
+
+pub new_path_shortens : (known : KnownModel) (special : Bool) → Shortens (new_path known special)
+unfolding new_path
+new_path_shortens known special wires words =
+    below_bind (omega arith) (keyword_below (codes "NEW") words) (λ start less.
+    below_bind (omega arith) (path_below known special start.1) (λ path last.
+    below_some (wires ++ path.0) path.1 last))
+
+pub new_path_shorter : (known : KnownModel) (special : Bool) (wires next : List Wire) (words rest : Words) → new_path known special wires words ≡ Some (next, rest) → length rest < length words
+new_path_shorter known special wires next words rest said = (new_path_shortens known special wires words).left next rest said
+
+paths_below : (known : KnownModel) (special : Bool) (words : Words) → Below (length words) (paths_at known special words)
+unfolding paths_at
+paths_below known special words =
+    below_bind (omega arith) (path_below known special words) (λ first less.
+    below_more (omega arith) (until_below at_no_new (new_path known special) (new_path_shortens known special) first.0 first.1))
+
+start_below : (words : Words) → Below (length words) (wiring_start words)
+unfolding wiring_start
+start_below words =
+    below_if (is_at (codes "SHIELD") words)
+    (below_bind (omega arith) (keyword_below (codes "SHIELD") words) (λ start less.
+    below_bind (omega arith) (name_below start.1) (λ name last. below_some tt name.1 last)))
+    (below_bind (omega arith) (next_below words) (λ start less. below_some tt start.1 less))
+
+pub wiring_below : (known : KnownModel) (special : Bool) (words : Words) → Below (length words) (wiring_at known special words)
+unfolding wiring_at
+wiring_below known special words =
+    below_bind (omega arith) (start_below words) (λ start less.
+    below_more (omega arith) (paths_below known special start.1))

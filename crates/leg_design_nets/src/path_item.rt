@@ -1,0 +1,222 @@
+//! The items of a path (LEF/DEF 5.8, "Regular Wiring Statement", "Special Wiring Statement").
+
+ghost use Rattle.std.specs.Prelude.{◌≡◌};
+ghost use Rattle.leg_lex.specs.Words.{Reads, mark_at};
+ghost use Rattle.leg_lex.specs.Until.{until};
+ghost use Rattle.leg_grammar.specs.Def.PathItem.{count_at, coordinate_at, extension_in_point, point_item, first_point_at, rect_item, past_north, via_item, item_at, one_item, at_path_end};
+
+use crate::coordinate::{point, read_coordinate};
+use crate::path::ItemAt;
+use leg_design_common::Known;
+use leg_design_common::placement::rect_between;
+use leg_geom::Point;
+use leg_grammar::{Coordinate, Item};
+use leg_lex::{Cursor, FaultKind, NameKind, Need, ReadFault, is_keyword};
+use leg_lib_records::is_wiring_word;
+use std::alloc::Allocator;
+
+/// The words of wiring that are left out by name.
+const LEFT_OUT: [&[u8]; 5] = [b"TAPERRULE", b"STYLE", b"MASK", b"VIRTUAL", b"DO"];
+
+/// The words of wiring that mean something, but not in an item's place.
+const MISPLACED: [&[u8]; 4] = [b"NEW", b"RECT", b"TAPER", b"N"];
+
+/// A number of at least 0. One below 0 is `TooLarge`.
+#[tactic(auto, unfolding(leg_grammar::specs::Def::PathItem::count_at))]
+pub(crate) fn count(words: &mut Cursor<'_, '_>) -> Result<i64, ReadFault>
+    ensures { Reads (λ z. z) result words.new (count_at words.old) }
+{
+    let first = words.again();
+    let number = words.whole()?;
+    if number < 0 {
+        return Err(first.need(FaultKind::TooLarge, Need::AtLeast(0)));
+    }
+    Ok(number)
+}
+
+/// A coordinate, or `*` for that of the point before.
+#[tactic(auto, unfolding(leg_grammar::specs::Def::PathItem::coordinate_at))]
+fn coordinate(words: &mut Cursor<'_, '_>) -> Result<Option<Coordinate>, ReadFault>
+    ensures { Reads (λ c. c) result words.new (coordinate_at words.old) }
+{
+    if words.is_at(b"*") {
+        words.mark(b'*')?;
+        return Ok(None);
+    }
+    Ok(Some(read_coordinate(words)?))
+}
+
+/// The extension in a point, if there is one.
+#[tactic(auto, unfolding(leg_grammar::specs::Def::PathItem::extension_in_point))]
+fn extension_in_point(words: &mut Cursor<'_, '_>) -> Result<Option<i64>, ReadFault>
+    ensures { Reads (λ e. e) result words.new (extension_in_point words.old) }
+{
+    if words.is_at(b")") {
+        return Ok(None);
+    }
+    Ok(Some(count(words)?))
+}
+
+/// `( x y )` or `( x y extension )`.
+#[tactic(auto, unfolding(leg_grammar::specs::Def::PathItem::point_item))]
+fn point_item(words: &mut Cursor<'_, '_>) -> Result<Item, ReadFault>
+    ensures { Reads (λ i. i) result words.new (point_item words.old) }
+{
+    words.mark(b'(')?;
+    let x = coordinate(words)?;
+    let y = coordinate(words)?;
+    let extension = extension_in_point(words)?;
+    words.mark(b')')?;
+    Ok(Item::ToPoint { x, y, extension })
+}
+
+/// Whether one of the words that are left out by name is next, also after a `+`.
+fn is_at_left_out(words: &Cursor<'_, '_>) -> bool {
+    let mut next = words.again();
+    if next.is_at(b"+") {
+        let _plus = next.any();
+    }
+    LEFT_OUT.iter().any(|word| next.is_at(word))
+}
+
+/// The parenthesis of a path's first point. A word that is left out by name is `Unsupported` there.
+#[tactic(auto, using(crate::proofs::PathItems::no_mark))]
+fn first_mark(words: &mut Cursor<'_, '_>) -> Result<(), ReadFault>
+    ensures { Reads (λ x. x) result words.new (mark_at 40 words.old) }
+{
+    if !words.is_at(b"(") && is_at_left_out(words) {
+        return Err(words.fault(FaultKind::Unsupported));
+    }
+    words.mark(b'(')
+}
+
+/// The first point of a path, with the extension that is given there.
+#[tactic(auto, unfolding(leg_grammar::specs::Def::PathItem::first_point_at))]
+pub(crate) fn first_point(words: &mut Cursor<'_, '_>) -> Result<(Point, Option<i64>), ReadFault>
+    ensures { Reads (λ p. p) result words.new (first_point_at words.old) }
+{
+    first_mark(words)?;
+    let x = read_coordinate(words)?;
+    let y = read_coordinate(words)?;
+    let extension = extension_in_point(words)?;
+    words.mark(b')')?;
+    Ok((point(x, y), extension))
+}
+
+/// `RECT ( a b c d )`: the rectangle between two corners about the point. One without area is `EmptyRect`.
+#[tactic(auto, unfolding(leg_grammar::specs::Def::PathItem::rect_item))]
+fn rect_item(words: &mut Cursor<'_, '_>) -> Result<Item, ReadFault>
+    ensures { Reads (λ i. i) result words.new (rect_item words.old) }
+{
+    words.keyword(b"RECT")?;
+    let corner = words.again();
+    words.mark(b'(')?;
+    let a = read_coordinate(words)?;
+    let b = read_coordinate(words)?;
+    let c = read_coordinate(words)?;
+    let d = read_coordinate(words)?;
+    words.mark(b')')?;
+    let Some(rect) = rect_between(&point(a, b), &point(c, d)) else {
+        return Err(corner.fault(FaultKind::EmptyRect));
+    };
+    Ok(Item::AtRect(rect))
+}
+
+/// Reads past an `N`, if it is next.
+#[tactic(auto, unfolding(leg_grammar::specs::Def::PathItem::past_north))]
+fn past_north(words: &mut Cursor<'_, '_>) -> Result<(), ReadFault>
+    ensures { Reads (λ x. x) result words.new (past_north words.old) }
+{
+    if words.is_at(b"N") {
+        words.keyword(b"N")?;
+    }
+    Ok(())
+}
+
+/// What is wrong with a word of wiring in the place of a via's name.
+fn kind_of_wiring_word(word: &[u8]) -> FaultKind {
+    if MISPLACED.iter().any(|keyword| is_keyword(keyword, word)) {
+        FaultKind::Unexpected
+    } else {
+        FaultKind::Unsupported
+    }
+}
+
+/// The name of a via. A name that no via has is `UnknownName`; a word that is left out by name is
+/// `Unsupported`, as an orientation is.
+#[tactic(auto, unfolding(leg_grammar::specs::Def::PathItem::via_item))]
+fn via_item<A: Allocator + Copy>(
+    known: &Known<'_, '_, A>,
+    words: &mut Cursor<'_, '_>,
+) -> Result<Item, ReadFault>
+    ensures { Reads (λ i. i) result words.new (via_item known.now words.old) }
+{
+    let first = words.again();
+    let name = words.name()?;
+    if is_wiring_word(name) {
+        return Err(first.fault(kind_of_wiring_word(name)));
+    }
+    let Some(number) = known.via_named(name) else {
+        return Err(first.need(FaultKind::UnknownName, Need::Known(NameKind::Via)));
+    };
+    past_north(words)?;
+    Ok(Item::AtVia(number))
+}
+
+/// An item of a path. Rectangles are in `NETS` only.
+#[tactic(auto, unfolding(leg_grammar::specs::Def::PathItem::item_at))]
+fn item<A: Allocator + Copy>(
+    known: &Known<'_, '_, A>,
+    special: bool,
+    words: &mut Cursor<'_, '_>,
+) -> Result<Item, ReadFault>
+    ensures { Reads (λ i. i) result words.new (item_at known.now special words.old) }
+{
+    if words.is_at(b"(") {
+        point_item(words)
+    } else if words.is_at(b"RECT") && !special {
+        rect_item(words)
+    } else {
+        via_item(known, words)
+    }
+}
+
+/// One more item.
+#[tactic(auto, unfolding(leg_grammar::specs::Def::PathItem::one_item))]
+fn one_item<'t, A: Allocator + Copy>(
+    known: &Known<'_, '_, A>,
+    special: bool,
+    items: &mut Vec<ItemAt<'t>, A>,
+    words: &mut Cursor<'t, '_>,
+) -> Result<(), ReadFault>
+    ensures { Reads (λ _. items.new.items) result words.new (one_item known.now special items.old.items words.old) }
+{
+    let place = words.place();
+    let item = item(known, special, words)?;
+    items.push(ItemAt::new(item, place))?;
+    Ok(())
+}
+
+/// Whether the items of a path end here: at `NEW`, at the `+` of another clause, or with the entry.
+#[tactic(auto, using(crate::proofs::PathItems::path_ends, crate::proofs::PathItems::path_ends_at_word))]
+fn is_at_path_end(words: &Cursor<'_, '_>) -> bool
+    ensures { result ≡ at_path_end words.now }
+{
+    words.is_at_end() || words.is_at(b"NEW") || words.is_at(b"+")
+}
+
+/// Adds the items of a path. Where one isn't read, those before it stay.
+#[tactic(auto, using(leg_lex::proofs::Until::ends, leg_lex::proofs::Until::goes_on, leg_lex::proofs::Until::fails, crate::proofs::PathItems::one_item_shortens, crate::proofs::PathItems::one_item_shorter))]
+pub(crate) fn add_items<'t, A: Allocator + Copy>(
+    known: &Known<'_, '_, A>,
+    special: bool,
+    items: &mut Vec<ItemAt<'t>, A>,
+    words: &mut Cursor<'t, '_>,
+) -> Result<(), ReadFault>
+    ensures { Reads (λ _. items.new.items) result words.new (until at_path_end (one_item known.now special) items.old.items words.old) }
+{
+    'items: while !is_at_path_end(words) {
+        one_item(known, special, items, words)?;
+    }
+    Ok(())
+}

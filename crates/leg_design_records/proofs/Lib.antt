@@ -1,0 +1,15 @@
+-- A component that moves
+mod OneOther
+mod Moves
+mod MovedNets
+-- A net that gets wires
+mod NetsKept
+mod NetWires
+mod EachWith
+mod AllNetWires
+-- What the proofs of other crates cite
+pub mod ComponentMacro
+pub mod MovableOrNot
+pub mod SameTerminal
+pub mod Blank
+pub mod FaultNumbers

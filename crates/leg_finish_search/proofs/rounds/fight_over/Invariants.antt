@@ -1,0 +1,11 @@
+-- The table stays as large, and the lists are of slots.
+use Rattle.std.proofs.Common.{◌≡◌}
+use Rattle.leg_finish_search.specs.Slots.{AreSlots}
+use Rattle.leg_finish_search.proofs.rounds.fight_over.Given as goal
+
+abbrev pub invariant-loop-net : goal.invariant-loop-net
+invariant-loop-net g l = record {
+  same : l.table ≡ l.fn.table;
+  nodes : AreSlots (g.L.Lattice.size_of l.board.ground.lattice.now) l.nodes.items;
+  vias : AreSlots (g.L.Lattice.size_of l.board.ground.lattice.now) l.vias.items;
+}

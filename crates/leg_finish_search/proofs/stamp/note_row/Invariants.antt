@@ -1,0 +1,10 @@
+-- The table stays as large, and the list is of slots.
+use Rattle.std.proofs.Common.{◌≡◌}
+use Rattle.leg_finish_search.specs.Slots.{AreSlots}
+use Rattle.leg_finish_search.proofs.stamp.note_row.Given as goal
+
+abbrev pub invariant-loop-column : goal.invariant-loop-column
+invariant-loop-column g l = record {
+  same : l.table ≡ l.fn.table;
+  list : AreSlots (g.L.Lattice.size_of l.ground.lattice.now) l.list.items;
+}

@@ -1,0 +1,6 @@
+-- The table stays as large.
+use Rattle.std.proofs.Common.{◌≡◌}
+use Rattle.leg_finish_search.proofs.turn.set_group_ends.Given as goal
+
+abbrev pub invariant-loop-slot : goal.invariant-loop-slot
+invariant-loop-slot g l = l.table ≡ l.fn.table

@@ -1,0 +1,7 @@
+-- The tree stays one of the net.
+use Rattle.std.proofs.Common.{length}
+use Rattle.leg_finish_search.specs.Steps.Tree.{IsTreeOf}
+use Rattle.leg_finish_search.proofs.turn.use_way.Given as goal
+
+abbrev pub invariant-loop-slot : goal.invariant-loop-slot
+invariant-loop-slot g l = IsTreeOf (g.L.Lattice.size_of l.ground.lattice.now) (length l.groups) l.tree

@@ -1,6 +1,0 @@
-use Rattle.leg_floorplan.specs.Port.{past_rules}
-use Rattle.leg_floorplan.proofs.port.past_rules.Goals as goal
-
-pub returns : goal.returns
-unfolding past_rules
-returns c = rw c.in_ok-past_number.ensures c.past_number-2.ensures

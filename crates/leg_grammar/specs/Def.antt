@@ -1,0 +1,26 @@
+-- The forms of a DEF.
+pub mod Guard
+pub mod Clause
+pub mod Section
+pub mod Placement
+pub mod Layers
+pub mod Namespace
+pub mod Header
+pub mod Die
+pub mod Row
+pub mod Track
+pub mod Via
+pub mod Component
+pub mod Port
+pub mod PinClauses
+pub mod Pin
+pub mod Blockage
+pub mod Terminal
+pub mod PathItem
+pub mod Path
+pub mod Wiring
+pub mod Net
+pub mod LonePins
+pub mod Skipped
+pub mod Parts
+pub mod Form

@@ -1,0 +1,76 @@
+-- Blockages (LEF/DEF 5.8, "Blockages"; which of them are read, and how many there may be, are lefdef's own rules).
+use Rattle.std.specs.Prelude.{ℕ, Bool, true, not, ◌&&◌, ◌+◌, nat_lt, nat_le, if◌then◌else◌, List, [], ◌∷◌, ◌++◌, length, Option, None, Some, codes}
+use Rattle.leg_lex.specs.Words.{Words, ◌>>=◌, is_at, keyword_at, mark_at}
+use Rattle.leg_lex.specs.Until.{until}
+use Rattle.leg_geom.specs.Plane.{RectModel}
+use Rattle.leg_lib_records.specs.Records.{LibraryModel}
+use Rattle.leg_grammar.specs.Def.Guard.{when}
+use Rattle.leg_grammar.specs.Def.Placement.{rect_at}
+use Rattle.leg_grammar.specs.Def.Layers.{layer_named_at}
+use Rattle.leg_grammar.specs.Def.Section.{section_at}
+use Rattle.leg_design_records.specs.declared.limits.TheConstants.{ENTRY_LIMIT, PART_LIMIT}
+use Rattle.leg_design_records.specs.Layers.{has_metal}
+use Rattle.leg_design_records.specs.Records.{BlockageModel, rect_count}
+
+-- PLACEMENT, or LAYER NAME: the layer, where one is named
+unfoldable pub blocked_layer_at : LibraryModel → Words → Option (Option ℕ × Words)
+blocked_layer_at library words =
+    if is_at (codes "PLACEMENT") words then (keyword_at (codes "PLACEMENT") words >>= λ start. Some (None, start.1))
+    else (keyword_at (codes "LAYER") words >>= λ start. layer_named_at library start.1 >>= λ layer. Some (Some layer.0, layer.1))
+
+-- + PUSHDOWN, which is read past (43 is the plus)
+unfoldable pub push_down : Unit {0} → Words → Option (Unit {0} × Words)
+push_down before words = do
+  plus ← mark_at 43 words
+  keyword_at (codes "PUSHDOWN") plus.1
+
+abbrev pub at_no_plus : Words → Bool
+at_no_plus words = not (is_at (codes "+") words)
+
+-- one more RECT corners
+unfoldable pub one_rect : List RectModel → Words → Option (List RectModel × Words)
+one_rect rects words = do
+  start ← keyword_at (codes "RECT") words
+  rect ← rect_at start.1
+  Some (rects ++ rect.0 ∷ [], rect.1)
+
+abbrev pub at_semicolon : Words → Bool
+at_semicolon words = is_at (codes ";") words
+
+-- one rectangle at least, and then the semicolon (59)
+unfoldable pub rects_at : Words → Option (List RectModel × Words)
+rects_at words = do
+  first ← one_rect [] words
+  rects ← until at_semicolon one_rect first.0 first.1
+  end ← mark_at 59 rects.1
+  Some (rects.0, end.1)
+
+-- - LAYER NAME or - PLACEMENT, any + PUSHDOWN, and rectangles (45 is the dash)
+unfoldable pub blockage_at : LibraryModel → Words → Option (BlockageModel × Words)
+blockage_at library words = do
+  dash ← mark_at 45 words
+  layer ← blocked_layer_at library dash.1
+  past ← until at_no_plus push_down tt layer.1
+  rects ← rects_at past.1
+  Some (record { layer = layer.0; rects = rects.0 }, rects.1)
+
+-- a blockage on a layer without metal is left out
+abbrev pub is_kept : LibraryModel → Option ℕ → Bool
+is_kept library None = true
+is_kept library (Some layer) = has_metal library layer
+
+-- there may be one more blockage, and so many more rectangles
+abbrev pub is_room_for : BlockageModel → List BlockageModel → Bool
+is_room_for blockage blockages =
+    nat_lt (length blockages) ENTRY_LIMIT && nat_le (rect_count blockages + length blockage.rects) PART_LIMIT
+
+-- one more entry
+unfoldable pub blockage_entry : LibraryModel → List BlockageModel → Words → Option (List BlockageModel × Words)
+blockage_entry library blockages words = do
+  blockage ← blockage_at library words
+  if is_kept library blockage.0.layer then (when (is_room_for blockage.0 blockages) >>= λ room. Some (blockages ++ blockage.0 ∷ [], blockage.1))
+      else Some (blockages, blockage.1)
+
+-- BLOCKAGES number ; entries END BLOCKAGES
+unfoldable pub blockages_at : LibraryModel → Words → Option (List BlockageModel × Words)
+blockages_at library words = section_at (codes "BLOCKAGES") (blockage_entry library) [] words

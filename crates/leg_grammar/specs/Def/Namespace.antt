@@ -1,0 +1,23 @@
+-- What is read before nets, of which they name parts.
+use Rattle.std.specs.Prelude.{ℕ, ◌+◌, List, ◌++◌, length, Option, option_map, slice_get}
+use Rattle.std.specs.Option.{option_or}
+use Rattle.leg_lex.specs.NameLookup.{place_of}
+use Rattle.leg_lib_records.specs.Records.{LibraryModel, ViaModel, via_names}
+use Rattle.leg_design_records.specs.declared.records.Component.{Component}
+use Rattle.leg_design_records.specs.Records.{PinModel, design_via_names}
+
+pub record KnownModel : Type 0 where
+  pub library : LibraryModel
+  pub vias : List ViaModel
+  pub components : List Component
+  pub pins : List PinModel
+
+-- the via of this number: those of the library count first
+abbrev pub via_numbered : KnownModel → ℕ → Option ViaModel
+via_numbered known number = slice_get (known.library.vias ++ known.vias) number
+
+-- the number of the via of this name
+abbrev pub via_named : KnownModel → List ℕ → Option ℕ
+via_named known name =
+    option_or (place_of name (via_names known.library))
+    (option_map (λ k. length known.library.vias + k) (place_of name (design_via_names known.vias)))

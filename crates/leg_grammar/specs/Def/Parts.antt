@@ -1,0 +1,147 @@
+-- What the forms of a DEF text gave so far, and how each form adds to it (LEF/DEF 5.8, "DEF Syntax").
+use Rattle.std.specs.Prelude.{pos, Bool, true, false, ◌==◌, [], ◌∷◌, ◌++◌, Option, None, Some, is_some, codes}
+use Rattle.leg_lex.specs.Words.{Words, ◌>>=◌}
+use Rattle.leg_geom.specs.Plane.{RectModel}
+use Rattle.leg_lib_records.specs.Records.{LibraryModel}
+use Rattle.leg_grammar.specs.Def.Guard.{when, unless}
+use Rattle.leg_grammar.specs.Def.Namespace.{KnownModel}
+use Rattle.leg_grammar.specs.Def.Header.{word_after, design_name_at, units_at}
+use Rattle.leg_grammar.specs.Def.Die.{die_at}
+use Rattle.leg_grammar.specs.Def.Row.{row_at}
+use Rattle.leg_grammar.specs.Def.Track.{track_at}
+use Rattle.leg_grammar.specs.Def.Via.{vias_at}
+use Rattle.leg_grammar.specs.Def.Component.{components_at}
+use Rattle.leg_grammar.specs.Def.Pin.{pins_at}
+use Rattle.leg_grammar.specs.Def.Blockage.{blockages_at}
+use Rattle.leg_grammar.specs.Def.Net.{nets_at}
+use Rattle.leg_design_records.specs.Records.{DesignModel}
+
+-- Which of the forms that appear at most once have appeared: DESIGN, UNITS, DIEAREA and the sections. Of DIVIDERCHAR and
+-- BUSBITCHARS the design tells it.
+pub record Appearances : Type 0 where
+  pub name : Bool
+  pub units : Bool
+  pub die : Bool
+  pub vias : Bool
+  pub components : Bool
+  pub pins : Bool
+  pub blockages : Bool
+  pub nets : Bool
+  pub special : Bool
+
+-- What the forms before gave: a design, whose name is empty until DESIGN has appeared, and its die area a point until DIEAREA has.
+pub record DesignParts : Type 0 where
+  pub has : Appearances
+  pub design : DesignModel
+
+-- the point 0 0
+abbrev pub no_die : RectModel
+no_die = record { x1 = pos 0; y1 = pos 0; x2 = pos 0; y2 = pos 0 }
+
+-- before the first form
+abbrev pub no_parts : LibraryModel → DesignParts
+no_parts library = record {
+  has = record { name = false; units = false; die = false; vias = false; components = false; pins = false; blockages = false; nets = false; special = false };
+  design = record {
+    library = library;
+    name = [];
+    divider = None;
+    bus = None;
+    die = no_die;
+    rows = [];
+    tracks = [];
+    vias = [];
+    components = [];
+    pins = [];
+    blockages = [];
+    nets = [];
+    special = [];
+  };
+}
+
+-- what nets may name
+abbrev pub known : DesignModel → KnownModel
+known design = record { library = design.library; vias = design.vias; components = design.components; pins = design.pins }
+
+-- DIVIDERCHAR word ; once
+unfoldable pub divider_form : DesignParts → Words → Option (DesignParts × Words)
+divider_form parts words = do
+  once ← unless (is_some parts.design.divider)
+  word ← word_after (codes "DIVIDERCHAR") words
+  Some (record parts { design = record (parts.design) { divider = Some word.0 } }, word.1)
+
+-- BUSBITCHARS word ; once
+unfoldable pub bus_form : DesignParts → Words → Option (DesignParts × Words)
+bus_form parts words = do
+  once ← unless (is_some parts.design.bus)
+  word ← word_after (codes "BUSBITCHARS") words
+  Some (record parts { design = record (parts.design) { bus = Some word.0 } }, word.1)
+
+-- DESIGN NAME ; once
+unfoldable pub name_form : DesignParts → Words → Option (DesignParts × Words)
+name_form parts words = do
+  once ← unless parts.has.name
+  name ← design_name_at words
+  Some (record { has = record (parts.has) { name = true }; design = record (parts.design) { name = name.0 } }, name.1)
+
+-- UNITS once, with the library's
+unfoldable pub units_form : DesignParts → Words → Option (DesignParts × Words)
+units_form parts words = do
+  once ← unless parts.has.units
+  n ← units_at words
+  same ← when (n.0 == parts.design.library.units)
+  Some (record parts { has = record (parts.has) { units = true } }, n.1)
+
+-- DIEAREA once
+unfoldable pub die_form : DesignParts → Words → Option (DesignParts × Words)
+die_form parts words = do
+  once ← unless parts.has.die
+  die ← die_at words
+  Some (record { has = record (parts.has) { die = true }; design = record (parts.design) { die = die.0 } }, die.1)
+
+unfoldable pub row_form : DesignParts → Words → Option (DesignParts × Words)
+row_form parts words = do
+  row ← row_at parts.design.library words
+  Some (record parts { design = record (parts.design) { rows = parts.design.rows ++ row.0 ∷ [] } }, row.1)
+
+unfoldable pub track_form : DesignParts → Words → Option (DesignParts × Words)
+track_form parts words = do
+  track ← track_at parts.design.library words
+  Some (record parts { design = record (parts.design) { tracks = parts.design.tracks ++ track.0 ∷ [] } }, track.1)
+
+-- each section appears at most once
+unfoldable pub vias_form : DesignParts → Words → Option (DesignParts × Words)
+vias_form parts words = do
+  once ← unless parts.has.vias
+  vias ← vias_at parts.design.library words
+  Some (record { has = record (parts.has) { vias = true }; design = record (parts.design) { vias = vias.0 } }, vias.1)
+
+unfoldable pub components_form : DesignParts → Words → Option (DesignParts × Words)
+components_form parts words = do
+  once ← unless parts.has.components
+  components ← components_at parts.design.library words
+  Some (record { has = record (parts.has) { components = true }; design = record (parts.design) { components = components.0 } }, components.1)
+
+unfoldable pub pins_form : DesignParts → Words → Option (DesignParts × Words)
+pins_form parts words = do
+  once ← unless parts.has.pins
+  pins ← pins_at parts.design.library words
+  Some (record { has = record (parts.has) { pins = true }; design = record (parts.design) { pins = pins.0 } }, pins.1)
+
+unfoldable pub blockages_form : DesignParts → Words → Option (DesignParts × Words)
+blockages_form parts words = do
+  once ← unless parts.has.blockages
+  blockages ← blockages_at parts.design.library words
+  Some (record { has = record (parts.has) { blockages = true }; design = record (parts.design) { blockages = blockages.0 } }, blockages.1)
+
+unfoldable pub nets_form : DesignParts → Words → Option (DesignParts × Words)
+nets_form parts words = do
+  once ← unless parts.has.nets
+  nets ← nets_at (known parts.design) false parts.design.special words
+  Some (record { has = record (parts.has) { nets = true }; design = record (parts.design) { nets = nets.0 } }, nets.1)
+
+unfoldable pub special_form : DesignParts → Words → Option (DesignParts × Words)
+special_form parts words = do
+  once ← unless parts.has.special
+  special ← nets_at (known parts.design) true parts.design.nets words
+  Some (record { has = record (parts.has) { special = true }; design = record (parts.design) { special = special.0 } }, special.1)

@@ -1,0 +1,93 @@
+-- The words of a path's items (LEF/DEF 5.8, "Regular Wiring Statement", "Special Wiring Statement").
+use Rattle.std.specs.Prelude.{ℤ, pos, Bool, true, not, ◌&&◌, ◌||◌, int_lt, if◌then◌else◌, List, [], ◌∷◌, ◌++◌, Option, None, Some, codes}
+use Rattle.std.specs.Str.{bytes_eq}
+use Rattle.leg_lex.specs.Words.{Words, ◌>>=◌, is_keyword, is_at, keyword_at, mark_at, name_at, whole_at}
+use Rattle.leg_geom.specs.Plane.{PointModel}
+use Rattle.leg_lib_records.specs.Joins.{is_wiring_word}
+use Rattle.leg_lib_records.specs.Measure.{rect_between}
+use Rattle.leg_grammar.specs.declared.path_item.Item.{Item}
+use Rattle.leg_grammar.specs.declared.path_item.Item.TheVariants.{ToPoint, AtVia, AtRect}
+use Rattle.leg_grammar.specs.Def.Guard.{unless}
+use Rattle.leg_grammar.specs.Def.Namespace.{KnownModel, via_named}
+
+-- a number of at least 0
+unfoldable pub count_at : Words → Option (ℤ × Words)
+count_at words = do
+  z ← whole_at words
+  some ← unless (int_lt z.0 (pos 0))
+  Some (z.0, z.1)
+
+-- a number, or `*` (42) for the coordinate of the point before
+unfoldable pub coordinate_at : Words → Option (Option ℤ × Words)
+coordinate_at words =
+    if is_at (codes "*") words then (mark_at 42 words >>= λ star. Some (None, star.1))
+    else (whole_at words >>= λ z. Some (Some z.0, z.1))
+
+-- an extension, where the parenthesis (41) doesn't close before
+unfoldable pub extension_in_point : Words → Option (Option ℤ × Words)
+extension_in_point words =
+    if is_at (codes ")") words then Some (None, words)
+    else (count_at words >>= λ z. Some (Some z.0, z.1))
+
+-- ( x y ) or ( x y extension )
+unfoldable pub point_item : Words → Option (Item × Words)
+point_item words = do
+  open_ ← mark_at 40 words
+  x ← coordinate_at open_.1
+  y ← coordinate_at x.1
+  extension ← extension_in_point y.1
+  close ← mark_at 41 extension.1
+  Some (ToPoint x.0 y.0 extension.0, close.1)
+
+-- ( x y ) or ( x y extension ), both coordinates as numbers
+unfoldable pub first_point_at : Words → Option ((PointModel × Option ℤ) × Words)
+first_point_at words = do
+  open_ ← mark_at 40 words
+  x ← whole_at open_.1
+  y ← whole_at x.1
+  extension ← extension_in_point y.1
+  close ← mark_at 41 extension.1
+  Some ((record { x = x.0; y = y.0 }, extension.0), close.1)
+
+-- RECT ( a b c d ): the rectangle between two corners about the point
+unfoldable pub rect_item : Words → Option (Item × Words)
+rect_item words = do
+  start ← keyword_at (codes "RECT") words
+  open_ ← mark_at 40 start.1
+  a ← whole_at open_.1
+  b ← whole_at a.1
+  c ← whole_at b.1
+  d ← whole_at c.1
+  close ← mark_at 41 d.1
+  rect ← rect_between (record { x = a.0; y = b.0 }) (record { x = c.0; y = d.0 })
+  Some (AtRect rect, close.1)
+
+-- N directly after a via is read past
+unfoldable pub past_north : Words → Option (Unit {0} × Words)
+past_north words = if is_at (codes "N") words then keyword_at (codes "N") words else Some (tt, words)
+
+-- the name of a via
+unfoldable pub via_item : KnownModel → Words → Option (Item × Words)
+via_item known words = do
+  name ← name_at words
+  other ← unless (is_wiring_word name.0)
+  via ← via_named known name.0
+  north ← past_north name.1
+  Some (AtVia via, north.1)
+
+-- an item of a path; rectangles are in NETS only
+unfoldable pub item_at : KnownModel → Bool → Words → Option (Item × Words)
+item_at known special words =
+    if is_at (codes "(") words then point_item words
+    else (if is_at (codes "RECT") words && not special then rect_item words else via_item known words)
+
+-- one more item
+unfoldable pub one_item : KnownModel → Bool → List Item → Words → Option (List Item × Words)
+one_item known special items words = do
+  item ← item_at known special words
+  Some (items ++ item.0 ∷ [], item.1)
+
+-- where the items of a path end: at NEW, at the `+` of another clause, or with the entry
+abbrev pub at_path_end : Words → Bool
+at_path_end [] = true
+at_path_end (word ∷ words) = is_keyword (codes "NEW") word || bytes_eq word (codes "+")

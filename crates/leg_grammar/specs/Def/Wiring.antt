@@ -1,0 +1,100 @@
+-- Paths and the clauses that contain them (LEF/DEF 5.8, "Regular Wiring Statement", "Special Wiring Statement"; what is left
+-- out is lefdef's own rule).
+use Rattle.std.specs.Prelude.{ℕ, ℤ, Bool, not, ◌&&◌, ◌||◌, if◌then◌else◌, List, [], ◌++◌, drop, Option, None, Some, codes}
+use Rattle.leg_lex.specs.Words.{Words, ◌>>=◌, is_at, next_at, keyword_at, mark_at, name_at, word_at}
+use Rattle.leg_lex.specs.Until.{until}
+use Rattle.leg_lex.specs.NameLookup.{place_of}
+use Rattle.leg_lib_records.specs.Records.{LibraryModel, layer_names}
+use Rattle.leg_design_records.specs.declared.records.Wire.{Wire}
+use Rattle.leg_grammar.specs.Def.Guard.{when}
+use Rattle.leg_design_records.specs.Layers.{is_routing}
+use Rattle.leg_design_records.specs.Wires.{is_even}
+use Rattle.leg_grammar.specs.Def.Namespace.{KnownModel}
+use Rattle.leg_grammar.specs.Def.Path.{path_wires}
+use Rattle.leg_grammar.specs.Def.PathItem.{count_at, first_point_at, one_item, at_path_end}
+
+-- a routing layer, by its number
+unfoldable pub routing_at : LibraryModel → Words → Option (ℕ × Words)
+routing_at library words = do
+  name ← name_at words
+  number ← place_of name.0 (layer_names library)
+  routes ← when (is_routing library number)
+  Some (number, name.1)
+
+-- TAPER has no effect
+unfoldable pub past_taper : Words → Option (Unit {0} × Words)
+past_taper words = if is_at (codes "TAPER") words then keyword_at (codes "TAPER") words else Some (tt, words)
+
+-- the width of a special path: at least 0, and even
+unfoldable pub written_width_at : Words → Option (ℤ × Words)
+written_width_at words = do
+  width ← count_at words
+  even ← when (is_even width.0)
+  Some (width.0, width.1)
+
+abbrev pub at_no_shape : Words → Bool
+at_no_shape words = not (is_at (codes "+") words && is_at (codes "SHAPE") (drop 1 words))
+
+-- + SHAPE word has no effect (43 is the plus)
+unfoldable pub past_shape : Unit {0} → Words → Option (Unit {0} × Words)
+past_shape before words = do
+  plus ← mark_at 43 words
+  start ← keyword_at (codes "SHAPE") plus.1
+  word ← word_at start.1
+  Some (tt, word.1)
+
+-- what comes between a path's layer and its first point: in SPECIALNETS its width
+unfoldable pub written_at : Bool → Words → Option (Option ℤ × Words)
+written_at special words =
+    if special then (do
+      width ← written_width_at words
+      shapes ← until at_no_shape past_shape tt width.1
+      Some (Some width.0, shapes.1))
+    else (past_taper words >>= λ taper. Some (None, taper.1))
+
+-- a path, from its layer to its last item
+unfoldable pub path_at : KnownModel → Bool → Words → Option (List Wire × Words)
+path_at known special words = do
+  layer ← routing_at known.library words
+  written ← written_at special layer.1
+  first ← first_point_at written.1
+  items ← until at_path_end (one_item known special) [] first.1
+  wires ← path_wires known written.0 layer.0 first.0.0 first.0.1 items.0
+  Some (wires, items.1)
+
+abbrev pub at_no_new : Words → Bool
+at_no_new words = not (is_at (codes "NEW") words)
+
+-- NEW and one more path
+unfoldable pub new_path : KnownModel → Bool → List Wire → Words → Option (List Wire × Words)
+new_path known special wires words = do
+  start ← keyword_at (codes "NEW") words
+  path ← path_at known special start.1
+  Some (wires ++ path.0, path.1)
+
+-- paths, joined by NEW
+unfoldable pub paths_at : KnownModel → Bool → Words → Option (List Wire × Words)
+paths_at known special words = do
+  first ← path_at known special words
+  until at_no_new (new_path known special) first.0 first.1
+
+-- whether a clause contains wiring: ROUTED, FIXED or COVER; NOSHIELD in NETS, and SHIELD in SPECIALNETS
+abbrev pub is_wiring : Bool → Words → Bool
+is_wiring special clause =
+    is_at (codes "ROUTED") clause || is_at (codes "FIXED") clause || is_at (codes "COVER") clause
+    || (is_at (codes "NOSHIELD") clause && not special) || (is_at (codes "SHIELD") clause && special)
+
+-- the word of the clause; SHIELD names the net that it shields, which isn't looked up
+unfoldable pub wiring_start : Words → Option (Unit {0} × Words)
+wiring_start clause =
+    if is_at (codes "SHIELD") clause then (do
+      start ← keyword_at (codes "SHIELD") clause
+      name ← name_at start.1
+      Some (tt, name.1))
+    else (next_at clause >>= λ start. Some (tt, start.1))
+
+-- ROUTED and the like, and paths
+unfoldable pub wiring_at : KnownModel → Bool → Words → Option (List Wire × Words)
+wiring_at known special clause = do
+  start ← wiring_start clause
+  paths_at known special start.1

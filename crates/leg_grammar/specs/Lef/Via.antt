@@ -1,0 +1,99 @@
+-- Vias (LEF/DEF 5.8, "Via"; which of them are good is lefdef's own rule).
+use Rattle.std.specs.Prelude.{ℕ, Bool, true, false, not, ◌&&◌, ◌||◌, if◌then◌else◌, List, [], ◌∷◌, ◌++◌, Option, None, Some, is_none, codes, drop}
+use Rattle.leg_lex.specs.Words.{Words, ◌>>=◌, is_at, keyword_at, name_at, end_of, nothing_at}
+use Rattle.leg_lex.specs.Until.{over}
+use Rattle.leg_lex.specs.Statements.{statements_at}
+use Rattle.leg_lex.specs.NameLookup.{place_of}
+use Rattle.leg_lib_records.specs.declared.raw.RawShape.{RawShape}
+use Rattle.leg_lib_records.specs.Records.{RawLibraryModel, RawViaModel, raw_layer_names, raw_via_names}
+use Rattle.leg_grammar.specs.Lef.Geometry.{Drawn, nothing_drawn, drawn_rect}
+use Rattle.leg_lib_records.specs.Joins.{is_wiring_word, join_layers}
+use Rattle.leg_lib_records.specs.GoodVia.{raw_uses, raw_parts}
+
+-- the words between a via's name and its statements, each at most once and in any order
+pub record Flags : Type 0 where
+  pub is_default : Bool
+  pub is_top_only : Bool
+  pub is_generated : Bool
+
+abbrev pub no_flags : Flags
+no_flags = record { is_default = false; is_top_only = false; is_generated = false }
+
+-- one more of these words, if one is next that did not appear before
+unfoldable pub flag_at : Flags → Words → Flags × Words
+flag_at flags words =
+    if is_at (codes "DEFAULT") words && not flags.is_default then (record flags { is_default = true }, drop 1 words)
+    else (if is_at (codes "TOPOFSTACKONLY") words && not flags.is_top_only then (record flags { is_top_only = true }, drop 1 words)
+    else (if is_at (codes "GENERATED") words && not flags.is_generated then (record flags { is_generated = true }, drop 1 words)
+    else (flags, words)))
+
+-- there are three of them
+unfoldable pub flags_at : Words → Flags × Words
+flags_at words =
+    let first = flag_at no_flags words in
+    let second = flag_at first.0 first.1 in
+    flag_at second.0 second.1
+
+-- what the statements before gave: shapes, and whether there is a form that no good via has
+pub record ViaParts : Type 0 where
+  pub drawn : Drawn
+  pub is_spoilt : Bool
+
+abbrev pub no_via_parts : ViaParts
+no_via_parts = record { drawn = nothing_drawn; is_spoilt = false }
+
+-- LAYER NAME: the number of the layer
+unfoldable pub layer_of_via : RawLibraryModel → Words → Option ℕ
+layer_of_via library statement = do
+  start ← keyword_at (codes "LAYER") statement
+  name ← name_at start.1
+  end ← nothing_at name.1
+  place_of name.0 (raw_layer_names library)
+
+-- VIARULE, POLYGON and RECT MASK: a via of a rule or with such shapes isn't good
+abbrev pub spoils : Words → Bool
+spoils statement =
+    is_at (codes "VIARULE") statement || is_at (codes "POLYGON") statement
+    || (is_at (codes "RECT") statement && is_at (codes "MASK") (drop 1 statement))
+
+-- one more statement
+unfoldable pub via_part : RawLibraryModel → ViaParts → Words → Option ViaParts
+via_part library parts statement =
+    if spoils statement then Some (record parts { is_spoilt = true })
+    else (if is_at (codes "LAYER") statement then (layer_of_via library statement >>= λ number. Some (record parts { drawn = record { on = Some number; shapes = parts.drawn.shapes } }))
+    else (if is_at (codes "RECT") statement then (drawn_rect library parts.drawn statement >>= λ drawn. Some (record parts { drawn = drawn }))
+    else Some parts))
+
+abbrev pub is_good : RawLibraryModel → List ℕ → ViaParts → Bool
+is_good library name parts =
+    not parts.is_spoilt && not (is_wiring_word name)
+    && join_layers (raw_uses library.layers) (raw_parts parts.drawn.shapes)
+
+-- a via that isn't good is kept by its name, without shapes
+abbrev pub kept : Bool → List RawShape → List RawShape
+kept good shapes = if good then shapes else []
+
+-- VIA NAME words statements END NAME
+unfoldable pub via_at : RawLibraryModel → Words → Option (RawViaModel × Words)
+via_at library words = do
+  start ← keyword_at (codes "VIA") words
+  name ← name_at start.1
+  body ← statements_at (flags_at name.1).1
+  parts ← over (via_part library) no_via_parts body.0
+  end ← end_of name.0 body.1
+  Some (
+    record {
+      name = name.0;
+      default_via = (flags_at name.1).0.is_default;
+      good = is_good library name.0 parts;
+      shapes = kept (is_good library name.0 parts) parts.drawn.shapes;
+    },
+    end.1,
+  )
+
+-- a via's name is new
+unfoldable pub with_via : RawLibraryModel → Words → Option (RawLibraryModel × Words)
+with_via library words = do
+  via ← via_at library words
+  if is_none (place_of via.0.name (raw_via_names library))
+      then Some (record library { vias = library.vias ++ via.0 ∷ [] }, via.1) else None

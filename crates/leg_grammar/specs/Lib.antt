@@ -1,0 +1,4 @@
+-- The grammar: which library and which design texts denote.
+pub mod Lef
+pub mod Def
+pub mod Texts

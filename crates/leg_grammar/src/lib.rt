@@ -1,0 +1,10 @@
+//! What LEF and DEF texts denote: definitions alone, in `specs`, and the types that these speak of.
+#![tactic(auto)]
+
+mod coordinate;
+mod macro_statements;
+mod path_item;
+
+pub use coordinate::Coordinate;
+pub use macro_statements::MacroStatements;
+pub use path_item::Item;

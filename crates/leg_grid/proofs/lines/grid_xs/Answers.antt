@@ -1,5 +1,0 @@
-use Rattle.leg_grid.proofs.GridValues.{in_order, x_lines}
-use Rattle.leg_grid.proofs.lines.grid_xs.Goals as goal
-
-pub returns : goal.returns
-returns g c = in_order _ _ _ _ c.put_in_order.ensures.rising c.put_in_order.ensures.same c.in_ok-xs.ensures (x_lines c.args.design.now)

@@ -1,5 +1,0 @@
-use Rattle.leg_grid.specs.Grid.{AreViasFrom}
-use Rattle.leg_grid.proofs.through.vias_between.Given as goal
-
-abbrev pub invariant-loop-k : goal.invariant-loop-k
-invariant-loop-k g l = AreViasFrom l.library l.layers l.k l.vias.items

@@ -1,5 +1,0 @@
-use Rattle.leg_grown.proofs.RunClean.{ends_clean}
-use Rattle.leg_grown.proofs.laws.ends_of_clean_wire_are_clean.Goals as goal
-
-pub returns : goal.returns
-returns c = ends_clean

@@ -1,5 +1,0 @@
-use Rattle.leg_grown.proofs.ByNet.{by_net_none}
-use Rattle.leg_grown.proofs.laws.no_wires_by_net.Goals as goal
-
-pub returns : goal.returns
-returns c = by_net_none

@@ -1,5 +1,0 @@
-use Rattle.leg_grown.proofs.Placement.{placement_then, placement_before}
-use Rattle.leg_grown.proofs.laws.placement_stays.Goals as goal
-
-pub returns : goal.returns
-returns c = λ library design lists fault. (placement_then library design lists fault, placement_before library design lists fault)

@@ -1,5 +1,0 @@
-use Rattle.leg_grown.proofs.RunClean.{run_wire}
-use Rattle.leg_grown.proofs.laws.run_of_clean_steps_is_clean.Goals as goal
-
-pub returns : goal.returns
-returns c = run_wire

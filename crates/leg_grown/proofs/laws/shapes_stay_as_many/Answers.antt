@@ -1,5 +1,0 @@
-use Rattle.leg_grown.proofs.MetalCount.{same_shape_count}
-use Rattle.leg_grown.proofs.laws.shapes_stay_as_many.Goals as goal
-
-pub returns : goal.returns
-returns c = λ design flat grown added lists is grows by_net. same_shape_count design lists flat grown added is grows by_net

@@ -1,6 +1,0 @@
-pub mod Growth
-pub mod CleanWire
-pub mod Lines
-pub mod Finished
-pub mod SameButForWires
-pub mod Violations

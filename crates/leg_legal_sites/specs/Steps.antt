@@ -1,0 +1,22 @@
+-- What the code knows on its way. No meaning of a public call speaks of it.
+pub mod Nearest
+pub mod TakeSites
+pub mod RowKeys
+pub mod RowPositions
+pub mod SiteEdges
+pub mod FreeRows
+pub mod Bounds
+pub mod RowTree
+pub mod Parts
+pub mod SharedLists
+pub mod Branches
+pub mod OnlyRow
+pub mod BestPosition
+pub mod RowSites
+pub mod SiteBounds
+pub mod FreeLists
+pub mod Stretches
+pub mod ClearSites
+pub mod FreeListSharing
+pub mod RowOrder
+pub mod TreeOfRows

@@ -1,0 +1,14 @@
+-- Good vias
+mod JoinLayers
+mod MoreLayers
+mod SameJoins
+-- ExtentModel in database units
+mod Scaling
+-- What holds of every library
+mod References
+mod Sound
+mod SoundRaw
+-- Libraries that say the same
+mod Same
+-- What other crates cite: names that are apart
+pub mod LibraryNames

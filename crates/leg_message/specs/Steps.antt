@@ -1,2 +1,0 @@
--- Intermediate state of the code. Only private contracts cite it.
-pub mod Signatures

@@ -1,9 +1,0 @@
-pub use Rattle.leg_block.specs.Records
-pub use Rattle.leg_section.specs.Namespace
-pub mod Terminal
-pub mod Path
-pub mod PathItem
-pub mod Wiring
-pub mod Net
-pub mod LonePins
-pub mod Steps

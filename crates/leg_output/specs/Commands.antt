@@ -1,0 +1,6 @@
+-- What the commands print.
+pub mod Check
+pub mod Legalise
+pub mod Route
+pub mod Finish
+pub mod Compare

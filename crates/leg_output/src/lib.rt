@@ -1,0 +1,2 @@
+//! What is printed: definitions alone, in `specs`.
+#![tactic(auto)]

@@ -1,5 +1,0 @@
--- Nothing is kept.
-use Rattle.leg_ripup.proofs.rounds.count_conflicts.Given as goal
-
-abbrev pub invariant-loop-net : goal.invariant-loop-net
-invariant-loop-net g l = Unit {0}

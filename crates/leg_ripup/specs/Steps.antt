@@ -1,3 +1,0 @@
--- Intermediate state of the code. Only private contracts cite it.
-pub mod Tree
-pub mod Laid

@@ -1,0 +1,25 @@
+-- Intermediate state of the code, and what crates of one algorithm know of one another. No promise of a command rests on it.
+pub mod Lines
+pub mod LayerList
+pub mod Joining
+pub mod Stretches
+pub mod SlotSides
+pub mod Towards
+pub mod FirstWire
+pub mod SlotRanges
+pub mod Boxes
+pub mod AccessUpdates
+pub mod SameShape
+pub mod Reaches
+pub mod AccessTable
+pub mod AccessToNet
+pub mod SmallRects
+pub mod WalkBounds
+pub mod SlotNeighbours
+pub mod Places
+pub mod NodesInRect
+pub mod TrackMarks
+pub mod NodeNumbers
+pub mod Grid
+pub mod GridWalk
+pub mod Hulls

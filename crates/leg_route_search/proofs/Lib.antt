@@ -1,0 +1,10 @@
+-- Marks and how they spread
+mod Marks
+mod Spread
+mod LeastBounds
+mod Sides
+-- What the marks say of walks
+mod Walks
+mod SearchSoFar
+mod WayBack
+mod WalksBack

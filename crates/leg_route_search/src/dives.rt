@@ -1,0 +1,191 @@
+//! Dives from the ends, in rounds of a growing limit.
+
+ghost use Rattle.std.specs.Prelude.{◌≡◌, ◌<◌, ℕ, [], false, length, All, Contains, IfOk, IfSome};
+ghost use Rattle.std.specs.Option.{option_map};
+ghost use Rattle.leg_route_search.specs.Steps.Walks.{IsStep};
+ghost use Rattle.leg_route_search.specs.Steps.FreshMarks.{AreUnseen};
+ghost use Rattle.leg_route_search.specs.Steps.Marks.{IsNoted};
+ghost use Rattle.leg_route_search.specs.Steps.Dive.{IsOrigin, IsFarNode, AreFar, AreLowerBounds, IsWalkBack};
+ghost use Rattle.leg_route_search.specs.Steps.Search.{IsRound};
+
+use crate::dive::{dive, is_open, one_more, steps_left};
+use crate::graph::Graph;
+use crate::mark::Mark;
+use std::alloc::{AllocError, Allocator};
+
+/// How many rounds there are at most. Where other wires are in the way, a walk often has some steps more than its
+/// bound, and a round is needed for about each two of them. Among the wires of a block 30 rounds find nearly all walks.
+const ROUNDS: u32 = 30;
+
+/// The most steps of a walk that is looked for. A dive calls itself once for each step, so this keeps the stack small.
+const DEEPEST: u32 = 2_000;
+
+/// How many nodes the rounds note at most for each step of a walk, so that they cost little where walls are in the way.
+/// With 64 nearly all walks among the wires of a block are found by dives; with 16 many go by levels, which look at far
+/// more nodes.
+const NOTED_FOR_EACH_STEP: usize = 64;
+
+/// A shortest walk, where a few rounds of dives find one. Each round looks for a walk of as many steps as each has at least, as
+/// far as the rounds before it have found. Where none is found, `limit` is that number, and `left_out` whether there may be a walk:
+/// there is none where no end is open.
+pub(crate) fn walk_by_dives<G: Graph, A: Allocator + Copy>(
+    alloc: A,
+    graph: &G,
+    ends: &[u32],
+    limit: &mut u64,
+    marks: &mut [Mark],
+    touched: &mut Vec<u32, A>,
+    left_out: &mut bool,
+) -> Result<Option<Vec<u32, A>>, AllocError>
+    requires count { length marks.old ≡ G.size_of graph.now }
+    requires unseen { AreUnseen marks.old }
+    requires untouched { touched.old.items ≡ [] }
+    requires ends { All (λ a. a < G.size_of graph.now) ends.now }
+    ensures found { IfOk result (λ walk. IsRound (G.OpenNode graph.now) (IsStep (G.IsBeside graph.now) (G.OpenStep graph.now))
+        (IsOrigin (G.size_of graph.now) (G.back_bound_of graph.now)) (Contains ends.now) left_out.new (option_map (λ nodes. nodes.items) walk)) }
+    ensures noted { IsNoted marks.new touched.new.items }
+{
+    let mut known = Vec::from_elem(alloc, 0, ends.len())?;
+    let mut left = least_left(graph, ends, &mut known, marks);
+    let most = left as usize * NOTED_FOR_EACH_STEP;
+    'rounds: for _ in 0..ROUNDS {
+        if left > DEEPEST || touched.len() >= most {
+            break;
+        }
+        let near = near_ends(alloc, ends, &known, left)?;
+        let walk = dive_from_ends(alloc, graph, &near, left, most, marks, touched)?;
+        if let Some(nodes) = walk {
+            return Ok(Some(nodes));
+        }
+        left = least_left(graph, ends, &mut known, marks);
+    }
+    *limit = u64::from(left);
+    *left_out = is_one_open(graph, ends);
+    Ok(None)
+}
+
+/// How many steps a walk from a start to an end has at least, as far as is known. `known` has for each end how many a walk to it has at
+/// least by what was asked before: an end that is further by that than the nearest is not asked about again. Of the others it then
+/// has how many are known now, where those are no more than to the nearest.
+fn least_left<G: Graph>(graph: &G, ends: &[u32], known: &mut [u32], marks: &[Mark]) -> u32
+    requires count { length marks.now ≡ G.size_of graph.now }
+    requires within { All (λ a. a < G.size_of graph.now) ends.now }
+    requires known { AreLowerBounds (G.OpenNode graph.now) (IsStep (G.IsBeside graph.now) (G.OpenStep graph.now)) (IsOrigin (G.size_of graph.now) (G.back_bound_of graph.now)) marks.now }
+    requires far { AreFar (G.OpenNode graph.now) (IsStep (G.IsBeside graph.now) (G.OpenStep graph.now)) (IsOrigin (G.size_of graph.now) (G.back_bound_of graph.now)) ends.now known.old }
+    ensures least { All (IsFarNode (G.OpenNode graph.now) (IsStep (G.IsBeside graph.now) (G.OpenStep graph.now)) (IsOrigin (G.size_of graph.now) (G.back_bound_of graph.now)) result) ends.now }
+    ensures far { AreFar (G.OpenNode graph.now) (IsStep (G.IsBeside graph.now) (G.OpenStep graph.now)) (IsOrigin (G.size_of graph.now) (G.back_bound_of graph.now)) ends.now known.new }
+{
+    let mut least = u32::MAX;
+    for k in 0..ends.len() {
+        let steps = look_again(graph, ends[k], known[k], least, marks);
+        known[k] = steps;
+        least = least.min(steps);
+    }
+    least
+}
+
+/// How many steps a walk from a start to the end has at least: as many as are known, where those are more than `least`, and else as far
+/// as is known now, or one more than `least` where those are more.
+fn look_again<G: Graph>(graph: &G, end: u32, known: u32, least: u32, marks: &[Mark]) -> u32
+    requires count { length marks.now ≡ G.size_of graph.now }
+    requires within { end < G.size_of graph.now }
+    requires known { AreLowerBounds (G.OpenNode graph.now) (IsStep (G.IsBeside graph.now) (G.OpenStep graph.now)) (IsOrigin (G.size_of graph.now) (G.back_bound_of graph.now)) marks.now }
+    requires far { IsFarNode (G.OpenNode graph.now) (IsStep (G.IsBeside graph.now) (G.OpenStep graph.now)) (IsOrigin (G.size_of graph.now) (G.back_bound_of graph.now)) known end }
+    ensures { IsFarNode (G.OpenNode graph.now) (IsStep (G.IsBeside graph.now) (G.OpenStep graph.now)) (IsOrigin (G.size_of graph.now) (G.back_bound_of graph.now)) result end }
+{
+    if known > least {
+        return known;
+    }
+    steps_left(graph, end, one_more(least), marks)
+}
+
+/// The ends to which a walk has at most `left` steps by what is known, in increasing order.
+fn near_ends<A: Allocator>(
+    alloc: A,
+    ends: &[u32],
+    known: &[u32],
+    left: u32,
+) -> Result<Vec<u32, A>, AllocError>
+    requires { length known.now ≡ length ends.now }
+    ensures { IfOk result (λ near. (a : ℕ) → Contains near.items a → Contains ends.now a) }
+{
+    let mut near = Vec::new(alloc);
+    for k in 0..ends.len() {
+        if known[k] <= left {
+            near.push(ends[k])?;
+        }
+    }
+    near.sort_unstable();
+    Ok(near)
+}
+
+/// Whether one of the ends is open.
+fn is_one_open<G: Graph>(graph: &G, ends: &[u32]) -> bool
+    requires { All (λ a. a < G.size_of graph.now) ends.now }
+    ensures { result ≡ false → All (λ a. ¬ G.OpenNode graph.now a) ends.now }
+{
+    for end in ends {
+        if graph.is_open_node(*end) {
+            return true;
+        }
+    }
+    false
+}
+
+/// An open walk of at most `left` steps from a start to the first of the ends to which one is found before `most` nodes are noted.
+fn dive_from_ends<G: Graph, A: Allocator + Copy>(
+    alloc: A,
+    graph: &G,
+    ends: &[u32],
+    left: u32,
+    most: usize,
+    marks: &mut [Mark],
+    touched: &mut Vec<u32, A>,
+) -> Result<Option<Vec<u32, A>>, AllocError>
+    requires count { length marks.old ≡ G.size_of graph.now }
+    requires within { (a : ℕ) → Contains ends.now a → a < G.size_of graph.now }
+    requires known { AreLowerBounds (G.OpenNode graph.now) (IsStep (G.IsBeside graph.now) (G.OpenStep graph.now)) (IsOrigin (G.size_of graph.now) (G.back_bound_of graph.now)) marks.old }
+    requires noted { IsNoted marks.old touched.old.items }
+    ensures found { IfOk result (λ walk. IfSome walk (λ nodes. (end : ℕ) × Contains ends.now end
+        × IsWalkBack (G.OpenNode graph.now) (IsStep (G.IsBeside graph.now) (G.OpenStep graph.now)) (IsOrigin (G.size_of graph.now) (G.back_bound_of graph.now)) left end nodes.items)) }
+    ensures known { AreLowerBounds (G.OpenNode graph.now) (IsStep (G.IsBeside graph.now) (G.OpenStep graph.now)) (IsOrigin (G.size_of graph.now) (G.back_bound_of graph.now)) marks.new }
+    ensures noted { IsNoted marks.new touched.new.items }
+{
+    for end in ends {
+        let walk = dive_from(alloc, graph, *end, left, most, marks, touched)?;
+        if let Some(nodes) = walk {
+            return Ok(Some(nodes));
+        }
+    }
+    Ok(None)
+}
+
+/// An open walk of at most `left` steps from a start to the end, where there is one and it is found before `most` nodes are noted.
+fn dive_from<G: Graph, A: Allocator + Copy>(
+    alloc: A,
+    graph: &G,
+    end: u32,
+    left: u32,
+    most: usize,
+    marks: &mut [Mark],
+    touched: &mut Vec<u32, A>,
+) -> Result<Option<Vec<u32, A>>, AllocError>
+    requires count { length marks.old ≡ G.size_of graph.now }
+    requires within { end < G.size_of graph.now }
+    requires known { AreLowerBounds (G.OpenNode graph.now) (IsStep (G.IsBeside graph.now) (G.OpenStep graph.now)) (IsOrigin (G.size_of graph.now) (G.back_bound_of graph.now)) marks.old }
+    requires noted { IsNoted marks.old touched.old.items }
+    ensures found { IfOk result (λ walk. IfSome walk (λ nodes. IsWalkBack (G.OpenNode graph.now) (IsStep (G.IsBeside graph.now) (G.OpenStep graph.now))
+        (IsOrigin (G.size_of graph.now) (G.back_bound_of graph.now)) left end nodes.items)) }
+    ensures known { AreLowerBounds (G.OpenNode graph.now) (IsStep (G.IsBeside graph.now) (G.OpenStep graph.now)) (IsOrigin (G.size_of graph.now) (G.back_bound_of graph.now)) marks.new }
+    ensures noted { IsNoted marks.new touched.new.items }
+{
+    let least = steps_left(graph, end, one_more(left), marks);
+    if least > left {
+        return Ok(None);
+    }
+    if !is_open(graph, end, least, marks, touched)? {
+        return Ok(None);
+    }
+    let walk = dive(alloc, graph, end, left, most, marks, touched)?;
+    Ok(walk)
+}

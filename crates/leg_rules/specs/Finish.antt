@@ -1,0 +1,4 @@
+-- What finishing a design is.
+pub mod Wires
+pub mod Reach
+pub mod Refusal

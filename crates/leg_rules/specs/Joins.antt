@@ -1,0 +1,3 @@
+-- Pieces of nets that are joined, and those that are not.
+pub mod Touch
+pub mod Violations

@@ -1,0 +1,76 @@
+-- When the legaliser refuses a design (lefdef's own rules).
+use Rattle.std.specs.Prelude.{◌≡◌, ℕ, pos, ◌≤◌, ◌++◌, ◌∷◌, List, ◌*ℤ◌, Contains, Some, slice_get}
+use Rattle.leg_geom.specs.declared.place.Place.{Place}
+use Rattle.leg_lib_records.specs.declared.records.Site.{Site}
+use Rattle.leg_lib_records.specs.Measure.{ExtentModel}
+use Rattle.leg_design_records.specs.Records.{DesignModel}
+use Rattle.leg_design_records.specs.declared.fault.Fault.{Fault}
+use Rattle.leg_design_records.specs.declared.fault.Fault.TheVariants.{Unplaced, Outside, OffSite, Overlap, Blocked, Short, TooNear, OpenNet}
+use Rattle.leg_design_records.specs.declared.records.Row.{Row}
+use Rattle.leg_rules.specs.Placement.Violations.{IsPlacementViolation, IsLegallyPlaced}
+use Rattle.leg_design_records.specs.Movable.{IsMovable}
+use Rattle.leg_rules.specs.declared.position.Candidate.{Candidate}
+use Rattle.leg_rules.specs.Legalise.Free.{IsFree}
+use Rattle.leg_rules.specs.Legalise.Turns.{IsOrderOfTaking}
+use Rattle.leg_rules.specs.Legalise.Run.{LegaliseRun}
+
+-- a violation of placement concerns only components that stay
+abbrev pub ConcernsStaying : DesignModel → Fault → Type 0
+ConcernsStaying design (Unplaced c) = ¬ IsMovable design c
+ConcernsStaying design (Outside c) = ¬ IsMovable design c
+ConcernsStaying design (OffSite c) = ¬ IsMovable design c
+ConcernsStaying design (Overlap a b) = (¬ IsMovable design a) × (¬ IsMovable design b)
+ConcernsStaying design (Blocked c) = ¬ IsMovable design c
+ConcernsStaying design (Short a b) = ⊥
+ConcernsStaying design (TooNear a b) = ⊥
+ConcernsStaying design (OpenNet n k) = ⊥
+
+-- a violation of placement holds, and no component that moves can mend it
+pub record HoldsOfStaying (design : DesignModel) (fault : Fault) : Type 0 where
+  pub holds : IsPlacementViolation design.library design fault
+  pub staying : ConcernsStaying design fault
+
+-- no violation holds that concerns only components that stay
+abbrev pub NoneStaying : DesignModel → Type 0
+NoneStaying design = (fault : Fault) → ¬ HoldsOfStaying design fault
+
+-- a macro of this size is as high as a site of that size, and as wide as a number of them
+pub record FitsSites (site size : ExtentModel) : Type 0 where
+  pub high : size.height ≡ site.height
+  pub many : ℕ
+  pub wide : size.width ≡ pos many *ℤ site.width
+
+-- a macro of this size, of the site of this number, fits some row: it fits the site, and a row has that site
+pub record HasRowFor (design : DesignModel) (size : ExtentModel) (number : ℕ) : Type 0 where
+  pub site : Site
+  pub is_site : slice_get design.library.sites number ≡ Some site
+  pub fits : FitsSites site.size size
+  pub row : Row
+  pub has : Contains design.rows row
+  pub same : row.site ≡ number
+
+-- Component c is movable, and fits no row: its macro is not as high as its site, it is not as wide as a number of
+-- them, or no row has that site.
+pub record IsUnsuited (design : DesignModel) (c : ℕ) : Type 0 where
+  pub movable : IsMovable design c
+  pub misfit : ¬ HasRowFor design movable.master.size movable.number
+
+-- the one of lowest number
+pub record IsLeastUnsuited (design : DesignModel) (c : ℕ) : Type 0 where
+  pub unsuited : IsUnsuited design c
+  pub least : (d : ℕ) → IsUnsuited design d → c ≤ d
+
+-- each movable component fits some row
+abbrev pub AreSuited : DesignModel → Type 0
+AreSuited design = (c : ℕ) → ¬ IsUnsuited design c
+
+-- The design isn't legally placed; when the turn of component c came, those before it had taken their places, and none
+-- was free for it.
+pub record IsStuck (before : DesignModel) (c : ℕ) : Type 0 where
+  pub illegal : ¬ IsLegallyPlaced before
+  pub done : List ℕ
+  pub rest : List ℕ
+  pub is_order : IsOrderOfTaking before (done ++ c ∷ rest)
+  pub now : DesignModel
+  pub run : LegaliseRun before done now
+  pub full : (position : Candidate) (place : Place) → ¬ IsFree now done c position place

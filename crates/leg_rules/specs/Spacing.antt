@@ -1,0 +1,4 @@
+-- Shapes that touch or are too near.
+pub mod Comparable
+pub mod Violations
+pub mod Clean

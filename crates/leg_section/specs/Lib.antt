@@ -1,7 +1,0 @@
-pub use Rattle.leg_block.specs.Records
-pub mod Guard
-pub mod Placement
-pub mod Clause
-pub mod Layers
-pub mod Section
-pub mod Namespace

@@ -1,5 +1,0 @@
--- The list's own sites are bounded.
-use Rattle.leg_sites.proofs.rows_taken.bounds_of_list.Goals as goal
-
-pub returns-in-Some : goal.returns-in-Some
-returns-in-Some g c = rw c.in-Some.is (rw c.parts.ensures.is at c.with_sites.ensures)

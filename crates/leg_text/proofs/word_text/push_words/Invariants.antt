@@ -1,7 +1,0 @@
-use Rattle.std.proofs.Common.{◌≡◌, ◌++◌, map, take}
-use Rattle.leg_text.specs.Spaced.{spaced}
-use Rattle.leg_text.proofs.word_text.push_words.Given as goal
-
--- the words so far, each behind a blank
-abbrev pub invariant-words : goal.invariant-words
-invariant-words g l = l.text.items ≡ l.fn.text.items ++ spaced (map (λ word. word.now) (take l.word-index l.words))

@@ -1,4 +1,0 @@
-pub mod Side
-pub mod Walk
-pub mod Marks
-pub mod Steps

@@ -1,7 +1,0 @@
--- Intermediate state of the search. Only private contracts cite it.
-pub mod Marks
-pub mod Spread
-pub mod Starts
-pub mod Search
-pub mod Back
-pub mod Dive

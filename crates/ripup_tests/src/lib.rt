@@ -1,6 +1,0 @@
-//! Nets that are routed together at values: tests of `leg_ripup` on a small lattice.
-#![tactic(auto)]
-
-pub mod sheet;
-#[cfg(test)]
-mod tests;

@@ -1,0 +1,190 @@
+//! Calls of which each allocation is refused in turn: they answer that memory ran out, and the design that they were given is as it
+//! was, or they answer what they answer with ample memory.
+
+mod changes;
+mod commands;
+mod no_rounds;
+mod two_nets;
+mod wires;
+
+use changes::Change;
+use commands::Asked;
+use leg_app::Command;
+use leg_lib_records::Library;
+use std::alloc::{Allocator, Global};
+use test_alloc::RefusingAlloc;
+use test_memory::library_of_cells;
+use test_texts::{
+    around_an_obstruction, around_blockages, in_a_blockage, net_at_one_place, two_at_one_place,
+};
+use wires::WireCall;
+
+/// What is tried under the library, on the design of a DEF.
+#[derive(Clone, Copy)]
+enum Trial {
+    /// It is given.
+    Give(Change),
+    /// It is given, and a wire for its net.
+    Wire(WireCall),
+    /// It has two nets. It is given, and wires for them.
+    TwoNets(WireCall),
+}
+
+/// Whether the trial goes right with each allocation refused in turn.
+fn goes_right<A: Allocator + Copy>(
+    alloc: A,
+    refusing: &RefusingAlloc<Global>,
+    trial: Trial,
+    def: &[u8],
+) -> bool {
+    match library_of_cells(alloc) {
+        Some(library) => goes_right_under(alloc, refusing, &library, trial, def),
+        None => false,
+    }
+}
+
+fn goes_right_under<A: Allocator + Copy>(
+    alloc: A,
+    refusing: &RefusingAlloc<Global>,
+    library: &Library<'_, A>,
+    trial: Trial,
+    def: &[u8],
+) -> bool {
+    match trial {
+        Trial::Give(change) => changes::goes_right(alloc, refusing, library, change, def),
+        Trial::Wire(call) => wires::goes_right(alloc, refusing, library, call, def),
+        Trial::TwoNets(call) => two_nets::goes_right(alloc, refusing, library, call),
+    }
+}
+
+#[test]
+fn a_legaliser_without_memory(rt: HostRuntime) {
+    let refusing = &RefusingAlloc::new(rt.alloc());
+    for def in [two_at_one_place(), net_at_one_place()] {
+        assert!(rt;
+            goes_right(
+                refusing,
+                refusing,
+                Trial::Give(Change::Legalise(&[0, 400])),
+                def
+            )
+        );
+    }
+    assert!(rt;
+        goes_right(
+            refusing,
+            refusing,
+            Trial::Give(Change::Legalise(&[0, 0, 0])),
+            around_an_obstruction()
+        )
+    );
+    assert!(rt;
+        goes_right(
+            refusing,
+            refusing,
+            Trial::Give(Change::Legalise(&[0, 200])),
+            in_a_blockage()
+        )
+    );
+}
+
+#[test]
+fn a_router_without_memory(rt: HostRuntime) {
+    let refusing = &RefusingAlloc::new(rt.alloc());
+    for def in [around_an_obstruction(), around_blockages()] {
+        assert!(rt; goes_right(refusing, refusing, Trial::Give(Change::Route(0)), def));
+    }
+    // The inverters overlap, and so does the metal of their two signal pins.
+    for def in [two_at_one_place(), net_at_one_place()] {
+        assert!(rt; goes_right(refusing, refusing, Trial::Give(Change::Route(3)), def));
+    }
+    // The second inverter is in a blockage, and its pin touches another one.
+    assert!(rt;
+        goes_right(
+            refusing,
+            refusing,
+            Trial::Give(Change::Route(2)),
+            in_a_blockage()
+        )
+    );
+}
+
+#[test]
+fn a_router_that_finishes_without_memory(rt: HostRuntime) {
+    let refusing = &RefusingAlloc::new(rt.alloc());
+    for def in [around_an_obstruction(), around_blockages()] {
+        assert!(rt; goes_right(refusing, refusing, Trial::Give(Change::Finish(0)), def));
+    }
+    // The inverters overlap, and so does the metal of their two signal pins.
+    for def in [two_at_one_place(), net_at_one_place()] {
+        assert!(rt; goes_right(refusing, refusing, Trial::Give(Change::Finish(3)), def));
+    }
+}
+
+#[test]
+fn a_router_that_finishes_without_a_round(rt: HostRuntime) {
+    let library = library_of_cells(rt.alloc()).expect(&rt, "memory");
+    for def in [around_an_obstruction(), around_blockages()] {
+        assert!(rt; no_rounds::is_left(rt.alloc(), &library, def));
+    }
+}
+
+#[test]
+fn nets_get_wires_without_memory(rt: HostRuntime) {
+    let refusing = &RefusingAlloc::new(rt.alloc());
+    for call in [WireCall::WithWires, WireCall::WithAllWires] {
+        for def in [around_an_obstruction(), net_at_one_place()] {
+            assert!(rt; goes_right(refusing, refusing, Trial::Wire(call), def));
+        }
+        assert!(rt; goes_right(refusing, refusing, Trial::TwoNets(call), two_nets::TEXT));
+    }
+}
+
+const COMMANDS: [Command; 7] = [
+    Command::Check,
+    Command::PlaceCheck,
+    Command::Measure,
+    Command::Legalise,
+    Command::Route,
+    Command::Flow,
+    Command::Finish,
+];
+
+/// Whether each command on the DEF goes right with each allocation refused in turn.
+fn are_commands_right<A: Allocator + Copy>(
+    alloc: A,
+    held: Global,
+    refusing: &RefusingAlloc<Global>,
+    def: &[u8],
+) -> bool {
+    for command in COMMANDS {
+        if !commands::goes_right(alloc, held, refusing, Asked { command, def }) {
+            return false;
+        }
+    }
+    true
+}
+
+#[test]
+fn commands_on_cells_at_one_place_without_memory(rt: HostRuntime) {
+    let refusing = &RefusingAlloc::new(rt.alloc());
+    assert!(rt; are_commands_right(refusing, rt.alloc(), refusing, two_at_one_place()));
+}
+
+#[test]
+fn commands_on_a_net_at_one_place_without_memory(rt: HostRuntime) {
+    let refusing = &RefusingAlloc::new(rt.alloc());
+    assert!(rt; are_commands_right(refusing, rt.alloc(), refusing, net_at_one_place()));
+}
+
+#[test]
+fn commands_around_an_obstruction_without_memory(rt: HostRuntime) {
+    let refusing = &RefusingAlloc::new(rt.alloc());
+    assert!(rt; are_commands_right(refusing, rt.alloc(), refusing, around_an_obstruction()));
+}
+
+#[test]
+fn commands_in_a_blockage_without_memory(rt: HostRuntime) {
+    let refusing = &RefusingAlloc::new(rt.alloc());
+    assert!(rt; are_commands_right(refusing, rt.alloc(), refusing, in_a_blockage()));
+}

@@ -1,7 +1,0 @@
--- The places so far of which no steps lie between them and a start are listed.
-use Rattle.std.proofs.Common.{◌≡◌, ◌<◌, ℕ, Contains}
-use Rattle.walk_tests.specs.Maze.{place_at}
-use Rattle.walk_tests.proofs.tests.are_all_starts.Given as goal
-
-abbrev pub invariant-loop-place : goal.invariant-loop-place
-invariant-loop-place l = (a : ℕ) → a < l.place → (place_at l.maze.places.items a).gone ≡ 0 → Contains l.nodes a
