@@ -1,4 +1,4 @@
-"""The page in web/index.html: one file, with lefdef as a module of WebAssembly, the examples of the README and the viewer of tools/view.
+"""The page in web/index.html: one file, with lefdef as a module of WebAssembly, the examples of the tutorial and the viewer of tools/view.
 
 What it is made of stands in the folder `web`, and the viewer in `page` beside this file. The policy in the page names the sums of its one
 script and of its style, so a browser runs no other script in it, and loads nothing.
@@ -32,8 +32,8 @@ def script_of(*texts):
 
 
 def examples():
-    """Returns the commands that the README runs on the examples, in its order, and the texts of their files."""
-    commands = list(dict.fromkeys(EXAMPLE.findall(read('README.md'))))
+    """Returns the commands that the tutorial runs on the examples, in its order, and the texts of their files."""
+    commands = list(dict.fromkeys(EXAMPLE.findall(read('docs', 'TUTORIAL.md'))))
     return {'files': {name: read(name) for command in commands for name in command[1:]}, 'commands': commands}
 
 

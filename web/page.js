@@ -29,7 +29,7 @@ class Page {
     page.addEventListener('drop', (event) => this.add(event.dataTransfer.files));
   }
 
-  // The examples are those of the README: { files: { name: text }, commands: [[command, DEF, LEF..]] }.
+  // The examples are those of the tutorial: { files: { name: text }, commands: [[command, DEF, LEF..]] }.
   showExamples() {
     const { files, commands } = JSON.parse(this.get('examples-data').textContent);
     const buttons = commands.map(([command, ...names]) => {

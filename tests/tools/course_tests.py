@@ -150,8 +150,8 @@ class BlocksTests(Room):
 
     def test_the_definitions_of_the_page_are_those_of_the_files(self):
         given = [line[4:] for line in read(os.path.join(COURSE, 'README.md')).splitlines() if re.match(r'    (  )?pub ', line)]
-        folder = os.path.join(TOP, 'crates', 'leg_wire', 'specs')
-        lines = [line for name in ('Spacing', 'Comparable') for line in read(os.path.join(folder, f'{name}.antt')).splitlines()]
+        folder = os.path.join(TOP, 'crates', 'leg_rules', 'specs', 'Spacing')
+        lines = [line for name in ('Violations', 'Comparable') for line in read(os.path.join(folder, f'{name}.antt')).splitlines()]
         self.assertEqual([line for line in given if line not in lines], [])
         self.assertEqual(len(given), 17)
 

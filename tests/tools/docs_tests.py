@@ -7,6 +7,7 @@ import stat
 import sys
 import tempfile
 import unittest
+from unittest import mock
 
 sys.path.insert(0, os.path.dirname(os.path.abspath(__file__)))
 
@@ -29,7 +30,7 @@ def said(check, copy):
 
 
 class DoctoredTests(unittest.TestCase):
-    crates = ('leg_lex', 'leg_geom', 'leg_sweep', 'leg_design')
+    crates = ('leg_lex', 'leg_geom', 'leg_sweep', 'leg_design_common', 'leg_design_floorplan', 'leg_design_nets')
     parts = ('README.md', 'docs')
 
     def setUp(self):
@@ -54,63 +55,30 @@ class ProofsTests(DoctoredTests):
     def found(self, *edits):
         return self.new_of(docs.check_proofs, *edits)
 
-    def without(self, call, label):
-        """Returns what is said where this clause of a function in leg_sweep's banded.rt has another label."""
-        path = 'crates/leg_sweep/src/banded.rt'
-        head, name, tail = self.copy.read(path).partition(f'pub fn {call}<')
-        before = said(docs.check_proofs, self.copy)
-        self.copy.write(path, head + name + tail.replace(f'ensures {label} {{', 'ensures another {', 1))
-        return said(docs.check_proofs, self.copy) - before
-
-    def test_a_clause_that_other_calls_still_have(self):
-        self.assert_said(self.without('pairs_in_bands', 'few_tests'), 'pairs_in_bands has no clause few_tests as of pairs')
-
-    def test_a_clause_that_a_row_names_and_other_calls_still_have(self):
-        self.assert_said(self.without('each_pair', 'few_tests'), 'no clause few_tests of each_pair')
-
-    def test_clauses_of_methods_that_functions_of_the_crate_still_have(self):
-        path = 'crates/leg_design/src/def_text.rt'
-        new, units = '    ensures too_long {', '    ensures found { IfOk result (λ n.'
-        design = '    ensures none { IfErr result (λ fault. fault.kind ≢ Memory\n'
-        lines = self.found(*((path, old, old.replace('ensures ', 'ensures un')) for old in (new, units, design)))
-        self.assert_said(lines, 'no clause too_long of DefText::new', 'DefText::units has no clause found as of def_units',
-                         'DefText::design has no clause none as of read_def')
-
     def test_a_heading_that_is_no_crate(self):
         lines = self.found((PROOFS, '## leg_sweep\n', '## leg_sweeps\n'))
         self.assert_said(lines, "'leg_sweeps' is no crate", 'there is no section on leg_sweep, which has clauses of')
 
-    def test_a_limit_that_is_not_that_of_the_clause(self):
-        lines = self.found((PROOFS, '`few`: fewer than 2^32, by the type', '`few`: fewer than 2^16, by the type'))
-        self.assert_said(lines, 'no clause of BinIndex::len has 2 ^ 16')
+    def test_a_heading_of_several_crates_one_of_which_is_none(self):
+        lines = self.found((PROOFS, '## leg_design_common, ', '## leg_design_commons, '))
+        self.assert_said(lines, "'leg_design_commons, leg_design_floorplan and leg_design_nets' is no crate", 'there is no section on leg_design_nets')
 
     def test_a_crate_that_nothing_is_said_of(self):
         self.copy.write('crates.txt', self.copy.read('crates.txt') + 'leg_new:\n')
         self.copy.write('crates/leg_new/src/lib.rt', '//! Nothing.\n')
         self.assert_said(said(docs.check_proofs, self.copy), 'nothing on leg_new')
 
+    def test_a_word_that_is_not_there(self):
+        self.assert_said(self.found((PROOFS, '`PairRule` is a rule', '`PairOfRules` is a rule')), 'nothing is named PairOfRules')
+
     def test_a_call_that_is_not_there(self):
-        lines = self.found((PROOFS, '| `Rect::overlaps` |', '| `Rect::overlaps`, `Point::overlaps` |'))
-        self.assert_said(lines, 'leg_geom has no public Point::overlaps')
+        self.assert_said(self.found((PROOFS, '`Cursor::place` has', '`Cursor::placed_behind` has')), 'no crate has Cursor::placed_behind')
 
-    def test_a_call_that_is_private(self):
-        self.assert_said(self.found((PROOFS, '| `tokens` |', '| `tokens`, `tokens_at` |')), 'leg_lex has no public tokens_at')
-
-    def test_a_clause_that_is_not_there(self):
-        self.assert_said(self.found((PROOFS, '`too_long`: `TooLong` exactly above', '`long`: `TooLong` exactly above')), 'no clause long of tokens')
-
-    def test_a_call_that_is_not_named(self):
-        self.assert_said(self.found((PROOFS, 'Rect::{x1, y1, x2, y2}', 'Rect::{x1, y1, x2}')), 'leg_geom::Rect::y2 is not named')
-
-    def test_a_law_that_is_not_named(self):
-        self.assert_said(self.found((PROOFS, '`counts_are_lengths`, ', '')), 'leg_sweep::laws::counts_are_lengths is not named')
-
-    def test_clauses_of_what_is_not_there(self):
-        lines = self.found((PROOFS, '| `pairs_counted` | the clauses of `pairs`.', '| `pairs_counted` | the clauses of `each`.'))
-        self.assert_said(lines, "it has clauses 'as of' what is no public call")
+    def test_a_call_of_which_each_word_is_in_another_crate(self):
+        self.assert_said(self.found((PROOFS, '`Cursor::place` has', '`BinIndex::statement` has')), 'no crate has BinIndex::statement')
 
     def test_a_file_that_is_not_there(self):
-        self.assert_said(self.found((PROOFS, '`proofs/NearNodes.antt`', '`proofs/NearNode.antt`')), 'no file proofs/NearNode.antt')
+        self.assert_said(self.found((PROOFS, '`docs/TRUSTED.md`', '`docs/BELIEVED.md`')), 'no file docs/BELIEVED.md')
 
 
 class ReferenceTests(DoctoredTests):
@@ -159,8 +127,9 @@ class NumberTests(DoctoredTests):
 
     def test_the_kit(self):
         kit = re.findall(docs.KIT, self.copy.read('README.md'))[0]
-        self.with_kit(kit)
-        self.assertEqual(said(docs.check_kit, self.copy), set())
+        for named in re.findall(docs.KIT, self.copy.read(PROOFS)):
+            self.with_kit(named)
+            self.assertEqual(said(docs.check_kit, self.copy), set())
         self.with_kit('rattle-kit-0z logic 0123456789abcdef')
         self.assert_said(said(docs.check_kit, self.copy), 'README.md: it names', 'docs/PROOFS.md: it names')
         self.with_kit(kit)
@@ -182,6 +151,23 @@ class StepsTests(DoctoredTests):
         lines = self.new_of(docs.check_steps, (path, 'ensures is { result ≡ length self.now }', 'ensures is { IsIndex [] [] [] }'))
         self.assertEqual(lines, {'a clause of leg_sweep::BinIndex::len cites IsIndex of specs/Steps'})
 
+    def test_a_definition_that_cites_a_step(self):
+        path = 'crates/leg_sweep/specs/Pairs.antt'
+        self.copy.write(path, 'use Rattle.leg_sweep.specs.Steps.Index.{IsIndex}\n' + self.copy.read(path))
+        self.assertEqual(said(docs.check_steps, self.copy), {f'{path} cites specs/Steps'})
+
+
+class PartTests(DoctoredTests):
+    """What the public clauses of a crate that is a part of one algorithm cite."""
+    crates = ('leg_lex', 'leg_geom', 'leg_lib_records', 'leg_design_records', 'leg_rules', 'leg_route_search')
+
+    def test_it_may_cite_a_step_and_its_definitions_may_not(self):
+        self.assertEqual(said(docs.check_steps, self.copy), set())
+        with mock.patch.object(docs, 'ONE_ALGORITHM', ()):
+            self.assert_said(said(docs.check_steps, self.copy), 'a clause of leg_route_search::shortest cites')
+        self.copy.write('crates/leg_route_search/specs/Beside.antt', 'use Rattle.leg_route_search.specs.Steps.Walks.{IsAnswer}\n')
+        self.assertEqual(said(docs.check_steps, self.copy), {'crates/leg_route_search/specs/Beside.antt cites specs/Steps'})
+
 
 class GateTests(DoctoredTests):
     """tests/edits/gate."""
@@ -194,8 +180,8 @@ class GateTests(DoctoredTests):
         self.copy.write(path, '# nothing\n')
         found = printed(docs.check_gate, repository) - before
         self.assert_said(found, 'tests/edits/gate lists no edit', 'no edit of leg_place, which the program runs')
-        self.copy.write(path, ''.join(line for line in lines if not line.startswith('leg_walk/')))
-        self.assertEqual(printed(docs.check_gate, repository) - before, {'tests/edits/gate: no edit of leg_walk, which the program runs'})
+        self.copy.write(path, ''.join(line for line in lines if not line.startswith('leg_route_search/')))
+        self.assertEqual(printed(docs.check_gate, repository) - before, {'tests/edits/gate: no edit of leg_route_search, which the program runs'})
         self.copy.write(path, ''.join(lines) + 'leg_geom/none rect::Rect::gap\n')
         self.assertEqual(printed(docs.check_gate, repository) - before,
                          {'tests/edits/gate: there is no edit leg_geom/none',

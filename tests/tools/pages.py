@@ -117,7 +117,7 @@ class PageCase(ViewCase):
         return Page(self.html(*words, stdin=stdin))
 
     def routed_around(self):
-        """Writes examples/around.def as the README says that `route` prints it."""
+        """Writes examples/around.def as the tutorial says that `route` prints it."""
         return self.write('routed.def', shown_text('./lefdef route examples/around.def examples/standard.lef'))
 
     def legalised_rows(self):
@@ -125,8 +125,8 @@ class PageCase(ViewCase):
 
 
 def shown_text(command):
-    """Returns what the README shows after a command."""
-    with open(os.path.join(TOP, 'README.md'), encoding='utf-8') as file:
+    """Returns what the tutorial shows after a command."""
+    with open(os.path.join(TOP, 'docs', 'TUTORIAL.md'), encoding='utf-8') as file:
         lines = file.read().split(f'    $ {command}\n')[1].split('\n\n')[0].split('\n')
     return ''.join(f'{line[4:]}\n' for line in lines if line.startswith('    '))
 

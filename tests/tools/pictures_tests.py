@@ -10,7 +10,7 @@ import xml.etree.ElementTree as ElementTree
 TOP = os.path.normpath(os.path.join(os.path.dirname(os.path.abspath(__file__)), '..', '..'))
 PICTURES = os.path.join(TOP, 'docs', 'pictures')
 
-# What the README doesn't show: what `check` prints of examples/stacked.def, worked by hand. The two inverters lie on one another: u1 A is in
+# What the tutorial doesn't show: what `check` prints of examples/stacked.def, worked by hand. The two inverters lie on one another: u1 A is in
 # no net and lies on u2 A, which is in n1; u1 Y, in n1, lies on u2 Y, which is in none; supplies have one owner; and u2 A is 100 from u1 Y.
 STACKED = """OVERLAP u1 u2
 SHORT m1 TERM u1 A 50 850 150 1050 NET n1 50 850 150 1050
@@ -19,7 +19,7 @@ OPEN n1 u2 A
 violations 4
 """
 
-# A program that answers as the README says that lefdef does.
+# A program that answers as the tutorial says that lefdef does.
 PROGRAM = """#!{python}
 import sys
 answers = {answers!r}
@@ -30,8 +30,8 @@ sys.exit(1 if text.splitlines()[-1].startswith('violations ') else 0)
 
 
 def answers():
-    """Returns the answer to each command that the README shows."""
-    with open(os.path.join(TOP, 'README.md'), encoding='utf-8') as file:
+    """Returns the answer to each command that the tutorial shows."""
+    with open(os.path.join(TOP, 'docs', 'TUTORIAL.md'), encoding='utf-8') as file:
         shown = re.findall(r'^    \$ (?:git clone .+ && )?\./lefdef (.+)\n((?:    (?!\$).*\n)+)', file.read(), re.MULTILINE)
     found = {command: ''.join(line[4:] + '\n' for line in text.splitlines()) for command, text in shown}
     found['check examples/stacked.def examples/standard.lef'] = STACKED

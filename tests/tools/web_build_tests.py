@@ -69,9 +69,9 @@ class WebTests(unittest.TestCase):
         room = tempfile.TemporaryDirectory()
         self.addCleanup(room.cleanup)
         self.top = os.path.join(room.name, 'top')
-        for folder in ('web', 'tools/page', 'examples'):
+        for folder in ('web', 'tools/page', 'examples', 'docs'):
             shutil.copytree(os.path.join(TOP, folder), os.path.join(self.top, folder), ignore=shutil.ignore_patterns('index.html'))
-        for name in ('README.md', 'VERSION', 'tools/web', 'tools/web_page.py', 'tools/sources-sum'):
+        for name in ('VERSION', 'tools/web', 'tools/web_page.py', 'tools/sources-sum'):
             shutil.copy(os.path.join(TOP, name), os.path.join(self.top, name))
         os.mkdir(os.path.join(self.top, 'dist'))
         self.write('HANDLES', 'Handles allowed: none.\n')

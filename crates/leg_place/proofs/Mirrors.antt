@@ -68,7 +68,6 @@ same_rank a b same = sym (ranked_back a) ∙ ap orient_ranked same ∙ ranked_ba
 
 -- an orientation fits rows of its own, and with Y symmetry those that are it mirrored
 module _ (orient mirrored : Orient) (y_symmetric : Bool) (is_mirrored : IsMirrored orient mirrored) where
-
   pub fits_mirrored : IsTrue y_symmetric → Fits mirrored y_symmetric orient
   fits_mirrored symmetric = inr (symmetric, mirrored_back orient mirrored is_mirrored)
 
