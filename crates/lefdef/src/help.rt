@@ -1,15 +1,18 @@
-//! What `--help` prints.
+//! What `--help` and `--version` print.
 
 use clap::builder::PossibleValue;
 use clap::{Arg, ArgAction, Command};
 use std::alloc::{AllocError, Global};
+
+/// What `--version` prints: the program's name and the version of the file VERSION.
+pub const VERSION: &str = "lefdef 0.9.0\n";
 
 const ABOUT: &str = "Checks, measures, legalises and routes a placed block of standard cells.
 With no arguments it reads one LEF that ends in END LIBRARY and then one DEF from standard input, and runs check.
 lefdef compare BEFORE AFTER LEF... prints what differs between two DEFs.";
 
 const STATUSES: &str = "Exit status:
-  0   the block is legal, the two DEFs are the same, or a design, a wirelength or this help was printed
+  0   the block is legal, the two DEFs are the same, or a design, a wirelength, the version or this help was printed
   1   violations or differences were listed
   2   a text was refused, a LEF length cannot be converted to database units, or a check met too many shapes
   3   the block could not be legalised, routed or finished
@@ -50,15 +53,23 @@ fn program<'a>(alloc: Global, names: &'a [PossibleValue<'a>]) -> Result<Command<
         .num_args(1..)
         .help("The LEF files, in order");
     let help = Arg::new(alloc, "help")
+        .short('h')
         .long("help")
         .action(ArgAction::Help)
         .help("Print this help");
+    let version = Arg::new(alloc, "version")
+        .short('V')
+        .long("version")
+        .action(ArgAction::Version)
+        .help("Print the version");
     Command::new(alloc, "lefdef")
         .about(ABOUT)
         .after_help(STATUSES)
         .disable_help_flag(true)
+        .disable_version_flag(true)
         .arg(command)?
         .arg(def)?
         .arg(lefs)?
-        .arg(help)
+        .arg(help)?
+        .arg(version)
 }

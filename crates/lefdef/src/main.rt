@@ -2,13 +2,13 @@
 //!
 //! `lefdef COMMAND DEF LEF...` reads the files, asks `leg_app` and writes its answer. With no arguments it reads one
 //! LEF that ends in END LIBRARY and then one DEF from standard input, and runs `check`. `lefdef compare BEFORE AFTER LEF...` tells what
-//! differs between two DEFs. `lefdef --help` prints help.
+//! differs between two DEFs. `lefdef --help` prints help, and `lefdef --version` the program's version.
 #![tactic(auto)]
 
 mod help;
 mod rounds;
 
-use help::help_text;
+use help::{VERSION, help_text};
 use leg_app::{
     Asked, CompareLine, FILE_LIMIT, Halt, InputFault, Line, Progress, Reason, RunFault,
     STREAM_LIMIT, Side, Status, asked_by, read_all, run_compare, run_explained, run_help, run_out,
@@ -73,6 +73,7 @@ fn answered<'a, R: Runtime + AllocGlobal, P: Progress>(
     match asked_by(words) {
         Some(Asked::Stream) => on_stream(rt),
         Some(Asked::Help) => on_help(rt),
+        Some(Asked::Version) => on_version(rt),
         Some(Asked::Compare(line)) => on_two_files(rt, &line),
         Some(Asked::Files(line)) => on_files(rt, &line, progress),
         None => Err(Stop::Halt(Halt::Usage, None)),
@@ -84,6 +85,13 @@ fn on_help<R: Runtime + AllocGlobal>(rt: &R) -> Result<Status, Stop<'static>> {
     let help = help_text(rt.alloc())?;
     let mut out = NotingWriter::new(io::writer(rt));
     let ran = run_help(&mut out, help.as_bytes());
+    written(ran, out.error())
+}
+
+// The program's version.
+fn on_version<R: Runtime + AllocGlobal>(rt: &R) -> Result<Status, Stop<'static>> {
+    let mut out = NotingWriter::new(io::writer(rt));
+    let ran = run_help(&mut out, VERSION.as_bytes());
     written(ran, out.error())
 }
 

@@ -1,3 +1,2 @@
 -- Words and places in texts
 mod SplitLemmas
-mod WordsAsked

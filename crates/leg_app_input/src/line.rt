@@ -1,7 +1,7 @@
 //! The words of a command line.
 
-ghost use Rattle.std.specs.Prelude.{◌≡◌, map, option_map, string_bytes, IfSome, IfNone};
-ghost use Rattle.leg_app_input.specs.Line.{command_named, compare_line_of, line_of, Asks, AsksNothing};
+ghost use Rattle.std.specs.Prelude.{◌≡◌, ◌↔◌, IsTrue, map, option_map, string_bytes, IfSome, IfNone};
+ghost use Rattle.leg_app_input.specs.Line.{command_named, compare_line_of, line_of, IsHelpWord, IsVersionWord, Asks, AsksNothing};
 
 use crate::command::Command;
 use std::alloc::Allocator;
@@ -13,6 +13,8 @@ pub enum Asked<'a, A: Allocator> {
     Stream,
     /// What the program can be asked.
     Help,
+    /// Which version of the program it is.
+    Version,
     /// What differs between two DEFs.
     Compare(CompareLine<'a, A>),
     /// A command on files.
@@ -41,20 +43,36 @@ pub struct Line<'a, A: Allocator> {
     pub lefs: &'a [String<A>],
 }
 
-/// What the words after the program's name ask: standard input where there are none, help where the one word is `--help`,
-/// and else what `compare_line_of` or `line_of` returns. None where they ask for nothing. It takes no memory.
+/// What the words after the program's name ask: standard input where there are none, help where the one word is `--help` or `-h`, the
+/// version where it is `--version` or `-V`, and else what `compare_line_of` or `line_of` returns. None where they ask for nothing. It takes
+/// no memory.
 pub fn asked_by<A: Allocator>(words: &[String<A>]) -> Option<Asked<'_, A>>
     ensures found { IfSome result (λ asked. Asks (map string_bytes words.now) asked) }
     ensures none { IfNone result (AsksNothing (map string_bytes words.now)) }
 {
     match words {
         [] => Some(Asked::Stream),
-        [word] if word.as_str() == "--help" => Some(Asked::Help),
+        [word] if is_help_word(word.as_str()) => Some(Asked::Help),
+        [word] if is_version_word(word.as_str()) => Some(Asked::Version),
         _ => match compare_line_of(words) {
             Some(line) => Some(Asked::Compare(line)),
             None => Some(Asked::Files(line_of(words)?)),
         },
     }
+}
+
+/// Whether the word asks for help.
+fn is_help_word(word: &str) -> bool
+    ensures { IsTrue result ↔ IsHelpWord word.now }
+{
+    word == "--help" || word == "-h"
+}
+
+/// Whether the word asks for the program's version.
+fn is_version_word(word: &str) -> bool
+    ensures { IsTrue result ↔ IsVersionWord word.now }
+{
+    word == "--version" || word == "-V"
 }
 
 /// What the words after the program's name ask: `compare`, two DEFs, and one LEF or more. None where the words are others.

@@ -158,15 +158,23 @@ fn ask_for_help(words: &[String]) -> bool {
     matches!(asked_by(words), Some(Asked::Help))
 }
 
+fn ask_for_the_version(words: &[String]) -> bool {
+    matches!(asked_by(words), Some(Asked::Version))
+}
+
 fn ask_for_nothing(words: &[String]) -> bool {
     asked_by(words).is_none()
 }
 
 #[test]
-fn words_ask_for_a_stream_for_help_or_for_nothing(rt: HostRuntime) {
+fn words_ask_for_a_stream_for_help_for_the_version_or_for_nothing(rt: HostRuntime) {
     assert!(rt;
         passes(rt.alloc(), &[], ask_for_a_stream)
             && passes(rt.alloc(), &["--help"], ask_for_help)
+            && passes(rt.alloc(), &["-h"], ask_for_help)
+            && passes(rt.alloc(), &["--version"], ask_for_the_version)
+            && passes(rt.alloc(), &["-V"], ask_for_the_version)
+            && passes(rt.alloc(), &["-v"], ask_for_nothing)
             && passes(rt.alloc(), &["--help", "check"], ask_for_nothing)
             && passes(rt.alloc(), &["check"], ask_for_nothing)
     );
