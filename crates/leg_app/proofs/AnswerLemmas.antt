@@ -62,7 +62,7 @@ nothing_there f None e = refl
 nothing_there f (Some x) e = absurd (false≢true (sym e))
 
 -- violations that are listed, or told to be none, are an answer where they are all that the command lists
-pub listed_answer : (command : Command) (lefs : List (List ℕ)) (def : List ℕ) (library : LibraryModel) (design : DesignModel) (flat : Option FlatModel) (violations : List Fault) (status : Status) (text : List ℕ) → DenoteDesign lefs def library design → IsShown command design flat → IsListOf (Lists command library design) violations → IsListing design flat violations status text → IsAnswer command lefs def status text
+pub listed_answer : (command : Command) (lefs : List (List ℕ)) (def : List ℕ) (library : LibraryModel) (design : DesignModel) (flat : Option FlatModel) (violations : List Fault) (status : Status) (text : List ℕ) → DenoteDesign lefs def library design → IsShown command design flat → IsListOf (Lists command design) violations → IsListing design flat violations status text → IsAnswer command lefs def status text
 listed_answer command lefs def library design flat violations Success text say shown list listed =
     inl (record { library = library; design = design; flat = flat; violations = violations; say = say; shown = shown; list = list; is = listed })
 listed_answer command lefs def library design flat violations Violations text say shown list listed =

@@ -52,8 +52,8 @@ module _ (lefs : List (List ℕ)) (def : List ℕ) where
       let same : library ≡ other = one library other p.under q.under in
       (same, says_one (design_in other) def a b (subst (λ l. Denotes (design_in l) def a) same p.said) q.said)
 
-pub one_list_of_design : (library : LibraryModel) (design : DesignModel) (a b : List Fault) → AreAllViolations library design a → AreAllViolations library design b → a ≡ b
-one_list_of_design library design a b p q = one_list (IsViolation library design) a b p.list q.list
+pub one_list_of_design : (design : DesignModel) (a b : List Fault) → AreAllViolations design a → AreAllViolations design b → a ≡ b
+one_list_of_design design a b p q = one_list (IsViolation design) a b p.list q.list
 
 -- these texts say one design at most
 abbrev pub SayOneDesign : List (List ℕ) → List ℕ → Type 0
@@ -62,8 +62,8 @@ SayOneDesign lefs def = (library other : LibraryModel) (a b : DesignModel) → D
 pub one_list_of_texts : (lefs : List (List ℕ)) (def : List ℕ) → SayOneDesign lefs def → (a b : List Fault) → AreViolationsOf lefs def a → AreViolationsOf lefs def b → a ≡ b
 one_list_of_texts lefs def one a b p q =
     let same = one p.library q.library p.design q.design p.say q.say in
-    let all : AreAllViolations q.library q.design a = subst (λ d. AreAllViolations q.library d a) same.1 (subst (λ l. AreAllViolations l p.design a) same.0 p.all) in
-    one_list_of_design q.library q.design a b all q.all
+    let all : AreAllViolations q.design a = subst (λ d. AreAllViolations d a) same.1 p.all in
+    one_list_of_design q.design a b all q.all
 
 -- one flat is shown
 one_shown : (command : Command) (design : DesignModel) (f g : Option FlatModel) → IsShown command design f → IsShown command design g → f ≡ g
@@ -101,8 +101,8 @@ module _ (command : Command) (lefs : List (List ℕ)) (def : List ℕ) (one : Sa
       let same = one p.library q.library p.design q.design p.say q.say in
       let shown : IsShown command q.design p.flat = subst (λ d. IsShown command d p.flat) same.1 p.shown in
       let flats : p.flat ≡ q.flat = one_shown command q.design p.flat q.flat shown q.shown in
-      let list : IsListOf (Lists command q.library q.design) p.violations = subst (λ d. IsListOf (Lists command q.library d) p.violations) same.1 (subst (λ l. IsListOf (Lists command l p.design) p.violations) same.0 p.list) in
-      let violations : p.violations ≡ q.violations = one_list (Lists command q.library q.design) p.violations q.violations list q.list in
+      let list : IsListOf (Lists command q.design) p.violations = subst (λ d. IsListOf (Lists command d) p.violations) same.1 p.list in
+      let violations : p.violations ≡ q.violations = one_list (Lists command q.design) p.violations q.violations list q.list in
       let of_design : IsListing q.design p.flat p.violations status text = subst (λ d. IsListing d p.flat p.violations status text) same.1 p.is in
       let of_flat : IsListing q.design q.flat p.violations status text = subst (λ f. IsListing q.design f p.violations status text) flats of_design in
       let of_list : IsListing q.design q.flat q.violations status text = subst (λ vs. IsListing q.design q.flat vs status text) violations of_flat in

@@ -64,7 +64,7 @@ module _ (one_answer : HasOneAnswer) (lefs : List (List ℕ)) (text : List ℕ) 
         violations = [];
         say = say;
         shown = legal.judged;
-        list = none_listed (IsViolation design.library design) legal.none;
+        list = none_listed (IsViolation design) legal.none;
         is = (refl, refl);
       }))
 

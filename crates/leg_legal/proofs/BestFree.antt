@@ -147,7 +147,7 @@ module _ (design : DesignModel) (done : List ℕ) where
   record IsInTheWay (box : RectModel) (d : ℕ) : Type 0 where
     settled : IsSettled design done d
     other : RectModel
-    stands : HasBox design.library design d other
+    stands : HasBox design d other
     shared : ShareSquare other box
 
   in_the_way_or_not : (box : RectModel) (d : ℕ) → HoldsOrNot (IsInTheWay box d)

@@ -23,7 +23,7 @@ use Rattle.leg_legal.proofs.RowTests.{some_element, on_row_or_not}
 
 module _ (design : DesignModel) where
   -- a component is in a box, or in none
-  pub box_or_not : (c : ℕ) → HoldsOrNot ((box : RectModel) × HasBox design.library design c box)
+  pub box_or_not : (c : ℕ) → HoldsOrNot ((box : RectModel) × HasBox design c box)
   box_or_not c =
       elim (there_or_not design.components c) [
         | inr none ↦ inr (λ (box, s). none (s.component, s.there))
@@ -34,7 +34,7 @@ module _ (design : DesignModel) where
       ]
 
   -- and in one alone
-  pub one_box : (c : ℕ) (a b : RectModel) → HasBox design.library design c a → HasBox design.library design c b → a ≡ b
+  pub one_box : (c : ℕ) (a b : RectModel) → HasBox design c a → HasBox design c b → a ≡ b
   one_box c a b s t =
       let same : s.component ≡ t.component = same_Some s.component t.component (sym s.there ∙ t.there) in
       same_Some a b (sym (rw same at s.placed) ∙ t.placed)
@@ -52,7 +52,7 @@ module _ (design : DesignModel) where
         none_is None none = refl
         none_is (Some place) none = absurd (none (place, refl))
 
-  outside_or_not : (c : ℕ) → HoldsOrNot (IsOutside design.library design c)
+  outside_or_not : (c : ℕ) → HoldsOrNot (IsOutside design c)
   outside_or_not c =
       elim (box_or_not c) [
         | inr none ↦ inr (λ o. none (o.box, o.stands))
@@ -62,7 +62,7 @@ module _ (design : DesignModel) where
         ]
       ]
 
-  overlap_or_not : (a b : ℕ) → HoldsOrNot (DoOverlap design.library design a b)
+  overlap_or_not : (a b : ℕ) → HoldsOrNot (DoOverlap design a b)
   overlap_or_not a b =
       elim (less_or_not a b) [
         | inr not_less ↦ inr (λ o. not_less o.in_order)
@@ -85,7 +85,7 @@ module _ (design : DesignModel) where
   pub meets_or_not : (box : RectModel) → HoldsOrNot ((rect : RectModel) × Contains (placement_rects design.blockages) rect × ShareSquare box rect)
   meets_or_not box = some_element (ShareSquare box) (placement_rects design.blockages) (λ rect has. share_or_not box rect)
 
-  blocked_or_not : (c : ℕ) → HoldsOrNot (IsBlocked design.library design c)
+  blocked_or_not : (c : ℕ) → HoldsOrNot (IsBlocked design c)
   blocked_or_not c =
       elim (movable_or_not design c) [
         | inr stays ↦ inr (λ b. stays b.movable)
@@ -101,7 +101,7 @@ module _ (design : DesignModel) where
       ]
 
   module _ (sound : HasSoundRows design) where
-    off_site_or_not : (c : ℕ) → HoldsOrNot (IsOffSite design.library design c)
+    off_site_or_not : (c : ℕ) → HoldsOrNot (IsOffSite design c)
     off_site_or_not c =
         elim (there_or_not design.components c) [
           | inr none ↦ inr (λ o. none (o.component, o.there))
@@ -109,7 +109,7 @@ module _ (design : DesignModel) where
         ] where
           on_some_row : (component : Component) (place : Place) (master : MasterModel) (number : ℕ) → slice_get design.components c ≡ Some component
               → component.place ≡ Some place → slice_get design.library.masters component.master ≡ Some master → master.site ≡ Some number
-              → HoldsOrNot (IsOffSite design.library design c)
+              → HoldsOrNot (IsOffSite design c)
           on_some_row component place master number there placed is_master site =
               elim (some_element (IsOnRow design.library master number place) design.rows (on_row_or_not design sound master number place)) [
                 | inr none ↦ inl (record {
@@ -132,7 +132,7 @@ module _ (design : DesignModel) where
               ]
 
           sited : (component : Component) (place : Place) (master : MasterModel) → slice_get design.components c ≡ Some component
-              → component.place ≡ Some place → slice_get design.library.masters component.master ≡ Some master → HoldsOrNot (IsOffSite design.library design c)
+              → component.place ≡ Some place → slice_get design.library.masters component.master ≡ Some master → HoldsOrNot (IsOffSite design c)
           sited component place master there is is_master =
               elim (some_or_not master.site) [
                 | inl (number, site) ↦ on_some_row component place master number there is is_master site
@@ -142,7 +142,7 @@ module _ (design : DesignModel) where
                     none (o.number, rw master_is at o.site))
               ]
 
-          mastered : (component : Component) (place : Place) → slice_get design.components c ≡ Some component → component.place ≡ Some place → HoldsOrNot (IsOffSite design.library design c)
+          mastered : (component : Component) (place : Place) → slice_get design.components c ≡ Some component → component.place ≡ Some place → HoldsOrNot (IsOffSite design c)
           mastered component place there is =
               elim (there_or_not design.library.masters component.master) [
                 | inl (master, is_master) ↦ sited component place master there is is_master
@@ -151,7 +151,7 @@ module _ (design : DesignModel) where
                     none (o.master, rw one at o.is_master))
               ]
 
-          placed : (component : Component) → slice_get design.components c ≡ Some component → HoldsOrNot (IsOffSite design.library design c)
+          placed : (component : Component) → slice_get design.components c ≡ Some component → HoldsOrNot (IsOffSite design c)
           placed component there =
               elim (some_or_not component.place) [
                 | inl (place, is) ↦ mastered component place there is
@@ -161,15 +161,15 @@ module _ (design : DesignModel) where
               ]
 
     -- a violation of placement holds or not
-    pub holds_or_not : (fault : Fault) → HoldsOrNot (IsPlacementViolation design.library design fault)
-    holds_or_not (Unplaced c) = by_other (λ h. unplaced h) (unplaced_there design.library design c) (unplaced_or_not c)
-    holds_or_not (Outside c) = by_other (λ h. outside h) (outside_there design.library design c) (outside_or_not c)
-    holds_or_not (OffSite c) = by_other (λ h. off_site h) (off_site_there design.library design c) (off_site_or_not c)
-    holds_or_not (Overlap a b) = by_other (λ h. overlap h) (overlap_there design.library design a b) (overlap_or_not a b)
-    holds_or_not (Blocked c) = by_other (λ h. blocked h) (blocked_there design.library design c) (blocked_or_not c)
-    holds_or_not (Short a b) = inr (λ h. let below = kind_below design.library design (Short a b) h in omega arith)
-    holds_or_not (TooNear a b) = inr (λ h. let below = kind_below design.library design (TooNear a b) h in omega arith)
-    holds_or_not (OpenNet n k) = inr (λ h. let below = kind_below design.library design (OpenNet n k) h in omega arith)
+    pub holds_or_not : (fault : Fault) → HoldsOrNot (IsPlacementViolation design fault)
+    holds_or_not (Unplaced c) = by_other (λ h. unplaced h) (unplaced_there design c) (unplaced_or_not c)
+    holds_or_not (Outside c) = by_other (λ h. outside h) (outside_there design c) (outside_or_not c)
+    holds_or_not (OffSite c) = by_other (λ h. off_site h) (off_site_there design c) (off_site_or_not c)
+    holds_or_not (Overlap a b) = by_other (λ h. overlap h) (overlap_there design a b) (overlap_or_not a b)
+    holds_or_not (Blocked c) = by_other (λ h. blocked h) (blocked_there design c) (blocked_or_not c)
+    holds_or_not (Short a b) = inr (λ h. let below = kind_below design (Short a b) h in omega arith)
+    holds_or_not (TooNear a b) = inr (λ h. let below = kind_below design (TooNear a b) h in omega arith)
+    holds_or_not (OpenNet n k) = inr (λ h. let below = kind_below design (OpenNet n k) h in omega arith)
 
     stays_or_not : (c : ℕ) → HoldsOrNot (IsMovable design c → ⊥)
     stays_or_not c = never_or_not (movable_or_not design c)

@@ -80,10 +80,10 @@ module _ (before : DesignModel) (components : List Component)
   abbrev others_moved : DesignModel
   others_moved = record before { components = components }
 
-  stands_still : (c : ℕ) (box : RectModel) → (IsMovable before c → ⊥) → HasBox before.library before c box → HasBox before.library others_moved c box
+  stands_still : (c : ℕ) (box : RectModel) → (IsMovable before c → ⊥) → HasBox before c box → HasBox others_moved c box
   stands_still c box still s = record { component = s.component; there = stays c still ∙ s.there; placed = s.placed }
 
-  holds_still : (v : Fault) → IsPlacementViolation before.library before v → ConcernsStaying before v → IsPlacementViolation before.library (record before { components = components }) v
+  holds_still : (v : Fault) → IsPlacementViolation before v → ConcernsStaying before v → IsPlacementViolation (record before { components = components }) v
   holds_still v (unplaced {c = c} h) still = unplaced (record { component = h.component; there = stays c still ∙ h.there; unplaced = h.unplaced })
   holds_still v (outside {c = c} h) still =
       outside (record { box = h.box; stands = stands_still c h.box still h.stands; square = h.square; inside = h.inside; outside = h.outside })
@@ -114,7 +114,7 @@ module _ (before : DesignModel) (components : List Component)
 never_legal : (before after : DesignModel) → IsSameButForPlaces before after → IsLegallyPlaced after → NoneStaying before
 never_legal before after same legal v h =
     legal v
-    (subst (λ (d : DesignModel). IsPlacementViolation d.library d v) (sym same.rest)
+    (subst (λ (d : DesignModel). IsPlacementViolation d v) (sym same.rest)
     (holds_still before after.components same.stays v h.holds h.staying))
 
 -- a movable component that stands on sites fits a row, wherever others are

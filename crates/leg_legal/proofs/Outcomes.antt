@@ -194,13 +194,13 @@ module _ (design : DesignModel) (proper : IsWellFormed design) (sound : IsSound 
         )
       ]
 
-  legal_from_none : (faults : List Fault) → IsListOf (IsPlacementViolation design.library design) faults → HoldsOrNot (IsLegallyPlaced design)
+  legal_from_none : (faults : List Fault) → IsListOf (IsPlacementViolation design) faults → HoldsOrNot (IsLegallyPlaced design)
   legal_from_none [] list = inl (λ fault holds. Contains-nil fault (list.all fault holds))
-  legal_from_none (fault ∷ faults) list = inr (λ legal. legal fault (All-head (IsPlacementViolation design.library design) fault faults list.each))
+  legal_from_none (fault ∷ faults) list = inr (λ legal. legal fault (All-head (IsPlacementViolation design) fault faults list.each))
 
   legal_or_not : HoldsOrNot (IsLegallyPlaced design)
   legal_or_not =
-      let found = list_of design (IsPlacementViolation design.library design) (λ fault h. h) (holds_or_not design rows) in
+      let found = list_of design (IsPlacementViolation design) (λ fault h. h) (holds_or_not design rows) in
       legal_from_none found.0 found.1
 
   module _ {A : Type 0} where

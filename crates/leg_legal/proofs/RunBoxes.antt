@@ -76,7 +76,7 @@ module _ (design : DesignModel) where
         | inl earlier ↦ Contains-append_left k.boxes (rect ∷ []) box ((k.staying box).1 (record { d = s.d; below = earlier; staying = s.staying }))
         | inr late ↦
             let here_is : s.d ≡ i = omega (arith, s.below, late) in
-            let in_box : HasBox design.library design i box = rw here_is at s.staying.stands in
+            let in_box : HasBox design i box = rw here_is at s.staying.stands in
             let one_is : in_box.component ≡ component = same_Some in_box.component component (sym in_box.there ∙ there) in
             let told : box_of design.library component ≡ Some box = subst (λ (x : Component). box_of design.library x ≡ Some box) one_is in_box.placed in
             let same : rect ≡ box = same_Some rect box (sym is ∙ told) in
@@ -245,7 +245,7 @@ module _ (design : DesignModel) (done : List ℕ) (now : DesignModel) (run : Leg
     abbrev moved : DesignModel
     moved = moved_to now c component place
 
-    stands_here : (box : RectModel) → rect ≡ box → HasBox now.library moved c box
+    stands_here : (box : RectModel) → rect ≡ box → HasBox moved c box
     stands_here box same = record {
       component = placed_at component place;
       there = here now c component place there_now;
@@ -277,7 +277,7 @@ module _ (design : DesignModel) (done : List ℕ) (now : DesignModel) (run : Leg
     in_boxes box (inl t) =
         elim (cases_eq t.d c) [
           | inl same ↦
-              let in_box : HasBox now.library moved c box = rw same at t.stands in
+              let in_box : HasBox moved c box = rw same at t.stands in
               let is : box ≡ rect = box_here now c component place there_now master box is_master in_box in
               rw is (Contains-push known.boxes rect)
           | inr apart ↦

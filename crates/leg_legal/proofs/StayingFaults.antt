@@ -57,7 +57,7 @@ module _ (design : DesignModel) where
 
   -- where the marks tell which components stay, a violation tells marked ones alone just where it concerns only such
   module _ (marks : List Bool) (are : AreMarksBelow design (length design.components) marks) where
-    staying_of : (v : Fault) → IsPlacementViolation design.library design v → NamesOnlyMarked marks v → ConcernsStaying design v
+    staying_of : (v : Fault) → IsPlacementViolation design v → NamesOnlyMarked marks v → ConcernsStaying design v
     staying_of v (unplaced {c = c} h) told = (are.each c (slice_get_within design.components c h.component h.there)).0 told
     staying_of v (outside {c = c} h) told = (are.each c (slice_get_within design.components c h.stands.component h.stands.there)).0 told
     staying_of v (off_site {c = c} h) told = (are.each c (slice_get_within design.components c h.component h.there)).0 told
@@ -67,7 +67,7 @@ module _ (design : DesignModel) where
     )
     staying_of v (blocked {c = c} h) told = (are.each c (slice_get_within design.components c h.stands.component h.stands.there)).0 told
 
-    marked_of : (v : Fault) → IsPlacementViolation design.library design v → ConcernsStaying design v → NamesOnlyMarked marks v
+    marked_of : (v : Fault) → IsPlacementViolation design v → ConcernsStaying design v → NamesOnlyMarked marks v
     marked_of v (unplaced {c = c} h) stays = (are.each c (slice_get_within design.components c h.component h.there)).1 stays
     marked_of v (outside {c = c} h) stays = (are.each c (slice_get_within design.components c h.stands.component h.stands.there)).1 stays
     marked_of v (off_site {c = c} h) stays = (are.each c (slice_get_within design.components c h.component h.there)).1 stays
@@ -78,11 +78,11 @@ module _ (design : DesignModel) where
     marked_of v (blocked {c = c} h) stays = (are.each c (slice_get_within design.components c h.stands.component h.stands.there)).1 stays
 
     -- so the list of the ones is that of the others
-    pub staying_list : (faults : List Fault) → IsListOf (HoldsAmong design.library design marks) faults → IsListOf (HoldsOfStaying design) faults
+    pub staying_list : (faults : List Fault) → IsListOf (HoldsAmong design marks) faults → IsListOf (HoldsOfStaying design) faults
     staying_list faults list = record {
       increasing = list.increasing;
       each =
-          All-weaker (HoldsAmong design.library design marks) (HoldsOfStaying design)
+          All-weaker (HoldsAmong design marks) (HoldsOfStaying design)
           (λ v held. record { holds = held.holds; staying = staying_of v held.holds held.marked }) faults list.each;
       all = λ v held. list.all v (record { holds = held.holds; marked = marked_of v held.holds held.staying });
     }

@@ -38,7 +38,7 @@ module _ (before after : DesignModel) (order : List ℕ) (is_order : IsOrderOfTa
         | inr stays ↦ inl stays
       ]
 
-  all_concerned : (fault : Fault) → IsPlacementViolation after.library after fault → ConcernsSettled after order fault
+  all_concerned : (fault : Fault) → IsPlacementViolation after fault → ConcernsSettled after order fault
   all_concerned v (unplaced {c = c} h) = all_settled c
   all_concerned v (outside {c = c} h) = all_settled c
   all_concerned v (off_site {c = c} h) = all_settled c

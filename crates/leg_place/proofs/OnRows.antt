@@ -83,7 +83,7 @@ pub on_no_row : (design : DesignModel) (master : MasterModel) (number : ℕ) (pl
 on_no_row design master number place beyond some = omega (arith, beyond, slice_get_within design.library.sites number some.on.site some.on.there)
 
 module _ (design : DesignModel) (c : ℕ) (component : Component) (there : slice_get design.components c ≡ Some component) where
-  placed_of : (off : IsOffSite design.library design c) → component.place ≡ Some off.place
+  placed_of : (off : IsOffSite design c) → component.place ≡ Some off.place
   placed_of off =
       let same : off.component ≡ component = same_Some off.component component (sym off.there ∙ there) in
       rw same at off.placed
@@ -91,13 +91,13 @@ module _ (design : DesignModel) (c : ℕ) (component : Component) (there : slice
 -- whether a component is off its sites, by its macro
 module _ (design : DesignModel) (c : ℕ) (component : Component) (there : slice_get design.components c ≡ Some component)
     (master : MasterModel) (is_master : slice_get design.library.masters component.master ≡ Some master) where
-  master_of : (off : IsOffSite design.library design c) → off.master ≡ master
+  master_of : (off : IsOffSite design c) → off.master ≡ master
   master_of off =
       let same : off.component ≡ component = same_Some off.component component (sym off.there ∙ there) in
       same_Some off.master master (sym (rw same at off.is_master) ∙ is_master)
 
   -- where the macro has a site, by a test of the rows
-  pub off_site_test : (place : Place) (number : ℕ) (b : Bool) → component.place ≡ Some place → master.site ≡ Some number → IsTrue b ↔ IsOnSomeRow design master number place → IsTrue (not b) ↔ IsOffSite design.library design c
+  pub off_site_test : (place : Place) (number : ℕ) (b : Bool) → component.place ≡ Some place → master.site ≡ Some number → IsTrue b ↔ IsOnSomeRow design master number place → IsTrue (not b) ↔ IsOffSite design c
   off_site_test place number true placed site test = (
     λ t. absurd (false≢true t),
     λ off.
@@ -123,5 +123,5 @@ module _ (design : DesignModel) (c : ℕ) (component : Component) (there : slice
   )
 
   -- a component of a macro without a site isn't
-  pub on_no_site : master.site ≡ None → IsOffSite design.library design c → ⊥
+  pub on_no_site : master.site ≡ None → IsOffSite design c → ⊥
   on_no_site none off = none-some off.number (sym none ∙ (rw (master_of off) at off.site))

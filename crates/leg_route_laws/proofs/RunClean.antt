@@ -4,7 +4,6 @@ use Rattle.std.proofs.lemmas.Int.{ints}
 use Rattle.leg_geom.specs.Plane.{PointModel, RectModel}
 use Rattle.leg_geom.specs.Orientation.{moved, ComesFrom}
 use Rattle.leg_lib_records.specs.Scale.{IsEven}
-use Rattle.leg_lib_records.specs.Records.{LibraryModel}
 use Rattle.leg_design_records.specs.Records.{DesignModel}
 use Rattle.leg_design_records.specs.declared.records.Wire.TheVariants.{Segment, Patch}
 use Rattle.leg_rules.specs.Metal.Outline.{IsAlong, IsAcross, HasPointOf}
@@ -54,31 +53,31 @@ moved_about reach a p q =
     let top = q.in_r.top in
     record { left = omega (arith, ints); right = omega (arith, ints); bottom = omega (arith, ints); top = omega (arith, ints) }
 
-module _ (library : LibraryModel) (design : DesignModel) (flat : FlatModel) (net layer : ℕ) (width reach : ℤ) where
+module _ (design : DesignModel) (flat : FlatModel) (net layer : ℕ) (width reach : ℤ) where
   abbrev HasCleanLine : PointModel → PointModel → Type 0
-  HasCleanLine a b = HasCleanRect library flat net layer (line width reach a b)
+  HasCleanLine a b = HasCleanRect design.library flat net layer (line width reach a b)
 
-  lies : (p : PointModel) (from : PointModel) (spots : List PointModel) → EachStep HasCleanLine from spots → SomeStep (λ a b. HasPointOf (line width reach a b) p) from spots → LiesInClean library flat net layer p
+  lies : (p : PointModel) (from : PointModel) (spots : List PointModel) → EachStep HasCleanLine from spots → SomeStep (λ a b. HasPointOf (line width reach a b) p) from spots → LiesInClean design.library flat net layer p
   lies p from [] each some = absurd some
   lies p from (to ∷ spots) each (inl here) = record { rect = each.0.rect; clean = each.0.clean; inside = each.0.covers p here }
   lies p from (to ∷ spots) each (inr later) = lies p to spots each.1 later
 
   pub run_rect : (from : PointModel) (spots : List PointModel) (rect : RectModel) → pos 0 ≤ℤ reach → AreInLine from spots → from ≢ last_spot from spots
-      → EachStep HasCleanLine from spots → IsRectOf (line width reach from (last_spot from spots)) rect → IsClean library flat net layer rect
+      → EachStep HasCleanLine from spots → IsRectOf (line width reach from (last_spot from spots)) rect → IsClean design.library flat net layer rect
   run_rect from spots rect some in_line differ each is =
-      covered library flat net layer rect
+      covered design.library flat net layer rect
       (λ p inside. lies p from spots each (some_step width reach some p from spots in_line differ ((is p).0 inside)))
 
   pub run_wire : (from : PointModel) (spots : List PointModel) → pos 0 ≤ℤ reach → AreInLine from spots → from ≢ last_spot from spots
-      → EachStep HasCleanLine from spots → IsCleanWire library design flat net (Segment layer from (last_spot from spots) width reach reach)
+      → EachStep HasCleanLine from spots → IsCleanWire design flat net (Segment layer from (last_spot from spots) width reach reach)
   run_wire from spots some in_line differ each metal rect there is =
       let whole : OnLayer = record { layer = layer; outline = line width reach from (last_spot from spots) } in
       let same : whole ≡ metal = the_only whole metal there in
       let points : IsRectOf whole.outline rect = subst (λ (m : OnLayer). IsRectOf m.outline rect) (sym same) is in
-      subst (λ (m : OnLayer). IsClean library flat net m.layer rect) same (run_rect from spots rect some in_line differ each points)
+      subst (λ (m : OnLayer). IsClean design.library flat net m.layer rect) same (run_rect from spots rect some in_line differ each points)
 
   -- a wire between two points has a rectangle
-  line_clean : IsEven width → (a b : PointModel) → a ≢ b → (a.y ≡ b.y) ⊎ (a.x ≡ b.x) → IsCleanWire library design flat net (Segment layer a b width reach reach) → HasCleanLine a b
+  line_clean : IsEven width → (a b : PointModel) → a ≢ b → (a.y ≡ b.y) ⊎ (a.x ≡ b.x) → IsCleanWire design flat net (Segment layer a b width reach reach) → HasCleanLine a b
   line_clean even a b differ in_line clean =
       let it = line_rect width reach even a b differ in_line in
       record {
@@ -88,7 +87,7 @@ module _ (library : LibraryModel) (design : DesignModel) (flat : FlatModel) (net
       }
 
   abbrev IsCleanStep : PointModel → PointModel → Type 0
-  IsCleanStep a b = IsCleanWire library design flat net (Segment layer a b width reach reach)
+  IsCleanStep a b = IsCleanWire design flat net (Segment layer a b width reach reach)
 
   level_clean : IsEven width → (from : PointModel) (spots : List PointModel) → EachStep (λ a b. a.y ≡ b.y) from spots → EachStep (λ a b. a ≢ b) from spots → EachStep IsCleanStep from spots → EachStep HasCleanLine from spots
   level_clean even from [] level apart each = tt
@@ -127,15 +126,15 @@ module _ (reach : ℤ) (a b : PointModel) (differ : a ≢ b) (p : PointModel) wh
       inr (record { upright = upright; along = along_last reach a.y b.y p.y (λ same. differ (same_spot a b upright same)) m.bottom m.top; across = subst (λ x. IsAcross x (reach +ℤ reach) p.x) (sym upright) (across_middle reach b.x p.x m.left m.right) })
 
 -- the squares at both ends of a clean line are clean
-pub ends_clean : (library : LibraryModel) (design : DesignModel) (flat : FlatModel) (net layer : ℕ) (reach : ℤ) (a b : PointModel) → a ≢ b → (a.y ≡ b.y) ⊎ (a.x ≡ b.x)
-    → IsCleanWire library design flat net (Segment layer a b (reach +ℤ reach) reach reach)
-    → IsCleanWire library design flat net (Patch layer a (square_of_reach reach)) × IsCleanWire library design flat net (Patch layer b (square_of_reach reach))
-ends_clean library design flat net layer reach a b differ in_line clean =
+pub ends_clean : (design : DesignModel) (flat : FlatModel) (net layer : ℕ) (reach : ℤ) (a b : PointModel) → a ≢ b → (a.y ≡ b.y) ⊎ (a.x ≡ b.x)
+    → IsCleanWire design flat net (Segment layer a b (reach +ℤ reach) reach reach)
+    → IsCleanWire design flat net (Patch layer a (square_of_reach reach)) × IsCleanWire design flat net (Patch layer b (square_of_reach reach))
+ends_clean design flat net layer reach a b differ in_line clean =
     (end_clean a (λ p has. from_first reach a b differ p in_line has), end_clean b (λ p has. from_last reach a b differ p in_line has))
   where
-    end_clean : (c : PointModel) → ((p : PointModel) → HasPointOf (Shifted c (square_of_reach reach)) p → HasPointOf (line (reach +ℤ reach) reach a b) p) → IsCleanWire library design flat net (Patch layer c (square_of_reach reach))
+    end_clean : (c : PointModel) → ((p : PointModel) → HasPointOf (Shifted c (square_of_reach reach)) p → HasPointOf (line (reach +ℤ reach) reach a b) p) → IsCleanWire design flat net (Patch layer c (square_of_reach reach))
     end_clean c inside =
-        let has = line_clean library design flat net layer (reach +ℤ reach) reach (reach, refl) a b differ in_line clean in
-        let square_has : HasCleanRect library flat net layer (Shifted c (square_of_reach reach)) = record { rect = has.rect; covers = λ p of. has.covers p (inside p of); clean = has.clean } in
-        clean_wire library design flat net (Patch layer c (square_of_reach reach)) (λ metal there.
-        subst (λ (m : OnLayer). HasCleanRect library flat net m.layer m.outline) (the_only (record { layer = layer; outline = Shifted c (square_of_reach reach) }) metal there) square_has)
+        let has = line_clean design flat net layer (reach +ℤ reach) reach (reach, refl) a b differ in_line clean in
+        let square_has : HasCleanRect design.library flat net layer (Shifted c (square_of_reach reach)) = record { rect = has.rect; covers = λ p of. has.covers p (inside p of); clean = has.clean } in
+        clean_wire design flat net (Patch layer c (square_of_reach reach)) (λ metal there.
+        subst (λ (m : OnLayer). HasCleanRect design.library flat net m.layer m.outline) (the_only (record { layer = layer; outline = Shifted c (square_of_reach reach) }) metal there) square_has)

@@ -27,7 +27,7 @@ ConcernsStaying design (OpenNet n k) = ⊥
 
 -- a violation of placement holds, and no component that moves can mend it
 pub record HoldsOfStaying (design : DesignModel) (fault : Fault) : Type 0 where
-  pub holds : IsPlacementViolation design.library design fault
+  pub holds : IsPlacementViolation design fault
   pub staying : ConcernsStaying design fault
 
 -- no violation holds that concerns only components that stay
