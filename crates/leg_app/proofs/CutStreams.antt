@@ -28,9 +28,6 @@ begins (n ∷ ns) (t ∷ ts) =
     ]
 
 module _ (needle : List ℕ) where
-  Stands : List ℕ → List ℕ → Type 0
-  Stands before text = (after : List ℕ) × (text ≡ before ++ needle ++ after)
-
   -- where the needle stands first
   record First (text : List ℕ) : Type 0 where
     before : List ℕ

@@ -1,7 +1,7 @@
 -- Lists of violations of some kinds, one behind the other, are the list of all.
-use Rattle.std.proofs.Common.{◌≡◌, ◌<◌, ◌≤◌, List, [], ◌++◌, ◌⊎◌, inl, inr, Contains, subst, arith}
+use Rattle.std.proofs.Common.{◌≡◌, ◌<◌, ◌≤◌, List, ◌++◌, ◌⊎◌, inl, inr, subst, arith}
 use Rattle.std.proofs.lemmas.List.Elements.{All-append, All-weaker, Contains-append_left, Contains-append_right}
-use Rattle.leg_sweep.proofs.Lists.{AllPairs-append_by, Contains-nil}
+use Rattle.leg_sweep.proofs.Lists.{AllPairs-append_by}
 use Rattle.leg_lib_records.specs.Records.{LibraryModel}
 use Rattle.leg_design_records.specs.Records.{DesignModel}
 use Rattle.leg_design_records.specs.declared.fault.Fault.{Fault}
@@ -83,7 +83,3 @@ module _ (design : DesignModel) (flat : FlatModel) (is_flat : IsFlatOf design fl
       (λ v h. elim h [ inl p ↦ inl p | inr m ↦ inr (record { flat = flat; is_flat = is_flat; holds = m }) ])
       (λ v h. elim h [ inl p ↦ inl p | inr m ↦ inr (in_this_flat v m) ])
       (both_lists (IsPlacementViolation design) (IsInFlat design flat) xs (ys ++ zs) placement_first placed metal)
-
--- where the list is empty none holds
-pub none_holds : (Holds : Fault → Type 0) (faults : List Fault) → IsListOf Holds faults → faults ≡ [] → (fault : Fault) → ¬ Holds fault
-none_holds Holds faults list none fault holds = Contains-nil fault (subst (λ fs. Contains fs fault) none (list.all fault holds))

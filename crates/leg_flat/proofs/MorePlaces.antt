@@ -40,9 +40,6 @@ not_before ts i t once less there =
     once j i d before less (sym it ∙ there ∙ get_or_default ts i t d less)))
 
 module _ (net : ℕ) (ts : List Terminal) (i : ℕ) (t : Terminal) (before after : List (Terminal × (ℕ × ℕ))) (pieces more : List Piece) (once : AllPairs (λ a b. a ≢ b) ts) (less : i < length ts) (there : t ≡ get_or ts i t) (added : ArePiecesAdded net (take i ts) before pieces after more) where
-  new : List Terminal
-  new = new_among before (take i ts)
-
   nowhere : place_among t (new_among before (take i ts)) ≡ None
   nowhere = no_place t (new_among before (take i ts)) (among_filter t (λ t. is_none (place_in before t)) (take i ts) (not_before ts i t once less there))
 

@@ -12,7 +12,6 @@ use Rattle.leg_design_records.specs.Records.{DesignModel}
 use Rattle.leg_design_records.specs.declared.records.Component.{Component}
 use Rattle.leg_design_records.specs.Movable.{IsMovable}
 use Rattle.leg_rules.specs.Legalise.Refusals.{FitsSites, HasRowFor, IsUnsuited, IsLeastUnsuited, AreSuited}
-use Rattle.leg_legal.specs.Steps.SiteMarks.{HasRow}
 
 -- a width is a number of sites just where nothing is left over
 module _ (site size : ExtentModel) (area : HasArea site) (has_area : HasArea size) where
@@ -51,12 +50,6 @@ module _ (design : DesignModel) (size : ExtentModel) (number : ℕ) where
   module _ (site : Site) (there : slice_get design.library.sites number ≡ Some site) where
     pub no_row_unfit : (FitsSites site.size size → ⊥) → HasRowFor design size number → ⊥
     no_row_unfit unfit h = let same : h.site ≡ site = same_Some h.site site (sym h.is_site ∙ there) in unfit (rw same at h.fits)
-
-    pub row_for : (b : Bool) → FitsSites site.size size → IsTrue b ↔ HasRow design.rows number → IsTrue b ↔ HasRowFor design size number
-    row_for b fits test = (
-      λ t. let has = test.0 t in record { site = site; is_site = there; fits = fits; row = has.row; has = has.has; same = has.same },
-      λ h. test.1 (record { row = h.row; has = h.has; same = h.same }),
-    )
 
 -- a movable component's macro has a site
 pub has_site : (design : DesignModel) (c : ℕ) (component : Component) (master : MasterModel) → slice_get design.components c ≡ Some component → slice_get design.library.masters component.master ≡ Some master → IsMovable design c → master.site ≡ None → ⊥

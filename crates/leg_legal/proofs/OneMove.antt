@@ -15,9 +15,6 @@ use Rattle.leg_rules.specs.Legalise.Run.{placed_at, moved_to}
 use Rattle.leg_legal.proofs.Elements.{set_same, set_other}
 
 module _ (now : DesignModel) (c : ℕ) (component : Component) (place : Place) (at : slice_get now.components c ≡ Some component) where
-  abbrev after : DesignModel
-  after = moved_to now c component place
-
   -- the component is there
   pub here : slice_get (moved_to now c component place).components c ≡ Some (placed_at component place)
   here = set_same now.components c component (placed_at component place) at

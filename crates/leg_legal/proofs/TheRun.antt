@@ -16,7 +16,7 @@ use Rattle.leg_rules.specs.Placement.Violations.IsPlacementViolation.{unplaced, 
 use Rattle.leg_design_records.specs.Movable.{MayMove, IsMovable}
 use Rattle.leg_rules.specs.Legalise.Free.{IsSettled}
 use Rattle.leg_rules.specs.Legalise.Turns.{IsOrderOfTaking}
-use Rattle.leg_rules.specs.Legalise.Run.{LegaliseRun, IsLegalised}
+use Rattle.leg_rules.specs.Legalise.Run.{LegaliseRun}
 use Rattle.leg_rules.specs.Legalise.SameButForPlaces.{IsPlacedAnew, IsSameButForPlaces}
 use Rattle.leg_rules.specs.Legalise.Refusals.{NoneStaying}
 use Rattle.leg_legal.proofs.Elements.{all_at}

@@ -16,7 +16,7 @@ use Rattle.leg_legal_sites.specs.Steps.Branches.{IsBranch, IsLowerBranch}
 use Rattle.leg_legal_sites.proofs.ListMoves.{fit_both}
 use Rattle.leg_legal_sites.proofs.RowPlaces.{some_is, list_of_key, key_there}
 use Rattle.leg_legal_sites.proofs.RowTree.{beneath_left, beneath_right}
-use Rattle.leg_legal_sites.proofs.SharedLists.{at_step, below_is, half_of_left, half_of_right, row_lists_long, row_list_there}
+use Rattle.leg_legal_sites.proofs.SharedLists.{below_is, half_of_left, half_of_right, row_lists_long, row_list_there}
 
 or_some : (a b : Option (List Stretch)) → IsSome a → option_or a b ≡ a
 or_some a b is = let s = some_is a is in rw s.1 refl

@@ -7,7 +7,7 @@ use Rattle.std.proofs.lemmas.Bool.{cases_lt, eqb-false, ne_eqb}
 use Rattle.std.proofs.lemmas.Bool.Decides.{nat_tests}
 use Rattle.std.proofs.lemmas.Cmp.{nat_eq_equiv, nat_cmp_total, int_cmp_total, on_total, then_total}
 use Rattle.std.proofs.lemmas.Int.{ints}
-use Rattle.std.proofs.lemmas.List.Elements.{All-nil, All-push, All-contains, Contains-append_left, Contains-push}
+use Rattle.std.proofs.lemmas.List.Elements.{All-push, All-contains, Contains-append_left, Contains-push}
 use Rattle.std.proofs.lemmas.List.Quantifiers.{all_pairs_push}
 use Rattle.std.proofs.lemmas.List.Sorted.{ranks_by, sorted_far, All-permutation, Contains-permutation}
 use Rattle.std.proofs.lemmas.Map.Keys.{IsDistinct-from_apart, apart_from_distinct, IsDistinct-IsPermutation}
@@ -37,15 +37,6 @@ same_key rows key row is there =
     let bottom : key.y ≡ row.at.y = is.bottom ∙ ap (λ (r : Row). r.at.y) one in
     let left : key.x ≡ row.at.x = is.left ∙ ap (λ (r : Row). r.at.x) one in
     λ i. record { site = site i; y = bottom i; x = left i; row = key.row }
-
-pub keys_none : (rows : List Row) → AreKeysBelow rows 0 []
-keys_none rows = record {
-  count = refl;
-  each = All-nil (IsKeyOf rows);
-  below = All-nil (λ key. key.row < 0);
-  all = λ number row below there. absurd (omega arith);
-  rising = λ i j d order within. absurd (omega arith);
-}
 
 -- the key of one more row
 pub keys_more : (rows : List Row) (keys : List RowKey) (i : ℕ) (row : Row) → slice_get rows i ≡ Some row → AreKeysBelow rows i keys → AreKeysBelow rows (i + 1) (keys ++ key_of row i ∷ [])

@@ -15,7 +15,7 @@ use Rattle.leg_legal_sites.specs.Steps.FreeLists.{DoFit, AreRowsOf}
 use Rattle.leg_legal_sites.specs.Steps.TreeOfRows.{IsLevelsBeneath, IsLeafBeneath}
 use Rattle.leg_legal_sites.specs.Steps.FreeListSharing.{list_within, list_at, row_lists}
 use Rattle.leg_legal_sites.specs.Steps.Bounds.{AreOfBoth}
-use Rattle.leg_legal_sites.specs.Steps.SharedLists.{HaveAlikeLists, AreShared, HaveNoneAbove, IsShareable, IsSharedFrom}
+use Rattle.leg_legal_sites.specs.Steps.SharedLists.{HaveAlikeLists, AreShared, IsShareable, IsSharedFrom}
 use Rattle.leg_legal_sites.proofs.RowTree.{beneath_either, beneath_left, beneath_right, nodes_set}
 use Rattle.leg_legal_sites.proofs.SharedLists.{half_of_left, half_of_right, half_below, own_is, from_above, IsNotBeneath, decide_beneath, same_elsewhere, same_above, same_rows}
 

@@ -413,9 +413,6 @@ module _ (parts : List (List Stretch)) where
   more_longest : (least most : ℕ) (p : List Stretch) → least ≤ most → AreNoMoreThan least p → AreNoMoreThan most p
   more_longest least most p upto longest many first sites = let long = longest many first sites in omega (arith, long, upto)
 
-  pub span_none : HasSpanUpTo parts 0 None
-  span_none k has = omega (arith, has.before)
-
   pub span_more : (i : ℕ) (p : List Stretch) → slice_get parts i ≡ Some p → (a b r : Option Ends) → HasSpanUpTo parts i a → HasSpan p b → AreJoinedEnds a b r → HasSpanUpTo parts (i + 1) r
   span_more i p at None None r none here is = rw is (λ k has. elim (earlier_or i k p at has) [
     | inl earlier ↦ none k earlier

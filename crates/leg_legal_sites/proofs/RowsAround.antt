@@ -318,10 +318,6 @@ module _ (rows : List Row) (order : List RowKey) (free : List (List Stretch)) (w
         is_best = best_more low high place low (place + 1) so_far.split.in_order within (inr (above, refl, refl)) a r so_far.is_best more;
       }
 
-  pub found_is : (low high : ℕ) (best : Option Candidate) → IsBestOf (Seen low high) best → IfSome best (IsCandidate rows free wanted)
-  found_is low high None is = tt
-  found_is low high (Some c) is = is.0.candidate
-
   -- the best of one position and of all, which the rows beneath the first node have
   pub best_of_all_with : (best r : Option Candidate) → IfSome best (IsCandidate rows free wanted) → IsBestOf (IsBestOrBeneath rows order free wanted 1 best) r → IsBestOf (IsCandidate rows free wanted) r
   best_of_all_with best r found is =

@@ -107,9 +107,6 @@ contained_at : (rows : List Row) (i : ℕ) (row : Row) → slice_get rows i ≡ 
 contained_at rows i row at = (i, slice_get_within rows i row at, get_or_from_slice_get rows i row row at)
 
 module _ (library : LibraryModel) (rows : List Row) where
-  pub spans_none : AreSpansBelow library rows 0 []
-  spans_none = record { each = All-nil (IsOfSomeRow library rows); all = λ number row span below there is. absurd (omega (arith, below)) }
-
   -- the sites of one more row
   pub spans_more : (spans : List SiteSpan) (i : ℕ) (row : Row) (span : SiteSpan) → slice_get rows i ≡ Some row → pos 1 ≤ℤ row.count → IsRowSpan library row span → AreSpansBelow library rows i spans → AreSpansBelow library rows (i + 1) (spans ++ span ∷ [])
   spans_more spans i row span at some is done = record {

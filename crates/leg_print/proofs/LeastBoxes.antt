@@ -5,10 +5,6 @@ use Rattle.leg_geom.specs.Plane.{PointModel, RectModel, HasPoint, HasAllPoints}
 use Rattle.leg_rules.specs.Wirelength.{IsLeastBox, IsLeastBoxIfAny}
 use Rattle.leg_print.specs.Steps.Wirelength.{joined, joined_if_any}
 
--- a box whose corners stand in order
-abbrev pub IsOrdered : RectModel → Type 0
-IsOrdered box = (box.x1 ≤ℤ box.x2) × (box.y1 ≤ℤ box.y2)
-
 -- one box lies within another
 record IsWithin (outer inner : RectModel) : Type 0 where
   pub x1 : outer.x1 ≤ℤ inner.x1

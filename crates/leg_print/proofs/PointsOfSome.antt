@@ -1,5 +1,5 @@
 -- The least box round the points of some of a list, as a loop comes to them one by one.
-use Rattle.std.proofs.Common.{◌≡◌, ◌↔◌, ◌⊎◌, inl, inr, ℕ, ◌+◌, ◌<◌, ◌≤◌, List, [], ◌∷◌, ◌++◌, length, get_or, take, Contains, Option, None, sym, subst, arith}
+use Rattle.std.proofs.Common.{◌≡◌, ◌↔◌, ◌⊎◌, inl, inr, ℕ, ◌+◌, ◌<◌, ◌≤◌, List, [], ◌∷◌, ◌++◌, length, get_or, take, Contains, Option, sym, subst, arith}
 use Rattle.std.proofs.lemmas.Int.{ints}
 use Rattle.std.proofs.lemmas.List.{take_more, take_all}
 use Rattle.std.proofs.lemmas.List.Elements.{Contains-append_left, Contains-push, Contains-push_cases}
@@ -18,9 +18,6 @@ rect_least H r proper points = record {
 }
 
 module _ (X : Type 0) (P : X → PointModel → Type 0) where
-  pub none_yet : IsLeastBoxIfAny (IsOfSome X P []) None
-  none_yet p has = let far = has.there.1 in omega arith
-
   of_first : (xs : List X) (x : X) (p : PointModel) → (IsOfSome X P xs p ⊎ P x p) → IsOfSome X P (xs ++ x ∷ []) p
   of_first xs x p (inl has) = record { one = has.one; there = Contains-append_left xs (x ∷ []) has.one has.there; has = has.has }
   of_first xs x p (inr has) = record { one = x; there = Contains-push xs x; has = has }

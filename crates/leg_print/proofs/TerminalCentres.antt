@@ -40,22 +40,9 @@ module _ (design : DesignModel) (p : ℕ) where
 
 -- a pin of a component
 module _ (design : DesignModel) (c k : ℕ) where
-  pub no_component : slice_get design.components c ≡ None → IsLeastBoxIfAny (HasTerminalPoint design (Comp c k)) None
-  no_component none q has = none_some _ has.draws.component none has.draws.has_component
-
   module _ (component : Component) (there : slice_get design.components c ≡ Some component) where
     same_component : (metal : OnLayer) (of : IsOfComponentPin design c k metal) → of.component ≡ component
     same_component metal of = some_same _ of.component component of.has_component there
-
-    pub no_place : component.place ≡ None → IsLeastBoxIfAny (HasTerminalPoint design (Comp c k)) None
-    no_place none q has =
-        let same = same_component has.metal has.draws in
-        none_some _ has.draws.place none (rw same at has.draws.has_place)
-
-    pub no_master : slice_get design.library.masters component.master ≡ None → IsLeastBoxIfAny (HasTerminalPoint design (Comp c k)) None
-    no_master none q has =
-        let same = same_component has.metal has.draws in
-        none_some _ has.draws.master none (rw same at has.draws.has_master)
 
     module _ (master : MasterModel) (made : slice_get design.library.masters component.master ≡ Some master) where
       same_master : (metal : OnLayer) (of : IsOfComponentPin design c k metal) → of.master ≡ master

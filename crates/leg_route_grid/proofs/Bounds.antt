@@ -124,12 +124,6 @@ bound_small grid ends n s is_grid box slot =
 min_upto : (a b c : ℕ) → b ≤ c → min a b ≤ min a c
 min_upto a b c upto = grind arith
 
-min_turned : (a b : ℕ) → min a b ≡ min b a
-min_turned a b = grind arith
-
-min_grouped : (a b c : ℕ) → min a (min b c) ≡ min (min a b) c
-min_grouped a b c = grind arith
-
 pub none_upto : (a b : ℕ) → a ≤ b → b ≡ 0 → a ≡ 0
 none_upto a b upto none = omega arith
 
@@ -184,12 +178,6 @@ nearest_none (first ∷ boxes) s none = elim (least_none (slot_bound first s) (n
 pub nearest_first : (boxes more : List SlotBox) (s : Slot) → nearest (boxes ++ more) s ≤ nearest boxes s
 nearest_first [] more s = nearest_few more s
 nearest_first (ends ∷ boxes) more s = min_upto (slot_bound ends s) (nearest (boxes ++ more) s) (nearest boxes s) (nearest_first boxes more s)
-
--- one box more
-pub nearest_more : (boxes : List SlotBox) (ends : SlotBox) (s : Slot) → nearest (boxes ++ ends ∷ []) s ≡ min (nearest boxes s) (slot_bound ends s)
-nearest_more [] ends s = min_turned (slot_bound ends s) GREATEST_GRID
-nearest_more (first ∷ boxes) ends s =
-    ap (min (slot_bound first s)) (nearest_more boxes ends s) ∙ min_grouped (slot_bound first s) (nearest boxes s) (slot_bound ends s)
 
 pub in_boxes : (grid : GridModel) (boxes : List SlotBox) (ends : SlotBox) (n : ℕ) (s : Slot) → IsSlot grid n s.layer s.row s.column → Contains boxes ends → IsInBox ends s → bound_at grid boxes n ≡ 0
 in_boxes grid boxes ends n s slot has inside =

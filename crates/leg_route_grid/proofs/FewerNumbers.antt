@@ -1,9 +1,8 @@
 -- Numbers of which some are dropped, and others added.
-use Rattle.std.proofs.Common.{◌≡◌, ℕ, zero, suc, ◌<◌, ◌≤◌, ◌⊎◌, inl, inr, Bool, true, false, List, [], ◌∷◌, Contains, length, get_or, refl, sym, subst, arith}
+use Rattle.std.proofs.Common.{◌≡◌, ℕ, zero, suc, ◌<◌, ◌⊎◌, inl, inr, Bool, true, false, List, [], ◌∷◌, Contains, length, get_or, refl, sym, subst, arith}
 use Rattle.std.specs.List.{items_where_true}
 use Rattle.std.specs.List.Retain.{IsFiltered, ReturnsInTurn}
-use Rattle.leg_route_grid.specs.Steps.Grid.{GridModel, IsSlot}
-use Rattle.leg_route_grid.specs.Steps.SlotRanges.{IsInRows, HaveGot, HaveDropped}
+use Rattle.leg_route_grid.specs.Steps.SlotRanges.{HaveGot, HaveDropped}
 
 here_or_later : {X : Type 0} (x : X) (xs : List X) (y : X) → Contains (x ∷ xs) y → (x ≡ y) ⊎ Contains xs y
 here_or_later x xs y there = by there.0 there.1 there.2 where
@@ -59,6 +58,3 @@ got_again New before mid after dropped got n = (
     | inr new ↦ (got n).1 (inr new)
   ],
 )
-
-pub in_rows : (grid : GridModel) (k j i n r0 r1 c0 c1 : ℕ) → IsSlot grid n k j i → r0 ≤ j → j < r1 → c0 ≤ i → i < c1 → IsInRows grid k (r0, r1) (c0, c1) n
-in_rows grid k j i n r0 r1 c0 c1 slot from below left right = record { k = j; from = from; below = below; is = record { k = i; from = left; below = right; is = slot } }

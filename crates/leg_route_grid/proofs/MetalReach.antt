@@ -1,5 +1,5 @@
 -- How far the metal of slots reaches.
-use Rattle.std.proofs.Common.{◌≡◌, ℕ, zero, suc, ◌+◌, ◌-◌, ◌<◌, ◌≤◌, ◌⊎◌, inl, inr, ℤ, pos, ◌+ℤ◌, ◌-ℤ◌, ◌≤ℤ◌, ◌<ℤ◌, Bool, List, All, get_or, Option, None, Some, slice_get, FitsSigned, w64, refl, arith}
+use Rattle.std.proofs.Common.{◌≡◌, ℕ, zero, suc, ◌+◌, ◌-◌, ◌<◌, ◌≤◌, ◌⊎◌, inl, inr, ℤ, pos, ◌+ℤ◌, ◌-ℤ◌, ◌≤ℤ◌, ◌<ℤ◌, Bool, List, All, get_or, Option, None, Some, slice_get, FitsSigned, w64, arith}
 use Rattle.std.proofs.lemmas.Int.{ints}
 use Rattle.std.specs.Int.{int_max}
 use Rattle.std.specs.Option.{unwrap_or}
@@ -96,10 +96,6 @@ coordinate_fits z within = omega (arith, ints)
 
 pub turned : (z : ℤ) → IsNumber z → IsNumber (pos 0 -ℤ z)
 turned z within = omega (arith, ints)
-
-pub none_left : (spacing : ℕ) (z : ℤ) → z ≡ pos spacing → ¬ (pos 0 <ℤ z) → pos 0 ≡ pos (spacing - 1)
-none_left zero z is none = let e : 0 - 1 ≡ 0 = omega arith in rw e refl
-none_left (suc n) z is none = absurd (none (omega (arith, ints, is)))
 
 pub far_fits : (far : ℤ) → IsFar far → FitsSigned w64 far
 far_fits far is = let least = is.least in let most = is.most in omega (arith, ints)

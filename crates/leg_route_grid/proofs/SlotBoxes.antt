@@ -1,9 +1,8 @@
 -- The box of the slots in a rectangle.
-use Rattle.std.proofs.Common.{◌≡◌, ℕ, ◌<◌, ◌⊎◌, inl, inr, List, [], ◌∷◌, ◌++◌, Contains, sym, subst, ◌∙◌, arith}
-use Rattle.std.proofs.lemmas.List.{append-nil}
+use Rattle.std.proofs.Common.{◌≡◌, ℕ, ◌<◌, ◌⊎◌, inl, inr, List, ◌++◌, Contains, sym, subst, ◌∙◌, arith}
 use Rattle.std.proofs.lemmas.Option.{slice_get_within}
-use Rattle.std.proofs.lemmas.List.Elements.{All-append, All-cons, All-nil, All-contains, Contains-append_cases, Contains-append_right}
-use Rattle.leg_sweep.proofs.Lists.{All-from_contains, Contains-here}
+use Rattle.std.proofs.lemmas.List.Elements.{All-append, All-contains, Contains-append_cases, Contains-append_right}
+use Rattle.leg_sweep.proofs.Lists.{All-from_contains}
 use Rattle.leg_geom.specs.Plane.{RectModel}
 use Rattle.leg_route_grid.specs.declared.slot.Slot.{Slot}
 use Rattle.leg_route_grid.specs.declared.slot_box.SlotBox.{SlotBox}
@@ -16,24 +15,6 @@ use Rattle.leg_route_grid.specs.Steps.Places.{ArePlaces}
 use Rattle.leg_route_grid.specs.Steps.SlotRanges.{IsRoutingLayerAt, IsInRows, HaveGot}
 use Rattle.leg_route_grid.proofs.Bounds.{slot_is, slot_there, in_boxes, nearest_first, nearest_upto, nearest_none, from_none, none_upto}
 use Rattle.leg_route_grid.proofs.SlotRanges.{in_rect, from_rect}
-
--- no box, where there are no such rows or columns
-pub no_box : (layer : ℕ) (rows columns : ℕ × ℕ) (boxes : List SlotBox) → (rows.0 < rows.1 → columns.0 < columns.1 → ⊥) → HaveGotBox layer rows columns boxes boxes
-no_box layer rows columns boxes none = record {
-  more = [];
-  are = sym (append-nil boxes);
-  each = All-nil (IsBoxAt layer rows columns);
-  some = λ some_rows some_columns. absurd (none some_rows some_columns);
-}
-
--- the box
-pub one_box : (layer : ℕ) (rows columns : ℕ × ℕ) (before after : List SlotBox) (ends : SlotBox) → IsBoxAt layer rows columns ends → after ≡ before ++ ends ∷ [] → HaveGotBox layer rows columns before after
-one_box layer rows columns before after ends is are = record {
-  more = ends ∷ [];
-  are = are;
-  each = All-cons (IsBoxAt layer rows columns) ends [] is (All-nil (IsBoxAt layer rows columns));
-  some = λ some_rows some_columns. (ends, Contains-here ends []);
-}
 
 -- a slot has one number of layer, row and column
 record IsSame (k j i l m n : ℕ) : Type 0 where

@@ -37,16 +37,6 @@ span_of low high width l h wide from to order is_l is_h =
     let within = (half_is width wide).within in
     record { low = omega (arith, ints); high = omega (arith, ints); long = omega (arith, ints) }
 
-pub in_order : (low high : PointModel) → IsStretch low high → (low.x ≤ℤ high.x) × (low.y ≤ℤ high.y)
-in_order low high (inl east) =
-    let level = east.level in
-    let less = east.less in
-    (omega (arith, ints), omega (arith, ints))
-in_order low high (inr north) =
-    let upright = north.upright in
-    let less = north.less in
-    (omega (arith, ints), omega (arith, ints))
-
 pub same_strip : (low high : PointModel) (width x1 y1 x2 y2 : ℤ) → x1 ≡ low.x -ℤ half width → y1 ≡ low.y -ℤ half width → x2 ≡ high.x +ℤ half width → y2 ≡ high.y +ℤ half width
     → sides_of (ends x1 x2) (ends y1 y2) ≡ strip_of low high width
 same_strip low high width x1 y1 x2 y2 a b c d = λ i. record { x1 = a i; y1 = b i; x2 = c i; y2 = d i }

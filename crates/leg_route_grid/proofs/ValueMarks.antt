@@ -1,5 +1,5 @@
 -- Marks of values, set one after another.
-use Rattle.std.proofs.Common.{◌≡◌, ℕ, ◌+◌, ◌<◌, ◌≤◌, ◌⊎◌, inl, inr, ℤ, ◌<ℤ◌, unsigned_abs, Bool, true, false, true≢false, List, [], ◌∷◌, ◌++◌, AllPairs, Contains, Some, slice_get, slice_set, length, length-set, take, get_or, replicate, refl, sym, ◌∙◌, arith}
+use Rattle.std.proofs.Common.{◌≡◌, ℕ, ◌+◌, ◌<◌, ◌≤◌, ◌⊎◌, inl, inr, ℤ, ◌<ℤ◌, Bool, true, false, true≢false, List, [], ◌∷◌, ◌++◌, AllPairs, Contains, Some, slice_get, slice_set, length, length-set, take, get_or, replicate, refl, sym, ◌∙◌, arith}
 use Rattle.std.proofs.lemmas.Int.{ints}
 use Rattle.std.proofs.lemmas.Bool.{cases_eq}
 use Rattle.std.proofs.lemmas.List.{take_more, length-replicate, get_or-replicate}
@@ -7,12 +7,10 @@ use Rattle.std.proofs.lemmas.List.Elements.{Contains-append_left, Contains-push,
 use Rattle.std.proofs.lemmas.Option.{slice_get_within, slice_get-get_or, get_or_from_slice_get}
 use Rattle.leg_design_records.specs.declared.records.Axis.{Axis}
 use Rattle.leg_design_records.specs.Records.{TrackModel, DesignModel}
-use Rattle.leg_rules.specs.Route.Tracks.{IsLineOf}
 use Rattle.leg_route_grid.specs.Steps.Places.{ArePlaces}
-use Rattle.leg_route_grid.specs.Steps.Lines.{HasLines, IsTrackAt, HaveMarked}
+use Rattle.leg_route_grid.specs.Steps.Lines.{IsTrackAt, HaveMarked}
 use Rattle.leg_route_grid.specs.Steps.TrackMarks.{AreTrackMarks}
 use Rattle.leg_route_grid.proofs.ListEnds.{set_same, set_other}
-use Rattle.leg_route_grid.proofs.TrackLines.{IsLineBelow, line_at}
 
 -- the mark of one value
 module _ (values : List ℤ) (value : ℤ) (first end : ℕ) (places : ArePlaces values value value first end) (marks : List Bool) where

@@ -210,10 +210,6 @@ grows_then design [] second before between after grows then_grows = subst (λ f.
 grows_then design (one ∷ more) second before between after grows then_grows =
     (grows.0, grows.1, grows_then design more second grows.0 between after grows.2 then_grows)
 
-pub grows_more : (design : DesignModel) (added : List AddedWire) (one : AddedWire) (before between after : FlatModel) → Grows design added before between → HasOneMoreWire design one.net one.wire between after → Grows design (added ++ one ∷ []) before after
-grows_more design added one before between after grows step =
-    grows_then design added (one ∷ []) before between after grows (after, step, refl)
-
 -- the wires of a net, with one more at the end
 pub added_then : (net : ℕ) (first second : List AddedWire) → wires_added net (first ++ second) ≡ wires_added net first ++ wires_added net second
 added_then net [] second = refl

@@ -1,8 +1,8 @@
 -- Heights above the lowest coordinate, and how many bands they come to.
 use Rattle.std.proofs.Common.{◌≡◌, ℕ, zero, suc, ◌+◌, ◌-◌, ◌*◌, ◌/◌, ◌<◌, ◌≤◌, min, max, ℤ, ◌<ℤ◌, ap, arith}
 use Rattle.std.proofs.lemmas.Int.{ints}
-use Rattle.std.proofs.lemmas.Nat.{le-div, mul-le, div_below}
-use Rattle.std.proofs.Math.Nat.{div-mul-le_self, mul-div-le, lt-mul-div-succ, div-le_of_le-mul, mul-le-mul_left}
+use Rattle.std.proofs.lemmas.Nat.{le-div, div_below}
+use Rattle.std.proofs.Math.Nat.{div-mul-le_self, mul-div-le, lt-mul-div-succ, mul-le-mul_left}
 use Rattle.leg_geom.specs.declared.limits.TheConstants.{COORDINATE_LIMIT}
 use Rattle.leg_geom.specs.Plane.{IsCoordinate}
 use Rattle.leg_geom.specs.Gap.{gap_between}
@@ -37,11 +37,6 @@ room_for_all total (suc count) largest reach height small tall =
     let some : max (suc count) 1 ≡ suc count = omega arith in
     let average : total / suc count + 1 + reach ≤ height = rw some at tall in
     omega (arith, lt-mul-div-succ total {b = suc count} (omega arith), mul-le-mul_left (suc count) average)
-
--- an average is no more than the largest
-pub average_small : (total count largest : ℕ) → total ≤ count * largest → total / max count 1 ≤ largest
-average_small total count largest small =
-    div-le_of_le-mul (max count 1) (omega (arith, small, mul-le count largest (max count 1) largest (omega arith) (omega arith)))
 
 -- a height above the so-many-th part leaves no more than so many bands
 pub parts_few : (spread parts height : ℕ) → 0 < parts → spread / parts + 1 ≤ height → spread / height < parts

@@ -3,7 +3,7 @@ use Rattle.std.proofs.Common.{◌≡◌, ℕ, ◌+◌, ◌-◌, ◌≤◌, ◌<�
 use Rattle.std.specs.List.{range_with_len}
 use Rattle.std.specs.Prelude.{IsPermutation}
 use Rattle.std.proofs.lemmas.Int.{ints}
-use Rattle.std.proofs.lemmas.List.{append-nil, drop_at, set_at, map-id, length-map, get_or-map}
+use Rattle.std.proofs.lemmas.List.{drop_at, set_at, map-id, length-map, get_or-map}
 use Rattle.std.proofs.lemmas.List.Concat.{flat_map-append}
 use Rattle.std.proofs.lemmas.List.Elements.{All-nil, All-cons, All-append, All-take, All-weaker}
 use Rattle.std.proofs.lemmas.List.FromFn.{map-range_with_len_more, length-range_with_len, get_or-range_with_len}
@@ -30,17 +30,6 @@ within_through a b c first second = record {
 }
 
 module _ (rects : List RectModel) where
-  -- no rectangles have no nodes
-  pub grouped_none : (bounds : Bounds) (before : List Node) → AreGrouped rects [] bounds before before
-  grouped_none bounds before = record {
-    nodes = [];
-    are = sym (append-nil before);
-    forest = tt;
-    right = All-nil (IsRight rects);
-    within = All-nil (λ (node : Node). IsWithin node.bounds bounds);
-    named = refl;
-  }
-
   -- one rectangle
   pub grouped_one : (bounds : Bounds) (number : ℕ) (before : List Node) → HasBoundsOf rects number bounds
       → AreGrouped rects (number ∷ []) bounds before (before ++ (record { bounds = bounds; content = Rect number }) ∷ [])
