@@ -23,7 +23,7 @@ use Rattle.leg_legal_sites.proofs.BestSoFar.{no_worse_itself, best_of_both, best
 use Rattle.leg_legal_sites.proofs.MacroPlaces.{some_sites}
 use Rattle.leg_design_records.specs.Movable.{IsMovable}
 use Rattle.leg_rules.specs.Legalise.Start.{start_of, distance}
-use Rattle.leg_rules.specs.Legalise.Places.{orient_of, Takes, IsPlacedOn}
+use Rattle.leg_rules.specs.Legalise.Places.{orient_if_placed, Takes, IsPlacedOn}
 use Rattle.leg_rules.specs.Legalise.Free.{IsSettled, IsTaken, IsFree, TakesBest}
 use Rattle.leg_rules.specs.Legalise.Refusals.{HasRowFor}
 use Rattle.leg_legal.specs.FreePlaces.{HasMacroSizes}
@@ -250,11 +250,11 @@ module _ (design : DesignModel) (sound : HasSoundRows design) (sized : HasMacroS
 
     -- the position on a row from this site on
     module _ (number : ℕ) (row : Row) (is_row : slice_get design.rows number ≡ Some row) (same : row.site ≡ m.number) (first : ℕ) (within : pos (first + many) ≤ℤ row.count) where
-      orient : (orient : Orient) × Takes row.orient m.master.y_symmetric (orient_of m.component.place) orient
-      orient = taken_orient row.orient m.master.y_symmetric (orient_of m.component.place)
+      orient : (orient : Orient) × Takes row.orient m.master.y_symmetric (orient_if_placed m.component.place) orient
+      orient = taken_orient row.orient m.master.y_symmetric (orient_if_placed m.component.place)
 
-      flag : (flag : Bool) × (IsTrue flag ↔ IsTurned row.orient m.master.y_symmetric (orient_of m.component.place))
-      flag = flag_of (turned_or_not row.orient m.master.y_symmetric (orient_of m.component.place))
+      flag : (flag : Bool) × (IsTrue flag ↔ IsTurned row.orient m.master.y_symmetric (orient_if_placed m.component.place))
+      flag = flag_of (turned_or_not row.orient m.master.y_symmetric (orient_if_placed m.component.place))
 
       place_there : Place
       place_there = record { at = record { x = row.at.x +ℤ pos first *ℤ h.site.size.width; y = row.at.y }; orient = orient.0 }
@@ -295,8 +295,8 @@ module _ (design : DesignModel) (sound : HasSoundRows design) (sized : HasMacroS
 
         s_orient : place.orient ≡ orient.0
         s_orient =
-            let takes : Takes row.orient m.master.y_symmetric (orient_of m.component.place) place.orient = rw (s_row, s_master k place s, s_component k place s) at s.takes in
-            one_orient row.orient m.master.y_symmetric (orient_of m.component.place) place.orient orient.0 takes orient.1
+            let takes : Takes row.orient m.master.y_symmetric (orient_if_placed m.component.place) place.orient = rw (s_row, s_master k place s, s_component k place s) at s.takes in
+            one_orient row.orient m.master.y_symmetric (orient_if_placed m.component.place) place.orient orient.0 takes orient.1
 
         s_place : place ≡ place_there
         unfolding place_there
@@ -308,7 +308,7 @@ module _ (design : DesignModel) (sound : HasSoundRows design) (sized : HasMacroS
 
         s_turned : k.turned ≡ flag.0
         s_turned =
-            let told : IsTrue k.turned ↔ IsTurned row.orient m.master.y_symmetric (orient_of m.component.place) = rw (s_row, s_master k place s, s_component k place s) at s.turned in
+            let told : IsTrue k.turned ↔ IsTurned row.orient m.master.y_symmetric (orient_if_placed m.component.place) = rw (s_row, s_master k place s, s_component k place s) at s.turned in
             both_ways k.turned flag.0 (λ t. flag.1.1 (told.0 t)) (λ t. told.1 (flag.1.0 t))
 
         s_position : k ≡ position_there

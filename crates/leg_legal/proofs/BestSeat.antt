@@ -33,7 +33,7 @@ use Rattle.leg_legal_sites.proofs.MacroBoxes.{fitting_upright}
 use Rattle.leg_legal_sites.proofs.MacroPlaces.{free_just_where_macro_clear}
 use Rattle.leg_design_records.specs.Movable.{IsMovable}
 use Rattle.leg_rules.specs.Legalise.Start.{start_of, distance}
-use Rattle.leg_rules.specs.Legalise.Places.{orient_of, Takes}
+use Rattle.leg_rules.specs.Legalise.Places.{orient_if_placed, Takes}
 use Rattle.leg_rules.specs.Legalise.Refusals.{FitsSites, HasRowFor, IsUnsuited}
 use Rattle.leg_legal.specs.Steps.Seats.{IsWantedOf, IsFreeOf, IsBestPlace}
 use Rattle.leg_legal.proofs.Elements.{all_at}
@@ -95,7 +95,7 @@ module _ (design : DesignModel) (c : ℕ) (m : IsMovable design c) (suited : IsU
         | inr beyond ↦ absurd (misfit_none (no_row_beyond design master.size number beyond))
       ]
 
-  pub wanted_is : (site : Site) → slice_get design.library.sites number ≡ Some site → IsExtent site.size → IsExtent master.size → (wanted : Wanted) → wanted ≡ record { start = start_of design.die component.place; site = number; site_width = site.size.width; many = unsigned_abs master.size.width / unsigned_abs site.size.width; orient = orient_of component.place; y_symmetric = master.y_symmetric } → IsWantedOf design c wanted
+  pub wanted_is : (site : Site) → slice_get design.library.sites number ≡ Some site → IsExtent site.size → IsExtent master.size → (wanted : Wanted) → wanted ≡ record { start = start_of design.die component.place; site = number; site_width = site.size.width; many = unsigned_abs master.size.width / unsigned_abs site.size.width; orient = orient_if_placed component.place; y_symmetric = master.y_symmetric } → IsWantedOf design c wanted
   wanted_is site is_site area has_area wanted is =
       let fits : FitsSites site.size master.size = fits_stable site.size master.size area.area has_area.area (λ unfit. misfit_none (no_row_unfit design master.size number site is_site unfit)) in
       rw is (record {
@@ -208,7 +208,7 @@ module _ (design : DesignModel) (proper : IsWellFormed design) (c : ℕ) (wanted
         (just_where k.row is.row is.there is.same is.stretches is.known k.first place at_site
         (fits_upright k.row is.row is.there is.same is.stretches is.known place.orient takes)).0 is.sites
 
-    taken_orient : Takes is.row.orient asks.master.y_symmetric (orient_of asks.component.place) place.orient
+    taken_orient : Takes is.row.orient asks.master.y_symmetric (orient_if_placed asks.component.place) place.orient
     taken_orient = rw (asks.y_symmetric, asks.orient) at takes
 
     distance_is : k.distance ≡ distance place.at (start_of design.die asks.component.place)
@@ -272,12 +272,12 @@ module _ (design : DesignModel) (proper : IsWellFormed design) (c : ℕ) (wanted
 
     s_takes : Takes f.stands.row.orient wanted.y_symmetric wanted.orient place.orient
     s_takes =
-        let told : Takes f.stands.row.orient asks.master.y_symmetric (orient_of asks.component.place) place.orient = rw (s_master, s_component) at f.stands.takes in
+        let told : Takes f.stands.row.orient asks.master.y_symmetric (orient_if_placed asks.component.place) place.orient = rw (s_master, s_component) at f.stands.takes in
         rw (asks.y_symmetric, asks.orient) told
 
     s_turned : IsTrue k.turned ↔ IsTurned f.stands.row.orient wanted.y_symmetric wanted.orient
     s_turned =
-        let told : IsTrue k.turned ↔ IsTurned f.stands.row.orient asks.master.y_symmetric (orient_of asks.component.place) = rw (s_master, s_component) at f.stands.turned in
+        let told : IsTrue k.turned ↔ IsTurned f.stands.row.orient asks.master.y_symmetric (orient_if_placed asks.component.place) = rw (s_master, s_component) at f.stands.turned in
         rw (asks.y_symmetric, asks.orient) told
 
     s_within : pos (k.first + wanted.many) ≤ℤ f.stands.row.count

@@ -8,7 +8,7 @@ use Rattle.leg_design_records.specs.Records.{DesignModel}
 use Rattle.leg_design_records.specs.declared.records.Component.{Component}
 use Rattle.leg_rules.specs.declared.position.Candidate.{Candidate}
 use Rattle.leg_rules.specs.Legalise.Preference.{IsNoWorse}
-use Rattle.leg_rules.specs.Legalise.Places.{orient_of, Takes, IsPlacedOn}
+use Rattle.leg_rules.specs.Legalise.Places.{orient_if_placed, Takes, IsPlacedOn}
 use Rattle.leg_rules.specs.Legalise.Free.{TakesBest}
 use Rattle.leg_rules.specs.Legalise.Run.{moved_to, LegaliseRun}
 use Rattle.leg_rules.specs.Legalise.Run.LegaliseRun.{none, one}
@@ -53,8 +53,8 @@ module _ (design : DesignModel) (c : ℕ) (position : Candidate) (a b : Place) (
 
   one_turn : a.orient ≡ b.orient
   one_turn =
-      let takes : Takes s.row.orient s.master.y_symmetric (orient_of s.component.place) b.orient = rw (one_row, one_master, one_component) at t.takes in
-      one_orient s.row.orient s.master.y_symmetric (orient_of s.component.place) a.orient b.orient s.takes takes
+      let takes : Takes s.row.orient s.master.y_symmetric (orient_if_placed s.component.place) b.orient = rw (one_row, one_master, one_component) at t.takes in
+      one_orient s.row.orient s.master.y_symmetric (orient_if_placed s.component.place) a.orient b.orient s.takes takes
 
   place_at : a ≡ b
   place_at = λ i. record { at = one_spot i; orient = one_turn i }

@@ -21,7 +21,7 @@ use Rattle.leg_legal_sites.specs.Steps.SiteBounds.{DoBoundSite}
 use Rattle.leg_legal_sites.specs.Steps.RowOrder.{IsRowOrder}
 use Rattle.leg_legal_sites.specs.Steps.FreeLists.{IsRowAt, DoFit, AreRowsOf}
 use Rattle.leg_legal_sites.specs.Steps.TreeOfRows.{IsLeafBeneath}
-use Rattle.leg_legal_sites.specs.Steps.FreeListSharing.{list_at, place_of, row_list, row_lists}
+use Rattle.leg_legal_sites.specs.Steps.FreeListSharing.{list_of_node, place_of_row, row_list, row_lists}
 use Rattle.leg_legal_sites.specs.Steps.Bounds.{AreWithinBounds, DoBoundAlike}
 use Rattle.leg_legal_sites.specs.Steps.FreeRows.{LosesMet, AreTakenBeneath}
 use Rattle.leg_legal_sites.specs.Steps.SharedLists.{own_list, AreShared, LosesShared, IsMetThroughout}
@@ -64,7 +64,7 @@ module _ (design : DesignModel) (rect : RectModel) (order : List RowKey) (old ne
   } where
     each : (number : ℕ) (a b : List Stretch) → slice_get (row_lists order old) number ≡ Some a → slice_get (row_lists order new) number ≡ Some b → LosesMet design rect number a b ⊎ (b ≡ a)
     each number a b at now =
-        let leaf = length order + place_of order number in
+        let leaf = length order + place_of_row order number in
         let below = slice_get_within (row_lists order old) number a at in
         let long = row_lists_long order old in
         let was : a ≡ row_list order old number = same_Some a (row_list order old number) (sym at ∙ row_list_there order old number (omega (arith, below, long))) in
@@ -75,7 +75,7 @@ module _ (design : DesignModel) (rect : RectModel) (order : List RowKey) (old ne
               let key : RowKey = record { site = row.site; y = row.at.y; x = row.at.x; row = number } in
               let found = (is_order.keys key).1 (record { row = row; there = there.there; site = refl; bottom = refl; left = refl }) in
               let at_place : slice_get order found.0 ≡ Some key = slice_get-get_or order found.0 key found.1 ∙ ap Some found.2 in
-              let here : place_of order number ≡ found.0 = place_of_key design.rows order is_order found.0 key at_place in
+              let here : place_of_row order number ≡ found.0 = place_of_key design.rows order is_order found.0 key at_place in
               these key a b (record { place = found.0; there = at_place; levels = beneath.levels; beneath = rw here at beneath.beneath }) at now row site there)
           | inr never ↦ inr (is ∙ ap (λ o. unwrap_or o []) (same_elsewhere old new node others leaf leaf (omega arith) never) ∙ sym was)
         ]
@@ -108,10 +108,10 @@ module _ (design : DesignModel) (rect : RectModel) (order : List RowKey) (old : 
     ];
   }
 
-  module _ (rows : AreRowsOf design (record { lists = row_lists order old; order = order; nodes = nodes })) (alone : list_at old (node / 2) ≡ None)
+  module _ (rows : AreRowsOf design (record { lists = row_lists order old; order = order; nodes = nodes })) (alone : list_of_node old (node / 2) ≡ None)
       (met : IsMetThroughout design rect order old nodes node) (bounds : Bounds) (there : slice_get nodes node ≡ Some bounds)
       (key : RowKey) (leaf : IsLeafBeneath order node key) (row : Row) (site : Site) (at : IsRowAt design key.row row site) where
-    pub taken_alone : list_at taken (node / 2) ≡ None
+    pub taken_alone : list_of_node taken (node / 2) ≡ None
     taken_alone = same_above old taken node taken_others some ∙ alone
 
     has_or_leaf : (length order ≤ node) ⊎ IsSome (get_or old node None)

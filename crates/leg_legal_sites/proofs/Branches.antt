@@ -11,7 +11,7 @@ use Rattle.leg_legal_sites.specs.declared.row_keys.RowKey.{RowKey}
 use Rattle.leg_legal_sites.specs.Steps.FreeLists.{AreRowsOf}
 use Rattle.leg_legal_sites.specs.Steps.RowOrder.{IsRowOrder}
 use Rattle.leg_legal_sites.specs.Steps.TreeOfRows.{IsLeafBeneath}
-use Rattle.leg_legal_sites.specs.Steps.FreeListSharing.{list_at, row_list, row_lists}
+use Rattle.leg_legal_sites.specs.Steps.FreeListSharing.{list_of_node, row_list, row_lists}
 use Rattle.leg_legal_sites.specs.Steps.Branches.{IsBranch, IsLowerBranch}
 use Rattle.leg_legal_sites.proofs.ListMoves.{fit_both}
 use Rattle.leg_legal_sites.proofs.RowPlaces.{some_is, list_of_key, key_there}
@@ -59,11 +59,11 @@ module _ (design : DesignModel) (order : List RowKey) (lists : List (Option (Lis
     half : node / 2 ≡ above.node
     half = elim side [ inl left ↦ ap (λ (n : ℕ). n / 2) left ∙ half_of_left above.node | inr right ↦ ap (λ (n : ℕ). n / 2) right ∙ half_of_right above.node ]
 
-    here_is : list_at lists branch.node ≡ option_or (get_or lists above.owner None) (get_or lists node None)
-    here_is = ap (list_at lists) below.here ∙ below_is lists above.node node some half ∙ ap (λ o. option_or o (get_or lists node None)) (sym is.owner)
+    here_is : list_of_node lists branch.node ≡ option_or (get_or lists above.owner None) (get_or lists node None)
+    here_is = ap (list_of_node lists) below.here ∙ below_is lists above.node node some half ∙ ap (λ o. option_or o (get_or lists node None)) (sym is.owner)
 
 -- the row of a leaf has the list of its node
-pub leaf_list : (design : DesignModel) (order : List RowKey) (lists : List (Option (List Stretch))) → IsRowOrder design.rows order → length (row_lists order lists) ≡ length design.rows → (place : ℕ) (key : RowKey) → slice_get order place ≡ Some key → slice_get (row_lists order lists) key.row ≡ Some (unwrap_or (list_at lists (length order + place)) [])
+pub leaf_list : (design : DesignModel) (order : List RowKey) (lists : List (Option (List Stretch))) → IsRowOrder design.rows order → length (row_lists order lists) ≡ length design.rows → (place : ℕ) (key : RowKey) → slice_get order place ≡ Some key → slice_get (row_lists order lists) key.row ≡ Some (unwrap_or (list_of_node lists (length order + place)) [])
 leaf_list design order lists is_order count place key there =
     let of = key_there design.rows order is_order place key there in
     let below = slice_get_within design.rows key.row of.row of.there in

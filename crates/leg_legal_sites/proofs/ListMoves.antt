@@ -13,19 +13,19 @@ use Rattle.leg_legal_sites.specs.declared.row_keys.RowKey.{RowKey}
 use Rattle.leg_legal_sites.specs.Steps.SiteBounds.{DoBoundSite}
 use Rattle.leg_legal_sites.specs.Steps.FreeLists.{DoFit, AreRowsOf}
 use Rattle.leg_legal_sites.specs.Steps.TreeOfRows.{IsLevelsBeneath, IsLeafBeneath}
-use Rattle.leg_legal_sites.specs.Steps.FreeListSharing.{list_within, list_at, row_lists}
+use Rattle.leg_legal_sites.specs.Steps.FreeListSharing.{list_within, list_of_node, row_lists}
 use Rattle.leg_legal_sites.specs.Steps.Bounds.{AreOfBoth}
 use Rattle.leg_legal_sites.specs.Steps.SharedLists.{HaveAlikeLists, AreShared, IsShareable, IsSharedFrom}
 use Rattle.leg_legal_sites.proofs.RowTree.{beneath_either, beneath_left, beneath_right, nodes_set}
 use Rattle.leg_legal_sites.proofs.SharedLists.{half_of_left, half_of_right, half_below, own_is, from_above, IsNotBeneath, decide_beneath, same_elsewhere, same_above, same_rows}
 
-module _ (node : ℕ) (some : 1 ≤ node) (list : List Stretch) (lists : List (Option (List Stretch))) (alone : list_at lists (node / 2) ≡ None) where
+module _ (node : ℕ) (some : 1 ≤ node) (list : List Stretch) (lists : List (Option (List Stretch))) (alone : list_of_node lists (node / 2) ≡ None) where
   -- a node whose list those beneath it have
-  pub gives_own : get_or lists node None ≡ Some list → (levels other : ℕ) → IsLevelsBeneath (suc levels) node other → list_at lists other ≡ Some list
+  pub gives_own : get_or lists node None ≡ Some list → (levels other : ℕ) → IsLevelsBeneath (suc levels) node other → list_of_node lists other ≡ Some list
   gives_own has levels other beneath = from_above (suc levels) node other lists list some beneath (own_is lists (node / 2) node some refl alone ∙ has)
 
   -- both nodes below it, whose list they have
-  pub gives_both : get_or lists node None ≡ None → get_or lists (2 * node) None ≡ Some list → get_or lists (2 * node + 1) None ≡ Some list → (levels other : ℕ) → IsLevelsBeneath (suc levels) node other → list_at lists other ≡ Some list
+  pub gives_both : get_or lists node None ≡ None → get_or lists (2 * node) None ≡ Some list → get_or lists (2 * node + 1) None ≡ Some list → (levels other : ℕ) → IsLevelsBeneath (suc levels) node other → list_of_node lists other ≡ Some list
   gives_both none left right levels other (inl beneath) =
       from_above levels (2 * node) other lists list (omega (arith, some)) beneath (own_is lists node (2 * node) (omega (arith, some)) (half_of_left node) (own_is lists (node / 2) node some refl alone ∙ none) ∙ left)
   gives_both none left right levels other (inr beneath) =
@@ -33,9 +33,9 @@ module _ (node : ℕ) (some : 1 ≤ node) (list : List Stretch) (lists : List (O
 
 module _ (order : List RowKey) (node : ℕ) (some : 1 ≤ node) (inner : node < length order) (list : List Stretch) (old new : List (Option (List Stretch)))
     (others : (k : ℕ) → IsNotBeneath node k → get_or new k None ≡ get_or old k None)
-    (had : (levels other : ℕ) → IsLevelsBeneath (suc levels) node other → list_at old other ≡ Some list)
-    (has : (levels other : ℕ) → IsLevelsBeneath (suc levels) node other → list_at new other ≡ Some list) where
-  same_beneath : (levels leaf : ℕ) → length order ≤ leaf → IsLevelsBeneath levels node leaf → list_at new leaf ≡ list_at old leaf
+    (had : (levels other : ℕ) → IsLevelsBeneath (suc levels) node other → list_of_node old other ≡ Some list)
+    (has : (levels other : ℕ) → IsLevelsBeneath (suc levels) node other → list_of_node new other ≡ Some list) where
+  same_beneath : (levels leaf : ℕ) → length order ≤ leaf → IsLevelsBeneath levels node leaf → list_of_node new leaf ≡ list_of_node old leaf
   same_beneath zero leaf from same = absurd (omega (arith, same, from, inner))
   same_beneath (suc levels) leaf from beneath = has levels leaf beneath ∙ sym (had levels leaf beneath)
 
@@ -89,7 +89,7 @@ apart_left node some same = omega (arith, some, same)
 
 -- A node's list is that of both nodes below it now.
 module _ (order : List RowKey) (node : ℕ) (some : 1 ≤ node) (inner : node < length order) (list : List Stretch) (old : List (Option (List Stretch)))
-    (shared : AreShared order old) (alone : list_at old (node / 2) ≡ None) (had : get_or old node None ≡ Some list) where
+    (shared : AreShared order old) (alone : list_of_node old (node / 2) ≡ None) (had : get_or old node None ≡ Some list) where
   abbrev pub handed : List (Option (List Stretch))
   handed = three_set old (2 * node + 1) node (2 * node) (Some list) None (Some list)
 
@@ -99,13 +99,13 @@ module _ (order : List RowKey) (node : ℕ) (some : 1 ≤ node) (inner : node < 
   room : 2 * node + 1 < length old
   room = let count = shared.count in omega (arith, count, inner)
 
-  handed_alone : list_at handed (node / 2) ≡ None
+  handed_alone : list_of_node handed (node / 2) ≡ None
   handed_alone = same_above old handed node handed_others some ∙ alone
 
   handed_own : get_or handed node None ≡ None
   handed_own = second_is old (2 * node + 1) node (2 * node) (Some list) None (Some list) (λ same. omega (arith, some, same)) (omega (arith, room))
 
-  pub handed_none : list_at handed node ≡ None
+  pub handed_none : list_of_node handed node ≡ None
   handed_none = own_is handed (node / 2) node some refl handed_alone ∙ handed_own
 
   handed_left : get_or handed (2 * node) None ≡ Some list
@@ -185,7 +185,7 @@ none_within (suc most) lists (suc n) none =
     let own = none (suc n) (omega arith) in
     rw (above, own) refl
 
-pub none_at : (lists : List (Option (List Stretch))) (node : ℕ) → ((k : ℕ) → k ≤ node → get_or lists k None ≡ None) → list_at lists node ≡ None
+pub none_at : (lists : List (Option (List Stretch))) (node : ℕ) → ((k : ℕ) → k ≤ node → get_or lists k None ≡ None) → list_of_node lists node ≡ None
 none_at lists node none = none_within node lists node none
 
 -- Both nodes below one have the same list, which is its own now.

@@ -138,7 +138,7 @@ module _ (design : DesignModel) (sound : IsSound design.library) where
         rw (blockage_at_again rest, stays_kept design.library blockage.layer is.layer, room blockage front few few_rects) refl
 
     module _ (one : StayOne (blockage_entry_names design blockage)) where
-      blockage_inside : AreInside (printed.blockage_entry design blockage)
+      blockage_inside : AreInside (printed.blockage_parts design blockage)
       blockage_inside =
           (free_append (free_cons (free_literal (codes "-") refl refl refl) (blocked_free blockage.layer is.layer one))
           (free_each rect_words blockage.rects (All-weaker IsArea (λ rect. AreFree (rect_words rect)) rect_free blockage.rects is.rects))).inside

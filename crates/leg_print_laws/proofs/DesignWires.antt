@@ -23,7 +23,7 @@ use Rattle.leg_grammar.specs.Def.PathItem.{at_path_end}
 use Rattle.leg_grammar.specs.Def.Wiring.{path_at}
 use Rattle.leg_output.specs.Names.{layer_name}
 use Rattle.leg_rules.specs.Names.{via_numbered, via_name}
-use Rattle.leg_output.specs.Text.Wires.{width_words, point_words, given_extension, segment_words, wire_words, via_wire_words, patch_words, layer_of_via}
+use Rattle.leg_output.specs.Text.Wires.{width_words, point_words, given_extension, segment_words, wire_words, via_wire_words, patch_words, lower_layer_of_via}
 use Rattle.leg_print_laws.specs.NetScope.{known_of}
 use Rattle.leg_print_laws.proofs.NumberedNames.{holds_of, found, name_is}
 use Rattle.leg_print_laws.proofs.Tracks.{layer_named}
@@ -98,9 +98,9 @@ module _ (design : DesignModel) (sound : IsSound design.library) (vias : AreVias
       let known = via_known number via there good in
       let two = good_joins design.library via.shapes via.name known.good in
       let other = across_good (known_of design) number via two.0 two.1 there good two.2 in
-      let lower : layer_of_via design number ≡ two.0 = rw there (lowest_is two.0 via.shapes two.2.on_low two.2.each) in
+      let lower : lower_layer_of_via design number ≡ two.0 = rw there (lowest_is two.0 via.shapes two.2.on_low two.2.each) in
       let named : via_name design number ≡ via.name = rw there refl in
-      ap (λ words. path_at (known_of design) special (layer_name design (layer_of_via design number) ∷ words))
+      ap (λ words. path_at (known_of design) special (layer_name design (lower_layer_of_via design number) ∷ words))
       (append_assoc (width_words special (pos 0) ++ point_words at None) (via_name design number ∷ []) rest ∙ append_assoc (width_words special (pos 0)) (point_words at None) (via_name design number ∷ rest))
       ∙ ap (λ layer. path_at (known_of design) special (layer_name design layer ∷ (width_words special (pos 0) ++ (point_words at None ++ (via_name design number ∷ rest))))) lower
       ∙ ap (λ word. path_at (known_of design) special (layer_name design two.0 ∷ (width_words special (pos 0) ++ (point_words at None ++ (word ∷ rest))))) named
@@ -116,11 +116,11 @@ module _ (design : DesignModel) (sound : IsSound design.library) (vias : AreVias
       (patch_path (known_of design) layer (layer_name design layer) at rect rest (path_layer layer is.1) is.2 is.3 ends)
 
   -- the names that a via is printed with
-  pub lower_named : (number : ℕ) (via : ViaModel) → via_numbered design number ≡ Some via → via.good ≡ true → is_name (layer_name design (layer_of_via design number)) ≡ true
+  pub lower_named : (number : ℕ) (via : ViaModel) → via_numbered design number ≡ Some via → via.good ≡ true → is_name (layer_name design (lower_layer_of_via design number)) ≡ true
   lower_named number via there good =
       let known = via_known number via there good in
       let two = good_joins design.library via.shapes via.name known.good in
-      let lower : layer_of_via design number ≡ two.0 = rw there (lowest_is two.0 via.shapes two.2.on_low two.2.each) in
+      let lower : lower_layer_of_via design number ≡ two.0 = rw there (lowest_is two.0 via.shapes two.2.on_low two.2.each) in
       rw lower (path_layer two.0 two.2.low_routes).named.is_one
 
   pub via_is_name : (number : ℕ) (via : ViaModel) → via_numbered design number ≡ Some via → via.good ≡ true → is_name (via_name design number) ≡ true

@@ -24,7 +24,7 @@ use Rattle.leg_grammar.specs.Def.Terminal.{at_no_terminal}
 use Rattle.leg_grammar.specs.Def.Net.{NetParts, no_net_parts, use_clause, wiring_clause, clause_at, net_clause, net_name_at, net_in, are_too_many, net_entry, nets_at}
 use Rattle.leg_design_nets.proofs.NetEntries.{net_entry_shortens}
 use Rattle.leg_output.specs.Text.Clauses.{clause_words, kept_clause}
-use Rattle.leg_output.specs.Text.Nets.{terminal_words, net_head, wiring_words, net_said, net_words, net_text, wire_line}
+use Rattle.leg_output.specs.Text.Nets.{terminal_words, net_head, wiring_lines, net_said, net_words, net_text, wire_line}
 use Rattle.leg_output.specs.Text.Whole.{net_section, nets_text}
 use Rattle.leg_print_laws.proofs.Tests.{room_is, not_above}
 use Rattle.leg_print_laws.specs.PrintedNames.{StayOne, kept_words, terminal_names, wire_names, net_entry_names}
@@ -51,7 +51,7 @@ parts_of usage wires = record { usage = usage; wires = wires }
 module _ (design : DesignModel) (has : HasParts design) (special : Bool) where
   -- what stands behind the terminals: USE and the wires
   abbrev clauses : Option (List ℕ) → List Wire → Words
-  clauses usage wires = clause_words (kept_clause (codes "USE") usage) ++ words_in_lines (wiring_words design special wires)
+  clauses usage wires = clause_words (kept_clause (codes "USE") usage) ++ words_in_lines (wiring_lines design special wires)
 
   no_more_terminals : (usage : Option (List ℕ)) (wires : List Wire) → at_no_terminal (clauses usage wires) ≡ true
   no_more_terminals None [] = refl
@@ -74,7 +74,7 @@ module _ (design : DesignModel) (has : HasParts design) (special : Bool) where
     net_in_again nets others new own =
         let terminals = flat_map (terminal_words design) net.terminals in
         let usage = clause_words (kept_clause (codes "USE") net.usage) in
-        let wires = words_in_lines (wiring_words design special net.wires) in
+        let wires = words_in_lines (wiring_lines design special net.wires) in
         rw (
           is.name,
           is.no_must_join,
@@ -108,7 +108,7 @@ module _ (design : DesignModel) (has : HasParts design) (special : Bool) where
           inside_append (inside_cons (free_name net.name is.name (first_passes stays_one net.name (kept_words net.usage ++ flat_map (terminal_names design) net.terminals) front_one)).inside terminals_inside)
           (usage_inside net.usage is.usage (first_run_passes stays_one (kept_words net.usage) (flat_map (terminal_names design) net.terminals) more_one))
 
-      wiring_inside : AreInside (words_in_lines (wiring_words design special net.wires))
+      wiring_inside : AreInside (words_in_lines (wiring_lines design special net.wires))
       wiring_inside =
           wires_inside design has.sound has.vias special net.wires is.wires
           (next_run_passes stays_one (net.name ∷ kept_words net.usage ++ flat_map (terminal_names design) net.terminals) (flat_map (wire_names design) net.wires) one)
@@ -128,8 +128,8 @@ module _ (design : DesignModel) (has : HasParts design) (special : Bool) where
       pub net_lines : Lines (net_text design special net) (net_words design special net)
       net_lines =
           let head : Behind (spaced (net_head design net)) (net_head design net) = behind_spaced (net_head design net) head_inside.printable in
-          let wires : Behind (flat_map wire_line (wiring_words design special net.wires)) (words_in_lines (wiring_words design special net.wires)) = further_lines (wiring_words design special net.wires) wiring_inside.printable in
-          let whole : Lines (codes "-" ++ (spaced (net_head design net) ++ flat_map wire_line (wiring_words design special net.wires)) ++ codes " ;\n") (net_words design special net) =
+          let wires : Behind (flat_map wire_line (wiring_lines design special net.wires)) (words_in_lines (wiring_lines design special net.wires)) = further_lines (wiring_lines design special net.wires) wiring_inside.printable in
+          let whole : Lines (codes "-" ++ (spaced (net_head design net) ++ flat_map wire_line (wiring_lines design special net.wires)) ++ codes " ;\n") (net_words design special net) =
           lines_statement (codes "-") (printable_is_one (codes "-") refl) (behind_append head wires) in
           whole
 

@@ -27,7 +27,7 @@ use Rattle.leg_grammar.specs.Def.Pin.{pin_head, pin_in, pin_entry, pins_at}
 use Rattle.leg_design_floorplan.proofs.Pins.{entry_shortens}
 use Rattle.leg_output.specs.Text.Points.{corner_words}
 use Rattle.leg_output.specs.Text.Clauses.{shape_clause, kept_clause, placement_clause}
-use Rattle.leg_output.specs.Text.Pins.{port_place, port_clauses, kept_clauses, pin_clauses, pin_said, pin_words}
+use Rattle.leg_output.specs.Text.Pins.{port_place_lines, port_clauses, kept_clauses, pin_clauses, pin_said, pin_words}
 use Rattle.leg_output.specs.Text.Whole.{pins_text}
 use Rattle.leg_print_laws.proofs.Tests.{room_is}
 use Rattle.leg_print_laws.specs.PrintedNames.{StayOne, kept_words, pin_entry_names, names_of_layers}
@@ -84,7 +84,7 @@ module _ (design : DesignModel) (sound : IsSound design.library) (net direction 
   unplaced Cover is = absurd is
 
   place_clauses_again : (shapes : List Shape) (status : Status) (place : Option Place) → IsPlaced status place
-      → over (pin_clause design.library) (parts_of net direction usage done (Some (port_of shapes Unplaced None))) (port_place status place)
+      → over (pin_clause design.library) (parts_of net direction usage done (Some (port_of shapes Unplaced None))) (port_place_lines status place)
       ≡ Some (parts_of net direction usage done (Some (port_of shapes status place)))
   unfolding over
   place_clauses_again shapes status None is = rw (unplaced status is) refl
@@ -92,10 +92,10 @@ module _ (design : DesignModel) (sound : IsSound design.library) (net direction 
 
   -- the clauses behind PORT
   port_said : (port : PortModel) → IsPort design.library port
-      → over (pin_clause design.library) (parts_of net direction usage done (Some (port_of [] Unplaced None))) (map (shape_clause (codes "LAYER") design) port.shapes ++ port_place port.status port.place)
+      → over (pin_clause design.library) (parts_of net direction usage done (Some (port_of [] Unplaced None))) (map (shape_clause (codes "LAYER") design) port.shapes ++ port_place_lines port.status port.place)
       ≡ Some (parts_of net direction usage done (Some port))
   port_said port is =
-      over_append (pin_clause design.library) (map (shape_clause (codes "LAYER") design) port.shapes) (port_place port.status port.place)
+      over_append (pin_clause design.library) (map (shape_clause (codes "LAYER") design) port.shapes) (port_place_lines port.status port.place)
       (parts_of net direction usage done (Some (port_of [] Unplaced None))) (parts_of net direction usage done (Some (port_of port.shapes Unplaced None)))
       (shapes_again [] port.shapes is.shapes)
       ∙ place_clauses_again port.shapes port.status port.place is.placed
@@ -163,15 +163,15 @@ name_free keyword None key is one = All-nil AreFree
 name_free keyword (Some word) key is one =
     All-cons AreFree (keyword ∷ word ∷ []) [] (free_cons key (free_cons (free_name word is (first_passes stays_one word [] one)) free_nil)) (All-nil AreFree)
 
-place_clauses_free : (status : Status) (place : Option Place) → IsPlaced status place → All AreFree (port_place status place)
+place_clauses_free : (status : Status) (place : Option Place) → IsPlaced status place → All AreFree (port_place_lines status place)
 place_clauses_free status None is = All-nil AreFree
 place_clauses_free status (Some place) is = All-cons AreFree (placement_clause status (Some place)) [] (placement_free status (Some place) is) (All-nil AreFree)
 
 module _ (design : DesignModel) (sound : IsSound design.library) where
   port_free : (port : PortModel) → IsPort design.library port → list_all stays_one (names_of_layers design port.shapes) ≡ true → All AreFree (port_clauses design port)
   port_free port is one =
-      All-cons AreFree (codes "PORT" ∷ []) (map (shape_clause (codes "LAYER") design) port.shapes ++ port_place port.status port.place) (free_cons (free_literal (codes "PORT") refl refl refl) free_nil)
-      (All-append AreFree (map (shape_clause (codes "LAYER") design) port.shapes) (port_place port.status port.place)
+      All-cons AreFree (codes "PORT" ∷ []) (map (shape_clause (codes "LAYER") design) port.shapes ++ port_place_lines port.status port.place) (free_cons (free_literal (codes "PORT") refl refl refl) free_nil)
+      (All-append AreFree (map (shape_clause (codes "LAYER") design) port.shapes) (port_place_lines port.status port.place)
       (shapes_free design sound (codes "LAYER") port.shapes (free_literal (codes "LAYER") refl refl refl) is.shapes one) (place_clauses_free port.status port.place is.placed))
 
   ports_free : (ports : List PortModel) → All (IsPort design.library) ports → list_all stays_one (flat_map (λ (port : PortModel). names_of_layers design port.shapes) ports) ≡ true → All AreFree (flat_map (port_clauses design) ports)

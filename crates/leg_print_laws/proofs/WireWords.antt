@@ -20,8 +20,8 @@ use Rattle.leg_grammar.specs.Def.PathItem.{at_path_end}
 use Rattle.leg_grammar.specs.Def.Wiring.{at_no_new, new_path, paths_at, wiring_start, wiring_at}
 use Rattle.leg_output.specs.Names.{layer_name}
 use Rattle.leg_rules.specs.Names.{via_name}
-use Rattle.leg_output.specs.Text.Wires.{number_words, width_words, point_words, given_extension, wire_words, layer_of_via}
-use Rattle.leg_output.specs.Text.Nets.{wiring_words}
+use Rattle.leg_output.specs.Text.Wires.{number_words, width_words, point_words, given_extension, wire_words, lower_layer_of_via}
+use Rattle.leg_output.specs.Text.Nets.{wiring_lines}
 use Rattle.leg_print_laws.specs.PrintedNames.{StayOne, wire_names}
 use Rattle.leg_print_laws.specs.NetScope.{known_of}
 use Rattle.leg_print_laws.proofs.FreeWords.{AreInside, AreFree, free_literal, free_name, free_number, free_nil, free_cons, free_append, inside_nil, inside_cons, inside_each}
@@ -67,7 +67,7 @@ module _ (design : DesignModel) (sound : IsSound design.library) (vias : AreVias
       (point_free from (given_extension design.library special layer ext_from) is.from_ (given_is design.library special layer ext_from is.from_extension)))
       (point_free to (given_extension design.library special layer ext_to) is.to_ (given_is design.library special layer ext_to is.to_extension))
   wire_free special (ViaAt number at) is one =
-      let layer = layer_name design (layer_of_via design number) in
+      let layer = layer_name design (lower_layer_of_via design number) in
       free_append (free_append
       (free_cons (free_name layer (lower_named design sound vias number is.1.0 is.1.1 is.1.2) (first_passes stays_one layer (via_name design number ∷ []) one)) (width_free special (pos 0) (zero_number special)))
       (spot_free at is.0))
@@ -129,10 +129,10 @@ module _ (design : DesignModel) (sound : IsSound design.library) (vias : AreVias
         (more_free wires (All-tail (IsWire design.library design.vias special) wire wires each) (next_run_passes stays_one (wire_names design wire) (flat_map (wire_names design) wires) one))
 
     -- the lines of the wires stay words
-    pub wires_inside : (wires : List Wire) → All (IsWire design.library design.vias special) wires → list_all stays_one (flat_map (wire_names design) wires) ≡ true → AreInside (words_in_lines (wiring_words design special wires))
+    pub wires_inside : (wires : List Wire) → All (IsWire design.library design.vias special) wires → list_all stays_one (flat_map (wire_names design) wires) ≡ true → AreInside (words_in_lines (wiring_lines design special wires))
     wires_inside [] each one = inside_nil
     wires_inside (wire ∷ wires) each one =
-        inside_each (λ words. words) (wiring_words design special (wire ∷ wires))
+        inside_each (λ words. words) (wiring_lines design special (wire ∷ wires))
         (All-cons AreInside (codes "+" ∷ codes "ROUTED" ∷ wire_words design special wire) (map more_words wires)
         (inside_cons (record { printable = refl; semicolon = refl }) (inside_cons (record { printable = refl; semicolon = refl })
         (wire_free special wire (All-head (IsWire design.library design.vias special) wire wires each) (first_run_passes stays_one (wire_names design wire) (flat_map (wire_names design) wires) one)).inside))

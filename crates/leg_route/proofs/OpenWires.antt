@@ -67,7 +67,7 @@ module _ (run_of_clean : RunOfCleanWires) (design : DesignModel) (flat : FlatMod
   node_clean a wire is_open adds =
       let width : is_open.adds.width ≡ adds.width =
       same_width design.library a.layer is_open.adds.direction adds.direction is_open.adds.width adds.width is_open.adds.runs adds.runs in
-      let same : is_open.wire ≡ wire = is_open.adds.is ∙ ap (λ w. Patch a.layer a.at (square w)) width ∙ sym adds.is in
+      let same : is_open.wire ≡ wire = is_open.adds.is ∙ ap (λ w. Patch a.layer a.at (square (half w))) width ∙ sym adds.is in
       subst Clean same is_open.clean
 
   -- steps on a layer are not steps through a via

@@ -39,7 +39,7 @@ module _ (flat : FlatModel) (bare : flat.shapes ≡ []) where
     bare_node : (node : Node) → IsNumberOf grid n node → IsNode grid.design node → IsOneOf (IsNumberOf grid) (IsOpenNode grid.design flat net) n
     bare_node node number is_node =
         let own = number.lies.layer in
-        let wire = Patch node.layer node.at (square own.width) in
+        let wire = Patch node.layer node.at (square (half own.width)) in
         record {
           node = node;
           is = number;

@@ -60,7 +60,7 @@ shifted_around : (reach : Option ℤ) (at : PointModel) (rect : RectModel) → R
 shifted_around None at rect all = absurd all.x2
 shifted_around (Some reach) at rect all = rect_around reach at rect all
 
-square_reach : (reach : Option ℤ) (width : ℤ) → Reaches reach (half width) → ReachesAll reach (square width)
+square_reach : (reach : Option ℤ) (width : ℤ) → Reaches reach (half width) → ReachesAll reach (square (half width))
 square_reach None width reaches = absurd reaches
 square_reach (Some reach) width reaches = by (half width) reaches where
   by : (h : ℤ) → h ≤ℤ reach → ReachesAll (Some reach) (record { x1 = pos 0 -ℤ h; y1 = pos 0 -ℤ h; x2 = h; y2 = h })
@@ -80,12 +80,12 @@ line_around (Some reach) low high width wide stretch reaches = λ p there.
     strip_around reach (half width) low high p reaches ((points_forth low high width wide (strip_of low high width) refl stretch p).1 there)
 
 module _ (design : DesignModel) (layer : ℕ) (reach : Option ℤ) where
-  pub patch_around : (on : ℕ) (at : PointModel) (width : ℤ) → (on ≡ layer → Reaches reach (half width)) → IsWireAround design layer reach at at (Patch on at (square width))
+  pub patch_around : (on : ℕ) (at : PointModel) (width : ℤ) → (on ≡ layer → Reaches reach (half width)) → IsWireAround design layer reach at at (Patch on at (square (half width)))
   patch_around on at width reaches metal there here =
-      let the : OnLayer = record { layer = on; outline = Shifted at (square width) } in
+      let the : OnLayer = record { layer = on; outline = Shifted at (square (half width)) } in
       let same : the ≡ metal = the_one the metal there in
       let P : OnLayer → Type 0 = λ m. AreAround reach at at (λ p. HasPointOf m.outline p) in
-      subst P same (shifted_around reach at (square width) (square_reach reach width (reaches (ap (λ (m : OnLayer). m.layer) same ∙ here))))
+      subst P same (shifted_around reach at (square (half width)) (square_reach reach width (reaches (ap (λ (m : OnLayer). m.layer) same ∙ here))))
 
   pub segment_around : (on : ℕ) (low high : PointModel) (width : ℤ) → IsWidth width → IsStretch low high → (on ≡ layer → Reaches reach (half width)) → IsWireAround design layer reach low high (Segment on low high width (half width) (half width))
   segment_around on low high width wide stretch reaches metal there here =

@@ -18,7 +18,7 @@ use Rattle.leg_wire.specs.Access.{Admits, alone}
 use Rattle.leg_rules.specs.Spacing.Clean.{IsClean}
 use Rattle.leg_rules.specs.declared.node.Node.{Node}
 use Rattle.leg_route_grid.specs.declared.slot_access.SlotAccess.{SlotAccess}
-use Rattle.leg_rules.specs.Route.StepWires.{NodeAdds, StepAdds, square}
+use Rattle.leg_rules.specs.Route.StepWires.{half, NodeAdds, StepAdds, square}
 use Rattle.leg_rules.specs.Route.OpenMetal.{IsOpenWire, IsOpenNode}
 use Rattle.leg_route_grid.specs.Steps.Grid.{GridModel, IsDesignGrid, IsNumberOf}
 use Rattle.leg_route_grid.specs.Steps.NodeNumbers.{IsOneOf}
@@ -68,7 +68,7 @@ module _ (design : DesignModel) (shape : Shape) (net : ℕ) where
   node_elsewhere : (node : Node) (wire : Wire) → node.layer ≢ shape.layer → NodeAdds design node wire → IsOpenWire design (alone shape) net wire
   node_elsewhere node wire other adds =
       let P : Wire → Type 0 = λ wire. IsOpenWire design (alone shape) net wire in
-      subst P (sym adds.is) (patch_elsewhere node.layer node.at (square adds.width) other)
+      subst P (sym adds.is) (patch_elsewhere node.layer node.at (square (half adds.width)) other)
 
   pub step_elsewhere : (a b : Node) (wire : Wire) → a.layer ≡ b.layer → a.layer ≢ shape.layer → StepAdds design a b wire → IsOpenWire design (alone shape) net wire
   step_elsewhere a b wire same other (inl along) =

@@ -3,7 +3,7 @@ use Rattle.std.proofs.Common.{◌≡◌, ◌≢◌, ◌⊎◌, inl, inr, ℤ, po
 use Rattle.std.proofs.lemmas.Int.{ints}
 use Rattle.leg_geom.specs.Plane.{PointModel}
 use Rattle.leg_rules.specs.Metal.Outline.{beyond, IsAlong, IsAcross, HasPointOf}
-use Rattle.leg_route_laws.specs.Lines.{EachStep, last_spot, AreInLine, line}
+use Rattle.leg_route_laws.specs.Lines.{EachStep, last_spot, AreInLine, line_outline}
 
 -- the number lies between two others, or at most this far beyond them
 data IsNear (reach a b z : ℤ) : Type 0 where
@@ -78,7 +78,7 @@ same_spot a b x y = by a.x a.y x y where
 
 module _ (width reach : ℤ) (some : pos 0 ≤ℤ reach) (p : PointModel) where
   abbrev HasIt : PointModel → PointModel → Type 0
-  HasIt a b = HasPointOf (line width reach a b) p
+  HasIt a b = HasPointOf (line_outline width reach a b) p
 
   level_steps : (from to : PointModel) (spots : List PointModel) → EachStep IsLevel from (to ∷ spots) → IsNear reach from.x (last_spot to spots).x p.x → IsAcross from.y width p.y → SomeStep HasIt from (to ∷ spots)
   level_steps from to [] each near across = inl (inl (record { level = each.0; along = along_from_near reach from.x to.x p.x some near; across = across }))

@@ -24,8 +24,9 @@ ghost use Rattle.leg_wire.specs.PieceMarks.{AreMarks};
 ghost use Rattle.leg_rules.specs.Joins.Touch.{piece_count, AreJoined};
 ghost use Rattle.leg_route_laws.specs.Growth.{AddedWire, Grows, of_net, HasGrown};
 ghost use Rattle.leg_route_laws.specs.CleanWire.{HasNoSpacingFault, IsRectOf, IsCleanWire, HasCleanRect, LiesInClean};
-ghost use Rattle.leg_route_laws.specs.Lines.{EachStep, last_spot, AreInLine, line, square_of_reach};
+ghost use Rattle.leg_route_laws.specs.Lines.{EachStep, last_spot, AreInLine, line_outline};
 ghost use Rattle.leg_route_laws.specs.Finished.{finished, AreByNet, IsFinishedFrom};
+ghost use Rattle.leg_rules.specs.Route.StepWires.{square};
 ghost use Rattle.leg_rules.specs.Route.SameButForWires.{IsSameButForWires};
 ghost use Rattle.leg_rules.specs.Violations.{IsViolationIn};
 ghost use Rattle.leg_route_laws.specs.Violations.{HasShort, HasTooNear};
@@ -67,7 +68,7 @@ pub fn covered_wire_is_clean()
 pub fn run_of_clean_steps_is_clean()
     ensures { (design : DesignModel) (flat : FlatModel) (net layer : ℕ) (width reach : ℤ) (from : PointModel) (spots : List PointModel)
         → pos 0 ≤ℤ reach → AreInLine from spots → from ≢ last_spot from spots
-        → EachStep (λ a b. HasCleanRect design.library flat net layer (line width reach a b)) from spots
+        → EachStep (λ a b. HasCleanRect design.library flat net layer (line_outline width reach a b)) from spots
         → IsCleanWire design flat net (Segment layer from (last_spot from spots) width reach reach) }
 {}
 
@@ -83,7 +84,7 @@ pub fn run_of_clean_wires_is_clean()
 pub fn ends_of_clean_wire_are_clean()
     ensures { (design : DesignModel) (flat : FlatModel) (net layer : ℕ) (reach : ℤ) (a b : PointModel)
         → a ≢ b → (a.y ≡ b.y) ⊎ (a.x ≡ b.x) → IsCleanWire design flat net (Segment layer a b (reach +ℤ reach) reach reach)
-        → IsCleanWire design flat net (Patch layer a (square_of_reach reach)) × IsCleanWire design flat net (Patch layer b (square_of_reach reach)) }
+        → IsCleanWire design flat net (Patch layer a (square reach)) × IsCleanWire design flat net (Patch layer b (square reach)) }
 {}
 
 /// What a flat has that grew by wires.

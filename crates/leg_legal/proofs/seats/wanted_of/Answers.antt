@@ -1,7 +1,7 @@
 -- What the component, its macro and its site say.
 use Rattle.std.proofs.Common.{◌≡◌, ◌<◌, ◌/◌, length, slice_get, Some, unsigned_abs, refl, sym, ap, ◌∙◌}
 use Rattle.std.proofs.lemmas.Option.{slice_get_within, slice_get_read}
-use Rattle.leg_rules.specs.Legalise.Places.{orient_of}
+use Rattle.leg_rules.specs.Legalise.Places.{orient_if_placed}
 use Rattle.leg_design_records.proofs.ComponentMacro.{component_read, master_read}
 use Rattle.leg_legal.proofs.BestSeat.{site_inside, wanted_is}
 use Rattle.leg_legal.proofs.seats.wanted_of.Goals as goal
@@ -35,6 +35,6 @@ returns g c =
       site = number;
       site_width = site.size.width;
       many = unsigned_abs master.size.width / unsigned_abs site.size.width;
-      orient = orient_of component.place;
+      orient = orient_if_placed component.place;
       y_symmetric = master.y_symmetric;
     }))

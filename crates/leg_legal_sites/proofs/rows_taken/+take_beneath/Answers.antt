@@ -5,7 +5,7 @@ use Rattle.std.proofs.lemmas.Option.{slice_get-get_or}
 use Rattle.leg_legal_sites.specs.declared.stretch.Stretch.{Stretch}
 use Rattle.leg_legal_sites.specs.declared.bounds.Bounds.{Bounds}
 use Rattle.leg_legal_sites.specs.Steps.FreeLists.{AreRowsOf}
-use Rattle.leg_legal_sites.specs.Steps.FreeListSharing.{list_at, row_lists}
+use Rattle.leg_legal_sites.specs.Steps.FreeListSharing.{list_of_node, row_lists}
 use Rattle.leg_legal_sites.specs.Steps.FreeRows.{AreTakenBeneath}
 use Rattle.leg_legal_sites.specs.Steps.SharedLists.{AreShared}
 use Rattle.leg_legal_sites.proofs.RowsTaken.{taken_beside, taken_both, rows_joined}
@@ -81,7 +81,7 @@ take_beneath-requires g t c =
     ] in
     let first : 1 ≤ 2 * node = omega (arith, some) in
     let there : 2 * node < length c.hand_down.new.nodes = omega (arith, inner, count) in
-    let alone : list_at lists (2 * node / 2) ≡ None = ap (list_at lists) (half_of_left node) ∙ c.in_ok-hand_down.ensures.none in
+    let alone : list_of_node lists (2 * node / 2) ≡ None = ap (list_of_node lists) (half_of_left node) ∙ c.in_ok-hand_down.ensures.none in
     let fewer : length c.hand_down.new.nodes - 2 * node < length c.args.nodes.now - node = omega (arith, some, inner, count, before) in
     search (rules, rows, shared, first, there, alone, fewer)
 
@@ -101,8 +101,8 @@ take_beneath-requires-2 g t c =
     ] in
     let first : 1 ≤ 2 * node + 1 = omega arith in
     let there : 2 * node + 1 < length c.take_beneath.new.nodes = omega (arith, inner, count) in
-    let above : list_at lists node ≡ None = ap (list_at lists) (sym (half_of_left node)) ∙ c.in_ok-take_beneath.ensures.alone in
-    let alone : list_at lists ((2 * node + 1) / 2) ≡ None = ap (list_at lists) (half_of_right node) ∙ above in
+    let above : list_of_node lists node ≡ None = ap (list_of_node lists) (sym (half_of_left node)) ∙ c.in_ok-take_beneath.ensures.alone in
+    let alone : list_of_node lists ((2 * node + 1) / 2) ≡ None = ap (list_of_node lists) (half_of_right node) ∙ above in
     let fewer : length c.take_beneath.new.nodes - (2 * node + 1) < length c.args.nodes.now - node = omega (arith, some, inner, count, before) in
     search (rules, rows, shared, first, there, alone, fewer)
 
@@ -122,7 +122,7 @@ returns g t c =
     ] in
     let P : List (List Stretch) → Type 0 = λ l. AreTakenBeneath design rect order (2 * node) l (row_lists order c.take_beneath.new.lists) in
     let first = subst P c.in_ok-hand_down.ensures.same c.in_ok-take_beneath.ensures.taken in
-    let above : list_at lists node ≡ None = ap (list_at lists) (sym (half_of_right node)) ∙ c.in_ok-take_beneath-2.ensures.alone in
+    let above : list_of_node lists node ≡ None = ap (list_of_node lists) (sym (half_of_right node)) ∙ c.in_ok-take_beneath-2.ensures.alone in
     record {
       shared = c.in_ok-take_beneath-2.ensures.shared;
       rows = rows_joined design rect order (row_lists order lists) nodes node c.joined.result (get_or nodes (2 * node) none) (get_or nodes (2 * node + 1) none) c.requires.first inner
