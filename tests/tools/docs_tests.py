@@ -220,6 +220,20 @@ class LemmaTests(DoctoredTests):
         self.assertEqual(self.found(('crates/leg_geom/proofs/sum/Answers.antt', text)), {'crates/leg_geom/proofs/sum/Answers.antt:4: nothing names less'})
 
 
+class WidthTests(DoctoredTests):
+    """Lines of specs/ and proofs/."""
+    crates = ('leg_geom',)
+
+    def test_a_line_that_is_too_wide(self):
+        path, line = 'crates/leg_geom/specs/New.antt', f'-- {"a" * docs.WIDTH}'
+        self.assertEqual(said(docs.check_widths, self.copy), set())
+        self.copy.write(path, f'-- Nothing.\n{line}\n')
+        self.assertEqual(said(docs.check_widths, self.copy), {f'{path}:2 has {len(line)} characters, and {docs.WIDTH} are the most'})
+        for free in (f'use Rattle.{"a" * docs.WIDTH}', f'word = codes "{"a" * docs.WIDTH}"', line[:docs.WIDTH]):
+            self.copy.write(path, f'{free}\n')
+            self.assertEqual(said(docs.check_widths, self.copy), set())
+
+
 class GateTests(DoctoredTests):
     """tests/edits/gate."""
     crates = ()

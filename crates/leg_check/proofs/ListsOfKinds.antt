@@ -29,8 +29,10 @@ lower_kind_first v w less = record {
 both_lists : (P Q : Fault → Type 0) (xs ys : List Fault) → ((v w : Fault) → P v → Q w → kind_number v < kind_number w) → IsListOf P xs → IsListOf Q ys
     → IsListOf (λ v. P v ⊎ Q v) (xs ++ ys)
 both_lists P Q xs ys lower first second = record {
-  increasing = AllPairs-append_by ComesBefore P Q (λ v w p q. lower_kind_first v w (lower v w p q)) xs ys first.each second.each first.increasing second.increasing;
-  each = All-append (λ v. P v ⊎ Q v) xs ys (All-weaker P (λ v. P v ⊎ Q v) (λ v p. inl p) xs first.each) (All-weaker Q (λ v. P v ⊎ Q v) (λ v q. inr q) ys second.each);
+  increasing =
+      AllPairs-append_by ComesBefore P Q (λ v w p q. lower_kind_first v w (lower v w p q)) xs ys first.each second.each first.increasing second.increasing;
+  each = All-append (λ v. P v ⊎ Q v) xs ys (All-weaker P (λ v. P v ⊎ Q v) (λ v p. inl p) xs first.each)
+      (All-weaker Q (λ v. P v ⊎ Q v) (λ v q. inr q) ys second.each);
   all = λ v h. elim h [ inl p ↦ Contains-append_left xs ys v (first.all v p) | inr q ↦ Contains-append_right xs ys v (second.all v q) ];
 }
 
@@ -55,7 +57,8 @@ open_last : (design : DesignModel) (flat : FlatModel) (v : Fault) → IsOpenViol
 open_last design flat v (open_net h) = omega arith
 
 -- the violations of placement and those of two shapes
-pub without_open : (library : LibraryModel) (design : DesignModel) (flat : FlatModel) (xs ys : List Fault) → library ≡ design.library → IsListOf (IsPlacementViolation design) xs
+pub without_open : (library : LibraryModel) (design : DesignModel) (flat : FlatModel) (xs ys : List Fault) → library ≡ design.library
+    → IsListOf (IsPlacementViolation design) xs
     → IsListOf (IsSpacingViolation library flat) ys → IsListOf (IsOtherThanOpen design flat) (xs ++ ys)
 without_open library design flat xs ys same placed spaced =
     subst (λ (l : LibraryModel). IsListOf (λ v. IsPlacementViolation design v ⊎ IsSpacingViolation l flat v) (xs ++ ys)) same
@@ -75,10 +78,13 @@ module _ (design : DesignModel) (flat : FlatModel) (is_flat : IsFlatOf design fl
       ]
 
   -- the three lists are the list of all violations
-  pub all_violations : (xs ys zs : List Fault) → IsListOf (IsPlacementViolation design) xs → IsListOf (IsSpacingViolation design.library flat) ys → IsListOf (IsOpenViolation design flat) zs
+  pub all_violations : (xs ys zs : List Fault) → IsListOf (IsPlacementViolation design) xs → IsListOf (IsSpacingViolation design.library flat) ys
+      → IsListOf (IsOpenViolation design flat) zs
       → IsListOf (IsViolation design) (xs ++ (ys ++ zs))
   all_violations xs ys zs placed spaced opened =
-      let metal = both_lists (IsSpacingViolation design.library flat) (IsOpenViolation design flat) ys zs (λ v w s o. omega (arith, spacing_before design.library flat v s, open_last design flat w o)) spaced opened in
+      let metal =
+      both_lists (IsSpacingViolation design.library flat) (IsOpenViolation design flat) ys zs
+      (λ v w s o. omega (arith, spacing_before design.library flat v s, open_last design flat w o)) spaced opened in
       same_list (λ v. IsPlacementViolation design v ⊎ IsInFlat design flat v) (IsViolation design) (xs ++ (ys ++ zs))
       (λ v h. elim h [ inl p ↦ inl p | inr m ↦ inr (record { flat = flat; is_flat = is_flat; holds = m }) ])
       (λ v h. elim h [ inl p ↦ inl p | inr m ↦ inr (in_this_flat v m) ])

@@ -101,7 +101,13 @@ module _ (now : DesignModel) (sound : HasSoundRows now) (done : List ℕ) (c : �
         | inl same ↦ inside_here (rw same at h)
         | inr apart ↦
             before.none (Outside d)
-            (outside (record { box = h.box; stands = box_elsewhere now c component place at d h.box apart h.stands; square = h.square; inside = h.inside; outside = h.outside }))
+            (outside (record {
+              box = h.box;
+              stands = box_elsewhere now c component place at d h.box apart h.stands;
+              square = h.square;
+              inside = h.inside;
+              outside = h.outside;
+            }))
             (settled_before now c component place at movable done d apart settled)
       ]
   none_after v (off_site {c = d} h) settled =
@@ -138,8 +144,10 @@ module _ (now : DesignModel) (sound : HasSoundRows now) (done : List ℕ) (c : �
                 stands_a = box_elsewhere now c component place at a h.box_a a_apart h.stands_a;
                 stands_b = box_elsewhere now c component place at b h.box_b b_apart h.stands_b;
                 shared = h.shared;
-              }))
-              (settled_before now c component place at movable done a a_apart settled.0, settled_before now c component place at movable done b b_apart settled.1)
+              })) (
+                settled_before now c component place at movable done a a_apart settled.0,
+                settled_before now c component place at movable done b b_apart settled.1,
+              )
         ]
       ]
   none_after v (blocked {c = d} h) settled =

@@ -40,7 +40,8 @@ module _ (design : DesignModel) where
         legalised = inl (legal, refl);
       })
 
-  pub chosen_run : (taken : List Taken) → IsWellFormed design → IsSound design.library → NoneStaying design → (IsLegallyPlaced design → ⊥) → AreRun design taken → AreChosen design taken
+  pub chosen_run : (taken : List Taken) → IsWellFormed design → IsSound design.library → NoneStaying design → (IsLegallyPlaced design → ⊥)
+      → AreRun design taken → AreChosen design taken
   chosen_run taken proper sound staying illegal r =
       let rows : HasSoundRows design = record { sites = sound.sites; rows = proper.rows } in
       record {
@@ -60,7 +61,8 @@ module _ {A : Type 0} (design : DesignModel) where
   run_fault_of keys (NoRoom c) order f = record { order = numbers keys; is_order = order.order; stuck = f }
   run_fault_of keys Memory order f = tt
 
-  pub refusal_of : (fault : LegalFault A) → NoneStaying design → AreSuited design → (IsLegallyPlaced design → ⊥) → IsRunFault design fault → IsLegaliseRefusal design fault
+  pub refusal_of : (fault : LegalFault A) → NoneStaying design → AreSuited design → (IsLegallyPlaced design → ⊥) → IsRunFault design fault
+      → IsLegaliseRefusal design fault
   refusal_of (FixedIllegal faults) staying suited illegal f = absurd f
   refusal_of (NoSite c) staying suited illegal f = absurd f
   refusal_of (NoRoom c) staying suited illegal f = (

@@ -24,7 +24,8 @@ module _ (v w : Fault) (kinds : kind_number v ≡ kind_number w) where
 by_kind : (v w : Fault) → kind_number v < kind_number w → ComesBefore v w
 by_kind v w below = record { kind = omega arith; first = λ same. absurd (omega arith); second = λ same firsts. absurd (omega arith) }
 
-module _ (design : DesignModel) (P : Fault → Type 0) (holds : (fault : Fault) → P fault → IsPlacementViolation design fault) (each : (fault : Fault) → HoldsOrNot (P fault)) where
+module _ (design : DesignModel) (P : Fault → Type 0) (holds : (fault : Fault) → P fault → IsPlacementViolation design fault)
+    (each : (fault : Fault) → HoldsOrNot (P fault)) where
   abbrev count : ℕ
   count = length design.components
 

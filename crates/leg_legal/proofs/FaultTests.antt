@@ -29,7 +29,8 @@ module _ (design : DesignModel) where
         | inr none ↦ inr (λ (box, s). none (s.component, s.there))
         | inl (component, there) ↦ elim (some_or_not (box_of design.library component)) [
           | inl (box, is) ↦ inl (box, record { component = component; there = there; placed = is })
-          | inr none ↦ inr (λ (box, s). none (box, (let same : s.component ≡ component = same_Some s.component component (sym s.there ∙ there) in rw same at s.placed)))
+          | inr none ↦
+              inr (λ (box, s). none (box, (let same : s.component ≡ component = same_Some s.component component (sym s.there ∙ there) in rw same at s.placed)))
         ]
       ]
 
@@ -44,7 +45,9 @@ module _ (design : DesignModel) where
       elim (there_or_not design.components c) [
         | inr none ↦ inr (λ u. none (u.component, u.there))
         | inl (component, there) ↦ elim (some_or_not component.place) [
-          | inl (place, is) ↦ inr (λ u. none-some place (let same : u.component ≡ component = same_Some u.component component (sym u.there ∙ there) in sym (rw same at u.unplaced) ∙ is))
+          | inl (place, is) ↦
+              inr (λ u. none-some place (let same : u.component ≡ component = same_Some u.component component (sym u.there ∙ there) in
+              sym (rw same at u.unplaced) ∙ is))
           | inr none ↦ inl (record { component = component; there = there; unplaced = none_is component.place none })
         ]
       ] where
@@ -142,7 +145,8 @@ module _ (design : DesignModel) where
                     none (o.number, rw master_is at o.site))
               ]
 
-          mastered : (component : Component) (place : Place) → slice_get design.components c ≡ Some component → component.place ≡ Some place → HoldsOrNot (IsOffSite design c)
+          mastered : (component : Component) (place : Place) → slice_get design.components c ≡ Some component → component.place ≡ Some place
+              → HoldsOrNot (IsOffSite design c)
           mastered component place there is =
               elim (there_or_not design.library.masters component.master) [
                 | inl (master, is_master) ↦ sited component place master there is is_master

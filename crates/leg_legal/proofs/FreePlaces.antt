@@ -119,7 +119,8 @@ module _ (design : DesignModel) (sound : HasSoundRows design) (sized : HasMacroS
     has_area : HasArea f.movable.master.size
     has_area = (all_at (λ (m : MasterModel). IsExtent m.size) design.library.masters f.movable.component.master f.movable.master sized f.movable.is_master).area
 
-    box_is : placed_box f.movable.master.size place ≡ record { x1 = place.at.x; y1 = place.at.y; x2 = place.at.x +ℤ f.movable.master.size.width; y2 = place.at.y +ℤ f.movable.master.size.height }
+    box_is : placed_box f.movable.master.size place ≡
+        record { x1 = place.at.x; y1 = place.at.y; x2 = place.at.x +ℤ f.movable.master.size.width; y2 = place.at.y +ℤ f.movable.master.size.height }
     box_is =
         upright_box f.movable.master.size place.at place.orient has_area
         (fitting_upright f.row.orient f.movable.master.y_symmetric place.orient is_row.upright f.on_row.fits)

@@ -26,7 +26,8 @@ takes_fits row symmetric (Some old) orient (inl kept) = rw kept.1 kept.0
 takes_fits row symmetric (Some old) orient (inr changed) = inl changed.1
 
 -- a macro as high as a site and as wide as some of them has area
-pub area_of_sites : (site size : ExtentModel) (many : ℕ) → HasArea site → 1 ≤ many → size.width ≡ pos many *ℤ site.width → size.height ≡ site.height → HasArea size
+pub area_of_sites : (site size : ExtentModel) (many : ℕ) → HasArea site → 1 ≤ many → size.width ≡ pos many *ℤ site.width → size.height ≡ site.height
+    → HasArea size
 area_of_sites site size many area some wide high =
     let n : ℕ = unsigned_abs site.width in
     let width : site.width ≡ pos n = omega (arith, ints, area.wide) in

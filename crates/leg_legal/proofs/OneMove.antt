@@ -28,7 +28,8 @@ module _ (now : DesignModel) (c : ℕ) (component : Component) (place : Place) (
   is_here other there = same_Some other (placed_at component place) (sym there ∙ here)
 
   -- its box
-  pub box_here : (master : MasterModel) (box : RectModel) → slice_get now.library.masters component.master ≡ Some master → HasBox (moved_to now c component place) c box → box ≡ placed_box master.size place
+  pub box_here : (master : MasterModel) (box : RectModel) → slice_get now.library.masters component.master ≡ Some master
+      → HasBox (moved_to now c component place) c box → box ≡ placed_box master.size place
   box_here master box is_master s =
       let told : box_of now.library (placed_at component place) ≡ Some box = rw (is_here s.component s.there) at s.placed in
       let is : box_of now.library (placed_at component place) ≡ Some (placed_box master.size place) = rw is_master refl in
@@ -91,6 +92,7 @@ module _ (now : DesignModel) (c : ℕ) (component : Component) (place : Place) (
         ]
 
     -- and its box was taken
-    pub taken_before : (done : List ℕ) (d : ℕ) (box : RectModel) → (d ≡ c → ⊥) → IsSettled (moved_to now c component place) (done ++ c ∷ []) d → HasBox (moved_to now c component place) d box → IsTaken now done box
+    pub taken_before : (done : List ℕ) (d : ℕ) (box : RectModel) → (d ≡ c → ⊥) → IsSettled (moved_to now c component place) (done ++ c ∷ []) d
+        → HasBox (moved_to now c component place) d box → IsTaken now done box
     taken_before done d box apart settled stands =
         inl (record { d = d; settled = settled_before done d apart settled; stands = box_elsewhere d box apart stands })

@@ -165,7 +165,8 @@ module _ (before : DesignModel) (c : ℕ) (stuck : IsStuck before c) where
 
   run_not_stuck : (after : DesignModel) → IsRunOfAll before after → ⊥
   run_not_stuck after all =
-      not_taken (turn_in before all.order after all.run stuck.done c stuck.rest (order_unique before all.order (stuck.done ++ c ∷ stuck.rest) all.is_order stuck.is_order))
+      not_taken (turn_in before all.order after all.run stuck.done c stuck.rest
+      (order_unique before all.order (stuck.done ++ c ∷ stuck.rest) all.is_order stuck.is_order))
 
 -- one component is the first without room
 one_stuck : (before : DesignModel) (c d : ℕ) → IsStuck before c → IsStuck before d → c ≡ d
@@ -183,7 +184,8 @@ one_unsuited design c d least also = omega (arith, least.least d also.unsuited, 
 
 module _ {A : Type 0} (design : DesignModel) where
   -- two causes of refusal are the same, byte for byte
-  pub one_cause : (fault other : LegalFault A) → IsLegaliseRefusal design fault → IsLegaliseRefusal design other → fault ≢ Memory → other ≢ Memory → fault ≡ other
+  pub one_cause : (fault other : LegalFault A) → IsLegaliseRefusal design fault → IsLegaliseRefusal design other → fault ≢ Memory → other ≢ Memory
+      → fault ≡ other
   one_cause Memory other p q told also = absurd (told refl)
   one_cause fault Memory p q told also = absurd (also refl)
   one_cause (FixedIllegal xs) (FixedIllegal ys) p q told also = ap FixedIllegal (one_list (HoldsOfStaying design) xs ys p.0 q.0)
@@ -197,7 +199,8 @@ module _ {A : Type 0} (design : DesignModel) where
   one_cause (NoRoom c) (NoRoom d) p q told also = ap NoRoom (one_stuck design c d p.2 q.2)
 
   -- a design that is refused is not legalised
-  pub no_outcome : (after : DesignModel) (fault : LegalFault A) → IsLegaliseRefusal design fault → fault ≢ Memory → IsLegalised design after → IsLegallyPlaced after → ⊥
+  pub no_outcome : (after : DesignModel) (fault : LegalFault A) → IsLegaliseRefusal design fault → fault ≢ Memory → IsLegalised design after
+      → IsLegallyPlaced after → ⊥
   no_outcome after Memory p told made legal = told refl
   no_outcome after (FixedIllegal faults) p told (inl kept) legal = some_staying design faults p.0 p.1 (λ v h. kept.0 v h.holds)
   no_outcome after (FixedIllegal faults) p told (inr anew) legal =

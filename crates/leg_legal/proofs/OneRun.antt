@@ -125,7 +125,8 @@ pub one_run : (before : DesignModel) (xs ys : List ℕ) (a b : DesignModel) → 
 one_run before _ _ _ _ none none same = refl
 one_run before _ _ _ _ none (one {done = ys} {c = d} also is best) same = absurd (no_end ys d [] same)
 one_run before _ _ _ _ (one {done = xs} {c = c} run there takes) none same = absurd (no_end xs c [] (sym same))
-one_run before _ _ _ _ (one {done = xs} {now = now} {c = c} {component = x} {place = p} run there takes) (one {done = ys} {now = other} {c = d} {component = y} {place = q} also is best) same =
+one_run before _ _ _ _ (one {done = xs} {now = now} {c = c} {component = x} {place = p} run there takes)
+    (one {done = ys} {now = other} {c = d} {component = y} {place = q} also is best) same =
     let ends = same_ends xs ys c d same in
     let designs : now ≡ other = one_run before xs ys now other run also ends.0 in
     one_step now other xs ys c d x y p q there is takes best (sym designs) (sym ends.0) (sym ends.1)

@@ -155,7 +155,8 @@ module _ (before : DesignModel) (proper : IsWellFormed before) (sound : IsSound 
             run_on (done ++ c ∷ []) rest (moved_to now c movable.component place) (is ∙ sym (append_assoc done (c ∷ []) rest)) (one run movable.there takes)
       ] where
         movable_at : (done : List ℕ) (c : ℕ) (rest : List ℕ) → AreMovable before (done ++ c ∷ rest) → IsMovable before c
-        movable_at done c rest are = All-contains (IsMovable before) (done ++ c ∷ rest) c are.each (Contains-append_right done (c ∷ rest) c (Contains-here c rest))
+        movable_at done c rest are =
+            All-contains (IsMovable before) (done ++ c ∷ rest) c are.each (Contains-append_right done (c ∷ rest) c (Contains-here c rest))
 
 module _ (design : DesignModel) (proper : IsWellFormed design) (sound : IsSound design.library) (sized : HasMacroSizes design.library) where
   rows : HasSoundRows design

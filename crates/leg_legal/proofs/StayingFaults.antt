@@ -31,7 +31,8 @@ get_last xs x i count =
     slice_get-get_or (xs ++ x ∷ []) i x within ∙ ap Some (get_or_push xs x x i count)
 
 -- the mark at the end
-told_at_end : (marks : List Bool) (m : Bool) (i : ℕ) {Stays : Type 0} → length marks ≡ i → (m ≡ true) ↔ Stays → (slice_get (marks ++ m ∷ []) i ≡ Some true) ↔ Stays
+told_at_end : (marks : List Bool) (m : Bool) (i : ℕ) {Stays : Type 0} → length marks ≡ i → (m ≡ true) ↔ Stays
+    → (slice_get (marks ++ m ∷ []) i ≡ Some true) ↔ Stays
 told_at_end marks m i count test = (
   λ t. test.0 (same_Some m true (sym (get_last marks m i count) ∙ t)),
   λ stays. get_last marks m i count ∙ ap Some (test.1 stays),
@@ -42,7 +43,8 @@ module _ (design : DesignModel) where
   marks_none marks is = rw is (record { count = refl; each = λ c below. absurd (omega (arith, below)) })
 
   -- one more mark
-  pub marks_more : (i : ℕ) (marks : List Bool) (b : Bool) → IsTrue b ↔ IsMovable design i → AreMarksBelow design i marks → AreMarksBelow design (i + 1) (marks ++ not b ∷ [])
+  pub marks_more : (i : ℕ) (marks : List Bool) (b : Bool) → IsTrue b ↔ IsMovable design i → AreMarksBelow design i marks
+      → AreMarksBelow design (i + 1) (marks ++ not b ∷ [])
   marks_more i marks b test are = record {
     count = length_push marks (not b) ∙ (let n = are.count in omega (arith, n));
     each = λ c below. elim (cases_lt c i) [

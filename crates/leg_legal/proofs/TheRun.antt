@@ -60,7 +60,8 @@ module _ (before after : DesignModel) (order : List ℕ) (is_order : IsOrderOfTa
   }
 
 -- a component that may move and has a place is PLACED there
-is_placed : (component : Component) (status : Status) (place : Option Place) → component.status ≡ status → component.place ≡ place → MayMove status → IsPlaced status place → (place ≡ None → ⊥) → IsPlacedAnew component component
+is_placed : (component : Component) (status : Status) (place : Option Place) → component.status ≡ status → component.place ≡ place → MayMove status
+    → IsPlaced status place → (place ≡ None → ⊥) → IsPlacedAnew component component
 is_placed component status.Unplaced None s p may placed some = absurd (some refl)
 is_placed component status.Unplaced (Some place) s p may placed some = absurd placed
 is_placed component status.Placed None s p may placed some = absurd placed

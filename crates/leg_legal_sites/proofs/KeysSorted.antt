@@ -23,7 +23,8 @@ key_cmp a b = ordering_then (nat_cmp a.site b.site) (ordering_then (int_cmp a.y 
 key_cmp_total : IsTotalOrder key_cmp
 key_cmp_total =
     then_total (on_total (λ (k : RowKey). k.site) nat_cmp_total)
-    (then_total (on_total (λ (k : RowKey). k.y) int_cmp_total) (then_total (on_total (λ (k : RowKey). k.x) int_cmp_total) (on_total (λ (k : RowKey). k.row) nat_cmp_total)))
+    (then_total (on_total (λ (k : RowKey). k.y) int_cmp_total)
+    (then_total (on_total (λ (k : RowKey). k.x) int_cmp_total) (on_total (λ (k : RowKey). k.row) nat_cmp_total)))
 
 -- keys of rows of different numbers that are not in falling order are in rising order
 before_from_test : (a b : RowKey) → is_lt (key_cmp b a) ≡ false → (a.row ≡ b.row → ⊥) → IsBefore a b
@@ -39,7 +40,8 @@ same_key rows key row is there =
     λ i. record { site = site i; y = bottom i; x = left i; row = key.row }
 
 -- the key of one more row
-pub keys_more : (rows : List Row) (keys : List RowKey) (i : ℕ) (row : Row) → slice_get rows i ≡ Some row → AreKeysBelow rows i keys → AreKeysBelow rows (i + 1) (keys ++ key_of row i ∷ [])
+pub keys_more : (rows : List Row) (keys : List RowKey) (i : ℕ) (row : Row) → slice_get rows i ≡ Some row → AreKeysBelow rows i keys
+    → AreKeysBelow rows (i + 1) (keys ++ key_of row i ∷ [])
 keys_more rows keys i row at done =
     let key : RowKey = key_of row i in
     record {
@@ -57,7 +59,8 @@ keys_more rows keys i row at done =
     }
 
 -- the keys once they are sorted
-pub order_from_sort : (rows : List Row) (keys sorted : List RowKey) → AreKeysBelow rows (length rows) keys → IsPermutation keys sorted → IsSorted key_cmp sorted → IsRowOrder rows sorted
+pub order_from_sort : (rows : List Row) (keys sorted : List RowKey) → AreKeysBelow rows (length rows) keys → IsPermutation keys sorted
+    → IsSorted key_cmp sorted → IsRowOrder rows sorted
 order_from_sort rows keys sorted are moved up =
     let alike : RowKey → RowKey → Bool = λ a b. eqb a.row b.row in
     let start : IsDistinct alike keys =

@@ -24,7 +24,8 @@ pub half_below : (n : ℕ) → suc n / 2 ≤ n
 half_below n = omega arith
 
 -- a way that is long enough may be longer
-enough : (most more : ℕ) (lists : List (Option (List Stretch))) (node : ℕ) → node ≤ most → node ≤ more → list_within most lists node ≡ list_within more lists node
+enough : (most more : ℕ) (lists : List (Option (List Stretch))) (node : ℕ) → node ≤ most → node ≤ more
+    → list_within most lists node ≡ list_within more lists node
 enough zero zero lists node short long = refl
 enough zero (suc more) lists zero short long = refl
 enough zero (suc more) lists (suc n) short long = absurd (omega (arith, short))
@@ -36,7 +37,8 @@ enough (suc most) (suc more) lists (suc n) short long =
     ap (λ o. option_or o (get_or lists (suc n) None)) (enough most more lists (suc n / 2) (omega (arith, short, below)) (omega (arith, long, below)))
 
 -- what a node has from those above it, or its own list
-pub at_step : (lists : List (Option (List Stretch))) (node : ℕ) → 1 ≤ node → list_of_node lists node ≡ option_or (list_of_node lists (node / 2)) (get_or lists node None)
+pub at_step : (lists : List (Option (List Stretch))) (node : ℕ) → 1 ≤ node
+    → list_of_node lists node ≡ option_or (list_of_node lists (node / 2)) (get_or lists node None)
 at_step lists zero some = absurd (omega (arith, some))
 at_step lists (suc n) some =
     ap (λ o. option_or o (get_or lists (suc n) None)) (enough n (suc n / 2) lists (suc n / 2) (half_below n) (omega arith))
@@ -45,14 +47,17 @@ pub at_none : (lists : List (Option (List Stretch))) (node : ℕ) → node ≡ 0
 at_none lists node none = rw none refl
 
 -- below a node
-pub below_is : (lists : List (Option (List Stretch))) (node other : ℕ) → 1 ≤ other → other / 2 ≡ node → list_of_node lists other ≡ option_or (list_of_node lists node) (get_or lists other None)
+pub below_is : (lists : List (Option (List Stretch))) (node other : ℕ) → 1 ≤ other → other / 2 ≡ node
+    → list_of_node lists other ≡ option_or (list_of_node lists node) (get_or lists other None)
 below_is lists node other some half = at_step lists other some ∙ ap (λ (n : ℕ). option_or (list_of_node lists n) (get_or lists other None)) half
 
-below_has : (lists : List (Option (List Stretch))) (node other : ℕ) (list : List Stretch) → 1 ≤ other → other / 2 ≡ node → list_of_node lists node ≡ Some list → list_of_node lists other ≡ Some list
+below_has : (lists : List (Option (List Stretch))) (node other : ℕ) (list : List Stretch) → 1 ≤ other → other / 2 ≡ node → list_of_node lists node ≡ Some list
+    → list_of_node lists other ≡ Some list
 below_has lists node other list some half has = below_is lists node other some half ∙ ap (λ o. option_or o (get_or lists other None)) has
 
 -- where no node above has a list, a node has its own
-pub own_is : (lists : List (Option (List Stretch))) (node other : ℕ) → 1 ≤ other → other / 2 ≡ node → list_of_node lists node ≡ None → list_of_node lists other ≡ get_or lists other None
+pub own_is : (lists : List (Option (List Stretch))) (node other : ℕ) → 1 ≤ other → other / 2 ≡ node → list_of_node lists node ≡ None
+    → list_of_node lists other ≡ get_or lists other None
 own_is lists node other some half none = below_is lists node other some half ∙ ap (λ o. option_or o (get_or lists other None)) none
 
 none_of_or : (a b : Option (List Stretch)) → option_or a b ≡ None → a ≡ None
@@ -60,14 +65,19 @@ none_of_or None b none = refl
 none_of_or (Some x) b none = none
 
 -- where a node has no list, those above it have none
-pub none_above : (lists : List (Option (List Stretch))) (node other : ℕ) → 1 ≤ other → other / 2 ≡ node → list_of_node lists other ≡ None → list_of_node lists node ≡ None
+pub none_above : (lists : List (Option (List Stretch))) (node other : ℕ) → 1 ≤ other → other / 2 ≡ node → list_of_node lists other ≡ None
+    → list_of_node lists node ≡ None
 none_above lists node other some half none = none_of_or (list_of_node lists node) (get_or lists other None) (sym (below_is lists node other some half) ∙ none)
 
 -- beneath a node that has a list all have it
-pub from_above : (levels node other : ℕ) (lists : List (Option (List Stretch))) (list : List Stretch) → 1 ≤ node → IsLevelsBeneath levels node other → list_of_node lists node ≡ Some list → list_of_node lists other ≡ Some list
+pub from_above : (levels node other : ℕ) (lists : List (Option (List Stretch))) (list : List Stretch) → 1 ≤ node → IsLevelsBeneath levels node other
+    → list_of_node lists node ≡ Some list → list_of_node lists other ≡ Some list
 from_above zero node other lists list some same has = ap (list_of_node lists) same ∙ has
-from_above (suc levels) node other lists list some (inl left) has = from_above levels (2 * node) other lists list (omega (arith, some)) left (below_has lists node (2 * node) list (omega (arith, some)) (half_of_left node) has)
-from_above (suc levels) node other lists list some (inr right) has = from_above levels (2 * node + 1) other lists list (omega arith) right (below_has lists node (2 * node + 1) list (omega arith) (half_of_right node) has)
+from_above (suc levels) node other lists list some (inl left) has =
+    from_above levels (2 * node) other lists list (omega (arith, some)) left
+    (below_has lists node (2 * node) list (omega (arith, some)) (half_of_left node) has)
+from_above (suc levels) node other lists list some (inr right) has =
+    from_above levels (2 * node + 1) other lists list (omega arith) right (below_has lists node (2 * node + 1) list (omega arith) (half_of_right node) has)
 
 pub record IsBeneath (node other : ℕ) : Type 0 where
   pub levels : ℕ
@@ -112,7 +122,9 @@ module _ (old new : List (Option (List Stretch))) (node : ℕ) (others : (k : �
       elim (cases_eq other 0) [
         | inl none ↦ at_none new other none ∙ sym (at_none old other none)
         | inr some ↦
-            let above = same_elsewhere most (other / 2) (omega (arith, upto, some)) (λ levels beneath. never (suc levels) (one_lower levels node (other / 2) other beneath (halves other))) in
+            let above =
+            same_elsewhere most (other / 2) (omega (arith, upto, some))
+            (λ levels beneath. never (suc levels) (one_lower levels node (other / 2) other beneath (halves other))) in
             at_step new other (omega (arith, some))
             ∙ ap (λ o. option_or o (get_or new other None)) above
             ∙ ap (λ o. option_or (list_of_node old (other / 2)) o) (others other never)
@@ -141,9 +153,11 @@ module _ (order : List RowKey) (lists : List (Option (List Stretch))) where
   row_lists_long = length_from (length order) 0
 
   pub row_list_there : (number : ℕ) → number < length order → slice_get (row_lists order lists) number ≡ Some (row_list order lists number)
-  row_list_there number below = let here : 0 + number ≡ number = omega arith in get_from (length order) 0 number below ∙ ap (λ (n : ℕ). Some (row_list order lists n)) here
+  row_list_there number below = let here : 0 + number ≡ number = omega arith in
+      get_from (length order) 0 number below ∙ ap (λ (n : ℕ). Some (row_list order lists n)) here
 
-module _ (order : List RowKey) (old new : List (Option (List Stretch))) (same : (leaf : ℕ) → length order ≤ leaf → list_of_node new leaf ≡ list_of_node old leaf) where
+module _ (order : List RowKey) (old new : List (Option (List Stretch)))
+    (same : (leaf : ℕ) → length order ≤ leaf → list_of_node new leaf ≡ list_of_node old leaf) where
   same_from : (more from : ℕ) → lists_from order new more from ≡ lists_from order old more from
   same_from zero from = refl
   same_from (suc more) from =
@@ -200,7 +214,8 @@ or_of_none None (Some y) c is = absurd (false≢true (sym is))
 or_of_none (Some x) b c is = refl
 
 -- one more node above has a list, or none
-pub owner_higher : (lists : List (Option (List Stretch))) (node owner above : ℕ) → 1 ≤ above → is_some (get_or lists above None) ≡ true → IsOwnerSoFar lists node owner above → IsOwnerSoFar lists node above (above / 2)
+pub owner_higher : (lists : List (Option (List Stretch))) (node owner above : ℕ) → 1 ≤ above → is_some (get_or lists above None) ≡ true
+    → IsOwnerSoFar lists node owner above → IsOwnerSoFar lists node above (above / 2)
 owner_higher lists node owner above some has so_far = let before = so_far.before in record {
   within = before;
   before = omega (arith, before);
@@ -210,7 +225,8 @@ owner_higher lists node owner above some has so_far = let before = so_far.before
       ∙ so_far.is;
 }
 
-pub owner_stays : (lists : List (Option (List Stretch))) (node owner above : ℕ) → 1 ≤ above → is_some (get_or lists above None) ≡ false → IsOwnerSoFar lists node owner above → IsOwnerSoFar lists node owner (above / 2)
+pub owner_stays : (lists : List (Option (List Stretch))) (node owner above : ℕ) → 1 ≤ above → is_some (get_or lists above None) ≡ false
+    → IsOwnerSoFar lists node owner above → IsOwnerSoFar lists node owner (above / 2)
 owner_stays lists node owner above some none so_far = let before = so_far.before in record {
   within = so_far.within;
   before = omega (arith, before);
@@ -220,7 +236,8 @@ owner_stays lists node owner above some none so_far = let before = so_far.before
       ∙ so_far.is;
 }
 
-pub owner_found : (lists : List (Option (List Stretch))) (node owner above : ℕ) → above ≡ 0 → IsOwnerSoFar lists node owner above → get_or lists owner None ≡ list_of_node lists node
+pub owner_found : (lists : List (Option (List Stretch))) (node owner above : ℕ) → above ≡ 0 → IsOwnerSoFar lists node owner above
+    → get_or lists owner None ≡ list_of_node lists node
 owner_found lists node owner above none so_far = ap (λ o. option_or o (get_or lists owner None)) (sym (at_none lists above none)) ∙ so_far.is
 
 -- where a node has no list of those above it, another one has none
@@ -236,7 +253,8 @@ or_of_nones None None is none = refl
 or_of_nones None (Some y) is none = absurd (false≢true (sym is))
 or_of_nones (Some x) b is none = none
 
-pub alone_higher : (lists : List (Option (List Stretch))) (node above : ℕ) → 1 ≤ above → is_some (get_or lists above None) ≡ false → IsAloneUpTo lists node above → IsAloneUpTo lists node (above / 2)
+pub alone_higher : (lists : List (Option (List Stretch))) (node above : ℕ) → 1 ≤ above → is_some (get_or lists above None) ≡ false
+    → IsAloneUpTo lists node above → IsAloneUpTo lists node (above / 2)
 alone_higher lists node above some none so_far = let before = so_far.before in record {
   before = omega (arith, before);
   alone = λ higher. so_far.alone (at_step lists above some ∙ or_of_nones (list_of_node lists (above / 2)) (get_or lists above None) none higher);

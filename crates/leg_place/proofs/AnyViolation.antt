@@ -47,7 +47,8 @@ module _ (design : DesignModel) where
             apart (record { a = first; b = second; overlap = overlap_there design first second (subst (IsPlacementViolation design) is holds) })
       ]
 
-  pub none_by_overlap : (IsOneMisplaced design (length design.components) → ⊥) → (some : Bool) → IsTrue some ↔ DoSomeOverlap design → IsTrue (not some) ↔ ((fault : Fault) → IsPlacementViolation design fault → ⊥)
+  pub none_by_overlap : (IsOneMisplaced design (length design.components) → ⊥) → (some : Bool) → IsTrue some ↔ DoSomeOverlap design
+      → IsTrue (not some) ↔ ((fault : Fault) → IsPlacementViolation design fault → ⊥)
   none_by_overlap placed true test = (
     λ t. absurd (false≢true t),
     λ none. absurd (let some = test.0 refl in none (Overlap some.a some.b) (overlap some.overlap)),

@@ -16,7 +16,8 @@ use Rattle.leg_place.proofs.Squares.{HasSquare-points, SquareOutside-points}
 
 module _ (design : DesignModel) where
   -- the box of the component at a number is the one in which it stands
-  pub HasBox-is : (c : ℕ) (component : Component) (rect : RectModel) → slice_get design.components c ≡ Some component → HasBox design c rect → box_of design.library component ≡ Some rect
+  pub HasBox-is : (c : ℕ) (component : Component) (rect : RectModel) → slice_get design.components c ≡ Some component → HasBox design c rect
+      → box_of design.library component ≡ Some rect
   HasBox-is c component rect at stands =
       let same : stands.component ≡ component = same_Some stands.component component (sym stands.there ∙ at) in
       rw same at stands.placed
@@ -27,14 +28,21 @@ module _ (design : DesignModel) where
     IsOutside-points rect is proper = (
       λ missed.
           let lost = SquareOutside-points design.die rect proper missed in
-          record { box = rect; stands = record { component = component; there = at; placed = is }; square = lost.square; inside = lost.inside; outside = lost.outside },
+          record {
+            box = rect;
+            stands = record { component = component; there = at; placed = is };
+            square = lost.square;
+            inside = lost.inside;
+            outside = lost.outside;
+          },
       λ out points.
           let same : out.box ≡ rect = same_Some out.box rect (sym (HasBox-is c component out.box at out.stands) ∙ is) in
           out.outside (HasSquare-points design.die rect points out.square (rw same at out.inside)),
     )
 
     -- the same by a test whether the die has them all
-    pub IsOutside-test : (rect : RectModel) (b : Bool) → Some rect ≡ box_of design.library component → IsRect rect → IsTrue b ↔ HasAllPoints design.die rect → IsTrue (not b) ↔ IsOutside design c
+    pub IsOutside-test : (rect : RectModel) (b : Bool) → Some rect ≡ box_of design.library component → IsRect rect → IsTrue b ↔ HasAllPoints design.die rect
+        → IsTrue (not b) ↔ IsOutside design c
     IsOutside-test rect true is proper test = (
       λ t. absurd (false≢true t),
       λ out. absurd ((IsOutside-points rect (sym is) proper).1 out (test.0 refl)),
@@ -54,7 +62,8 @@ module _ (design : DesignModel) where
     HasBox-same rect other stands also = same_Some other rect (sym (HasBox-is c stands.component other stands.there also) ∙ stands.placed)
 
     -- one more box
-    pub boxes_more : (rect : RectModel) (boxes : List PlacedBox) → IsMarkedBox design marks c (Some rect) → AreBoxesBelow design marks c boxes → AreBoxesBelow design marks (c + 1) (boxes ++ record { component = c; rect = rect } ∷ [])
+    pub boxes_more : (rect : RectModel) (boxes : List PlacedBox) → IsMarkedBox design marks c (Some rect) → AreBoxesBelow design marks c boxes
+        → AreBoxesBelow design marks (c + 1) (boxes ++ record { component = c; rect = rect } ∷ [])
     boxes_more rect boxes is done = record {
       increasing = all_pairs_push HasLowerNumber boxes (record { component = c; rect = rect }) done.increasing done.below;
       each =

@@ -90,7 +90,8 @@ module _ (design : DesignModel) (marks : List Bool) (n : ℕ) (boxes : List Plac
       })
 
   -- each overlap is that of a pair
-  overlap_from_pair : (found : List (ℕ × ℕ)) → ArePairs Share boxes found → (a b : ℕ) → (holds : DoOverlap design a b) → a < n → b < n → IsMarked marks a → IsMarked marks b → Contains (map (overlap_of boxes) found) (Overlap a b)
+  overlap_from_pair : (found : List (ℕ × ℕ)) → ArePairs Share boxes found → (a b : ℕ) → (holds : DoOverlap design a b) → a < n → b < n → IsMarked marks a
+      → IsMarked marks b → Contains (map (overlap_of boxes) found) (Overlap a b)
   overlap_from_pair found pairs a b holds a_below b_below a_marked b_marked =
       let first = place_of_contained boxes (record { component = a; rect = holds.box_a }) (are.all a holds.box_a a_below a_marked holds.stands_a) in
       let second = place_of_contained boxes (record { component = b; rect = holds.box_b }) (are.all b holds.box_b b_below b_marked holds.stands_b) in
@@ -106,14 +107,17 @@ module _ (design : DesignModel) (marks : List Bool) (n : ℕ) (boxes : List Plac
       rw (first.1, second.1) at has
 
 -- overlaps behind the violations of the kinds before
-module _ (design : DesignModel) (marks : List Bool) (found : List Fault) (before : IsListBefore design marks overlap_kind 0 found) (boxes : List PlacedBox) (are : AreBoxesBelow design marks (length design.components) boxes) where
+module _ (design : DesignModel) (marks : List Bool) (found : List Fault) (before : IsListBefore design marks overlap_kind 0 found) (boxes : List PlacedBox)
+    (are : AreBoxesBelow design marks (length design.components) boxes) where
   pub listing_Overlap_end : (pairs : List (ℕ × ℕ)) → ArePairs Share boxes pairs
       → IsListBefore design marks (overlap_kind + 1) 0 (found ++ map (overlap_of boxes) pairs)
   listing_Overlap_end pairs are_pairs = record {
     increasing =
-        AllPairs-append_by ComesBefore (HoldsBefore design marks overlap_kind 0) (λ w. kind_number w ≡ overlap_kind) kinds_rise found (map (overlap_of boxes) pairs)
+        AllPairs-append_by ComesBefore (HoldsBefore design marks overlap_kind 0) (λ w. kind_number w ≡ overlap_kind) kinds_rise found
+        (map (overlap_of boxes) pairs)
         before.each (All-map (λ w. kind_number w ≡ overlap_kind) (overlap_of boxes) pairs (λ k d within. refl)) before.increasing
-        (AllPairs-map_where Before ComesBefore (overlap_of boxes) (IsPair Share boxes) (ComesBefore-overlap_of design marks (length design.components) boxes are) pairs are_pairs.each are_pairs.increasing);
+        (AllPairs-map_where Before ComesBefore (overlap_of boxes) (IsPair Share boxes)
+        (ComesBefore-overlap_of design marks (length design.components) boxes are) pairs are_pairs.each are_pairs.increasing);
     each =
         All-append after found (map (overlap_of boxes) pairs)
         (All-weaker (HoldsBefore design marks overlap_kind 0) after (λ v held. upto v held.holds held.upto) found before.each)
@@ -162,7 +166,8 @@ module _ (design : DesignModel) (marks : List Bool) (found : List Fault) (before
           (slice_get_within design.components b h.stands_b.component h.stands_b.there) held.marked.0 held.marked.1)
 
 -- two boxes at places in order that share a unit square
-pub pair_at : (boxes : List PlacedBox) (a b : ℕ) (first second : PlacedBox) → a < b → b < length boxes → ShareSquare (get_or boxes a first).rect (get_or boxes b second).rect → HasPair boxes
+pub pair_at : (boxes : List PlacedBox) (a b : ℕ) (first second : PlacedBox) → a < b → b < length boxes
+    → ShareSquare (get_or boxes a first).rect (get_or boxes b second).rect → HasPair boxes
 pair_at boxes a b first second lower within shared =
     record {
       numbers = (a, b);
@@ -177,7 +182,8 @@ pair_at boxes a b first second lower within shared =
     }
 
 -- overlaps of components that are all marked
-module _ (design : DesignModel) (boxes : List PlacedBox) (are : AreBoxesBelow design (replicate (length design.components) true) (length design.components) boxes) where
+module _ (design : DesignModel) (boxes : List PlacedBox)
+    (are : AreBoxesBelow design (replicate (length design.components) true) (length design.components) boxes) where
   -- of a pair
   pub overlap_of_pair : HasPair boxes → DoSomeOverlap design
   overlap_of_pair has =
@@ -194,8 +200,12 @@ module _ (design : DesignModel) (boxes : List PlacedBox) (are : AreBoxesBelow de
       let h = some.overlap in
       let a_below = slice_get_within design.components some.a h.stands_a.component h.stands_a.there in
       let b_below = slice_get_within design.components some.b h.stands_b.component h.stands_b.there in
-      let first = place_of_contained boxes (record { component = some.a; rect = h.box_a }) (are.all some.a h.box_a a_below (marked_by_all design some.a a_below) h.stands_a) in
-      let second = place_of_contained boxes (record { component = some.b; rect = h.box_b }) (are.all some.b h.box_b b_below (marked_by_all design some.b b_below) h.stands_b) in
+      let first =
+      place_of_contained boxes (record { component = some.a; rect = h.box_a })
+      (are.all some.a h.box_a a_below (marked_by_all design some.a a_below) h.stands_a) in
+      let second =
+      place_of_contained boxes (record { component = some.b; rect = h.box_b })
+      (are.all some.b h.box_b b_below (marked_by_all design some.b b_below) h.stands_b) in
       let pair : IsPair Share boxes (first.0, second.0) = record {
         a = record { component = some.a; rect = h.box_a };
         b = record { component = some.b; rect = h.box_b };

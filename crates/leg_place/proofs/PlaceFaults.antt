@@ -72,7 +72,8 @@ module _ (design : DesignModel) where
       let n = length design.components in
       slice_get-get_or (replicate n true) c true (rw (length-replicate n true) below) ∙ ap Some (get_or-replicate n c true true below)
 
-  pub list_of_all : (found : List Fault) → IsListOf (HoldsAmong design (replicate (length design.components) true)) found → IsListOf (IsPlacementViolation design) found
+  pub list_of_all : (found : List Fault) → IsListOf (HoldsAmong design (replicate (length design.components) true)) found
+      → IsListOf (IsPlacementViolation design) found
   list_of_all found list =
       let marks = replicate (length design.components) true in
       same_list (HoldsAmong design marks) (IsPlacementViolation design) (λ v held. held.holds)

@@ -124,7 +124,8 @@ one_least_if_any H (Some a) None first second = absurd (none_least H a second fi
 one_least_if_any H (Some a) (Some b) first second = ap Some (one_least H a b first second)
 
 -- boxes that there may be join to one round the points of both
-pub least_joined_if_any : (H K : PointModel → Type 0) (a b : Option RectModel) → IsLeastBoxIfAny H a → IsLeastBoxIfAny K b → IsLeastBoxIfAny (λ p. H p ⊎ K p) (joined_if_any a b)
+pub least_joined_if_any : (H K : PointModel → Type 0) (a b : Option RectModel) → IsLeastBoxIfAny H a → IsLeastBoxIfAny K b
+    → IsLeastBoxIfAny (λ p. H p ⊎ K p) (joined_if_any a b)
 least_joined_if_any H K None None none nor = λ p has. elim has [ inl h ↦ none p h | inr k ↦ nor p k ]
 least_joined_if_any H K None (Some b) none second =
     least_same K (λ p. H p ⊎ K p) (λ p k. inr k) (λ p has. elim has [ inl h ↦ absurd (none p h) | inr k ↦ k ]) (Some b) second

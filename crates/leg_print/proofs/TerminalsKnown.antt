@@ -35,13 +35,15 @@ position : (o : Option Place) (place : Place) → o ≡ Some place → IsPlaceWi
 position o place is within = let at = rw is at within in at
 
 -- the place of a component
-pub component_position : (design : DesignModel) (c : ℕ) (component : Component) (place : Place) → IsWellFormed design → slice_get design.components c ≡ Some component → component.place ≡ Some place → IsPosition place.at
+pub component_position : (design : DesignModel) (c : ℕ) (component : Component) (place : Place) → IsWellFormed design
+    → slice_get design.components c ≡ Some component → component.place ≡ Some place → IsPosition place.at
 component_position design c component place proper there stands =
     let known = all_at (IsComponent design.library) design.components c component there proper.components.each in
     position component.place place stands (placed_within component.status component.place known.placed)
 
 -- the shapes of a macro's pin
-pub pin_within : (library : LibraryModel) (m k : ℕ) (master : MasterModel) (pin : MasterPinModel) → IsSound library → slice_get library.masters m ≡ Some master → slice_get master.pins k ≡ Some pin → AreDrawnWithin pin.shapes
+pub pin_within : (library : LibraryModel) (m k : ℕ) (master : MasterModel) (pin : MasterPinModel) → IsSound library
+    → slice_get library.masters m ≡ Some master → slice_get master.pins k ≡ Some pin → AreDrawnWithin pin.shapes
 pin_within library m k master pin sound made there =
     let known = all_at IsSoundMaster library.masters m master made sound.masters in
     let shapes = all_at (λ (p : MasterPinModel). AreShapesWithin (2 * NUMBER_LIMIT) p.shapes) master.pins k pin there known.pins in

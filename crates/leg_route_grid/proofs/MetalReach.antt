@@ -15,14 +15,16 @@ use Rattle.leg_route_grid.specs.Steps.AccessUpdates.{ArePlacesNear}
 pub wider_all : (reach wider : Option ℤ) (rect : RectModel) → IsWider reach wider → ReachesAll reach rect → ReachesAll wider rect
 wider_all reach wider rect is all = record { x1 = is _ all.x1; y1 = is _ all.y1; x2 = is _ all.x2; y2 = is _ all.y2 }
 
-pub wider_shapes : (reach wider : Option ℤ) (layer : ℕ) (shapes : List Shape) → IsWider reach wider → All (ReachesShape reach layer) shapes → All (ReachesShape wider layer) shapes
+pub wider_shapes : (reach wider : Option ℤ) (layer : ℕ) (shapes : List Shape) → IsWider reach wider → All (ReachesShape reach layer) shapes
+    → All (ReachesShape wider layer) shapes
 wider_shapes reach wider layer shapes is all k d within on = wider_all reach wider (get_or shapes k d).rect is (all k d within on)
 
 pub wider_then : (a b c : Option ℤ) → IsWider a b → IsWider b c → IsWider a c
 wider_then a b c first then z reaches = then z (first z reaches)
 
 -- places from the last value below
-pub places_before : (values : List ℤ) (back : Bool) (low high : ℤ) (first end near : ℕ) → ArePlaces values low high first end → (near + one_if back ≤ first) ⊎ (near ≡ 0) → ArePlacesNear values back low high near end
+pub places_before : (values : List ℤ) (back : Bool) (low high : ℤ) (first end near : ℕ) → ArePlaces values low high first end
+    → (near + one_if back ≤ first) ⊎ (near ≡ 0) → ArePlacesNear values back low high near end
 places_before values back low high first end near places early = record {
   within = places.within;
   before = λ k m z below upto there. lower m z there (by k m early below upto);

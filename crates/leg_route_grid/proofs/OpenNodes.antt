@@ -22,7 +22,9 @@ use Rattle.leg_route_grid.proofs.GridSlots.{the_node}
 -- a routing layer's width
 pub width_is : (library : LibraryModel) (n : ℕ) (direction : Direction) (width : ℤ) → IsSound library → Runs library n direction width → IsWidth width
 width_is library n direction width sound runs =
-    let of_layer : IsSoundLayer runs.layer = rw (get_or_from_slice_get library.layers n runs.layer runs.layer runs.there) at (sound.layers n runs.layer (slice_get_within library.layers n runs.layer runs.there)) in
+    let of_layer : IsSoundLayer runs.layer =
+    rw (get_or_from_slice_get library.layers n runs.layer runs.layer runs.there) at
+    (sound.layers n runs.layer (slice_get_within library.layers n runs.layer runs.there)) in
     let wide : HasWidth (Routing direction width) = rw runs.routes at of_layer.width in
     wide
 
@@ -55,7 +57,8 @@ module _ (grid : GridModel) (design : DesignModel) (flat : FlatModel) (net n : �
     };
   }
 
-  pub patch_of_open : (direction : Direction) (width : ℤ) → Runs design.library node.layer direction width → IsOneOf (IsNumberOf grid) (IsOpenNode design flat net) n
+  pub patch_of_open : (direction : Direction) (width : ℤ) → Runs design.library node.layer direction width
+      → IsOneOf (IsNumberOf grid) (IsOpenNode design flat net) n
       → IsOpenWire design flat net (Patch node.layer node.at (square (half width)))
   patch_of_open direction width runs one =
       let same : one.node ≡ node = the_node grid n one.node node one.is number in

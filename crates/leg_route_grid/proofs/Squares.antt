@@ -30,9 +30,14 @@ half_is (pos a) is =
 half_is (negsuc a) is = absurd (let above = is.above in let e : ⊥ = omega (arith, ints) in e)
 
 -- what lies within clean metal is clean
-pub clean_within : (library : LibraryModel) (flat : FlatModel) (net layer : ℕ) (rect r : RectModel) → ((p : PointModel) → HasPoint r p → HasPoint rect p) → IsClean library flat net layer rect → IsClean library flat net layer r
+pub clean_within : (library : LibraryModel) (flat : FlatModel) (net layer : ℕ) (rect r : RectModel) → ((p : PointModel) → HasPoint r p → HasPoint rect p)
+    → IsClean library flat net layer rect → IsClean library flat net layer r
 clean_within library flat net layer rect r within clean = record {
-  no_short = λ shape has short. clean.no_short shape has (record { comparable = comparable shape short.comparable; shared = record { point = short.shared.point; in_a = within short.shared.point short.shared.in_a; in_b = short.shared.in_b } });
+  no_short =
+      λ shape has short. clean.no_short shape has (record {
+        comparable = comparable shape short.comparable;
+        shared = record { point = short.shared.point; in_a = within short.shared.point short.shared.in_a; in_b = short.shared.in_b };
+      });
   far = λ shape has near. clean.far shape has (record {
     comparable = comparable shape near.comparable;
     apart = λ shared. clean.no_short shape has (record { comparable = comparable shape near.comparable; shared = shared });
@@ -42,15 +47,24 @@ clean_within library flat net layer rect r within clean = record {
   });
 } where
   comparable : (shape : Shape) → AreComparable (net_metal net layer r) shape → AreComparable (net_metal net layer rect) shape
-  comparable shape is = record { layer = is.layer; owners = is.owners; apart = λ one. is.apart (record { component = one.component; of_a = one.of_a; of_b = one.of_b }); metal = is.metal }
+  comparable shape is =
+      record {
+        layer = is.layer;
+        owners = is.owners;
+        apart = λ one. is.apart (record { component = one.component; of_a = one.of_a; of_b = one.of_b });
+        metal = is.metal;
+      }
 
 -- metal of one outline, which has the points of a rectangle
-module _ (design : DesignModel) (flat : FlatModel) (net layer : ℕ) (outline : Outline) (rect : RectModel) (points : (p : PointModel) → HasPoint rect p ↔ HasPointOf outline p) where
+module _ (design : DesignModel) (flat : FlatModel) (net layer : ℕ) (outline : Outline) (rect : RectModel)
+    (points : (p : PointModel) → HasPoint rect p ↔ HasPointOf outline p) where
   abbrev the_metal : OnLayer
   the_metal = record { layer = layer; outline = outline }
 
   abbrev pub IsOpenMetal : Type 0
-  IsOpenMetal = (metal : OnLayer) (r : RectModel) → Contains (the_metal ∷ []) metal → ((p : PointModel) → HasPoint r p ↔ HasPointOf metal.outline p) → IsClean design.library flat net metal.layer r
+  IsOpenMetal =
+      (metal : OnLayer) (r : RectModel) → Contains (the_metal ∷ []) metal → ((p : PointModel) → HasPoint r p ↔ HasPointOf metal.outline p)
+      → IsClean design.library flat net metal.layer r
 
   pub open_is_clean : IsOpenMetal → IsClean design.library flat net layer rect
   open_is_clean is_open = is_open the_metal rect (0, omega arith, refl) points

@@ -42,7 +42,8 @@ module _ (library : LibraryModel) (flat : FlatModel) (net layer : ℕ) where
   }
 
   -- each rectangle of an outline is clean if one is that covers it
-  pub covered_outline : (outline : Outline) (rect : RectModel) → HasCleanRect library flat net layer outline → IsRectOf outline rect → IsClean library flat net layer rect
+  pub covered_outline : (outline : Outline) (rect : RectModel) → HasCleanRect library flat net layer outline → IsRectOf outline rect
+      → IsClean library flat net layer rect
   covered_outline outline rect has is =
       covered rect (λ p inside. record { rect = has.rect; clean = has.clean; inside = has.covers p ((is p).0 inside) })
 

@@ -23,7 +23,8 @@ use Rattle.leg_route_laws.proofs.OpenNets.{JoinedBothWays, JoinedOnward, none_th
 use Rattle.leg_route_laws.proofs.Placement.{placement_before}
 
 -- no fault in a flat, none in one of whose shapes each has its like there
-no_fault_there : (library : LibraryModel) (first second : FlatModel) → HaveLikes second.shapes first.shapes → HasNoSpacingFault library first → HasNoSpacingFault library second
+no_fault_there : (library : LibraryModel) (first second : FlatModel) → HaveLikes second.shapes first.shapes → HasNoSpacingFault library first
+    → HasNoSpacingFault library second
 no_fault_there library first second likes none fault (short {i = i} {j = j} pair) =
     let has = short_there library second first likes (i, j, short pair) in none (Short has.0 has.1) has.2
 no_fault_there library first second likes none fault (too_near {i = i} {j = j} pair) =

@@ -44,7 +44,8 @@ module _ (design : DesignModel) (lists : List (List Wire)) where
 
   pub placement_then : (fault : Fault) → IsPlacementViolation design fault → IsPlacementViolation done fault
   placement_then fault (unplaced h) = unplaced (record { component = h.component; there = h.there; unplaced = h.unplaced })
-  placement_then fault (outside {c = c} h) = outside (record { box = h.box; stands = stands_then c h.box h.stands; square = h.square; inside = h.inside; outside = h.outside })
+  placement_then fault (outside {c = c} h) =
+      outside (record { box = h.box; stands = stands_then c h.box h.stands; square = h.square; inside = h.inside; outside = h.outside })
   placement_then fault (off_site h) = off_site (record {
     component = h.component;
     there = h.there;
@@ -75,7 +76,8 @@ module _ (design : DesignModel) (lists : List (List Wire)) where
 
   pub placement_before : (fault : Fault) → IsPlacementViolation done fault → IsPlacementViolation design fault
   placement_before fault (unplaced h) = unplaced (record { component = h.component; there = h.there; unplaced = h.unplaced })
-  placement_before fault (outside {c = c} h) = outside (record { box = h.box; stands = stands_before c h.box h.stands; square = h.square; inside = h.inside; outside = h.outside })
+  placement_before fault (outside {c = c} h) =
+      outside (record { box = h.box; stands = stands_before c h.box h.stands; square = h.square; inside = h.inside; outside = h.outside })
   placement_before fault (off_site h) = off_site (record {
     component = h.component;
     there = h.there;

@@ -58,7 +58,8 @@ module _ (design : DesignModel) (flat : FlatModel) (net layer : ℕ) (width reac
   abbrev HasCleanLine : PointModel → PointModel → Type 0
   HasCleanLine a b = HasCleanRect design.library flat net layer (line_outline width reach a b)
 
-  lies : (p : PointModel) (from : PointModel) (spots : List PointModel) → EachStep HasCleanLine from spots → SomeStep (λ a b. HasPointOf (line_outline width reach a b) p) from spots → LiesInClean design.library flat net layer p
+  lies : (p : PointModel) (from : PointModel) (spots : List PointModel) → EachStep HasCleanLine from spots
+      → SomeStep (λ a b. HasPointOf (line_outline width reach a b) p) from spots → LiesInClean design.library flat net layer p
   lies p from [] each some = absurd some
   lies p from (to ∷ spots) each (inl here) = record { rect = each.0.rect; clean = each.0.clean; inside = each.0.covers p here }
   lies p from (to ∷ spots) each (inr later) = lies p to spots each.1 later
@@ -78,7 +79,8 @@ module _ (design : DesignModel) (flat : FlatModel) (net layer : ℕ) (width reac
       subst (λ (m : OnLayer). IsClean design.library flat net m.layer rect) same (run_rect from spots rect some in_line differ each points)
 
   -- a wire between two points has a rectangle
-  line_clean : IsEven width → (a b : PointModel) → a ≢ b → (a.y ≡ b.y) ⊎ (a.x ≡ b.x) → IsCleanWire design flat net (Segment layer a b width reach reach) → HasCleanLine a b
+  line_clean : IsEven width → (a b : PointModel) → a ≢ b → (a.y ≡ b.y) ⊎ (a.x ≡ b.x) → IsCleanWire design flat net (Segment layer a b width reach reach)
+      → HasCleanLine a b
   line_clean even a b differ in_line clean =
       let it = line_rect width reach even a b differ in_line in
       record {
@@ -90,12 +92,14 @@ module _ (design : DesignModel) (flat : FlatModel) (net layer : ℕ) (width reac
   abbrev IsCleanStep : PointModel → PointModel → Type 0
   IsCleanStep a b = IsCleanWire design flat net (Segment layer a b width reach reach)
 
-  level_clean : IsEven width → (from : PointModel) (spots : List PointModel) → EachStep (λ a b. a.y ≡ b.y) from spots → EachStep (λ a b. a ≢ b) from spots → EachStep IsCleanStep from spots → EachStep HasCleanLine from spots
+  level_clean : IsEven width → (from : PointModel) (spots : List PointModel) → EachStep (λ a b. a.y ≡ b.y) from spots → EachStep (λ a b. a ≢ b) from spots
+      → EachStep IsCleanStep from spots → EachStep HasCleanLine from spots
   level_clean even from [] level apart each = tt
   level_clean even from (to ∷ spots) level apart each =
       (line_clean even from to apart.0 (inl level.0) each.0, level_clean even to spots level.1 apart.1 each.1)
 
-  upright_clean : IsEven width → (from : PointModel) (spots : List PointModel) → EachStep (λ a b. a.x ≡ b.x) from spots → EachStep (λ a b. a ≢ b) from spots → EachStep IsCleanStep from spots → EachStep HasCleanLine from spots
+  upright_clean : IsEven width → (from : PointModel) (spots : List PointModel) → EachStep (λ a b. a.x ≡ b.x) from spots → EachStep (λ a b. a ≢ b) from spots
+      → EachStep IsCleanStep from spots → EachStep HasCleanLine from spots
   upright_clean even from [] upright apart each = tt
   upright_clean even from (to ∷ spots) upright apart each =
       (line_clean even from to apart.0 (inr upright.0) each.0, upright_clean even to spots upright.1 apart.1 each.1)
@@ -103,7 +107,8 @@ module _ (design : DesignModel) (flat : FlatModel) (net layer : ℕ) (width reac
   pub run_of_wires : (from : PointModel) (spots : List PointModel) → IsEven width → pos 0 ≤ℤ reach → AreInLine from spots → from ≢ last_spot from spots
       → EachStep (λ a b. a ≢ b) from spots → EachStep IsCleanStep from spots → IsCleanStep from (last_spot from spots)
   run_of_wires from spots even some (inl level) differ apart each = run_wire from spots some (inl level) differ (level_clean even from spots level apart each)
-  run_of_wires from spots even some (inr upright) differ apart each = run_wire from spots some (inr upright) differ (upright_clean even from spots upright apart each)
+  run_of_wires from spots even some (inr upright) differ apart each =
+      run_wire from spots some (inr upright) differ (upright_clean even from spots upright apart each)
 
 -- the points about an end of a line are the line's, where it reaches as far as it is wide to each side
 module _ (reach : ℤ) (a b : PointModel) (differ : a ≢ b) (p : PointModel) where
@@ -113,18 +118,34 @@ module _ (reach : ℤ) (a b : PointModel) (differ : a ≢ b) (p : PointModel) wh
   from_first : (a.y ≡ b.y) ⊎ (a.x ≡ b.x) → HasPointOf (Shifted a (square reach)) p → IsOfLine
   from_first (inl level) q =
       let m = moved_about reach a p q in
-      inl (record { level = level; along = along_first reach a.x b.x p.x (λ same. differ (same_spot a b same level)) m.left m.right; across = across_middle reach a.y p.y m.bottom m.top })
+      inl (record {
+        level = level;
+        along = along_first reach a.x b.x p.x (λ same. differ (same_spot a b same level)) m.left m.right;
+        across = across_middle reach a.y p.y m.bottom m.top;
+      })
   from_first (inr upright) q =
       let m = moved_about reach a p q in
-      inr (record { upright = upright; along = along_first reach a.y b.y p.y (λ same. differ (same_spot a b upright same)) m.bottom m.top; across = across_middle reach a.x p.x m.left m.right })
+      inr (record {
+        upright = upright;
+        along = along_first reach a.y b.y p.y (λ same. differ (same_spot a b upright same)) m.bottom m.top;
+        across = across_middle reach a.x p.x m.left m.right;
+      })
 
   from_last : (a.y ≡ b.y) ⊎ (a.x ≡ b.x) → HasPointOf (Shifted b (square reach)) p → IsOfLine
   from_last (inl level) q =
       let m = moved_about reach b p q in
-      inl (record { level = level; along = along_last reach a.x b.x p.x (λ same. differ (same_spot a b same level)) m.left m.right; across = subst (λ y. IsAcross y (reach +ℤ reach) p.y) (sym level) (across_middle reach b.y p.y m.bottom m.top) })
+      inl (record {
+        level = level;
+        along = along_last reach a.x b.x p.x (λ same. differ (same_spot a b same level)) m.left m.right;
+        across = subst (λ y. IsAcross y (reach +ℤ reach) p.y) (sym level) (across_middle reach b.y p.y m.bottom m.top);
+      })
   from_last (inr upright) q =
       let m = moved_about reach b p q in
-      inr (record { upright = upright; along = along_last reach a.y b.y p.y (λ same. differ (same_spot a b upright same)) m.bottom m.top; across = subst (λ x. IsAcross x (reach +ℤ reach) p.x) (sym upright) (across_middle reach b.x p.x m.left m.right) })
+      inr (record {
+        upright = upright;
+        along = along_last reach a.y b.y p.y (λ same. differ (same_spot a b upright same)) m.bottom m.top;
+        across = subst (λ x. IsAcross x (reach +ℤ reach) p.x) (sym upright) (across_middle reach b.x p.x m.left m.right);
+      })
 
 -- the squares at both ends of a clean line are clean
 pub ends_clean : (design : DesignModel) (flat : FlatModel) (net layer : ℕ) (reach : ℤ) (a b : PointModel) → a ≢ b → (a.y ≡ b.y) ⊎ (a.x ≡ b.x)
@@ -133,9 +154,12 @@ pub ends_clean : (design : DesignModel) (flat : FlatModel) (net layer : ℕ) (re
 ends_clean design flat net layer reach a b differ in_line clean =
     (end_clean a (λ p has. from_first reach a b differ p in_line has), end_clean b (λ p has. from_last reach a b differ p in_line has))
   where
-    end_clean : (c : PointModel) → ((p : PointModel) → HasPointOf (Shifted c (square reach)) p → HasPointOf (line_outline (reach +ℤ reach) reach a b) p) → IsCleanWire design flat net (Patch layer c (square reach))
+    end_clean : (c : PointModel) → ((p : PointModel) → HasPointOf (Shifted c (square reach)) p → HasPointOf (line_outline (reach +ℤ reach) reach a b) p)
+        → IsCleanWire design flat net (Patch layer c (square reach))
     end_clean c inside =
         let has = line_clean design flat net layer (reach +ℤ reach) reach (reach, refl) a b differ in_line clean in
-        let square_has : HasCleanRect design.library flat net layer (Shifted c (square reach)) = record { rect = has.rect; covers = λ p of. has.covers p (inside p of); clean = has.clean } in
+        let square_has : HasCleanRect design.library flat net layer (Shifted c (square reach)) =
+        record { rect = has.rect; covers = λ p of. has.covers p (inside p of); clean = has.clean } in
         clean_wire design flat net (Patch layer c (square reach)) (λ metal there.
-        subst (λ (m : OnLayer). HasCleanRect design.library flat net m.layer m.outline) (the_only (record { layer = layer; outline = Shifted c (square reach) }) metal there) square_has)
+        subst (λ (m : OnLayer). HasCleanRect design.library flat net m.layer m.outline)
+        (the_only (record { layer = layer; outline = Shifted c (square reach) }) metal there) square_has)

@@ -45,7 +45,8 @@ module _ (design : DesignModel) (net : ℕ) (wires : List Wire) (old : FlatModel
     by (inr other) =
         absurd (none-some it.wire (sym (ap (λ ws. slice_get ws it.j) (added_of_other it.net net wires other)) ∙ it.there))
 
-  pub clean_wires_stay : (new : FlatModel) → HasNoSpacingFault design.library old → Grows design (of_net net wires) old new → HasNoSpacingFault design.library new
+  pub clean_wires_stay : (new : FlatModel) → HasNoSpacingFault design.library old → Grows design (of_net net wires) old new
+      → HasNoSpacingFault design.library new
   clean_wires_stay new none grows =
       let grown = has_grown design (of_net net wires) old new grows in
       let clear : AllAreClear design.library (old.shapes ++ grown.more) =

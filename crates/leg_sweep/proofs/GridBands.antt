@@ -44,7 +44,8 @@ module _ (reach_of : ℕ → ℕ) (spans : List LayerSpan) where
               rw (take-append-le layer grid (bands ∷ []) (omega arith), get_or_append_left grid (bands ∷ []) no_bands layer there) (so_far.each layer earlier)
           | inr last ↦
               let here : layer ≡ layers = omega arith in
-              let all : take layers (grid ++ bands ∷ []) ≡ grid = take-append-le layers grid (bands ∷ []) (omega (arith, so_far.many)) ∙ take_all layers grid (omega (arith, so_far.many)) in
+              let all : take layers (grid ++ bands ∷ []) ≡ grid =
+              take-append-le layers grid (bands ∷ []) (omega (arith, so_far.many)) ∙ take_all layers grid (omega (arith, so_far.many)) in
               rw (here, all, get_or_push grid bands no_bands layers so_far.many) new
         ];
         few = omega (arith, so_far.few, new.few, more, sum_by_push count grid bands);
@@ -84,7 +85,11 @@ module _ (reach_of : ℕ → ℕ) (grid : List LayerBands) where
               let here : layer ≡ layers = omega arith in
               let from : length bands ≤ k = omega (arith, so_far.many, rw here at low) in
               let to : k - length bands < count = omega (arith, so_far.many, rw here at high) in
-              rw (here, get_or-append_right bands more (length bands) k none refl from, get_or-replicate count (k - length bands) (empty_band (reach_of layers)) none to) refl
+              rw (
+                here,
+                get_or-append_right bands more (length bands) k none refl from,
+                get_or-replicate count (k - length bands) (empty_band (reach_of layers)) none to,
+              ) refl
         ];
         empty = empty_more bands count (reach_of layers) so_far.empty;
       }

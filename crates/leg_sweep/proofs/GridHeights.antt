@@ -19,7 +19,8 @@ pub height_small : (y : ℤ) → IsCoordinate y → height_of y ≤ 2 * COORDINA
 height_small y is = omega (arith, ints)
 
 -- what begins within the gap above a top edge
-height_near : (bottom top low high : ℤ) (reach : ℕ) → IsCoordinate top → IsCoordinate low → low <ℤ high → gap_between bottom top low high ≤ reach → height_of low ≤ height_of top + reach
+height_near : (bottom top low high : ℤ) (reach : ℕ) → IsCoordinate top → IsCoordinate low → low <ℤ high → gap_between bottom top low high ≤ reach
+    → height_of low ≤ height_of top + reach
 height_near bottom top low high reach is_top is_low long near = grind (arith, ints)
 
 -- the same where the reach is cut off at the greatest height
@@ -31,7 +32,8 @@ height_within bottom top low high reach is_top is_low long near =
     omega (arith, far, small)
 
 -- bands as high as an item on average and the reach have room for as many items with the reach
-pub room_for_all : (total count largest reach height : ℕ) → total ≤ count * largest → total / max count 1 + 1 + reach ≤ height → total + count * reach ≤ count * height
+pub room_for_all : (total count largest reach height : ℕ) → total ≤ count * largest → total / max count 1 + 1 + reach ≤ height
+    → total + count * reach ≤ count * height
 room_for_all total zero largest reach height small tall = omega arith
 room_for_all total (suc count) largest reach height small tall =
     let some : max (suc count) 1 ≡ suc count = omega arith in
@@ -44,7 +46,8 @@ parts_few spread parts height some tall =
     div_below spread height parts (omega arith) (omega (arith, lt-mul-div-succ spread some, mul-le-mul_left parts tall))
 
 -- what an item takes of the bands in which it stands
-pub bands_taken : (height low bottom top reach last : ℕ) → 0 < height → low ≤ bottom → bottom ≤ top → last ≤ (top + reach - low) / height → (bottom - low) / height ≤ last
+pub bands_taken : (height low bottom top reach last : ℕ) → 0 < height → low ≤ bottom → bottom ≤ top → last ≤ (top + reach - low) / height
+    → (bottom - low) / height ≤ last
     → height * (last + 1 - (bottom - low) / height) ≤ 2 * height + (top - bottom + reach)
 bands_taken height low bottom top reach last some above up high order =
     let first : ℕ = (bottom - low) / height in

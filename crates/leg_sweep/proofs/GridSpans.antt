@@ -32,12 +32,14 @@ module _ {Item : Type 0} (rect_of : Item → RectModel) (layer_of : Item → ℕ
           total = omega (arith, added, so_far.total);
           lowest =
               All-push (λ b. layer_of b ≡ layer → min span.lowest bottom ≤ height_of (rect_of b).y1) items a
-              (All-weaker (λ b. layer_of b ≡ layer → span.lowest ≤ height_of (rect_of b).y1) (λ b. layer_of b ≡ layer → min span.lowest bottom ≤ height_of (rect_of b).y1)
+              (All-weaker (λ b. layer_of b ≡ layer → span.lowest ≤ height_of (rect_of b).y1)
+              (λ b. layer_of b ≡ layer → min span.lowest bottom ≤ height_of (rect_of b).y1)
               (λ b old there. omega (arith, old there)) items so_far.lowest)
               (λ there. omega arith);
           highest =
               All-push (λ b. layer_of b ≡ layer → height_of (rect_of b).y1 ≤ max span.highest bottom) items a
-              (All-weaker (λ b. layer_of b ≡ layer → height_of (rect_of b).y1 ≤ span.highest) (λ b. layer_of b ≡ layer → height_of (rect_of b).y1 ≤ max span.highest bottom)
+              (All-weaker (λ b. layer_of b ≡ layer → height_of (rect_of b).y1 ≤ span.highest)
+              (λ b. layer_of b ≡ layer → height_of (rect_of b).y1 ≤ max span.highest bottom)
               (λ b old there. omega (arith, old there)) items so_far.highest)
               (λ there. omega arith);
           small = small_more span (rect_of a) is so_far.small;
@@ -58,7 +60,8 @@ module _ {Item : Type 0} (rect_of : Item → RectModel) (layer_of : Item → ℕ
         }
 
   -- one more item
-  pub spans_more : (layers : ℕ) (items : List Item) (spans : List LayerSpan) (a : Item) → AreSpans rect_of layer_of layers items spans → IsRect (rect_of a) → layer_of a < layers
+  pub spans_more : (layers : ℕ) (items : List Item) (spans : List LayerSpan) (a : Item) → AreSpans rect_of layer_of layers items spans → IsRect (rect_of a)
+      → layer_of a < layers
       → AreSpans rect_of layer_of layers (items ++ a ∷ []) (set spans (layer_of a) (span_with (span_at spans (layer_of a)) (rect_of a)))
   spans_more layers items spans a so_far is below =
       let here : ℕ = layer_of a in

@@ -64,9 +64,11 @@ LosesShared rect row size old new = (k : ℕ) → IsFreeSite new k ↔ (IsFreeSi
 -- the rectangle meets each row beneath a node along y that lies within these bounds
 pub record IsMetAlongY (design : DesignModel) (rect : RectModel) (order : List RowKey) (node : ℕ) (bounds : Bounds) : Type 0 where
   pub high : bounds.high <ℤ rect.y2
-  pub low : (key : RowKey) (row : Row) (site : Site) → IsLeafBeneath order node key → IsRowAt design key.row row site → rect.y1 <ℤ (bounds.low +ℤ site.size.height)
+  pub low : (key : RowKey) (row : Row) (site : Site) → IsLeafBeneath order node key → IsRowAt design key.row row site
+      → rect.y1 <ℤ (bounds.low +ℤ site.size.height)
 
 -- the rows beneath a node lose the same sites: there is one, or they have one list together and the rectangle meets all of them along y
 abbrev pub IsMetThroughout : DesignModel → RectModel → List RowKey → List (Option (List Stretch)) → List Bounds → ℕ → Type 0
 IsMetThroughout design rect order lists nodes node =
-    (length order ≤ node) ⊎ ((IsSome (get_or lists node None)) × ((bounds : Bounds) → slice_get nodes node ≡ Some bounds → IsMetAlongY design rect order node bounds))
+    (length order ≤ node) ⊎ ((IsSome (get_or lists node None))
+    × ((bounds : Bounds) → slice_get nodes node ≡ Some bounds → IsMetAlongY design rect order node bounds))

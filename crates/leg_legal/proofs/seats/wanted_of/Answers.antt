@@ -27,7 +27,8 @@ returns g c =
     let below_read : number < length c.sites.result.now = rw sites_are below in
     let is_site : slice_get design.library.sites number ≡ Some site =
     rw (← sites_are) (slice_get_read c.sites.result.now _ number site refl below_read c.index-sites-site_number.is) in
-    wanted_is design c.args.number m c.requires.suited component there master is_master number same site is_site c.wanted_with.ensures.area c.wanted_with.ensures.has_area
+    wanted_is design c.args.number m c.requires.suited component there master is_master number same site is_site c.wanted_with.ensures.area
+    c.wanted_with.ensures.has_area
     c.wanted_with.result
     (c.wanted_with.ensures.is
     ∙ (λ i. record {
