@@ -22,7 +22,7 @@ use Rattle.leg_grammar.specs.Def.Namespace.{via_named}
 use Rattle.leg_grammar.specs.Def.PathItem.{at_path_end}
 use Rattle.leg_grammar.specs.Def.Wiring.{path_at}
 use Rattle.leg_output.specs.Names.{layer_name}
-use Rattle.leg_rules.specs.Names.{via_numbered, via_name}
+use Rattle.leg_rules.specs.Names.{design_via, via_name}
 use Rattle.leg_output.specs.Text.Wires.{width_words, point_words, given_extension, segment_words, wire_words, via_wire_words, patch_words, lower_layer_of_via}
 use Rattle.leg_print_laws.specs.NetScope.{known_of}
 use Rattle.leg_print_laws.proofs.NumberedNames.{holds_of, found, name_is}
@@ -65,7 +65,7 @@ module _ (design : DesignModel) (sound : IsSound design.library) (vias : AreVias
   pub path_layer : (layer : ℕ) → is_routing design.library layer ≡ true → IsPathLayer design.library layer (layer_name design layer)
   path_layer layer routes = record { named = layer_named design layer sound (routing_there layer routes); routes = routes }
 
-  via_known : (number : ℕ) (via : ViaModel) → via_numbered design number ≡ Some via → via.good ≡ true → IsNamedVia design number via
+  via_known : (number : ℕ) (via : ViaModel) → design_via design number ≡ Some via → via.good ≡ true → IsNamedVia design number via
   via_known number via is good = by (either_list design.library.vias design.vias number via is) where
     by : (slice_get design.library.vias number ≡ Some via) ⊎ ((j : ℕ) × (number ≡ length design.library.vias + j) × (slice_get design.vias j ≡ Some via))
         → IsNamedVia design number via
@@ -100,7 +100,7 @@ module _ (design : DesignModel) (sound : IsSound design.library) (vias : AreVias
       ∙ ap (λ e. Some (Segment layer from to width ext_from e ∷ [], rest)) (extension_again design.library special layer ext_to width)
 
   -- the words of a via
-  via_again : (special : Bool) (number : ℕ) (at : PointModel) (via : ViaModel) → IsPosition at → via_numbered design number ≡ Some via → via.good ≡ true
+  via_again : (special : Bool) (number : ℕ) (at : PointModel) (via : ViaModel) → IsPosition at → design_via design number ≡ Some via → via.good ≡ true
       → (rest : Words) → at_path_end rest ≡ true → is_at (codes "N") rest ≡ false
       → path_at (known_of design) special (via_wire_words design special number at ++ rest) ≡ Some (ViaAt number at ∷ [], rest)
   via_again special number at via is there good rest ends no_north =
@@ -130,7 +130,7 @@ module _ (design : DesignModel) (sound : IsSound design.library) (vias : AreVias
       (patch_path (known_of design) layer (layer_name design layer) at rect rest (path_layer layer is.1) is.2 is.3 ends)
 
   -- the names that a via is printed with
-  pub lower_named : (number : ℕ) (via : ViaModel) → via_numbered design number ≡ Some via → via.good ≡ true
+  pub lower_named : (number : ℕ) (via : ViaModel) → design_via design number ≡ Some via → via.good ≡ true
       → is_name (layer_name design (lower_layer_of_via design number)) ≡ true
   lower_named number via there good =
       let known = via_known number via there good in
@@ -138,5 +138,5 @@ module _ (design : DesignModel) (sound : IsSound design.library) (vias : AreVias
       let lower : lower_layer_of_via design number ≡ two.0 = rw there (lowest_is two.0 via.shapes two.2.on_low two.2.each) in
       rw lower (path_layer two.0 two.2.low_routes).named.is_one
 
-  pub via_is_name : (number : ℕ) (via : ViaModel) → via_numbered design number ≡ Some via → via.good ≡ true → is_name (via_name design number) ≡ true
+  pub via_is_name : (number : ℕ) (via : ViaModel) → design_via design number ≡ Some via → via.good ≡ true → is_name (via_name design number) ≡ true
   via_is_name number via there good = rw there (via_known number via there good).name

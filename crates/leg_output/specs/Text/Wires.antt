@@ -13,7 +13,7 @@ use Rattle.leg_design_records.specs.Wires.{default_extension}
 use Rattle.leg_design_records.specs.WellFormedNets.{written}
 use Rattle.leg_design_records.specs.Records.{DesignModel}
 use Rattle.leg_output.specs.Names.{layer_name}
-use Rattle.leg_rules.specs.Names.{via_numbered, via_name}
+use Rattle.leg_rules.specs.Names.{design_via, via_name}
 use Rattle.leg_output.specs.Text.Points.{spot_words}
 
 -- a number, where there is one
@@ -48,7 +48,7 @@ shapes_if_any (Some via) = via.shapes
 
 -- the lower routing layer of the via of this number
 abbrev pub lower_layer_of_via : DesignModel → ℕ → ℕ
-lower_layer_of_via design via = lowest_layer (shapes_if_any (via_numbered design via))
+lower_layer_of_via design via = lowest_layer (shapes_if_any (design_via design via))
 
 -- layer width from to: a segment, with its extensions
 abbrev pub segment_words : DesignModel → Bool → ℕ → PointModel → PointModel → ℤ → ℤ → ℤ → Words
