@@ -24,7 +24,7 @@ use Rattle.leg_legal_sites.specs.declared.stretch.Stretch.{Stretch}
 use Rattle.leg_rules.specs.declared.position.Candidate.{Candidate}
 use Rattle.leg_legal_sites.specs.declared.candidate.Wanted.{Wanted}
 use Rattle.leg_legal_sites.specs.Steps.Stretches.{IsFreeSite, AreFreeSites}
-use Rattle.leg_legal_sites.specs.Steps.ClearSites.{IsKnown}
+use Rattle.leg_legal_sites.specs.Steps.ClearSites.{IsFreeList}
 use Rattle.leg_rules.specs.Legalise.Clear.{IsClear}
 use Rattle.leg_legal_sites.specs.Steps.FreeLists.{RowLists, AreFreeLists, IsOfItsSite}
 use Rattle.leg_legal_sites.specs.Steps.BestPosition.{AreReady, IsCandidate}
@@ -184,7 +184,7 @@ module _ (design : DesignModel) (proper : IsWellFormed design) (c : ℕ) (wanted
     sited : slice_get design.library.sites row.site ≡ Some asks.site
     sited = rw same asks.is_site
 
-    pub list_known : IsKnown row asks.site.size design.die (Contains boxes) list
+    pub list_known : IsFreeList row asks.site.size design.die (Contains boxes) list
     list_known = known.each number row asks.site list (record { there = there; sited = sited }) listed
 
     pub site_within : (k : ℕ) → IsFreeSite list k → IsNumber (row.at.x +ℤ pos k *ℤ wanted.site_width)

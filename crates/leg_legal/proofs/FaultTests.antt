@@ -14,7 +14,7 @@ use Rattle.leg_rules.specs.Placement.Violations.{IsUnplaced, IsOutside, DoOverla
 use Rattle.leg_rules.specs.Placement.Violations.IsPlacementViolation.{unplaced, outside, off_site, overlap, blocked}
 use Rattle.leg_rules.specs.Placement.Sites.{IsOnRow, IsOffSite}
 use Rattle.leg_place.proofs.PlaceFaults.{kind_below, unplaced_there, outside_there, off_site_there, overlap_there, blocked_there}
-use Rattle.leg_rules.specs.Legalise.Refusals.{ConcernsStaying, HoldsOfStaying}
+use Rattle.leg_rules.specs.Legalise.Refusals.{ConcernsStaying, IsStayingViolation}
 use Rattle.leg_legal.proofs.OnRow.{HasSoundRows}
 use Rattle.leg_design_records.proofs.MovableOrNot.{movable_or_not}
 use Rattle.leg_legal.proofs.Decisions.{HoldsOrNot, by_other, both_or_not, never_or_not, less_or_not, some_or_not, there_or_not}
@@ -189,7 +189,7 @@ module _ (design : DesignModel) where
     concerns_or_not (TooNear a b) = inr (λ never. never)
     concerns_or_not (OpenNet n k) = inr (λ never. never)
 
-    pub of_staying_or_not : (fault : Fault) → HoldsOrNot (HoldsOfStaying design fault)
+    pub of_staying_or_not : (fault : Fault) → HoldsOrNot (IsStayingViolation design fault)
     of_staying_or_not fault =
         by_other (λ both. record { holds = both.0; staying = both.1 }) (λ h. (h.holds, h.staying))
         (both_or_not (holds_or_not fault) (concerns_or_not fault))

@@ -24,7 +24,7 @@ use Rattle.leg_rules.specs.Legalise.Run.LegaliseRun.{none, one}
 use Rattle.leg_rules.specs.Legalise.SameButForPlaces.{IsSameButForPlaces}
 use Rattle.leg_rules.specs.Legalise.Moves.{total_of, greatest_of, AreMoves}
 use Rattle.leg_legal.specs.Refusals.{IsLegaliseRefusal}
-use Rattle.leg_rules.specs.Legalise.Refusals.{ConcernsStaying, HoldsOfStaying, NoneStaying, HasRowFor, IsLeastUnsuited, AreSuited, IsStuck}
+use Rattle.leg_rules.specs.Legalise.Refusals.{ConcernsStaying, IsStayingViolation, NoneStaying, HasRowFor, IsLeastUnsuited, AreSuited, IsStuck}
 use Rattle.leg_legal.proofs.Elements.{contains_at}
 use Rattle.leg_legal.proofs.RunSoFar.{AreMovable, IsSoFar, so_far, earlier_movable, last_fresh}
 use Rattle.leg_legal.proofs.AfterPlaces.{there_is}
@@ -70,9 +70,9 @@ module _ (before after : DesignModel) (count : length after.components ≡ lengt
   )
 
 -- a list of violations of components that stay, not empty, has one
-pub some_staying : (design : DesignModel) (faults : List Fault) → IsListOf (HoldsOfStaying design) faults → faults ≢ [] → NoneStaying design → ⊥
+pub some_staying : (design : DesignModel) (faults : List Fault) → IsListOf (IsStayingViolation design) faults → faults ≢ [] → NoneStaying design → ⊥
 some_staying design [] list some staying = some refl
-some_staying design (v ∷ vs) list some staying = staying v (All-head (HoldsOfStaying design) v vs list.each)
+some_staying design (v ∷ vs) list some staying = staying v (All-head (IsStayingViolation design) v vs list.each)
 
 -- a violation of components that stay holds whatever the others do
 module _ (before : DesignModel) (components : List Component)
@@ -188,7 +188,7 @@ module _ {A : Type 0} (design : DesignModel) where
       → fault ≡ other
   one_cause Memory other p q told also = absurd (told refl)
   one_cause fault Memory p q told also = absurd (also refl)
-  one_cause (FixedIllegal xs) (FixedIllegal ys) p q told also = ap FixedIllegal (one_list (HoldsOfStaying design) xs ys p.0 q.0)
+  one_cause (FixedIllegal xs) (FixedIllegal ys) p q told also = ap FixedIllegal (one_list (IsStayingViolation design) xs ys p.0 q.0)
   one_cause (FixedIllegal xs) (NoSite d) p q told also = absurd (some_staying design xs p.0 p.1 q.1)
   one_cause (FixedIllegal xs) (NoRoom d) p q told also = absurd (some_staying design xs p.0 p.1 q.0)
   one_cause (NoSite c) (FixedIllegal ys) p q told also = absurd (some_staying design ys q.0 q.1 p.1)

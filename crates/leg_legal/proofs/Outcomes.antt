@@ -20,7 +20,7 @@ use Rattle.leg_rules.specs.Legalise.Start.{start_of}
 use Rattle.leg_rules.specs.Legalise.Turns.{Turn, IsEarlier, HasTurn, IsTakenBefore, IsOrderOfTaking}
 use Rattle.leg_rules.specs.Legalise.Run.{moved_to, LegaliseRun}
 use Rattle.leg_rules.specs.Legalise.Run.LegaliseRun.{none, one}
-use Rattle.leg_rules.specs.Legalise.Refusals.{HoldsOfStaying, NoneStaying, IsUnsuited, IsLeastUnsuited, AreSuited}
+use Rattle.leg_rules.specs.Legalise.Refusals.{IsStayingViolation, NoneStaying, IsUnsuited, IsLeastUnsuited, AreSuited}
 use Rattle.leg_legal.specs.FreePlaces.{HasMacroSizes}
 use Rattle.leg_legal.specs.Outcome.{HasOutcome}
 use Rattle.leg_legal.specs.Steps.Boxes.{IsStuckAt}
@@ -237,7 +237,7 @@ module _ (design : DesignModel) (proper : IsWellFormed design) (sound : IsSound 
           let order = order_is design in
           by_run order.0 order.1 suited (run_on design proper sound sized order.0 order.1 [] order.0 design refl none)
 
-    by_staying : (IsLegallyPlaced design → ⊥) → (faults : List Fault) → IsListOf (HoldsOfStaying design) faults → HasOutcome A design
+    by_staying : (IsLegallyPlaced design → ⊥) → (faults : List Fault) → IsListOf (IsStayingViolation design) faults → HasOutcome A design
     by_staying illegal [] list = by_suited illegal (λ fault h. Contains-nil fault (list.all fault h)) suited_or_least
     by_staying illegal (fault ∷ faults) list = inr (record {
       fault = FixedIllegal (fault ∷ faults);
@@ -251,6 +251,6 @@ module _ (design : DesignModel) (proper : IsWellFormed design) (sound : IsSound 
         elim legal_or_not [
           | inl legal ↦ inl (record { after = design; legal = legal; legalised = inl (legal, refl) })
           | inr illegal ↦
-              let found = list_of design (HoldsOfStaying design) (λ fault h. h.holds) (of_staying_or_not design rows) in
+              let found = list_of design (IsStayingViolation design) (λ fault h. h.holds) (of_staying_or_not design rows) in
               by_staying illegal found.0 found.1
         ]

@@ -9,9 +9,9 @@ use Rattle.leg_design_records.specs.declared.fault.Fault.{Fault}
 use Rattle.leg_design_records.specs.Violation.{IsListOf}
 use Rattle.leg_rules.specs.Placement.Violations.{IsPlacementViolation}
 use Rattle.leg_rules.specs.Placement.Violations.IsPlacementViolation.{unplaced, outside, off_site, overlap, blocked}
-use Rattle.leg_place.specs.Among.{NamesOnlyMarked, HoldsAmong}
+use Rattle.leg_place.specs.Among.{NamesOnlyMarked, IsViolationAmong}
 use Rattle.leg_design_records.specs.Movable.{IsMovable}
-use Rattle.leg_rules.specs.Legalise.Refusals.{ConcernsStaying, HoldsOfStaying}
+use Rattle.leg_rules.specs.Legalise.Refusals.{ConcernsStaying, IsStayingViolation}
 use Rattle.leg_legal.specs.Steps.Marks.{AreMarksBelow}
 
 -- a mark of a component that isn't movable
@@ -80,11 +80,11 @@ module _ (design : DesignModel) where
     marked_of v (blocked {c = c} h) stays = (are.each c (slice_get_within design.components c h.stands.component h.stands.there)).1 stays
 
     -- so the list of the ones is that of the others
-    pub staying_list : (faults : List Fault) → IsListOf (HoldsAmong design marks) faults → IsListOf (HoldsOfStaying design) faults
+    pub staying_list : (faults : List Fault) → IsListOf (IsViolationAmong design marks) faults → IsListOf (IsStayingViolation design) faults
     staying_list faults list = record {
       increasing = list.increasing;
       each =
-          All-weaker (HoldsAmong design marks) (HoldsOfStaying design)
+          All-weaker (IsViolationAmong design marks) (IsStayingViolation design)
           (λ v held. record { holds = held.holds; staying = staying_of v held.holds held.marked }) faults list.each;
       all = λ v held. list.all v (record { holds = held.holds; marked = marked_of v held.holds held.staying });
     }

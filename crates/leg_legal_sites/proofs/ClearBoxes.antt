@@ -7,7 +7,7 @@ use Rattle.leg_design_records.specs.declared.records.Row.{Row}
 use Rattle.leg_rules.specs.Placement.Sites.{site_box}
 use Rattle.leg_legal_sites.specs.declared.stretch.Stretch.{Stretch}
 use Rattle.leg_legal_sites.specs.Steps.Stretches.{AreFreeSites}
-use Rattle.leg_legal_sites.specs.Steps.ClearSites.{IsKnown, sites_box}
+use Rattle.leg_legal_sites.specs.Steps.ClearSites.{IsFreeList, sites_box}
 use Rattle.leg_rules.specs.Legalise.Clear.{IsClear}
 use Rattle.leg_legal_sites.proofs.SiteSquares.{site_of_square, square_of_site}
 
@@ -34,7 +34,7 @@ module _ (row : Row) (size : ExtentModel) (area : HasArea size) (die : RectModel
               (record { square = shared.square; in_a = shared.in_a; in_b = in_box shared.square shared.in_b });
         }
 
-  module _ (free : List Stretch) (known : IsKnown row size die Taken free) (many first : ℕ) (some : 1 ≤ many) where
+  module _ (free : List Stretch) (known : IsFreeList row size die Taken free) (many first : ℕ) (some : 1 ≤ many) where
     -- free sites are sites of the row, and their box is clear
     pub free_sites_within : AreFreeSites free many first → pos (first + many) ≤ℤ row.count
     free_sites_within sites =

@@ -9,7 +9,7 @@ use Rattle.leg_legal_sites.specs.declared.stretch.Stretch.{Stretch}
 use Rattle.leg_legal_sites.specs.Steps.Stretches.{IsFreeSite}
 use Rattle.leg_legal_sites.specs.Steps.RowSites.{IsAmong, AreSitesInside}
 use Rattle.leg_rules.specs.Legalise.Clear.{HasAllSquares, IsClear}
-use Rattle.leg_legal_sites.specs.Steps.ClearSites.{IsKnown, NoneTaken}
+use Rattle.leg_legal_sites.specs.Steps.ClearSites.{IsFreeList, NoneTaken}
 
 -- a site before the stretch or behind it is none of it
 pub outside : (sites : Stretch) (k : ℕ) → (k < sites.from) ⊎ (sites.end ≤ k) → ¬ IsAmong sites k
@@ -34,7 +34,7 @@ module _ (row : Row) (size : ExtentModel) (die : RectModel) where
 
   -- a row begins with its sites in the die
   pub known_at_first : (sites : Stretch) (free : List Stretch) → AreSitesInside row size die sites
-      → ((k : ℕ) → IsFreeSite free k ↔ ((sites.from ≤ k) × (k < sites.end))) → IsKnown row size die NoneTaken free
+      → ((k : ℕ) → IsFreeSite free k ↔ ((sites.from ≤ k) × (k < sites.end))) → IsFreeList row size die NoneTaken free
   known_at_first sites free inside begun k = (
     λ site.
         let among = (begun k).0 site in
@@ -44,8 +44,8 @@ module _ (row : Row) (size : ExtentModel) (die : RectModel) where
   )
 
   -- the list says the same of boxes that are taken by another description
-  pub known_same : (Taken Others : RectModel → Type 0) (free : List Stretch) → ((box : RectModel) → Taken box ↔ Others box) → IsKnown row size die Taken free
-      → IsKnown row size die Others free
+  pub known_same : (Taken Others : RectModel → Type 0) (free : List Stretch) → ((box : RectModel) → Taken box ↔ Others box) → IsFreeList row size die Taken free
+      → IsFreeList row size die Others free
   known_same Taken Others free same known k = (
     λ site. let was = (known k).0 site in (was.0, record { inside = was.1.inside; alone = λ other taken. was.1.alone other ((same other).1 taken) }),
     λ clear. (known k).1 (clear.0, record { inside = clear.1.inside; alone = λ other taken. clear.1.alone other ((same other).0 taken) }),

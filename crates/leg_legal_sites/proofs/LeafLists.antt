@@ -11,7 +11,7 @@ use Rattle.leg_legal_sites.specs.declared.stretch.Stretch.{Stretch}
 use Rattle.leg_legal_sites.specs.declared.bounds.Bounds.{Bounds}
 use Rattle.leg_legal_sites.specs.declared.row_keys.RowKey.{RowKey}
 use Rattle.leg_legal_sites.specs.Steps.RowOrder.{IsRowOrder}
-use Rattle.leg_legal_sites.specs.Steps.ClearSites.{IsKnown}
+use Rattle.leg_legal_sites.specs.Steps.ClearSites.{IsFreeList}
 use Rattle.leg_legal_sites.specs.Steps.FreeLists.{IsRowAt, AreInDie, DoBoundRow, DoFit}
 use Rattle.leg_legal_sites.specs.Steps.FreeListSharing.{row_lists}
 use Rattle.leg_legal_sites.specs.Steps.FreeRows.{AreInside}
@@ -51,7 +51,7 @@ module _ (design : DesignModel) (order : List RowKey) where
 
   -- one more leaf
   pub leaf_more : (place : ℕ) (key : RowKey) (list : List Stretch) (lists : List (Option (List Stretch))) → slice_get order place ≡ Some key
-      → ((row : Row) (site : Site) → IsRowAt design key.row row site → IsKnown row site.size design.die (Contains []) list)
+      → ((row : Row) (site : Site) → IsRowAt design key.row row site → IsFreeList row site.size design.die (Contains []) list)
       → AreLeafLists design order place lists → AreLeafLists design order (place + 1) (lists ++ Some list ∷ [])
   leaf_more place key list lists at known so_far = record {
     count = let count = so_far.count in omega (arith, count, length-append lists (Some list ∷ []));

@@ -9,7 +9,7 @@ use Rattle.leg_design_records.specs.declared.records.Row.{Row}
 use Rattle.leg_rules.specs.Placement.Box.{placed_box}
 use Rattle.leg_legal_sites.specs.declared.stretch.Stretch.{Stretch}
 use Rattle.leg_legal_sites.specs.Steps.Stretches.{AreFreeSites}
-use Rattle.leg_legal_sites.specs.Steps.ClearSites.{IsKnown}
+use Rattle.leg_legal_sites.specs.Steps.ClearSites.{IsFreeList}
 use Rattle.leg_rules.specs.Legalise.Clear.{IsClear}
 use Rattle.leg_legal_sites.proofs.ClearBoxes.{free_just_where_clear}
 use Rattle.leg_legal_sites.proofs.MacroBoxes.{macro_box}
@@ -24,7 +24,7 @@ module _ (row : Row) (site size : ExtentModel) (many : ℕ) (area : HasArea site
     from (suc n) is = omega arith
 
   -- The macro's sites, from the first on, are free just where the row has them and its box is clear.
-  module _ (die : RectModel) (Taken : RectModel → Type 0) (free : List Stretch) (known : IsKnown row site die Taken free) where
+  module _ (die : RectModel) (Taken : RectModel → Type 0) (free : List Stretch) (known : IsFreeList row site die Taken free) where
     pub free_just_where_macro_clear : (first : ℕ) (place : Place) → place.at ≡ record { x = row.at.x +ℤ pos first *ℤ site.width; y = row.at.y }
         → IsTrue (is_upright place.orient) → AreFreeSites free many first ↔ ((pos (first + many) ≤ℤ row.count) × IsClear die Taken (placed_box size place))
     free_just_where_macro_clear first place at upright =

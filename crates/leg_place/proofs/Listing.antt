@@ -8,9 +8,9 @@ use Rattle.leg_design_records.specs.declared.fault.Fault.{Fault}
 use Rattle.leg_design_records.specs.declared.fault.Fault.TheVariants.{Short}
 use Rattle.leg_design_records.specs.Violation.{kind_number, numbers_of, ComesBefore, IsListOf}
 use Rattle.leg_place.specs.declared.component_fault.ComponentFault.{ComponentFault}
-use Rattle.leg_place.specs.Among.{HoldsAmong}
+use Rattle.leg_place.specs.Among.{IsViolationAmong}
 use Rattle.leg_place.specs.Steps.ComponentFault.{fault_of}
-use Rattle.leg_place.specs.Steps.ListPrefix.{HoldsBefore, IsListBefore}
+use Rattle.leg_place.specs.Steps.ListPrefix.{IsViolationBefore, IsListBefore}
 use Rattle.leg_place.proofs.PlaceFaults.{kind_below, component_below, same_list}
 use Rattle.leg_place.proofs.ComponentFaults.{number_of_kind, of_component, is_of_component}
 
@@ -19,7 +19,7 @@ module _ (design : DesignModel) (marks : List Bool) where
   pub listing_end : (kind c : ℕ) → c ≡ length design.components → (found : List Fault)
       → IsListBefore design marks kind c found → IsListBefore design marks (kind + 1) 0 found
   listing_end kind c last found done =
-      same_list (HoldsBefore design marks kind c) (HoldsBefore design marks (kind + 1) 0)
+      same_list (IsViolationBefore design marks kind c) (IsViolationBefore design marks (kind + 1) 0)
       (λ v held. record { holds = held.holds; upto = omega (arith, held.upto); below = λ same. absurd (omega (arith, held.upto, same)) })
       (λ v held. record {
         holds = held.holds;
@@ -33,9 +33,9 @@ module _ (design : DesignModel) (marks : List Bool) where
 
   -- before the first kind that is none of placement the list is whole
   pub listing_whole : (found : List Fault) → IsListBefore design marks (kind_number (Short 0 0)) 0 found
-      → IsListOf (HoldsAmong design marks) found
+      → IsListOf (IsViolationAmong design marks) found
   listing_whole found done =
-      same_list (HoldsBefore design marks (kind_number (Short 0 0)) 0) (HoldsAmong design marks)
+      same_list (IsViolationBefore design marks (kind_number (Short 0 0)) 0) (IsViolationAmong design marks)
       (λ v held. held.holds)
       (λ v holds.
       let below = kind_below design v holds.holds in
@@ -44,8 +44,8 @@ module _ (design : DesignModel) (marks : List Bool) where
 
   module _ (kind : ComponentFault) (c : ℕ) where
     -- what comes before the violation of the next component is that of this one, or comes before it
-    this_or_before : (v : Fault) → HoldsBefore design marks (number_of_kind kind) (c + 1) v
-        → HoldsBefore design marks (number_of_kind kind) c v ⊎ (v ≡ fault_of kind c)
+    this_or_before : (v : Fault) → IsViolationBefore design marks (number_of_kind kind) (c + 1) v
+        → IsViolationBefore design marks (number_of_kind kind) c v ⊎ (v ≡ fault_of kind c)
     this_or_before v held =
         elim (cases_eq (kind_number v) (number_of_kind kind)) [
           | inr apart ↦ inl (record { holds = held.holds; upto = held.upto; below = λ same. absurd (apart same) })
@@ -59,7 +59,7 @@ module _ (design : DesignModel) (marks : List Bool) where
         ]
 
     -- the violation of one component comes behind those before it
-    behind : (v : Fault) → HoldsBefore design marks (number_of_kind kind) c v → ComesBefore v (fault_of kind c)
+    behind : (v : Fault) → IsViolationBefore design marks (number_of_kind kind) c v → ComesBefore v (fault_of kind c)
     behind v held =
         let this = of_component kind c in
         record {
@@ -68,18 +68,18 @@ module _ (design : DesignModel) (marks : List Bool) where
           second = λ same equal. absurd (let lower = held.below (omega (arith, same, this.0)) in omega (arith, lower, this.1, equal));
         }
 
-    onward : (v : Fault) → HoldsBefore design marks (number_of_kind kind) c v → HoldsBefore design marks (number_of_kind kind) (c + 1) v
+    onward : (v : Fault) → IsViolationBefore design marks (number_of_kind kind) c v → IsViolationBefore design marks (number_of_kind kind) (c + 1) v
     onward v held = record { holds = held.holds; upto = held.upto; below = λ same. (let lower = held.below same in omega (arith, lower)) }
 
     -- one more violation that holds
-    pub listing_more : (found : List Fault) → HoldsAmong design marks (fault_of kind c)
+    pub listing_more : (found : List Fault) → IsViolationAmong design marks (fault_of kind c)
         → IsListBefore design marks (number_of_kind kind) c found
         → IsListBefore design marks (number_of_kind kind) (c + 1) (found ++ fault_of kind c ∷ [])
     listing_more found holds done =
         let v = fault_of kind c in
         let this = of_component kind c in
-        let before = HoldsBefore design marks (number_of_kind kind) c in
-        let after = HoldsBefore design marks (number_of_kind kind) (c + 1) in
+        let before = IsViolationBefore design marks (number_of_kind kind) c in
+        let after = IsViolationBefore design marks (number_of_kind kind) (c + 1) in
         record {
           increasing = all_pairs_push ComesBefore found v done.increasing (All-weaker before (λ w. ComesBefore w v) behind found done.each);
           each =
@@ -92,10 +92,10 @@ module _ (design : DesignModel) (marks : List Bool) where
         }
 
     -- it doesn't hold
-    pub listing_skip : (found : List Fault) → (HoldsAmong design marks (fault_of kind c) → ⊥)
+    pub listing_skip : (found : List Fault) → (IsViolationAmong design marks (fault_of kind c) → ⊥)
         → IsListBefore design marks (number_of_kind kind) c found
         → IsListBefore design marks (number_of_kind kind) (c + 1) found
     listing_skip found never done =
-        same_list (HoldsBefore design marks (number_of_kind kind) c) (HoldsBefore design marks (number_of_kind kind) (c + 1)) onward
+        same_list (IsViolationBefore design marks (number_of_kind kind) c) (IsViolationBefore design marks (number_of_kind kind) (c + 1)) onward
         (λ v held. elim (this_or_before v held) [ inl earlier ↦ earlier | inr same ↦ absurd (never (rw same at held.holds)) ])
         found done

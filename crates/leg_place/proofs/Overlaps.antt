@@ -16,9 +16,9 @@ use Rattle.leg_design_records.specs.Violation.{ComesBefore, kind_number, numbers
 use Rattle.leg_place.specs.declared.placed_box.PlacedBox.{PlacedBox}
 use Rattle.leg_rules.specs.Placement.Box.{HasBox}
 use Rattle.leg_rules.specs.Placement.Violations.{DoOverlap}
-use Rattle.leg_place.specs.Among.{IsMarked, HoldsAmong}
+use Rattle.leg_place.specs.Among.{IsMarked, IsViolationAmong}
 use Rattle.leg_rules.specs.Placement.Violations.IsPlacementViolation.{overlap}
-use Rattle.leg_place.specs.Steps.ListPrefix.{HoldsBefore, IsListBefore, AreBoxesBelow, HasLowerNumber, DoSomeOverlap, HasPair}
+use Rattle.leg_place.specs.Steps.ListPrefix.{IsViolationBefore, IsListBefore, AreBoxesBelow, HasLowerNumber, DoSomeOverlap, HasPair}
 use Rattle.leg_place.proofs.PlaceFaults.{overlap_there, marked_by_all}
 use Rattle.leg_place.proofs.ComponentFaults.{overlap_kind, is_overlap}
 use Rattle.leg_place.proofs.Places.{place_of_contained, All-at, AllPairs-at, lower_first, same_place}
@@ -55,7 +55,7 @@ took_none found before after (more rest never) p has = absurd never
 
 module _ (design : DesignModel) (marks : List Bool) (n : ℕ) (boxes : List PlacedBox) (are : AreBoxesBelow design marks n boxes) where
   -- the violation of a pair of boxes holds
-  Holds-overlap_of : (p : ℕ × ℕ) → IsPair Share boxes p → HoldsAmong design marks (overlap_of boxes p)
+  Holds-overlap_of : (p : ℕ × ℕ) → IsPair Share boxes p → IsViolationAmong design marks (overlap_of boxes p)
   Holds-overlap_of p pair =
       rw (pair.a_at, pair.b_at) (record {
         holds = overlap (record {
@@ -113,14 +113,14 @@ module _ (design : DesignModel) (marks : List Bool) (found : List Fault) (before
       → IsListBefore design marks (overlap_kind + 1) 0 (found ++ map (overlap_of boxes) pairs)
   listing_Overlap_end pairs are_pairs = record {
     increasing =
-        AllPairs-append_by ComesBefore (HoldsBefore design marks overlap_kind 0) (λ w. kind_number w ≡ overlap_kind) kinds_rise found
+        AllPairs-append_by ComesBefore (IsViolationBefore design marks overlap_kind 0) (λ w. kind_number w ≡ overlap_kind) kinds_rise found
         (map (overlap_of boxes) pairs)
         before.each (All-map (λ w. kind_number w ≡ overlap_kind) (overlap_of boxes) pairs (λ k d within. refl)) before.increasing
         (AllPairs-map_where Before ComesBefore (overlap_of boxes) (IsPair Share boxes)
         (ComesBefore-overlap_of design marks (length design.components) boxes are) pairs are_pairs.each are_pairs.increasing);
     each =
         All-append after found (map (overlap_of boxes) pairs)
-        (All-weaker (HoldsBefore design marks overlap_kind 0) after (λ v held. upto v held.holds held.upto) found before.each)
+        (All-weaker (IsViolationBefore design marks overlap_kind 0) after (λ v held. upto v held.holds held.upto) found before.each)
         (All-map after (overlap_of boxes) pairs
         (All-weaker (IsPair Share boxes) (λ p. after (overlap_of boxes p))
         (λ p pair.
@@ -137,18 +137,18 @@ module _ (design : DesignModel) (marks : List Bool) (found : List Fault) (before
   }
     where
       after : Fault → Type 0
-      after = HoldsBefore design marks (overlap_kind + 1) 0
+      after = IsViolationBefore design marks (overlap_kind + 1) 0
 
-      upto : (v : Fault) → HoldsAmong design marks v → kind_number v ≤ overlap_kind → HoldsBefore design marks (overlap_kind + 1) 0 v
+      upto : (v : Fault) → IsViolationAmong design marks v → kind_number v ≤ overlap_kind → IsViolationBefore design marks (overlap_kind + 1) 0 v
       upto v holds kind = record { holds = holds; upto = omega (arith, kind); below = λ same. absurd (omega (arith, kind, same)) }
 
-      below_next : (v : Fault) → HoldsBefore design marks (overlap_kind + 1) 0 v → kind_number v ≤ overlap_kind
+      below_next : (v : Fault) → IsViolationBefore design marks (overlap_kind + 1) 0 v → kind_number v ≤ overlap_kind
       below_next v held = elim (cases_eq (kind_number v) (overlap_kind + 1)) [
         | inl same ↦ absurd (let first = held.below same in omega (arith, first))
         | inr apart ↦ omega (arith, held.upto, apart)
       ]
 
-      kinds_rise : (v w : Fault) → HoldsBefore design marks overlap_kind 0 v → kind_number w ≡ overlap_kind → ComesBefore v w
+      kinds_rise : (v w : Fault) → IsViolationBefore design marks overlap_kind 0 v → kind_number w ≡ overlap_kind → ComesBefore v w
       kinds_rise v w held kind =
           let earlier : kind_number v ≡ overlap_kind → ⊥ = λ same. (let first = held.below same in omega (arith, first)) in
           record {
@@ -157,7 +157,7 @@ module _ (design : DesignModel) (marks : List Bool) (found : List Fault) (before
             second = λ same. absurd (earlier (same ∙ kind));
           }
 
-      overlap_in : (a b : ℕ) → HoldsAmong design marks (Overlap a b) → Contains (found ++ map (overlap_of boxes) pairs) (Overlap a b)
+      overlap_in : (a b : ℕ) → IsViolationAmong design marks (Overlap a b) → Contains (found ++ map (overlap_of boxes) pairs) (Overlap a b)
       overlap_in a b held =
           let h = overlap_there design a b held.holds in
           Contains-append_right found (map (overlap_of boxes) pairs) (Overlap a b)

@@ -9,7 +9,7 @@ use Rattle.leg_design_records.specs.declared.fault.Fault.TheVariants.{Unplaced, 
 use Rattle.leg_design_records.specs.Violation.{kind_number, numbers_of, IsListOf}
 use Rattle.leg_rules.specs.Placement.Sites.{IsOffSite}
 use Rattle.leg_rules.specs.Placement.Violations.{IsUnplaced, IsOutside, DoOverlap, IsBlocked, IsPlacementViolation}
-use Rattle.leg_place.specs.Among.{IsMarked, NamesOnlyMarked, HoldsAmong}
+use Rattle.leg_place.specs.Among.{IsMarked, NamesOnlyMarked, IsViolationAmong}
 use Rattle.leg_rules.specs.Placement.Violations.IsPlacementViolation.{unplaced, outside, off_site, overlap, blocked}
 
 -- a list of the violations for which one property holds is that of another one, which holds of the same
@@ -72,9 +72,9 @@ module _ (design : DesignModel) where
       let n = length design.components in
       slice_get-get_or (replicate n true) c true (rw (length-replicate n true) below) ∙ ap Some (get_or-replicate n c true true below)
 
-  pub list_of_all : (found : List Fault) → IsListOf (HoldsAmong design (replicate (length design.components) true)) found
+  pub list_of_all : (found : List Fault) → IsListOf (IsViolationAmong design (replicate (length design.components) true)) found
       → IsListOf (IsPlacementViolation design) found
   list_of_all found list =
       let marks = replicate (length design.components) true in
-      same_list (HoldsAmong design marks) (IsPlacementViolation design) (λ v held. held.holds)
+      same_list (IsViolationAmong design marks) (IsPlacementViolation design) (λ v held. held.holds)
       (λ v holds. record { holds = holds; marked = all_told marks marked_by_all v holds }) found list

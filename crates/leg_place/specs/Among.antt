@@ -22,6 +22,6 @@ NamesOnlyMarked marks (TooNear a b) = ⊥
 NamesOnlyMarked marks (OpenNet n k) = ⊥
 
 -- a violation of placement holds, and names only marked ones
-pub record HoldsAmong (design : DesignModel) (marks : List Bool) (fault : Fault) : Type 0 where
+pub record IsViolationAmong (design : DesignModel) (marks : List Bool) (fault : Fault) : Type 0 where
   pub holds : IsPlacementViolation design fault
   pub marked : NamesOnlyMarked marks fault

@@ -3,7 +3,7 @@
 ghost use Rattle.std.specs.Prelude.{◌≡◌, ◌+◌, IfOk, OnOk};
 ghost use Rattle.leg_design_records.specs.Violation.{kind_number, IsListOf};
 ghost use Rattle.leg_rules.specs.Placement.Violations.{IsPlacementViolation};
-ghost use Rattle.leg_place.specs.Among.{HoldsAmong};
+ghost use Rattle.leg_place.specs.Among.{IsViolationAmong};
 ghost use Rattle.leg_place.specs.Steps.ComponentFault.{fault_of};
 ghost use Rattle.leg_place.specs.Steps.Floorplan.{IsFloorplan};
 ghost use Rattle.leg_place.specs.Steps.ListPrefix.{IsListBefore};
@@ -44,7 +44,7 @@ pub fn place_faults_among<A: Allocator + Copy>(
     marks: &[bool],
 ) -> Result<Vec<Fault, A>, AllocError>
     requires { library.now ≡ design.now.library }
-    ensures { IfOk result (λ found. IsListOf (HoldsAmong design.now marks.now) found.items) }
+    ensures { IfOk result (λ found. IsListOf (IsViolationAmong design.now marks.now) found.items) }
 {
     let plan = Floorplan::of_design(alloc, design)?;
     let mut found = Vec::new(alloc);

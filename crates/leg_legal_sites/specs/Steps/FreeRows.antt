@@ -8,7 +8,7 @@ use Rattle.leg_rules.specs.Placement.Sites.{site_box}
 use Rattle.leg_legal_sites.specs.declared.stretch.Stretch.{Stretch}
 use Rattle.leg_legal_sites.specs.declared.row_keys.RowKey.{RowKey}
 use Rattle.leg_legal_sites.specs.Steps.Stretches.{IsFreeSite}
-use Rattle.leg_legal_sites.specs.Steps.ClearSites.{IsKnown}
+use Rattle.leg_legal_sites.specs.Steps.ClearSites.{IsFreeList}
 use Rattle.leg_legal_sites.specs.Steps.FreeLists.{IsRowAt}
 use Rattle.leg_legal_sites.specs.Steps.TreeOfRows.{IsLeafBeneath}
 
@@ -16,7 +16,7 @@ use Rattle.leg_legal_sites.specs.Steps.TreeOfRows.{IsLeafBeneath}
 pub record AreInside (design : DesignModel) (end : ℕ) (lists : List (List Stretch)) : Type 0 where
   pub count : length lists ≡ end
   pub each : (number : ℕ) (row : Row) (site : Site) (list : List Stretch) → IsRowAt design number row site → slice_get lists number ≡ Some list
-      → IsKnown row site.size design.die (Contains []) list
+      → IsFreeList row site.size design.die (Contains []) list
 
 -- of the row of this number those of the free sites are left that share no unit square with the rectangle
 abbrev pub LosesMet : DesignModel → RectModel → ℕ → List Stretch → List Stretch → Type 0

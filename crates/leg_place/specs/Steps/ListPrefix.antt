@@ -8,20 +8,20 @@ use Rattle.leg_design_records.specs.Violation.{kind_number, numbers_of, IsListOf
 use Rattle.leg_place.specs.declared.placed_box.PlacedBox.{PlacedBox}
 use Rattle.leg_rules.specs.Placement.Box.{HasBox}
 use Rattle.leg_rules.specs.Placement.Violations.{DoOverlap, IsPlacementViolation}
-use Rattle.leg_place.specs.Among.{IsMarked, HoldsAmong}
+use Rattle.leg_place.specs.Among.{IsMarked, IsViolationAmong}
 use Rattle.leg_place.specs.declared.component_fault.ComponentFault.{ComponentFault}
 use Rattle.leg_place.specs.Steps.ComponentFault.{fault_of}
 
 -- A violation among the marked components holds. It is of a kind before the one of this number, or of that one, and then it
 -- names first a component below end.
-pub record HoldsBefore (design : DesignModel) (marks : List Bool) (kind end : ℕ) (fault : Fault) : Type 0 where
-  pub holds : HoldsAmong design marks fault
+pub record IsViolationBefore (design : DesignModel) (marks : List Bool) (kind end : ℕ) (fault : Fault) : Type 0 where
+  pub holds : IsViolationAmong design marks fault
   pub upto : kind_number fault ≤ kind
   pub below : kind_number fault ≡ kind → (numbers_of fault).0 < end
 
 -- the list of these: all of them, each once, in order
 abbrev pub IsListBefore : DesignModel → List Bool → ℕ → ℕ → List Fault → Type 0
-IsListBefore design marks kind end faults = IsListOf (HoldsBefore design marks kind end) faults
+IsListBefore design marks kind end faults = IsListOf (IsViolationBefore design marks kind end) faults
 
 abbrev pub HasLowerNumber : PlacedBox → PlacedBox → Type 0
 HasLowerNumber a b = a.component < b.component
