@@ -26,8 +26,7 @@ not_two_words (a ∷ b ∷ []) other = absurd (other refl)
 not_two_words (a ∷ b ∷ c ∷ words) other = refl
 
 -- after its keyword a table has the word of its sort
-pub is_table_of : (statement : Words) → is_at (codes "SPACINGTABLE") statement ≡ true
-    → is_table statement ≡ is_at (codes "PARALLELRUNLENGTH") (after_first (is_keyword (codes "SPACINGTABLE")) statement)
+pub is_table_of : (statement : Words) → is_at (codes "SPACINGTABLE") statement ≡ true → is_table statement ≡ is_at (codes "PARALLELRUNLENGTH") (after_first (is_keyword (codes "SPACINGTABLE")) statement)
 is_table_of [] there = absurd (false≢true there)
 is_table_of (word ∷ words) there = rw there refl
 
@@ -41,13 +40,11 @@ module _ {X : Type 0} (test : X → Bool) where
   at_front xs i x less is = drop_more xs i x less ∙ ap (λ y. y ∷ drop (i + 1) xs) (sym is)
 
   -- the element that is sought
-  pub found_here : (xs : List X) (i : ℕ) (x : X) (found : Option X) → i < length xs → x ≡ get_or xs i x → test x ≡ true → find test (drop i xs) ≡ found
-      → Some x ≡ found
+  pub found_here : (xs : List X) (i : ℕ) (x : X) (found : Option X) → i < length xs → x ≡ get_or xs i x → test x ≡ true → find test (drop i xs) ≡ found → Some x ≡ found
   found_here xs i x found less is this same = rw (at_front xs i x less is, this) at same
 
   -- another
-  pub found_later : (xs : List X) (i : ℕ) (x : X) (found : Option X) → i < length xs → x ≡ get_or xs i x → test x ≡ false → find test (drop i xs) ≡ found
-      → find test (drop (i + 1) xs) ≡ found
+  pub found_later : (xs : List X) (i : ℕ) (x : X) (found : Option X) → i < length xs → x ≡ get_or xs i x → test x ≡ false → find test (drop i xs) ≡ found → find test (drop (i + 1) xs) ≡ found
   found_later xs i x found less is other same = rw (at_front xs i x less is, other) at same
 
   -- no element is left

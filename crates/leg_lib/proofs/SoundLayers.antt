@@ -72,8 +72,7 @@ unfolding table_value
 table_gives None = gives_some None tt
 table_gives (Some statement) = second_gives (after_first (is_keyword (codes "WIDTH")) statement)
 
-first_least : (written tabled : Option ℤ) → IfSome written (λ s. pos 0 ≤ℤ s) → IfSome tabled (λ s. pos 0 ≤ℤ s)
-    → pos 0 ≤ℤ unwrap_or written (unwrap_or tabled (pos 0))
+first_least : (written tabled : Option ℤ) → IfSome written (λ s. pos 0 ≤ℤ s) → IfSome tabled (λ s. pos 0 ≤ℤ s) → pos 0 ≤ℤ unwrap_or written (unwrap_or tabled (pos 0))
 first_least None None a b = omega (arith, ints)
 first_least None (Some s) a b = b
 first_least (Some s) tabled a b = a

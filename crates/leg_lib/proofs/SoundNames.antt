@@ -97,6 +97,5 @@ macro_gives library words =
     gives_skip (end_of name.0 parts.1) (λ end.
     gives_some _ named)))))
 
-pub macro_is_named : (library : RawLibraryModel) (words rest : Words) (master : RawMasterModel) → macro_at library words ≡ Some (master, rest)
-    → IsTrue (is_name master.name)
+pub macro_is_named : (library : RawLibraryModel) (words rest : Words) (master : RawMasterModel) → macro_at library words ≡ Some (master, rest) → IsTrue (is_name master.name)
 macro_is_named library words rest master said = (macro_gives library words).given (master, rest) said

@@ -36,16 +36,13 @@ within_gives name_of name xs = record {
 }
 
 -- What each form keeps, all forms keep.
-until_gives : {S : Type 0} (P : S → Type 0) (stop : Words → Bool) (form : S → Words → Option (S × Words))
-    → ((made : S) (words : Words) → P made → Gives (λ said. P said.0) (form made words)) → (made : S) (words : Words) → P made
-    → Gives (λ said. P said.0) (until stop form made words)
+until_gives : {S : Type 0} (P : S → Type 0) (stop : Words → Bool) (form : S → Words → Option (S × Words)) → ((made : S) (words : Words) → P made → Gives (λ said. P said.0) (form made words)) → (made : S) (words : Words) → P made → Gives (λ said. P said.0) (until stop form made words)
 until_gives P stop form keeps made words holds = record {
   given = λ y is. until_keeps stop form P (λ before at next rest held said. (keeps before at held).given (next, rest) said) made words y.0 y.1 holds is;
 }
 
 -- What each element keeps, all elements keep.
-over_gives : {S X : Type 0} (P : S → Type 0) (step : S → X → Option S) → ((made : S) (x : X) → P made → Gives P (step made x)) → (made : S) (xs : List X)
-    → P made → Gives P (over step made xs)
+over_gives : {S X : Type 0} (P : S → Type 0) (step : S → X → Option S) → ((made : S) (x : X) → P made → Gives P (step made x)) → (made : S) (xs : List X) → P made → Gives P (over step made xs)
 over_gives P step keeps made xs holds = record {
   given = λ y is. over_keeps step P (λ before x next held said. (keeps before x held).given next said) made xs y holds is;
 }
@@ -72,11 +69,7 @@ module _ (library : RawLibraryModel) where
       gives_bind (on_gives drawn.on is.on) (λ number within.
       gives_if (draws_metal library.layers number)
       (gives_skip (rect_in statement) (λ rect.
-      gives_some _ (record {
-        on = is.on;
-        shapes = All-push (λ shape. shape.layer < count) drawn.shapes
-            (record { layer = number; rect = rect }) is.shapes within;
-      })))
+      gives_some _ (record { on = is.on; shapes = All-push (λ shape. shape.layer < count) drawn.shapes (record { layer = number; rect = rect }) is.shapes within })))
       (gives_some drawn is))
 
   geometry_layer_gives : (statement : Words) → Gives (λ k. k < count) (layer_of_geometry library statement)
@@ -112,8 +105,7 @@ module _ (library : RawLibraryModel) where
       gives_skip (nothing_at name.1) (λ end.
       within_gives (λ (l : RawLayer). l.name) name.0 library.layers)))
 
-  via_part_gives : (parts : ViaParts) (statement : Words) → IsDrawnOn count parts.drawn
-      → Gives (λ next. IsDrawnOn count next.drawn) (via_part library parts statement)
+  via_part_gives : (parts : ViaParts) (statement : Words) → IsDrawnOn count parts.drawn → Gives (λ next. IsDrawnOn count next.drawn) (via_part library parts statement)
   unfolding via_part
   via_part_gives parts statement is =
       gives_if (spoils statement) (gives_some _ is)
@@ -130,13 +122,10 @@ module _ (library : RawLibraryModel) where
   kept_on true shapes on = on
   kept_on false shapes on = All-nil (λ (shape : RawShape). shape.layer < count)
 
-  good_is : (name : List ℕ) (parts : ViaParts) → is_good library name parts ≡ is_raw_good_via library.layers name
-      (kept (is_good library name parts) parts.drawn.shapes)
+  good_is : (name : List ℕ) (parts : ViaParts) → is_good library name parts ≡ is_raw_good_via library.layers name (kept (is_good library name parts) parts.drawn.shapes)
   unfolding is_raw_good_via
   good_is name parts = by parts.is_spoilt (is_wiring_word name) (join_layers (raw_uses library.layers) (raw_parts parts.drawn.shapes)) refl where
-    by : (spoilt word joins : Bool) → join_layers (raw_uses library.layers) (raw_parts parts.drawn.shapes) ≡ joins
-        → (not spoilt && not word && joins) ≡ (not word && join_layers (raw_uses library.layers)
-        (raw_parts (kept (not spoilt && not word && joins) parts.drawn.shapes)))
+    by : (spoilt word joins : Bool) → join_layers (raw_uses library.layers) (raw_parts parts.drawn.shapes) ≡ joins → (not spoilt && not word && joins) ≡ (not word && join_layers (raw_uses library.layers) (raw_parts (kept (not spoilt && not word && joins) parts.drawn.shapes)))
     by true true joins is = refl
     by true false joins is = refl
     by false true joins is = refl
@@ -161,8 +150,7 @@ module _ (library : RawLibraryModel) where
   via_refers words rest via said = (via_gives words).given (via, rest) said
 
   -- pins
-  pin_part_gives : (parts : PinParts) (words : Words) → AreRawShapesOn count parts.shapes
-      → Gives (λ said. AreRawShapesOn count said.0.shapes) (pin_part library parts words)
+  pin_part_gives : (parts : PinParts) (words : Words) → AreRawShapesOn count parts.shapes → Gives (λ said. AreRawShapesOn count said.0.shapes) (pin_part library parts words)
   unfolding pin_part port_at
   pin_part_gives parts words on =
       gives_if (is_at (codes "PORT") words)
@@ -178,8 +166,7 @@ module _ (library : RawLibraryModel) where
   pin_gives words =
       gives_skip (keyword_at (codes "PIN") words) (λ start.
       gives_bind (name_gives start.1) (λ name named.
-      gives_bind (until_gives (λ parts. AreRawShapesOn count parts.shapes) at_end (pin_part library) pin_part_gives no_pin_parts name.1
-      (All-nil (λ (shape : RawShape). shape.layer < count))) (λ parts is.
+      gives_bind (until_gives (λ parts. AreRawShapesOn count parts.shapes) at_end (pin_part library) pin_part_gives no_pin_parts name.1 (All-nil (λ (shape : RawShape). shape.layer < count))) (λ parts is.
       gives_skip (only (codes "USE") parts.0.statements) (λ found.
       gives_skip (supply_of_any found) (λ supply.
       gives_skip (end_of name.0 parts.1) (λ end.
@@ -270,6 +257,5 @@ module _ (library : RawLibraryModel) where
       gives_some _ (record { site = within; pin_names = on.names; pins = on.pins; obstructions = on.obstructions }))))))
 
   -- A macro that is read has a site and layers of the library, and no two of its pins have one name.
-  pub macro_refers : (words rest : Words) (master : RawMasterModel) → macro_at library words ≡ Some (master, rest)
-      → IsRawMasterOf library.layers library.sites master
+  pub macro_refers : (words rest : Words) (master : RawMasterModel) → macro_at library words ≡ Some (master, rest) → IsRawMasterOf library.layers library.sites master
   macro_refers words rest master said = (macro_gives words).given (master, rest) said

@@ -50,8 +50,7 @@ plain_is_one b bytes is none stays =
       piece = λ rest gap. subst (λ k. Ends k b bytes rest) (sym kind) (runs_to_gap bytes rest none gap);
       said = λ n. rw kind (by n (nat_lt 0 (length (b ∷ bytes) - 1) && slice_index (b ∷ bytes) (length (b ∷ bytes) - 1) == 59) refl);
     } where
-      by : (n : ℕ) (two : Bool) → (nat_lt 0 (length (b ∷ bytes) - 1) && slice_index (b ∷ bytes) (length (b ∷ bytes) - 1) == 59) ≡ two
-          → plain_words n (b ∷ bytes) ≡ record { text = b ∷ bytes; line = n } ∷ []
+      by : (n : ℕ) (two : Bool) → (nat_lt 0 (length (b ∷ bytes) - 1) && slice_index (b ∷ bytes) (length (b ∷ bytes) - 1) == 59) ≡ two → plain_words n (b ∷ bytes) ≡ record { text = b ∷ bytes; line = n } ∷ []
       by n true is = absurd (let e : ⊥ = cc (rw is at stays) in e)
       by n false is = rw is refl
 
@@ -59,8 +58,7 @@ plain_is_one b bytes is none stays =
 closes_surely : (before : ℕ) (bytes : List ℕ) → closes before bytes ≡ true → Closes before bytes
 closes_surely before [] test = cc
 closes_surely before (b ∷ bytes) test = by (b == 34 && not (before == 92)) bytes (closes_surely b bytes) test where
-  by : (end : Bool) (bytes : List ℕ) → (closes b bytes ≡ true → Closes b bytes) → (if end then length bytes == 0 else closes b bytes) ≡ true
-      → MatchBool end (bytes ≡ []) (Closes b bytes)
+  by : (end : Bool) (bytes : List ℕ) → (closes b bytes ≡ true → Closes b bytes) → (if end then length bytes == 0 else closes b bytes) ≡ true → MatchBool end (bytes ≡ []) (Closes b bytes)
   by true bytes later test = nil_from_length bytes (eqb-true _ _ test)
   by false bytes later test = later test
 
@@ -91,14 +89,12 @@ printable_is_one (b ∷ bytes) test = by (is_plain_kind (kind_of b)) (list_any i
   by false white stays is none one = closed (rw is at test)
 
 -- Pieces of one text and then those of the next.
-pub cut_append : (pieces more : List (List ℕ)) (text middle rest : List ℕ) → CutTo middle pieces text → CutTo rest more middle
-    → CutTo rest (pieces ++ more) text
+pub cut_append : (pieces more : List (List ℕ)) (text middle rest : List ℕ) → CutTo middle pieces text → CutTo rest more middle → CutTo rest (pieces ++ more) text
 cut_append [] more text middle rest here next = subst (CutTo rest more) (sym here) next
 cut_append (piece ∷ pieces) more text middle rest (after, here, is_piece, cut) next =
     (after, here, is_piece, cut_append pieces more after middle rest cut next)
 
-pub said_append : (n : ℕ) (pieces more : List (List ℕ)) (words : Words) → ((m : ℕ) → texts (words_from m more) ≡ words)
-    → texts (words_from n (pieces ++ more)) ≡ texts (words_from n pieces) ++ words
+pub said_append : (n : ℕ) (pieces more : List (List ℕ)) (words : Words) → ((m : ℕ) → texts (words_from m more) ≡ words) → texts (words_from n (pieces ++ more)) ≡ texts (words_from n pieces) ++ words
 said_append n [] more words said = said n
 said_append n (piece ∷ pieces) more words said =
     let m = n + count_by is_line_feed piece in
@@ -155,5 +151,4 @@ others_pass test x xs all = by (test x) (list_all test xs) all where
 pub behind_spaced : (words : Words) → list_all is_printable words ≡ true → Behind (spaced words) words
 behind_spaced [] all = behind_nil
 behind_spaced (word ∷ words) all =
-    behind_append (behind_word word (printable_is_one word (first_passes is_printable word words all)))
-    (behind_spaced words (others_pass is_printable word words all))
+    behind_append (behind_word word (printable_is_one word (first_passes is_printable word words all))) (behind_spaced words (others_pass is_printable word words all))

@@ -40,38 +40,32 @@ lines_line {text} {words} word one behind = record {
     cut_append behind.pieces ((10 ∷ []) ∷ []) (text ++ 10 ∷ rest) (10 ∷ rest) rest (behind.cut (10 ∷ rest) refl) (rest, refl, refl, refl),
   );
   said = λ n. rw one.said (ap (λ v. word ∷ v)
-      (said_append (n + count_by is_line_feed word) behind.pieces ((10 ∷ []) ∷ []) [] (λ m. refl) ∙ append-nil _
-      ∙ behind.said (n + count_by is_line_feed word)));
+      (said_append (n + count_by is_line_feed word) behind.pieces ((10 ∷ []) ∷ []) [] (λ m. refl) ∙ append-nil _ ∙ behind.said (n + count_by is_line_feed word)));
 }
 
 -- the same with a semicolon behind a blank before the line feed
-pub lines_statement : {text : List ℕ} {words : Words} (word : List ℕ) → IsOne word → Behind text words
-    → Lines (word ++ text ++ codes " ;\n") (word ∷ (words ++ codes ";" ∷ []))
+pub lines_statement : {text : List ℕ} {words : Words} (word : List ℕ) → IsOne word → Behind text words → Lines (word ++ text ++ codes " ;\n") (word ∷ (words ++ codes ";" ∷ []))
 lines_statement {text} {words} word one behind =
     let ended : Behind (text ++ codes " ;") (words ++ codes ";" ∷ []) = behind_append behind (behind_word (codes ";") (printable_is_one (codes ";") refl)) in
     let whole : Lines (word ++ (text ++ codes " ;") ++ 10 ∷ []) (word ∷ (words ++ codes ";" ∷ [])) = lines_line word one ended in
     subst (λ t. Lines t (word ∷ (words ++ codes ";" ∷ [])))
-    (append_assoc word (text ++ codes " ;") (10 ∷ []) ∙ ap (λ t. word ++ t) (append_assoc text (codes " ;") (10 ∷ []))
-    ∙ sym (append_assoc word text (codes " ;\n"))) whole
+    (append_assoc word (text ++ codes " ;") (10 ∷ []) ∙ ap (λ t. word ++ t) (append_assoc text (codes " ;") (10 ∷ [])) ∙ sym (append_assoc word text (codes " ;\n"))) whole
 
 -- Further lines of an entry begin with two blanks, which are no words.
 further_line : (words : Words) → list_all is_printable words ≡ true → Behind (codes "\n " ++ spaced words) words
 further_line words all = behind_append (behind_append (behind_white 10 refl) (behind_white 32 refl)) (behind_spaced words all)
 
-pub further_lines : (lines : List Words) → list_all is_printable (words_in_lines lines) ≡ true
-    → Behind (flat_map (λ words. codes "\n " ++ spaced words) lines) (words_in_lines lines)
+pub further_lines : (lines : List Words) → list_all is_printable (words_in_lines lines) ≡ true → Behind (flat_map (λ words. codes "\n " ++ spaced words) lines) (words_in_lines lines)
 further_lines [] all = behind_nil
 further_lines (words ∷ lines) all = by (further_lines lines) (list_all is_printable words) (list_all is_printable (words_in_lines lines)) refl refl where
-  by : (list_all is_printable (words_in_lines lines) ≡ true → Behind (flat_map (λ words. codes "\n " ++ spaced words) lines) (words_in_lines lines))
-      → (here others : Bool) → list_all is_printable words ≡ here → list_all is_printable (words_in_lines lines) ≡ others
+  by : (list_all is_printable (words_in_lines lines) ≡ true → Behind (flat_map (λ words. codes "\n " ++ spaced words) lines) (words_in_lines lines)) → (here others : Bool) → list_all is_printable words ≡ here → list_all is_printable (words_in_lines lines) ≡ others
       → Behind (flat_map (λ words. codes "\n " ++ spaced words) (words ∷ lines)) (words_in_lines (words ∷ lines))
   by later true true first rest = behind_append (further_line words first) (later rest)
   by later true false first rest = absurd (false≢true (rw (list_all-append is_printable words (words_in_lines lines), first, rest) at all))
   by later false others first rest = absurd (false≢true (rw (list_all-append is_printable words (words_in_lines lines), first) at all))
 
 -- the texts of a list's elements, one after the other
-pub lines_each : {X : Type 0} (text : X → List ℕ) (words : X → Words) (xs : List X) → All (λ x. Lines (text x) (words x)) xs
-    → Lines (flat_map text xs) (flat_map words xs)
+pub lines_each : {X : Type 0} (text : X → List ℕ) (words : X → Words) (xs : List X) → All (λ x. Lines (text x) (words x)) xs → Lines (flat_map text xs) (flat_map words xs)
 lines_each text words [] each = lines_nil
 lines_each text words (x ∷ xs) each =
     lines_append (All-head (λ x. Lines (text x) (words x)) x xs each) (lines_each text words xs (All-tail (λ x. Lines (text x) (words x)) x xs each))
@@ -86,8 +80,7 @@ lines_of_words (word ∷ words) all =
 pub printable_lines : (lines : List Words) → list_all is_printable (words_in_lines lines) ≡ true → Lines (text_of lines) (words_in_lines lines)
 printable_lines [] all = lines_nil
 printable_lines (words ∷ lines) all = by (printable_lines lines) (list_all is_printable words) (list_all is_printable (words_in_lines lines)) refl refl where
-  by : (list_all is_printable (words_in_lines lines) ≡ true → Lines (text_of lines) (words_in_lines lines)) → (here others : Bool)
-      → list_all is_printable words ≡ here → list_all is_printable (words_in_lines lines) ≡ others
+  by : (list_all is_printable (words_in_lines lines) ≡ true → Lines (text_of lines) (words_in_lines lines)) → (here others : Bool) → list_all is_printable words ≡ here → list_all is_printable (words_in_lines lines) ≡ others
       → Lines (text_of (words ∷ lines)) (words_in_lines (words ∷ lines))
   by later true true first rest = lines_append (lines_of_words words first) (later rest)
   by later true false first rest = absurd (false≢true (rw (list_all-append is_printable words (words_in_lines lines), first, rest) at all))
@@ -101,7 +94,6 @@ pub lines_are_text : (text : List ℕ) (words : Words) → Lines text words → 
 lines_are_text text words lines = (words_from 1 lines.pieces, (lines.pieces, lines_are_cut text lines, refl), lines.said 1)
 
 -- and there are no others, where a text is cut in one way
-pub lines_have_only : (text : List ℕ) (words : Words) → ((p q : List (List ℕ)) → Cut p text → Cut q text → p ≡ q) → Lines text words → (tokens : List Word)
-    → AreTokens text tokens → texts tokens ≡ words
+pub lines_have_only : (text : List ℕ) (words : Words) → ((p q : List (List ℕ)) → Cut p text → Cut q text → p ≡ q) → Lines text words → (tokens : List Word) → AreTokens text tokens → texts tokens ≡ words
 lines_have_only text words one lines tokens (pieces, cut, is) =
     ap texts is ∙ ap (λ p. texts (words_from 1 p)) (one pieces lines.pieces cut (lines_are_cut text lines)) ∙ lines.said 1
