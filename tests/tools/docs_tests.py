@@ -169,6 +169,71 @@ class PartTests(DoctoredTests):
         self.assertEqual(said(docs.check_steps, self.copy), {'crates/leg_route_search/specs/Beside.antt cites specs/Steps'})
 
 
+LEMMA = 'crates/leg_geom/proofs/New.antt'
+ADDED = """-- What a sum is.
+pub added : (a b : ℕ) → a + b ≡ b + a
+added a zero = refl
+added a (suc b) = ap suc (added a b)
+"""
+
+
+class LemmaTests(DoctoredTests):
+    """Lemmas of proofs/ that nothing names."""
+    crates = ('leg_geom',)
+    parts = ('crates/leg_geom/proofs',)
+
+    def setUp(self):
+        super().setUp()
+        self.before = said(docs.check_lemmas, self.copy)
+
+    def found(self, *texts):
+        """Returns what the check says only once these texts are written, each with its path. (Other crates name lemmas of leg_geom.)"""
+        for path, text in texts:
+            self.copy.write(path, text)
+        return said(docs.check_lemmas, self.copy) - self.before
+
+    def test_one_that_names_only_itself(self):
+        self.assertEqual(self.found((LEMMA, ADDED)), {f'{LEMMA}:2: nothing names added'})
+
+    def test_one_that_its_own_file_names(self):
+        inner = 'twice : (a : ℕ) → a + a ≡ a + a\ntwice a = added a a\n\nmodule _ (a : ℕ) where\n  pub same : a + a ≡ a + a\n  same = twice a\n'
+        self.assertEqual(self.found((LEMMA, f'{ADDED}\n{inner}')), {f'{LEMMA}:10: nothing names same'})
+
+    def test_one_that_another_file_names(self):
+        use, other = 'use Rattle.leg_geom.proofs.New.{added}\n', 'crates/leg_geom/proofs/sum/Answers.antt'
+        answer = 'pub returns : goal.returns\nreturns g c = added c.a c.b\n'
+        for text, is_named in ((use + answer, True), (use, False), (answer, False), (f'pub {use}', True),
+                               (use.replace('{added}', '{added as sum}') + answer.replace('added', 'sum'), True),
+                               (use.replace('.{added}', ' as new') + answer.replace('added', 'new.added'), True)):
+            with self.subTest(text=text):
+                self.assertEqual(self.found((LEMMA, ADDED), (other, text)), set() if is_named else {f'{LEMMA}:2: nothing names added'})
+
+    def test_one_of_an_attribute(self):
+        code = '#[tactic(auto, using(crate::proofs::New::added))]\nfn sum() {}\n'
+        self.assertEqual(self.found((LEMMA, ADDED), ('crates/leg_geom/src/sum.rt', code)), set())
+
+    def test_what_the_prover_asks_for_and_fields_are_none(self):
+        record = 'pub record IsSum (a : ℕ) : Type 0 where\n  pub half : ℕ\n'
+        for path, text in (('Answers.antt', 'pub returns : goal.returns\nreturns g c = c.x\n'), ('Invariants.antt', 'invariant g l = record {\n  few : l.x < 3;\n}\n'), ('New.antt', record)):
+            self.assertEqual(self.found((f'crates/leg_geom/proofs/sum/{path}', text)), set())
+        text = 'pub returns : goal.returns\nreturns g c = c.x\n\nless : 1 < 2\nless = omega arith\n'
+        self.assertEqual(self.found(('crates/leg_geom/proofs/sum/Answers.antt', text)), {'crates/leg_geom/proofs/sum/Answers.antt:4: nothing names less'})
+
+
+class WidthTests(DoctoredTests):
+    """Lines of specs/ and proofs/."""
+    crates = ('leg_geom',)
+
+    def test_a_line_that_is_too_wide(self):
+        path, line = 'crates/leg_geom/specs/New.antt', f'-- {"a" * docs.WIDTH}'
+        self.assertEqual(said(docs.check_widths, self.copy), set())
+        self.copy.write(path, f'-- Nothing.\n{line}\n')
+        self.assertEqual(said(docs.check_widths, self.copy), {f'{path}:2 has {len(line)} characters, and {docs.WIDTH} are the most'})
+        for free in (f'use Rattle.{"a" * docs.WIDTH}', f'word = codes "{"a" * docs.WIDTH}"', line[:docs.WIDTH]):
+            self.copy.write(path, f'{free}\n')
+            self.assertEqual(said(docs.check_widths, self.copy), set())
+
+
 class GateTests(DoctoredTests):
     """tests/edits/gate."""
     crates = ()

@@ -32,7 +32,8 @@ ok_both P Q (Ok t) one other = (one, other)
 ok_both P Q (Err e) one other = tt
 
 -- why texts are refused tells no less where less is said by a refusal
-pub refuses_weaker : {nothing other much more : Type 0} (fault : TextFault) → (nothing → other) → (much → more) → Refuses nothing much fault → Refuses other more fault
+pub refuses_weaker : {nothing other much more : Type 0} (fault : TextFault) → (nothing → other) → (much → more) → Refuses nothing much fault
+    → Refuses other more fault
 refuses_weaker (faults.Read fault) weaker greater h = λ not_memory. weaker (h not_memory)
 refuses_weaker (faults.Scale fault units) weaker greater h = λ not_memory. weaker (h not_memory)
 refuses_weaker faults.TooMany weaker greater h = greater h
@@ -46,7 +47,8 @@ master_of_none lefs def faults.TooMany none = tt
 master_of_none lefs def faults.Memory none = tt
 
 -- where there is too much, and memory has not run out, that is why texts are refused
-pub much_is_why : {nothing much : Type 0} (fault : TextFault) → (much → nothing → ⊥) → (IsOutOfMemory fault → ⊥) → Refuses nothing much fault → much → fault ≡ faults.TooMany
+pub much_is_why : {nothing much : Type 0} (fault : TextFault) → (much → nothing → ⊥) → (IsOutOfMemory fault → ⊥) → Refuses nothing much fault → much
+    → fault ≡ faults.TooMany
 much_is_why (faults.Read fault) apart known h much = absurd (apart much (h known))
 much_is_why (faults.Scale fault units) apart known h much = absurd (apart much (h known))
 much_is_why faults.TooMany apart known h much = refl
@@ -62,7 +64,9 @@ nothing_there f None e = refl
 nothing_there f (Some x) e = absurd (false≢true (sym e))
 
 -- violations that are listed, or told to be none, are an answer where they are all that the command lists
-pub listed_answer : (command : Command) (lefs : List (List ℕ)) (def : List ℕ) (library : LibraryModel) (design : DesignModel) (flat : Option FlatModel) (violations : List Fault) (status : Status) (text : List ℕ) → DenoteDesign lefs def library design → IsShown command design flat → IsListOf (Lists command library design) violations → IsListing design flat violations status text → IsAnswer command lefs def status text
+pub listed_answer : (command : Command) (lefs : List (List ℕ)) (def : List ℕ) (library : LibraryModel) (design : DesignModel) (flat : Option FlatModel)
+    (violations : List Fault) (status : Status) (text : List ℕ) → DenoteDesign lefs def library design → IsShown command design flat
+    → IsListOf (Lists command design) violations → IsListing design flat violations status text → IsAnswer command lefs def status text
 listed_answer command lefs def library design flat violations Success text say shown list listed =
     inl (record { library = library; design = design; flat = flat; violations = violations; say = say; shown = shown; list = list; is = listed })
 listed_answer command lefs def library design flat violations Violations text say shown list listed =
@@ -72,7 +76,8 @@ listed_answer command lefs def library design flat violations Unsolved text say 
 listed_answer command lefs def library design flat violations Memory text say shown list listed = absurd listed
 
 -- what is made of a design is an answer to texts that say the design, and so is the reason for which nothing is made of it
-pub made_answer : (command : Command) (lefs : List (List ℕ)) (def : List ℕ) (library : LibraryModel) (design : DesignModel) (status : Status) (text : List ℕ) → DenoteDesign lefs def library design → IsMaking command design status text → IsAnswer command lefs def status text
+pub made_answer : (command : Command) (lefs : List (List ℕ)) (def : List ℕ) (library : LibraryModel) (design : DesignModel) (status : Status) (text : List ℕ)
+    → DenoteDesign lefs def library design → IsMaking command design status text → IsAnswer command lefs def status text
 made_answer command lefs def library design Success text say made = inr (inr (record { library = library; design = design; say = say; made = made }))
 made_answer command lefs def library design Unsolved text say reason = record { library = library; design = design; say = say; reason = reason }
 made_answer command lefs def library design Violations text say made = absurd made

@@ -28,9 +28,6 @@ begins (n ∷ ns) (t ∷ ts) =
     ]
 
 module _ (needle : List ℕ) where
-  Stands : List ℕ → List ℕ → Type 0
-  Stands before text = (after : List ℕ) × (text ≡ before ++ needle ++ after)
-
   -- where the needle stands first
   record First (text : List ℕ) : Type 0 where
     before : List ℕ
@@ -42,7 +39,8 @@ module _ (needle : List ℕ) where
   none_here [] after none e = none after e
   none_here (x ∷ xs) after none e = cc
 
-  no_earlier : (t : ℕ) (ts before : List ℕ) → ((after : List ℕ) → t ∷ ts ≡ needle ++ after → ⊥) → ((earlier later : List ℕ) → ts ≡ earlier ++ needle ++ later → length before ≤ length earlier)
+  no_earlier : (t : ℕ) (ts before : List ℕ) → ((after : List ℕ) → t ∷ ts ≡ needle ++ after → ⊥)
+      → ((earlier later : List ℕ) → ts ≡ earlier ++ needle ++ later → length before ≤ length earlier)
       → (earlier later : List ℕ) → t ∷ ts ≡ earlier ++ needle ++ later → length (t ∷ before) ≤ length earlier
   no_earlier t ts before none first [] later e = absurd (none later e)
   no_earlier t ts before none first (x ∷ xs) later e = omega (arith, first xs later (let rest : ts ≡ xs ++ needle ++ later = cc in rest))
@@ -63,7 +61,13 @@ module _ (needle : List ℕ) where
       elim (begins needle (t ∷ ts)) [
         | inl found ↦ inl (record { before = []; after = found.0; is = found.1; first = λ earlier later e. omega arith })
         | inr none ↦ elim (first_or_none ts) [
-          | inl later ↦ inl (record { before = t ∷ later.before; after = later.after; is = ap (λ l. t ∷ l) later.is; first = no_earlier t ts later.before none later.first })
+          | inl later ↦
+              inl (record {
+                before = t ∷ later.before;
+                after = later.after;
+                is = ap (λ l. t ∷ l) later.is;
+                first = no_earlier t ts later.before none later.first;
+              })
           | inr nowhere ↦ inr (no_later t ts none nowhere)
         ]
       ]
@@ -83,7 +87,8 @@ too_long lef def (inl long) library design say = omega (arith, long, say.under.l
 too_long lef def (inr long) library design say = omega (arith, long, say.said.fits)
 
 -- what is answered to texts that say nothing is answered to all such texts
-answer_to_nothing : (lefs : List (List ℕ)) (def other : List ℕ) (status : Status) (text : List ℕ) → DenoteNothing lefs def → DenoteNothing lefs other → IsAnswer Check lefs def status text → IsAnswer Check lefs other status text
+answer_to_nothing : (lefs : List (List ℕ)) (def other : List ℕ) (status : Status) (text : List ℕ) → DenoteNothing lefs def → DenoteNothing lefs other
+    → IsAnswer Check lefs def status text → IsAnswer Check lefs other status text
 answer_to_nothing lefs def other Success text none none_too (inl lists) = absurd (none lists.library lists.design lists.say)
 answer_to_nothing lefs def other Success text none none_too (inr (inl told)) = absurd (none told.library told.design told.say)
 answer_to_nothing lefs def other Success text none none_too (inr (inr printed)) = absurd (none printed.library printed.design printed.say)
@@ -94,12 +99,14 @@ answer_to_nothing lefs def other Refused text none none_too (inl refusal) = inl 
 answer_to_nothing lefs def other Refused text none none_too (inr much) = absurd (none much.many.library much.many.design much.many.say)
 
 -- no library is told, where the LEF is too long
-long_lef_answer : (lef def : List ℕ) (status : Status) (text : List ℕ) → TEXT_LIMIT < length lef → status ≡ Refused → text ≡ no_library_text → IsAnswer Check (lef ∷ []) def status text
+long_lef_answer : (lef def : List ℕ) (status : Status) (text : List ℕ) → TEXT_LIMIT < length lef → status ≡ Refused → text ≡ no_library_text
+    → IsAnswer Check (lef ∷ []) def status text
 long_lef_answer lef def status text long refused is =
     subst (λ s. IsAnswer Check (lef ∷ []) def s text) (sym refused)
     (inl (record {
       nothing = too_long lef def (inl long);
-      reason = inl (record { fault = record { file = 0; line = 1; start = 0; end = 0; kind = kinds.UnexpectedEnd; need = OfKind }; not_memory = λ e. cc; is = is });
+      reason =
+          inl (record { fault = record { file = 0; line = 1; start = 0; end = 0; kind = kinds.UnexpectedEnd; need = OfKind }; not_memory = λ e. cc; is = is });
     }))
 
 -- a limit of more than two texts
@@ -126,10 +133,12 @@ module _ (limit : ℕ) (beyond : 2 * TEXT_LIMIT < limit) (stream : List ℕ) (lo
           first = λ before stands.
               elim (cases_lt (length before) (length split.text)) [
                 | inr later ↦ later
-                | inl earlier ↦ split.first before (_, stands_cut end_library limit stream before stands.0 (omega (arith, earlier, lef_size, sizes, size)) stands.1)
+                | inl earlier ↦
+                    split.first before (_, stands_cut end_library limit stream before stands.0 (omega (arith, earlier, lef_size, sizes, size)) stands.1)
               ];
         };
-        answer = answer_to_nothing (parts.lef ∷ []) parts.def def status text (too_long parts.lef parts.def too) (too_long parts.lef def too_whole) parts.answer;
+        answer =
+            answer_to_nothing (parts.lef ∷ []) parts.def def status text (too_long parts.lef parts.def too) (too_long parts.lef def too_whole) parts.answer;
       }
 
   no_library_answered : ReportsNoLibrary (take limit stream) status text → IsStreamAnswer stream status text
@@ -151,7 +160,8 @@ module _ (limit : ℕ) (beyond : 2 * TEXT_LIMIT < limit) (stream : List ℕ) (lo
             }))
       ]
 
-pub cut_stream_answered : (limit : ℕ) → 2 * TEXT_LIMIT < limit → (stream : List ℕ) (status : Status) (text : List ℕ) → IsStreamAnswer (take limit stream) status text → IsStreamAnswer stream status text
+pub cut_stream_answered : (limit : ℕ) → 2 * TEXT_LIMIT < limit → (stream : List ℕ) (status : Status) (text : List ℕ)
+    → IsStreamAnswer (take limit stream) status text → IsStreamAnswer stream status text
 cut_stream_answered limit beyond stream status text answer =
     elim (cases_lt limit (length stream)) [
       | inr short ↦ subst (λ s. IsStreamAnswer s status text) (take_all limit stream short) answer

@@ -48,7 +48,8 @@ module _ (limit : ℕ) (beyond : TEXT_LIMIT < limit) where
   extends_cut before library (lef ∷ lefs) extends = (extends.0, says_cut (lef_in before) lef extends.0 extends.1, extends_cut extends.0 library lefs extends.2)
 
   module _ (lefs : List (List ℕ)) (def : List ℕ) where
-    cut_designs : (library : LibraryModel) (design : DesignModel) → DenoteDesign (map (take limit) lefs) (take limit def) library design → DenoteDesign lefs def library design
+    cut_designs : (library : LibraryModel) (design : DesignModel) → DenoteDesign (map (take limit) lefs) (take limit def) library design
+        → DenoteDesign lefs def library design
     cut_designs library design say = record {
       under = record {
         raw = say.under.raw;
@@ -60,7 +61,8 @@ module _ (limit : ℕ) (beyond : TEXT_LIMIT < limit) where
       said = cut_says (design_in library) def design say.said;
     }
 
-    designs_cut : (library : LibraryModel) (design : DesignModel) → DenoteDesign lefs def library design → DenoteDesign (map (take limit) lefs) (take limit def) library design
+    designs_cut : (library : LibraryModel) (design : DesignModel) → DenoteDesign lefs def library design
+        → DenoteDesign (map (take limit) lefs) (take limit def) library design
     designs_cut library design say = record {
       under = record {
         raw = say.under.raw;
@@ -72,7 +74,8 @@ module _ (limit : ℕ) (beyond : TEXT_LIMIT < limit) where
       said = says_cut (design_in library) def design say.said;
     }
 
-    cut_lists : (command : Command) (status : Status) (text : List ℕ) → ListsViolations command (map (take limit) lefs) (take limit def) status text → ListsViolations command lefs def status text
+    cut_lists : (command : Command) (status : Status) (text : List ℕ) → ListsViolations command (map (take limit) lefs) (take limit def) status text
+        → ListsViolations command lefs def status text
     cut_lists command status text lists = record {
       library = lists.library;
       design = lists.design;
@@ -84,7 +87,8 @@ module _ (limit : ℕ) (beyond : TEXT_LIMIT < limit) where
       is = lists.is;
     }
 
-    cut_measures : (command : Command) (text : List ℕ) → ReportsWirelength command (map (take limit) lefs) (take limit def) text → ReportsWirelength command lefs def text
+    cut_measures : (command : Command) (text : List ℕ) → ReportsWirelength command (map (take limit) lefs) (take limit def) text
+        → ReportsWirelength command lefs def text
     cut_measures command text told = record {
       measures = told.measures;
       library = told.library;
@@ -103,7 +107,8 @@ module _ (limit : ℕ) (beyond : TEXT_LIMIT < limit) where
       made = printed.made;
     }
 
-    cut_unsolved : (command : Command) (text : List ℕ) → ReportsUnsolved command (map (take limit) lefs) (take limit def) text → ReportsUnsolved command lefs def text
+    cut_unsolved : (command : Command) (text : List ℕ) → ReportsUnsolved command (map (take limit) lefs) (take limit def) text
+        → ReportsUnsolved command lefs def text
     cut_unsolved command text told = record {
       library = told.library;
       design = told.design;
@@ -111,7 +116,8 @@ module _ (limit : ℕ) (beyond : TEXT_LIMIT < limit) where
       reason = told.reason;
     }
 
-    pub cut_answers : (command : Command) (status : Status) (text : List ℕ) → IsAnswer command (map (take limit) lefs) (take limit def) status text → IsAnswer command lefs def status text
+    pub cut_answers : (command : Command) (status : Status) (text : List ℕ) → IsAnswer command (map (take limit) lefs) (take limit def) status text
+        → IsAnswer command lefs def status text
     cut_answers command Success text (inl lists) = inl (cut_lists command Success text lists)
     cut_answers command Success text (inr (inl told)) = inr (inl (cut_measures command text told))
     cut_answers command Success text (inr (inr printed)) = inr (inr (cut_made command text printed))

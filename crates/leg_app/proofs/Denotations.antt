@@ -17,7 +17,8 @@ module _ (lefs : List (List ℕ)) (def : List ℕ) where
   no_units none library say = none say.units say.unit
 
   -- Where the LEFs say this library and no other, and the DEF these units and no others.
-  module _ (raw : RawLibraryModel) (only : (said : RawLibraryModel) → DenoteLibrary lefs said → said ≡ raw) (n : ℕ) (one : (said : ℕ) → Denotes units_in def said → said ≡ n) where
+  module _ (raw : RawLibraryModel) (only : (said : RawLibraryModel) → DenoteLibrary lefs said → said ≡ raw) (n : ℕ)
+      (one : (said : ℕ) → Denotes units_in def said → said ≡ n) where
     -- the texts can only mean the library at these units
     scaled_at : (library : LibraryModel) → DenoteLibraryFor lefs def library → IsLibraryAt n raw library
     scaled_at library say =
@@ -28,7 +29,8 @@ module _ (lefs : List (List ℕ)) (def : List ℕ) where
     pub no_scaled : ((library : LibraryModel) → IsLibraryAt n raw library → ⊥) → DenoteNoLibrary lefs def
     no_scaled none library say = none library (scaled_at library say)
 
-    pub only_scaled : (library : LibraryModel) → ((other : LibraryModel) → IsLibraryAt n raw other → other ≡ library) → (said : LibraryModel) → DenoteLibraryFor lefs def said → said ≡ library
+    pub only_scaled : (library : LibraryModel) → ((other : LibraryModel) → IsLibraryAt n raw other → other ≡ library) → (said : LibraryModel)
+        → DenoteLibraryFor lefs def said → said ≡ library
     only_scaled library one_at said say = one_at said (scaled_at said say)
 
   -- no library is said, so no design
@@ -36,11 +38,13 @@ module _ (lefs : List (List ℕ)) (def : List ℕ) where
   nothing_under none library design say = none library say.under
 
   -- under the one library that is said there is no design
-  pub no_design : (library : LibraryModel) → DenotesJust lefs def library → ((design : DesignModel) → Denotes (design_in library) def design → ⊥) → DenoteNothing lefs def
+  pub no_design : (library : LibraryModel) → DenotesJust lefs def library → ((design : DesignModel) → Denotes (design_in library) def design → ⊥)
+      → DenoteNothing lefs def
   no_design library just none other design say = none design (subst (λ l. Denotes (design_in l) def design) (just.only other say.under) say.said)
 
 -- the texts say the design that the DEF says under the library that they say
-pub say_under : (lefs : List (List ℕ)) (def : List ℕ) (library : LibraryModel) (design : DesignModel) → DenotesJust lefs def library → Denotes (design_in library) def design → DenoteDesign lefs def design.library design
+pub say_under : (lefs : List (List ℕ)) (def : List ℕ) (library : LibraryModel) (design : DesignModel) → DenotesJust lefs def library
+    → Denotes (design_in library) def design → DenoteDesign lefs def design.library design
 say_under lefs def library design just says =
     let same : design.library ≡ library = (design_has_library library (texts says.words)).given design says.reads in
     subst (λ l. DenoteDesign lefs def l design) (sym same) (record { under = just.found; said = says })

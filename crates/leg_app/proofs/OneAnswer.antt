@@ -47,23 +47,26 @@ module _ (lefs : List (List ℕ)) (def : List ℕ) where
   abbrev pub SayOneLibrary : Type 0
   SayOneLibrary = (a b : LibraryModel) → DenoteLibraryFor lefs def a → DenoteLibraryFor lefs def b → a ≡ b
 
-  pub one_design_said : SayOneLibrary → (library other : LibraryModel) (a b : DesignModel) → DenoteDesign lefs def library a → DenoteDesign lefs def other b → (library ≡ other) × (a ≡ b)
+  pub one_design_said : SayOneLibrary → (library other : LibraryModel) (a b : DesignModel) → DenoteDesign lefs def library a → DenoteDesign lefs def other b
+      → (library ≡ other) × (a ≡ b)
   one_design_said one library other a b p q =
       let same : library ≡ other = one library other p.under q.under in
       (same, says_one (design_in other) def a b (subst (λ l. Denotes (design_in l) def a) same p.said) q.said)
 
-pub one_list_of_design : (library : LibraryModel) (design : DesignModel) (a b : List Fault) → AreAllViolations library design a → AreAllViolations library design b → a ≡ b
-one_list_of_design library design a b p q = one_list (IsViolation library design) a b p.list q.list
+pub one_list_of_design : (design : DesignModel) (a b : List Fault) → AreAllViolations design a → AreAllViolations design b → a ≡ b
+one_list_of_design design a b p q = one_list (IsViolation design) a b p.list q.list
 
 -- these texts say one design at most
 abbrev pub SayOneDesign : List (List ℕ) → List ℕ → Type 0
-SayOneDesign lefs def = (library other : LibraryModel) (a b : DesignModel) → DenoteDesign lefs def library a → DenoteDesign lefs def other b → (library ≡ other) × (a ≡ b)
+SayOneDesign lefs def =
+    (library other : LibraryModel) (a b : DesignModel) → DenoteDesign lefs def library a → DenoteDesign lefs def other b → (library ≡ other) × (a ≡ b)
 
-pub one_list_of_texts : (lefs : List (List ℕ)) (def : List ℕ) → SayOneDesign lefs def → (a b : List Fault) → AreViolationsOf lefs def a → AreViolationsOf lefs def b → a ≡ b
+pub one_list_of_texts : (lefs : List (List ℕ)) (def : List ℕ) → SayOneDesign lefs def → (a b : List Fault) → AreViolationsOf lefs def a
+    → AreViolationsOf lefs def b → a ≡ b
 one_list_of_texts lefs def one a b p q =
     let same = one p.library q.library p.design q.design p.say q.say in
-    let all : AreAllViolations q.library q.design a = subst (λ d. AreAllViolations q.library d a) same.1 (subst (λ l. AreAllViolations l p.design a) same.0 p.all) in
-    one_list_of_design q.library q.design a b all q.all
+    let all : AreAllViolations q.design a = subst (λ d. AreAllViolations d a) same.1 p.all in
+    one_list_of_design q.design a b all q.all
 
 -- one flat is shown
 one_shown : (command : Command) (design : DesignModel) (f g : Option FlatModel) → IsShown command design f → IsShown command design g → f ≡ g
@@ -80,7 +83,8 @@ one_shown Finish design f g p q = absurd p
 one_shown Check design (Some f) (Some g) p q = (let same : f ≡ g = one_flat design f g p.is_flat q.is_flat in cc)
 
 -- one status and one text go with violations
-one_listing : (design : DesignModel) (flat : Option FlatModel) (violations : List Fault) (status other : Status) (text words : List ℕ) → IsListing design flat violations status text → IsListing design flat violations other words → (status ≡ other) × (text ≡ words)
+one_listing : (design : DesignModel) (flat : Option FlatModel) (violations : List Fault) (status other : Status) (text words : List ℕ)
+    → IsListing design flat violations status text → IsListing design flat violations other words → (status ≡ other) × (text ≡ words)
 one_listing design flat violations Success Success text words p q = (refl, p.1 ∙ sym q.1)
 one_listing design flat violations Violations Violations text words p q = (refl, p.1 ∙ sym q.1)
 one_listing design flat violations Success Violations text words p q = absurd (q.0 p.0)
@@ -96,13 +100,14 @@ one_listing design flat violations Unsolved other text words p q = absurd p
 one_listing design flat violations Memory other text words p q = absurd p
 
 module _ (command : Command) (lefs : List (List ℕ)) (def : List ℕ) (one : SayOneDesign lefs def) where
-  one_judgement : (status other : Status) (text words : List ℕ) → ListsViolations command lefs def status text → ListsViolations command lefs def other words → (status ≡ other) × (text ≡ words)
+  one_judgement : (status other : Status) (text words : List ℕ) → ListsViolations command lefs def status text → ListsViolations command lefs def other words
+      → (status ≡ other) × (text ≡ words)
   one_judgement status other text words p q =
       let same = one p.library q.library p.design q.design p.say q.say in
       let shown : IsShown command q.design p.flat = subst (λ d. IsShown command d p.flat) same.1 p.shown in
       let flats : p.flat ≡ q.flat = one_shown command q.design p.flat q.flat shown q.shown in
-      let list : IsListOf (Lists command q.library q.design) p.violations = subst (λ d. IsListOf (Lists command q.library d) p.violations) same.1 (subst (λ l. IsListOf (Lists command l p.design) p.violations) same.0 p.list) in
-      let violations : p.violations ≡ q.violations = one_list (Lists command q.library q.design) p.violations q.violations list q.list in
+      let list : IsListOf (Lists command q.design) p.violations = subst (λ d. IsListOf (Lists command d) p.violations) same.1 p.list in
+      let violations : p.violations ≡ q.violations = one_list (Lists command q.design) p.violations q.violations list q.list in
       let of_design : IsListing q.design p.flat p.violations status text = subst (λ d. IsListing d p.flat p.violations status text) same.1 p.is in
       let of_flat : IsListing q.design q.flat p.violations status text = subst (λ f. IsListing q.design f p.violations status text) flats of_design in
       let of_list : IsListing q.design q.flat q.violations status text = subst (λ vs. IsListing q.design q.flat vs status text) violations of_flat in

@@ -24,8 +24,10 @@ one_length stream front back before behind p q =
 pub one_split : (stream front back before behind : List ℕ) → IsSplit stream front back → IsSplit stream before behind → (front ≡ before) × (back ≡ behind)
 one_split stream front back before behind p q =
     let long = one_length stream front back before behind p q in (
-      sym (ap (take (length front)) p.whole ∙ take_at front back (length front) refl) ∙ ap (take (length front)) q.whole ∙ take_at before behind (length front) (sym long),
-      sym (ap (drop (length front)) p.whole ∙ drop_at front back (length front) refl) ∙ ap (drop (length front)) q.whole ∙ drop_at before behind (length front) (sym long),
+      sym (ap (take (length front)) p.whole ∙ take_at front back (length front) refl) ∙ ap (take (length front)) q.whole
+          ∙ take_at before behind (length front) (sym long),
+      sym (ap (drop (length front)) p.whole ∙ drop_at front back (length front) refl) ∙ ap (drop (length front)) q.whole
+          ∙ drop_at before behind (length front) (sym long),
     )
 
 -- a command that does not route has one answer at most
@@ -38,7 +40,8 @@ pub one_stream_answer : HasOneAnswer → (stream : List ℕ) (status other : Sta
     → IsStreamAnswer stream status text → IsStreamAnswer stream other words
     → status ≢ Refused → status ≢ Memory → other ≢ Memory → (status ≡ other) × (text ≡ words)
 one_stream_answer one stream status other text words (inr none) q known full left = absurd (known none.refused)
-one_stream_answer one stream status other text words (inl p) (inr none) known full left = absurd (none.none (p.split.text, ends_in_stream stream p.lef p.def p.split))
+one_stream_answer one stream status other text words (inl p) (inr none) known full left =
+    absurd (none.none (p.split.text, ends_in_stream stream p.lef p.def p.split))
 one_stream_answer one stream status other text words (inl p) (inl q) known full left =
     let same = one_split stream p.lef p.def q.lef q.def p.split q.split in
     let at_lef : IsAnswer Check (q.lef ∷ []) p.def status text = subst (λ lef. IsAnswer Check (lef ∷ []) p.def status text) same.0 p.answer in

@@ -17,7 +17,8 @@ use Rattle.leg_app.specs.Reason.{Holds, HoldsOfTexts, IsSoOfStream, Explains}
 
 module _ {A : Type 0} where
   -- what is so of a design is so of the texts that say it
-  holds_of_texts : (command : Command) (lefs : List (List ℕ)) (def : List ℕ) (library : LibraryModel) (design : DesignModel) (reason : Reason A) → DenoteDesign lefs def library design → Holds command design reason → HoldsOfTexts command lefs def reason
+  holds_of_texts : (command : Command) (lefs : List (List ℕ)) (def : List ℕ) (library : LibraryModel) (design : DesignModel) (reason : Reason A)
+      → DenoteDesign lefs def library design → Holds command design reason → HoldsOfTexts command lefs def reason
   holds_of_texts command lefs def library design (Read fault master) say holds = absurd holds
   holds_of_texts command lefs def library design NoLibrary say holds = absurd holds
   holds_of_texts command lefs def library design (Scale fault units) say holds = absurd holds
@@ -31,19 +32,23 @@ module _ {A : Type 0} where
   holds_of_texts command lefs def library design (Unreachable net piece) say holds = record { library = library; design = design; say = say; holds = holds }
   holds_of_texts command lefs def library design Unfinished say holds = record { library = library; design = design; say = say; holds = holds }
 
-  pub explains_texts : (command : Command) (lefs : List (List ℕ)) (def : List ℕ) (library : LibraryModel) (design : DesignModel) (status : Status) (reason : Option (Reason A)) (text : List ℕ) → DenoteDesign lefs def library design → Explains (Holds command design) status reason text → Explains (HoldsOfTexts command lefs def) status reason text
+  pub explains_texts : (command : Command) (lefs : List (List ℕ)) (def : List ℕ) (library : LibraryModel) (design : DesignModel) (status : Status)
+      (reason : Option (Reason A)) (text : List ℕ) → DenoteDesign lefs def library design → Explains (Holds command design) status reason text
+      → Explains (HoldsOfTexts command lefs def) status reason text
   explains_texts command lefs def library design status None text say explains = explains
   explains_texts command lefs def library design status (Some reason) text say explains =
       (explains.0, explains.1, holds_of_texts command lefs def library design reason say explains.2)
 
   -- violations that are listed, or told to be none, have no reason
-  no_reason : (design : DesignModel) (flat : Option FlatModel) (violations : List Fault) (status : Status) (text : List ℕ) (IsSo : Reason A → Type 0) → IsListing design flat violations status text → Explains IsSo status None text
+  no_reason : (design : DesignModel) (flat : Option FlatModel) (violations : List Fault) (status : Status) (text : List ℕ) (IsSo : Reason A → Type 0)
+      → IsListing design flat violations status text → Explains IsSo status None text
   no_reason design flat violations Success text IsSo listed = tt
   no_reason design flat violations Violations text IsSo listed = tt
   no_reason design flat violations Refused text IsSo listed = absurd listed
   no_reason design flat violations Unsolved text IsSo listed = absurd listed
   no_reason design flat violations Memory text IsSo listed = tt
 
-  pub explains_listing : (design : DesignModel) (flat : Option FlatModel) (violations : List Fault) (status : Status) (reason : Option (Reason A)) (text : List ℕ) (IsSo : Reason A → Type 0) → reason ≡ None → IsListing design flat violations status text → Explains IsSo status reason text
+  pub explains_listing : (design : DesignModel) (flat : Option FlatModel) (violations : List Fault) (status : Status) (reason : Option (Reason A))
+      (text : List ℕ) (IsSo : Reason A → Type 0) → reason ≡ None → IsListing design flat violations status text → Explains IsSo status reason text
   explains_listing design flat violations status reason text IsSo none listed =
       subst (λ (r : Option (Reason A)). Explains IsSo status r text) (sym none) (no_reason design flat violations status text IsSo listed)

@@ -24,14 +24,14 @@ use Rattle.leg_output.specs.Commands.Check.{listing_text, legal_text, wirelength
 use Rattle.leg_app.specs.Results.{PrintsMade, ReportsUnsolved}
 
 -- the violations that the command lists: those of placement, or all; the other commands list none
-abbrev pub Lists : Command → LibraryModel → DesignModel → Fault → Type 0
-Lists PlaceCheck library design fault = IsPlacementViolation library design fault
-Lists Check library design fault = IsViolation library design fault
-Lists Measure library design fault = ⊥
-Lists Legalise library design fault = ⊥
-Lists Route library design fault = ⊥
-Lists Flow library design fault = ⊥
-Lists Finish library design fault = ⊥
+abbrev pub Lists : Command → DesignModel → Fault → Type 0
+Lists PlaceCheck design fault = IsPlacementViolation design fault
+Lists Check design fault = IsViolation design fault
+Lists Measure design fault = ⊥
+Lists Legalise design fault = ⊥
+Lists Route design fault = ⊥
+Lists Flow design fault = ⊥
+Lists Finish design fault = ⊥
 
 -- the flat that is judged, and whose shapes and pieces the lines name: none, or the design's own; the other commands show
 -- none
@@ -62,7 +62,7 @@ pub record ListsViolations (command : Command) (lefs : List (List ℕ)) (def : L
   pub violations : List Fault
   pub say : DenoteDesign lefs def library design
   pub shown : IsShown command design flat
-  pub list : IsListOf (Lists command library design) violations
+  pub list : IsListOf (Lists command design) violations
   pub is : IsListing design flat violations status text
 
 -- the texts denote a design, and its wirelength is printed

@@ -105,6 +105,7 @@ ExplainsComparison lefs before after status (Some reason) text =
     HasReason status × ReportsOf reason.side reason.reason text × IsSoOf lefs (def_of reason.side before after) reason.reason
 
 -- The text and the status are an answer of `compare` to these texts, and this is its reason.
-pub record IsComparisonExplained {A : Type 0} (lefs : List (List ℕ)) (before after : List ℕ) (reason : Option (ComparisonReason A)) (status : Status) (text : List ℕ) : Type 0 where
+pub record IsComparisonExplained {A : Type 0} (lefs : List (List ℕ)) (before after : List ℕ) (reason : Option (ComparisonReason A)) (status : Status)
+    (text : List ℕ) : Type 0 where
   pub answer : IsComparison lefs before after status text
   pub explains : ExplainsComparison lefs before after status reason text

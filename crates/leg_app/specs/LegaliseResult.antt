@@ -9,7 +9,7 @@ use Rattle.leg_rules.specs.Placement.Violations.{IsLegallyPlaced}
 use Rattle.leg_rules.specs.Legalise.Run.{IsLegalised}
 use Rattle.leg_rules.specs.Legalise.SameButForPlaces.{IsSameButForPlaces}
 use Rattle.leg_rules.specs.Legalise.Moves.{AreMoves}
-use Rattle.leg_rules.specs.Legalise.Refusals.{HoldsOfStaying, NoneStaying, IsLeastUnsuited, AreSuited, IsStuck}
+use Rattle.leg_rules.specs.Legalise.Refusals.{IsStayingViolation, NoneStaying, IsLeastUnsuited, AreSuited, IsStuck}
 use Rattle.leg_output.specs.Commands.Legalise.{legalised_text, fixed_illegal_text, no_site_text, no_room_text}
 
 -- The second design is the first one, legalised: legally placed, and the same but for the places of movable components, of
@@ -34,7 +34,7 @@ pub record PrintsLegalised (design : DesignModel) (text : List ℕ) : Type 0 whe
 -- why a design is not legalised: violations of components that stay, a component that fits no row, or one for
 -- which no position was free
 pub data ReportsNotLegalised (design : DesignModel) : List ℕ → Type 0 where
-  fixed_illegal : {violations : List Fault} {text : List ℕ} → IsListOf (HoldsOfStaying design) violations → violations ≢ []
+  fixed_illegal : {violations : List Fault} {text : List ℕ} → IsListOf (IsStayingViolation design) violations → violations ≢ []
       → text ≡ fixed_illegal_text design violations → ReportsNotLegalised design text
   no_site : {c : ℕ} {text : List ℕ} → (¬ IsLegallyPlaced design) → NoneStaying design → IsLeastUnsuited design c
       → text ≡ no_site_text design c → ReportsNotLegalised design text

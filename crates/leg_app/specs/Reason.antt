@@ -156,7 +156,8 @@ Explains IsSo status None text = HasNoReason status
 Explains IsSo status (Some reason) text = HasReason status × ReportsReason reason text × IsSo reason
 
 -- The text and the status are an answer of the command to these texts, and this is its reason.
-pub record IsExplained {A : Type 0} (command : Command) (lefs : List (List ℕ)) (def : List ℕ) (reason : Option (Reason A)) (status : Status) (text : List ℕ) : Type 0 where
+pub record IsExplained {A : Type 0} (command : Command) (lefs : List (List ℕ)) (def : List ℕ) (reason : Option (Reason A)) (status : Status)
+    (text : List ℕ) : Type 0 where
   pub answer : IsAnswer command lefs def status text
   pub explains : Explains (HoldsOfTexts command lefs def) status reason text
 

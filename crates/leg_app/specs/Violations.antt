@@ -11,4 +11,4 @@ pub record AreViolationsOf (lefs : List (List ℕ)) (def : List ℕ) (violations
   pub library : LibraryModel
   pub design : DesignModel
   pub say : DenoteDesign lefs def library design
-  pub all : AreAllViolations library design violations
+  pub all : AreAllViolations design violations

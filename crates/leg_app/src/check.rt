@@ -93,7 +93,7 @@ fn violations_of<'e, A: Allocator + Copy>(
     alloc: A,
     design: &Design<'_, A>,
 ) -> Result<Vec<Fault, A>, TextFault<'e>>
-    ensures found { IfOk result (λ found. AreAllViolations design.now.library design.now found.items) }
+    ensures found { IfOk result (λ found. AreAllViolations design.now found.items) }
     ensures refused { IfErr result (λ fault. (lefs : List (List ℕ)) (def : List ℕ) → DenoteDesign lefs def design.now.library design.now
         → Refuses (DenoteNothing lefs def) (DenoteTooMany lefs def) fault) }
     // Where there are too many shapes, it is never reported that memory ran out.
@@ -112,7 +112,7 @@ pub fn check_design<A: Allocator + Copy>(
     design: &Design<'_, A>,
 ) -> Result<Checked<A>, FlatFault>
     ensures flat { IfOk result (λ checked. IsJudgedBy design.now checked.flat) }
-    ensures list { IfOk result (λ checked. IsListOf (IsViolation design.now.library design.now) checked.violations.items) }
+    ensures list { IfOk result (λ checked. IsListOf (IsViolation design.now) checked.violations.items) }
     ensures many { IfErr result (λ fault. fault ≡ TooMany ↔ PART_LIMIT < length (metal_of design.now)) }
 {
     let library = design.library();

@@ -34,8 +34,8 @@ pub fn texts_say_one_design()
 
 /// A design has one list of violations.
 pub fn design_has_one_list()
-    ensures { (library : LibraryModel) (design : DesignModel) (a b : List Fault)
-        → AreAllViolations library design a → AreAllViolations library design b → a ≡ b }
+    ensures { (design : DesignModel) (a b : List Fault)
+        → AreAllViolations design a → AreAllViolations design b → a ≡ b }
 {}
 
 /// Texts have one list of violations at most: two checks of the same texts find the same.

@@ -29,12 +29,14 @@ occurs_from_stands text needle before after stands =
     }
 
 -- a needle that occurs nowhere stands nowhere
-pub stands_nowhere : (text needle : List ℕ) → Nowhere (OccursAt text needle) 0 (length text + 1) → (before after : List ℕ) → text ≡ before ++ needle ++ after → ⊥
+pub stands_nowhere : (text needle : List ℕ) → Nowhere (OccursAt text needle) 0 (length text + 1) → (before after : List ℕ)
+    → text ≡ before ++ needle ++ after → ⊥
 stands_nowhere text needle nowhere before after stands =
     nowhere (length before) (omega arith) (omega (arith, simp length-append at (ap length stands))) (occurs_from_stands text needle before after stands)
 
 -- a needle stands behind no shorter front than where it occurs first
-pub stands_no_earlier : (text needle : List ℕ) (k : ℕ) → NoneBefore (OccursAt text needle) 0 (length text + 1) k → (before after : List ℕ) → text ≡ before ++ needle ++ after → k ≤ length before
+pub stands_no_earlier : (text needle : List ℕ) (k : ℕ) → NoneBefore (OccursAt text needle) 0 (length text + 1) k → (before after : List ℕ)
+    → text ≡ before ++ needle ++ after → k ≤ length before
 stands_no_earlier text needle k first before after stands =
     elim (cases_lt (length before) k) [
       | inl earlier ↦ absurd (first.before (length before) (omega arith) earlier (occurs_from_stands text needle before after stands))

@@ -1,7 +1,7 @@
 -- Lists of violations of some kinds, one behind the other, are the list of all.
-use Rattle.std.proofs.Common.{◌≡◌, ◌<◌, ◌≤◌, List, [], ◌++◌, ◌⊎◌, inl, inr, Contains, subst, arith}
+use Rattle.std.proofs.Common.{◌≡◌, ◌<◌, ◌≤◌, List, ◌++◌, ◌⊎◌, inl, inr, subst, arith}
 use Rattle.std.proofs.lemmas.List.Elements.{All-append, All-weaker, Contains-append_left, Contains-append_right}
-use Rattle.leg_sweep.proofs.Lists.{AllPairs-append_by, Contains-nil}
+use Rattle.leg_sweep.proofs.Lists.{AllPairs-append_by}
 use Rattle.leg_lib_records.specs.Records.{LibraryModel}
 use Rattle.leg_design_records.specs.Records.{DesignModel}
 use Rattle.leg_design_records.specs.declared.fault.Fault.{Fault}
@@ -29,8 +29,10 @@ lower_kind_first v w less = record {
 both_lists : (P Q : Fault → Type 0) (xs ys : List Fault) → ((v w : Fault) → P v → Q w → kind_number v < kind_number w) → IsListOf P xs → IsListOf Q ys
     → IsListOf (λ v. P v ⊎ Q v) (xs ++ ys)
 both_lists P Q xs ys lower first second = record {
-  increasing = AllPairs-append_by ComesBefore P Q (λ v w p q. lower_kind_first v w (lower v w p q)) xs ys first.each second.each first.increasing second.increasing;
-  each = All-append (λ v. P v ⊎ Q v) xs ys (All-weaker P (λ v. P v ⊎ Q v) (λ v p. inl p) xs first.each) (All-weaker Q (λ v. P v ⊎ Q v) (λ v q. inr q) ys second.each);
+  increasing =
+      AllPairs-append_by ComesBefore P Q (λ v w p q. lower_kind_first v w (lower v w p q)) xs ys first.each second.each first.increasing second.increasing;
+  each = All-append (λ v. P v ⊎ Q v) xs ys (All-weaker P (λ v. P v ⊎ Q v) (λ v p. inl p) xs first.each)
+      (All-weaker Q (λ v. P v ⊎ Q v) (λ v q. inr q) ys second.each);
   all = λ v h. elim h [ inl p ↦ Contains-append_left xs ys v (first.all v p) | inr q ↦ Contains-append_right xs ys v (second.all v q) ];
 }
 
@@ -55,35 +57,35 @@ open_last : (design : DesignModel) (flat : FlatModel) (v : Fault) → IsOpenViol
 open_last design flat v (open_net h) = omega arith
 
 -- the violations of placement and those of two shapes
-pub without_open : (library : LibraryModel) (design : DesignModel) (flat : FlatModel) (xs ys : List Fault) → library ≡ design.library → IsListOf (IsPlacementViolation library design) xs
+pub without_open : (library : LibraryModel) (design : DesignModel) (flat : FlatModel) (xs ys : List Fault) → library ≡ design.library
+    → IsListOf (IsPlacementViolation design) xs
     → IsListOf (IsSpacingViolation library flat) ys → IsListOf (IsOtherThanOpen design flat) (xs ++ ys)
 without_open library design flat xs ys same placed spaced =
-    subst (λ (l : LibraryModel). IsListOf (λ v. IsPlacementViolation l design v ⊎ IsSpacingViolation l flat v) (xs ++ ys)) same
-    (both_lists (IsPlacementViolation library design) (IsSpacingViolation library flat) xs ys
-    (λ v w p s. omega (arith, kind_below library design v p, spacing_after library flat w s)) placed spaced)
+    subst (λ (l : LibraryModel). IsListOf (λ v. IsPlacementViolation design v ⊎ IsSpacingViolation l flat v) (xs ++ ys)) same
+    (both_lists (IsPlacementViolation design) (IsSpacingViolation library flat) xs ys
+    (λ v w p s. omega (arith, kind_below design v p, spacing_after library flat w s)) placed spaced)
 
-module _ (library : LibraryModel) (design : DesignModel) (flat : FlatModel) (is_flat : IsFlatOf design flat) where
+module _ (design : DesignModel) (flat : FlatModel) (is_flat : IsFlatOf design flat) where
   -- what holds in a flat of the design holds in this one, since the design has one flat
-  in_this_flat : (v : Fault) → IsOfMetal library design v → IsInFlat library design flat v
-  in_this_flat v h = subst (λ f. IsInFlat library design f v) (one_flat design h.flat flat h.is_flat is_flat) h.holds
+  in_this_flat : (v : Fault) → IsOfMetal design v → IsInFlat design flat v
+  in_this_flat v h = subst (λ f. IsInFlat design f v) (one_flat design h.flat flat h.is_flat is_flat) h.holds
 
-  placement_first : (v w : Fault) → IsPlacementViolation library design v → IsInFlat library design flat w → kind_number v < kind_number w
+  placement_first : (v w : Fault) → IsPlacementViolation design v → IsInFlat design flat w → kind_number v < kind_number w
   placement_first v w p m =
       elim m [
-        | inl s ↦ omega (arith, kind_below library design v p, spacing_after library flat w s)
-        | inr o ↦ omega (arith, kind_below library design v p, open_last design flat w o)
+        | inl s ↦ omega (arith, kind_below design v p, spacing_after design.library flat w s)
+        | inr o ↦ omega (arith, kind_below design v p, open_last design flat w o)
       ]
 
   -- the three lists are the list of all violations
-  pub all_violations : (xs ys zs : List Fault) → IsListOf (IsPlacementViolation library design) xs → IsListOf (IsSpacingViolation library flat) ys → IsListOf (IsOpenViolation design flat) zs
-      → IsListOf (IsViolation library design) (xs ++ (ys ++ zs))
+  pub all_violations : (xs ys zs : List Fault) → IsListOf (IsPlacementViolation design) xs → IsListOf (IsSpacingViolation design.library flat) ys
+      → IsListOf (IsOpenViolation design flat) zs
+      → IsListOf (IsViolation design) (xs ++ (ys ++ zs))
   all_violations xs ys zs placed spaced opened =
-      let metal = both_lists (IsSpacingViolation library flat) (IsOpenViolation design flat) ys zs (λ v w s o. omega (arith, spacing_before library flat v s, open_last design flat w o)) spaced opened in
-      same_list (λ v. IsPlacementViolation library design v ⊎ IsInFlat library design flat v) (IsViolation library design) (xs ++ (ys ++ zs))
+      let metal =
+      both_lists (IsSpacingViolation design.library flat) (IsOpenViolation design flat) ys zs
+      (λ v w s o. omega (arith, spacing_before design.library flat v s, open_last design flat w o)) spaced opened in
+      same_list (λ v. IsPlacementViolation design v ⊎ IsInFlat design flat v) (IsViolation design) (xs ++ (ys ++ zs))
       (λ v h. elim h [ inl p ↦ inl p | inr m ↦ inr (record { flat = flat; is_flat = is_flat; holds = m }) ])
       (λ v h. elim h [ inl p ↦ inl p | inr m ↦ inr (in_this_flat v m) ])
-      (both_lists (IsPlacementViolation library design) (IsInFlat library design flat) xs (ys ++ zs) placement_first placed metal)
-
--- where the list is empty none holds
-pub none_holds : (Holds : Fault → Type 0) (faults : List Fault) → IsListOf Holds faults → faults ≡ [] → (fault : Fault) → ¬ Holds fault
-none_holds Holds faults list none fault holds = Contains-nil fault (subst (λ fs. Contains fs fault) none (list.all fault holds))
+      (both_lists (IsPlacementViolation design) (IsInFlat design flat) xs (ys ++ zs) placement_first placed metal)

@@ -13,16 +13,6 @@ module _ {X Y Z : Type 0} (f : X → Z) (g : Y → Z) where
       let tail : map f xs ≡ take (length xs) (map g ys) = front_alike xs ys (omega arith) (λ k d e within. alike (suc k) d e (omega arith)) in
       λ i. head i ∷ tail i
 
-  -- and its elements are so, where it is the front
-  pub alike_in_front : (xs : List X) (ys : List Y) (k : ℕ) (d : X) (e : Y) → length xs ≤ length ys → map f xs ≡ take (length xs) (map g ys)
-      → k < length xs → f (get_or xs k d) ≡ g (get_or ys k e)
-  alike_in_front [] ys k d e less same within = absurd (omega arith)
-  alike_in_front (x ∷ xs) [] k d e less same within = absurd (omega arith)
-  alike_in_front (x ∷ xs) (y ∷ ys) zero d e less same within = let head : f x ≡ g y = cc in head
-  alike_in_front (x ∷ xs) (y ∷ ys) (suc k) d e less same within =
-      let tail : map f xs ≡ take (length xs) (map g ys) = cc in
-      alike_in_front xs ys k d e (omega arith) tail (omega arith)
-
   -- the same of two lists of one length
   pub all_alike : (xs : List X) (ys : List Y) → length xs ≡ length ys
       → ((k : ℕ) (d : X) (e : Y) → k < length xs → f (get_or xs k d) ≡ g (get_or ys k e)) → map f xs ≡ map g ys

@@ -131,10 +131,6 @@ change_some Terminals = omega arith
 change_some LostWires = omega arith
 change_some MoreWires = omega arith
 
--- differences of one rank are the same
-stage_of : (d e : Difference) → rank d ≡ rank e → (rank d).stage ≡ (rank e).stage
-stage_of d e same = ap (λ (r : Rank). r.stage) same
-
 pub same_rank : (d e : Difference) → rank d ≡ rank e → d ≡ e
 same_rank (Whole p) (Whole q) same = ap Whole (same_part p q (ap (λ (r : Rank). r.entry) same))
 same_rank (Whole p) (Gone t j) same = absurd (omega (arith, odd t, ap (λ (r : Rank). r.stage) same))

@@ -19,4 +19,3 @@ mod Spots
 -- Of the clauses, the one that is sought.
 mod OneOfKind
 -- Numbers by which tables tell their entries.
-mod NumbersByName

@@ -9,7 +9,7 @@ use Rattle.leg_lib_records.specs.Records.{MasterModel}
 use Rattle.leg_design_records.specs.declared.records.Component.{Component}
 use Rattle.leg_grammar.specs.Def.Namespace.{KnownModel}
 use Rattle.leg_grammar.specs.Def.Terminal.{pin_of_component}
-use Rattle.leg_design_nets.specs.Steps.Pins.{is_in, pin_of_numbered, place_in, place_at, used_names, IsPinIndex}
+use Rattle.leg_design_nets.specs.Steps.Pins.{is_in, pin_of_numbered, place_in_table, place_in_tables, used_names, IsPinIndex}
 use Rattle.leg_design_nets.proofs.NamedNumbers.{in_joined}
 use Rattle.leg_design_nets.proofs.PinTables.{pin_names}
 
@@ -46,15 +46,15 @@ module _ (known : KnownModel) (lists : List (List ℕ)) (place : ℕ → List �
     by_component (Some component) stands = by_master component stands (slice_get known.library.masters component.master) refl
 
 -- What a table of the index answers is the number of the pin; where there is none, there is no pin.
-module _ {S : Type 0} (known : KnownModel) (lists : List (List ℕ)) (tables : List (HashMap (Bor (List ℕ)) ℕ S)) (under : List ℕ → List ℕ) (index : IsPinIndex known lists (place_at tables) under) where
+module _ {S : Type 0} (known : KnownModel) (lists : List (List ℕ)) (tables : List (HashMap (Bor (List ℕ)) ℕ S)) (under : List ℕ → List ℕ) (index : IsPinIndex known lists (place_in_tables tables) under) where
   pub found_none : (c : ℕ) (component : Component) (name : List ℕ) → slice_get known.components c ≡ Some component → slice_get tables component.master ≡ None → None ≡ pin_of_numbered known c name
   found_none c component name stands none =
-      let is : place_at tables component.master name ≡ pin_of_component known.library component name = place_is known lists (place_at tables) under index c component name stands in
+      let is : place_in_tables tables component.master name ≡ pin_of_component known.library component name = place_is known lists (place_in_tables tables) under index c component name stands in
       rw stands (rw none at is)
 
-  pub found_some : (c : ℕ) (component : Component) (name : List ℕ) (table : HashMap (Bor (List ℕ)) ℕ S) → slice_get known.components c ≡ Some component → slice_get tables component.master ≡ Some table → place_in table name ≡ pin_of_numbered known c name
+  pub found_some : (c : ℕ) (component : Component) (name : List ℕ) (table : HashMap (Bor (List ℕ)) ℕ S) → slice_get known.components c ≡ Some component → slice_get tables component.master ≡ Some table → place_in_table table name ≡ pin_of_numbered known c name
   found_some c component name table stands there =
-      let is : place_at tables component.master name ≡ pin_of_component known.library component name = place_is known lists (place_at tables) under index c component name stands in
+      let is : place_in_tables tables component.master name ≡ pin_of_component known.library component name = place_is known lists (place_in_tables tables) under index c component name stands in
       rw stands (rw there at is)
 
 pub in_any_case : (o : Option ℕ) (P : Type 0) → P → IfSome o (λ x. P)

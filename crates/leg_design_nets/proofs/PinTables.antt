@@ -11,7 +11,7 @@ use Rattle.leg_lex.specs.NameLookup.{place_of}
 use Rattle.leg_lex.proofs.NameLookup.{same_name, index_push}
 use Rattle.leg_lib_records.specs.Records.{MasterPinModel, MasterModel}
 use Rattle.leg_design_records.specs.declared.records.Component.{Component}
-use Rattle.leg_design_nets.specs.Steps.Pins.{is_in, place_in, place_at, used_names, AreListed, ArePinPlaces, AreUnder}
+use Rattle.leg_design_nets.specs.Steps.Pins.{is_in, place_in_table, place_in_tables, used_names, AreListed, ArePinPlaces, AreUnder}
 use Rattle.leg_design_nets.proofs.NamedNumbers.{number_added, numbers_kept}
 
 -- one more element behind those that were taken
@@ -84,13 +84,13 @@ some_place q name names there = by (bytes_eq q name) refl where
 
 module _ {S : Type 0} where
   -- A name that the table has says nothing new.
-  pub places_known : (table : HashMap (Bor (List ℕ)) ℕ S) (pins : List MasterPinModel) (i : ℕ) (x : MasterPinModel) → i < length pins → x ≡ get_or pins i x → ((q : List ℕ) → place_in table q ≡ place_of q (pin_names (take i pins))) → is_some (place_in table x.name) ≡ true → (q : List ℕ) → place_in table q ≡ place_of q (pin_names (take (i + 1) pins))
+  pub places_known : (table : HashMap (Bor (List ℕ)) ℕ S) (pins : List MasterPinModel) (i : ℕ) (x : MasterPinModel) → i < length pins → x ≡ get_or pins i x → ((q : List ℕ) → place_in_table table q ≡ place_of q (pin_names (take i pins))) → is_some (place_in_table table x.name) ≡ true → (q : List ℕ) → place_in_table table q ≡ place_of q (pin_names (take (i + 1) pins))
   places_known table pins i x less is places known q =
       let there : is_some (place_of x.name (pin_names (take i pins))) ≡ true = ap (λ (o : Option ℕ). is_some o) (sym (places x.name)) ∙ known in
       places q ∙ sym (ap (place_of q) (names_taken pins i x less is) ∙ place_again x.name (pin_names (take i pins)) there q)
 
   -- A new name has the last place.
-  pub places_new : (name : Bor (List ℕ)) (table after : HashMap (Bor (List ℕ)) ℕ S) (pins : List MasterPinModel) (i : ℕ) (x : MasterPinModel) → i < length pins → x ≡ get_or pins i x → name.now ≡ x.name → ((q : List ℕ) → place_in table q ≡ place_of q (pin_names (take i pins))) → is_some (place_in table name.now) ≡ false → hash.UpdatesBy (λ a b. bytes_eq a.now b.now) (λ key. bytes_eq name.now key.now) table after (Some i) → (q : List ℕ) → place_in after q ≡ place_of q (pin_names (take (i + 1) pins))
+  pub places_new : (name : Bor (List ℕ)) (table after : HashMap (Bor (List ℕ)) ℕ S) (pins : List MasterPinModel) (i : ℕ) (x : MasterPinModel) → i < length pins → x ≡ get_or pins i x → name.now ≡ x.name → ((q : List ℕ) → place_in_table table q ≡ place_of q (pin_names (take i pins))) → is_some (place_in_table table name.now) ≡ false → hash.UpdatesBy (λ a b. bytes_eq a.now b.now) (λ key. bytes_eq name.now key.now) table after (Some i) → (q : List ℕ) → place_in_table after q ≡ place_of q (pin_names (take (i + 1) pins))
   places_new name table after pins i x less is named places new updates =
       let none : place_of name.now (pin_names (take i pins)) ≡ None = is_none (place_of name.now (pin_names (take i pins))) (ap (λ (o : Option ℕ). is_some o) (sym (places name.now)) ∙ new) in
       let long : i ≡ length (pin_names (take i pins)) = sym (mapped_length (take i pins) ∙ taken_length pins i less) in
@@ -104,13 +104,13 @@ module _ {S : Type 0} where
         mapped_length (p ∷ ps) = ap suc (mapped_length ps)
 
   -- The places of one more macro.
-  pub places_more : (masters : List MasterModel) (lists : List (List ℕ)) (tables : List (HashMap (Bor (List ℕ)) ℕ S)) (table : HashMap (Bor (List ℕ)) ℕ S) (i : ℕ) (x : MasterModel) → i < length masters → x ≡ get_or masters i x → length tables ≡ i → ArePinPlaces (take i masters) lists (place_at tables) → ((q : List ℕ) → place_in table q ≡ place_of q (used_names x (get_or lists i []))) → ArePinPlaces (take (i + 1) masters) lists (place_at (tables ++ table ∷ []))
+  pub places_more : (masters : List MasterModel) (lists : List (List ℕ)) (tables : List (HashMap (Bor (List ℕ)) ℕ S)) (table : HashMap (Bor (List ℕ)) ℕ S) (i : ℕ) (x : MasterModel) → i < length masters → x ≡ get_or masters i x → length tables ≡ i → ArePinPlaces (take i masters) lists (place_in_tables tables) → ((q : List ℕ) → place_in_table table q ≡ place_of q (used_names x (get_or lists i []))) → ArePinPlaces (take (i + 1) masters) lists (place_in_tables (tables ++ table ∷ []))
   places_more masters lists tables table i x less is long before new m q =
       rw (taken masters i x less is) (by (cases_lt m i) (cases_eq m i)) where
         size : length (take i masters) ≡ i
         size = taken_length masters i less
 
-        by : (m < i) ⊎ (i ≤ m) → (m ≡ i) ⊎ (m ≡ i → ⊥) → place_at (tables ++ table ∷ []) m q ≡ (slice_get (take i masters ++ x ∷ []) m >>= λ master. place_of q (used_names master (get_or lists m [])))
+        by : (m < i) ⊎ (i ≤ m) → (m ≡ i) ⊎ (m ≡ i → ⊥) → place_in_tables (tables ++ table ∷ []) m q ≡ (slice_get (take i masters ++ x ∷ []) m >>= λ master. place_of q (used_names master (get_or lists m [])))
         by (inl early) either =
             rw (in_first tables table m (omega (arith, long, early)), in_first (take i masters) x m (omega (arith, size, early))) (before m q)
         by (inr late) (inl last) =

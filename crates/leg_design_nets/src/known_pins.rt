@@ -27,13 +27,13 @@ pub(crate) struct KnownPins<'r, 'k, 'a, A: Allocator + Copy> {
 
 impl<'r, 'k, 'a, A: Allocator + Copy> Model for KnownPins<'r, 'k, 'a, A> {
     ghost use Rattle.leg_grammar.specs.Def.Namespace.{KnownModel};
-    ghost use Rattle.leg_design_nets.specs.Steps.Pins.{place_at, numbers_under, IsPinIndex};
+    ghost use Rattle.leg_design_nets.specs.Steps.Pins.{place_in_tables, numbers_under, IsPinIndex};
 
     ghost Value = { KnownModel };
 
     ghost view = { λ k. k.known.now };
 
-    ghost invariant = { λ k. IsPinIndex k.known.now k.components.items (place_at k.places.items) (numbers_under k.masters) };
+    ghost invariant = { λ k. IsPinIndex k.known.now k.components.items (place_in_tables k.places.items) (numbers_under k.masters) };
 }
 
 impl<'r, 'k, 'a, A: Allocator + Copy> KnownPins<'r, 'k, 'a, A> {

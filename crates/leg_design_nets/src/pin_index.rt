@@ -2,7 +2,7 @@
 
 ghost use Rattle.std.specs.Prelude.{◌≡◌, ◌<◌, ℕ, List, true, map, get_or, is_some, length, IfOk, OnOk};
 ghost use Rattle.leg_lex.specs.NameLookup.{place_of};
-ghost use Rattle.leg_design_nets.specs.Steps.Pins.{is_in, numbers_under, place_in, place_at, used_names, AreListed, ArePinPlaces, AreUnder};
+ghost use Rattle.leg_design_nets.specs.Steps.Pins.{is_in, numbers_under, place_in_table, place_in_tables, used_names, AreListed, ArePinPlaces, AreUnder};
 
 use crate::by_name::{ByName, add_number};
 use leg_design_records::Component;
@@ -51,7 +51,7 @@ fn pin_places<'a, A: Allocator + Copy>(
     alloc: A,
     pins: &[MasterPin<'a, A>],
 ) -> Result<PinPlaces<'a, A>, AllocError>
-    ensures { IfOk result (λ places. (name : List ℕ) → place_in places name ≡ place_of name (map (λ p. p.name) pins.now)) }
+    ensures { IfOk result (λ places. (name : List ℕ) → place_in_table places name ≡ place_of name (map (λ p. p.name) pins.now)) }
 {
     let mut places = HashMap::with_hasher(alloc, BuildHasherDefault::new());
     for (k, pin) in pins.iter().enumerate() {
@@ -84,7 +84,7 @@ pub(crate) fn places_of_each<'a, A: Allocator + Copy>(
     components: &[Items<usize, A>],
 ) -> Result<Vec<PinPlaces<'a, A>, A>, AllocError>
     requires { length components.now ≡ length masters.now }
-    ensures { IfOk result (λ tables. ArePinPlaces masters.now components.now (place_at tables.items)) }
+    ensures { IfOk result (λ tables. ArePinPlaces masters.now components.now (place_in_tables tables.items)) }
 {
     let mut tables = Vec::with_capacity(alloc, masters.len())?;
     for (m, master) in masters.iter().enumerate() {

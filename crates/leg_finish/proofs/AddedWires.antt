@@ -53,16 +53,17 @@ HasOneFlat = (design : DesignModel) (a b : FlatModel) → IsFlatOf design a → 
 -- so only open nets get wires, if only their lists have some
 pub adds_to_open : HasOneFlat → (design : DesignModel) (lists : List (List Wire)) (flat : FlatModel) → IsFlatOf design flat
     → ((n : ℕ) (wires : List Wire) → slice_get lists n ≡ Some wires → wires ≢ [] → IsOpenNet design flat n) → AddsToOpenNets design (finished design lists)
-adds_to_open one_flat design lists flat is_flat open_only other is_other n differ = rw (one_flat design other flat is_other is_flat) (by (slice_get lists n) refl) where
-  of_list : (wires : List Wire) → slice_get lists n ≡ Some wires → IsOpenNet design flat n
-  of_list [] there = absurd (differ (stays design.nets lists n (λ ws is. same_wires ws (sym there ∙ is)))) where
-    same_wires : (ws : List Wire) → Some [] ≡ Some ws → ws ≡ []
-    same_wires ws same = cc
-  of_list (wire ∷ wires) there = open_only n (wire ∷ wires) there (λ same. let e : ⊥ = cc in e)
+adds_to_open one_flat design lists flat is_flat open_only other is_other n differ =
+    rw (one_flat design other flat is_other is_flat) (by (slice_get lists n) refl) where
+      of_list : (wires : List Wire) → slice_get lists n ≡ Some wires → IsOpenNet design flat n
+      of_list [] there = absurd (differ (stays design.nets lists n (λ ws is. same_wires ws (sym there ∙ is)))) where
+        same_wires : (ws : List Wire) → Some [] ≡ Some ws → ws ≡ []
+        same_wires ws same = cc
+      of_list (wire ∷ wires) there = open_only n (wire ∷ wires) there (λ same. let e : ⊥ = cc in e)
 
-  by : (o : Option (List Wire)) → slice_get lists n ≡ o → IsOpenNet design flat n
-  by None there = absurd (differ (stays design.nets lists n (λ ws is. absurd (none-some ws (sym there ∙ is)))))
-  by (Some wires) there = of_list wires there
+      by : (o : Option (List Wire)) → slice_get lists n ≡ o → IsOpenNet design flat n
+      by None there = absurd (differ (stays design.nets lists n (λ ws is. absurd (none-some ws (sym there ∙ is)))))
+      by (Some wires) there = of_list wires there
 
 pub have_totals : (design : DesignModel) (lists : List (List Wire)) (length_is vias_are : ℕ) → length lists ≡ length design.nets
     → length_is ≡ sum_by (λ (wires : List Wire). sum_by wire_length wires) lists → vias_are ≡ sum_by (λ (wires : List Wire). count_by is_via wires) lists

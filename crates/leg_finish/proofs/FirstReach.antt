@@ -15,7 +15,8 @@ IsReached design flat net = (piece : ℕ) → ¬ IsUnreachable design flat net.n
 
 module _ {A : Type 0} (design : DesignModel) (flat : FlatModel) (nets : List (OpenNet A)) (are : AreOpenNets design flat nets) where
   -- a piece that cannot be reached is one of an open net
-  of_reached : (j : ℕ) (x : OpenNet A) (net piece : ℕ) → get_or nets j x ≡ x → x.net ≡ net → IsReached design flat (get_or nets j x) → ¬ IsUnreachable design flat net piece
+  of_reached : (j : ℕ) (x : OpenNet A) (net piece : ℕ) → get_or nets j x ≡ x → x.net ≡ net → IsReached design flat (get_or nets j x)
+      → ¬ IsUnreachable design flat net piece
   of_reached j x net piece is same reached unreachable =
       subst (λ (o : OpenNet A). IsReached design flat o) is reached piece (subst (λ n. IsUnreachable design flat n piece) (sym same) unreachable)
 
@@ -32,13 +33,16 @@ module _ {A : Type 0} (design : DesignModel) (flat : FlatModel) (nets : List (Op
         let its : (get_or nets i x).net ≡ net.net = ap (λ (o : OpenNet A). o.net) here in
         let other : (get_or nets j x).net ≡ x.net = ap (λ (o : OpenNet A). o.net) is in
         elim (cases_order j i) [
-          | inl same ↦ let at : (get_or nets j x).net ≡ (get_or nets i x).net = ap (λ (k : ℕ). (get_or nets k x).net) same in absurd (omega (arith, at, its, other, less))
+          | inl same ↦ let at : (get_or nets j x).net ≡ (get_or nets i x).net = ap (λ (k : ℕ). (get_or nets k x).net) same in
+              absurd (omega (arith, at, its, other, less))
           | inr (inl earlier) ↦ earlier
-          | inr (inr later) ↦ let rise : (get_or nets i x).net < (get_or nets j x).net = are.increasing i j x later below in absurd (omega (arith, rise, its, other, less))
+          | inr (inr later) ↦ let rise : (get_or nets i x).net < (get_or nets j x).net = are.increasing i j x later below in
+              absurd (omega (arith, rise, its, other, less))
         ]
 
     -- no piece of an earlier net, and no earlier one of this net
-    pub first_of_all : (piece : ℕ) → AllWithin (IsReached design flat) nets 0 i → IsFirstOfNet design flat net.net piece → IsFirstUnreachable design flat net.net piece
+    pub first_of_all : (piece : ℕ) → AllWithin (IsReached design flat) nets 0 i → IsFirstOfNet design flat net.net piece
+        → IsFirstUnreachable design flat net.net piece
     first_of_all piece reached found = record { unreachable = found.unreachable; first = none } where
       none : (other k : ℕ) → IsEarlierPiece other k net.net piece → ¬ IsUnreachable design flat other k
       none other k (inl less) unreachable =

@@ -21,7 +21,8 @@ pub own_at : (firsts : List ℕ) (k first : ℕ) → k < length firsts → first
 own_at firsts k first within read same = subst (λ j. slice_get firsts j ≡ Some first) (sym same) (slice_get-get_or firsts k 0 within ∙ ap Some (sym read))
 
 -- The pieces of a net, the least that each is joined to, and the laws of pieces that are joined.
-module _ (flat : FlatModel) (net : ℕ) (firsts : List ℕ) (firsts_are : AreFirsts (AreJoined flat net) (piece_count flat net) firsts) (back : (a b : ℕ) → AreJoined flat net a b → AreJoined flat net b a)
+module _ (flat : FlatModel) (net : ℕ) (firsts : List ℕ) (firsts_are : AreFirsts (AreJoined flat net) (piece_count flat net) firsts)
+    (back : (a b : ℕ) → AreJoined flat net a b → AreJoined flat net b a)
     (onward : (a b c : ℕ) → AreJoined flat net a b → AreJoined flat net b c → AreJoined flat net a c) where
   pub known_within : (k least : ℕ) → slice_get firsts k ≡ Some least → k < piece_count flat net
   known_within k least there = rw (← firsts_are.count) (slice_get_within firsts k least there)
@@ -35,11 +36,16 @@ module _ (flat : FlatModel) (net : ℕ) (firsts : List ℕ) (firsts_are : AreFir
         there = is.within;
         none = λ a b nodes start is_end walk.
             unreachable.none a b nodes (record { other = start.other; joined = onward k least start.other is.joined start.joined; meets = start.meets })
-            (record { other = is_end.other; apart = λ joined. is_end.apart (onward least k is_end.other (back k least is.joined) joined); meets = is_end.meets }) walk;
+            (record {
+              other = is_end.other;
+              apart = λ joined. is_end.apart (onward least k is_end.other (back k least is.joined) joined);
+              meets = is_end.meets;
+            }) walk;
       }
 
   -- so a piece that isn't the least of its group is not the first that cannot be reached
-  pub not_least : (design : DesignModel) (k least : ℕ) → slice_get firsts k ≡ Some least → (least ≡ k → ⊥) → ((j : ℕ) → j < k → ¬ IsUnreachable design flat net j) → ¬ IsUnreachable design flat net k
+  pub not_least : (design : DesignModel) (k least : ℕ) → slice_get firsts k ≡ Some least → (least ≡ k → ⊥)
+      → ((j : ℕ) → j < k → ¬ IsUnreachable design flat net j) → ¬ IsUnreachable design flat net k
   not_least design k least there differ none unreachable =
       let upto : least ≤ k = (firsts_are.each k least there).least k (known_within k least there) itself in
       none least (omega (arith, upto, differ)) (least_too design k least there unreachable)
@@ -61,7 +67,8 @@ module _ (flat : FlatModel) (net : ℕ) (firsts : List ℕ) (firsts_are : AreFir
     least_at k within = slice_get-get_or firsts k 0 (rw firsts_are.count within)
 
     module _ (numbers : List ℕ) (are : AreNumbersOf flat.shapes net numbers) where
-      meets_piece : (is_joined : Bool) (node : Node) (m : MeetsShapeOf flat.shapes (IsJoinedAs firsts first is_joined) numbers node) → LiesIn flat net m.meant.number node.layer node.at
+      meets_piece : (is_joined : Bool) (node : Node) (m : MeetsShapeOf flat.shapes (IsJoinedAs firsts first is_joined) numbers node)
+          → LiesIn flat net m.meant.number node.layer node.at
       meets_piece is_joined node m =
           let of_net = are.each m.number m.listed in
           let same : m.shape ≡ of_net.shape = same_Some m.shape of_net.shape (sym m.there ∙ of_net.at) in
@@ -77,7 +84,8 @@ module _ (flat : FlatModel) (net : ℕ) (firsts : List ℕ) (firsts_are : AreFir
             inside = m.lies.inside;
           }
 
-      meets_shape : (is_joined : Bool) (node : Node) (piece least : ℕ) (lies : LiesIn flat net piece node.layer node.at) → slice_get firsts piece ≡ Some least → (least == first) ≡ is_joined
+      meets_shape : (is_joined : Bool) (node : Node) (piece least : ℕ) (lies : LiesIn flat net piece node.layer node.at) → slice_get firsts piece ≡ Some least
+          → (least == first) ≡ is_joined
           → MeetsShapeOf flat.shapes (IsJoinedAs firsts first is_joined) numbers node
       meets_shape is_joined node piece least lies known same =
           let k = lies.has.0 in
@@ -93,7 +101,8 @@ module _ (flat : FlatModel) (net : ℕ) (firsts : List ℕ) (firsts_are : AreFir
 
       module _ (grid : GridModel) (boxes : List SlotBox) (slots : List ℕ) where
         -- the slots in shapes of the group
-        pub starts_are : AreSlotsOf grid flat.shapes (IsJoinedAs firsts first true) numbers boxes slots → (n : ℕ) → Contains slots n ↔ IsOneOf (IsNumberOf grid) (MeetsJoinedTo flat net first) n
+        pub starts_are : AreSlotsOf grid flat.shapes (IsJoinedAs firsts first true) numbers boxes slots → (n : ℕ)
+            → Contains slots n ↔ IsOneOf (IsNumberOf grid) (MeetsJoinedTo flat net first) n
         starts_are told n = (
           λ has.
               let one = (told.are n).0 has in
@@ -101,7 +110,11 @@ module _ (flat : FlatModel) (net : ℕ) (firsts : List ℕ) (firsts_are : AreFir
               record {
                 node = one.node;
                 is = one.is;
-                holds = record { other = meant.number; joined = joined_to meant.number meant.least meant.there (eqb-true meant.least first meant.same); meets = meets_piece true one.node one.holds };
+                holds = record {
+                  other = meant.number;
+                  joined = joined_to meant.number meant.least meant.there (eqb-true meant.least first meant.same);
+                  meets = meets_piece true one.node one.holds;
+                };
               },
           λ one.
               let piece = one.holds.other in
@@ -116,7 +129,8 @@ module _ (flat : FlatModel) (net : ℕ) (firsts : List ℕ) (firsts_are : AreFir
         )
 
         -- those in shapes of the other pieces
-        pub ends_are : AreSlotsOf grid flat.shapes (IsJoinedAs firsts first false) numbers boxes slots → (n : ℕ) → Contains slots n ↔ IsOneOf (IsNumberOf grid) (MeetsOthers flat net first) n
+        pub ends_are : AreSlotsOf grid flat.shapes (IsJoinedAs firsts first false) numbers boxes slots → (n : ℕ)
+            → Contains slots n ↔ IsOneOf (IsNumberOf grid) (MeetsOthers flat net first) n
         ends_are told n = (
           λ has.
               let one = (told.are n).0 has in
@@ -138,6 +152,7 @@ module _ (flat : FlatModel) (net : ℕ) (firsts : List ℕ) (firsts_are : AreFir
               (record {
                 node = one.node;
                 is = one.is;
-                holds = meets_shape false one.node piece least one.holds.meets known (ne_eqb least first (λ same. one.holds.apart (joined_to piece least known same)));
+                holds = meets_shape false one.node piece least one.holds.meets known
+                    (ne_eqb least first (λ same. one.holds.apart (joined_to piece least known same)));
               }),
         )

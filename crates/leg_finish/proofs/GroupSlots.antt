@@ -13,7 +13,8 @@ use Rattle.leg_finish.specs.Steps.GroupSlots.{MeetsShapeOf, AreSlotsOf}
 
 module _ (grid : GridModel) (shapes : List Shape) (IsMeant : Option ℕ → Type 0) where
   -- one shape more
-  module _ (numbers : List ℕ) (boxes : List SlotBox) (slots : List ℕ) (done : AreSlotsOf grid shapes IsMeant numbers boxes slots) (k : ℕ) (shape : Shape) (read : slice_get shapes k ≡ Some shape) where
+  module _ (numbers : List ℕ) (boxes : List SlotBox) (slots : List ℕ) (done : AreSlotsOf grid shapes IsMeant numbers boxes slots) (k : ℕ) (shape : Shape)
+      (read : slice_get shapes k ≡ Some shape) where
     earlier : (node : Node) → MeetsShapeOf shapes IsMeant numbers node → MeetsShapeOf shapes IsMeant (numbers ++ k ∷ []) node
     earlier node m = record {
       number = m.number;
@@ -25,7 +26,8 @@ module _ (grid : GridModel) (shapes : List Shape) (IsMeant : Option ℕ → Type
     }
 
     -- of an earlier shape
-    still : (n : ℕ) → IsOneOf (IsNumberOf grid) (MeetsShapeOf shapes IsMeant numbers) n → IsOneOf (IsNumberOf grid) (MeetsShapeOf shapes IsMeant (numbers ++ k ∷ [])) n
+    still : (n : ℕ) → IsOneOf (IsNumberOf grid) (MeetsShapeOf shapes IsMeant numbers) n
+        → IsOneOf (IsNumberOf grid) (MeetsShapeOf shapes IsMeant (numbers ++ k ∷ [])) n
     still n one = record { node = one.node; is = one.is; holds = earlier one.node one.holds }
 
     -- of this one
@@ -33,7 +35,8 @@ module _ (grid : GridModel) (shapes : List Shape) (IsMeant : Option ℕ → Type
       pub meant : IsMeant shape.piece
       pub lies : LiesInRect shape.layer shape.rect node
 
-    here_of : (node : Node) (number : ℕ) (other : Shape) → k ≡ number → slice_get shapes number ≡ Some other → IsMeant other.piece → LiesInRect other.layer other.rect node → IsHere node
+    here_of : (node : Node) (number : ℕ) (other : Shape) → k ≡ number → slice_get shapes number ≡ Some other → IsMeant other.piece
+        → LiesInRect other.layer other.rect node → IsHere node
     here_of node number other same there meant lies =
         let here : slice_get shapes k ≡ Some other = rw same there in
         let is : other ≡ shape = same_Some other shape (sym here ∙ read) in

@@ -12,10 +12,12 @@ use Rattle.leg_route_laws.specs.CleanWire.{HasNoSpacingFault}
 use Rattle.leg_finish.specs.declared.groups.OpenNet.{OpenNet}
 use Rattle.leg_finish.specs.Steps.OpenNets.{IsOpenWith, AreOpenNets}
 
-pub no_fault : (library : LibraryModel) (flat : FlatModel) (faults : List Fault) → IsListOf (IsSpacingViolation library flat) faults → length faults ≡ 0 → HasNoSpacingFault library flat
+pub no_fault : (library : LibraryModel) (flat : FlatModel) (faults : List Fault) → IsListOf (IsSpacingViolation library flat) faults → length faults ≡ 0
+    → HasNoSpacingFault library flat
 no_fault library flat faults list none fault holds = let has = list.all fault holds in let low = has.1 in omega (arith, low, none)
 
-pub some_fault : (library : LibraryModel) (flat : FlatModel) (faults : List Fault) → IsListOf (IsSpacingViolation library flat) faults → 0 < length faults → ¬ HasNoSpacingFault library flat
+pub some_fault : (library : LibraryModel) (flat : FlatModel) (faults : List Fault) → IsListOf (IsSpacingViolation library flat) faults → 0 < length faults
+    → ¬ HasNoSpacingFault library flat
 some_fault library flat [] list some none = omega (arith, some)
 some_fault library flat (fault ∷ faults) list some none = none fault (All-head (IsSpacingViolation library flat) fault faults list.each)
 

@@ -3,7 +3,6 @@ mod AddedWires
 mod WiresByNet
 mod WithWires
 mod NetsLeft
-mod OneWire
 mod Judgement
 mod GroupSlots
 mod GroupNodes

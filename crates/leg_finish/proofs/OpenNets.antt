@@ -21,7 +21,8 @@ JoinedBothWays = (flat : FlatModel) (net a b : ℕ) → AreJoined flat net a b �
 abbrev pub IsOther : ℕ → Type 0
 IsOther first = first ≢ 0
 
-module _ (both : JoinedBothWays) (design : DesignModel) (flat : FlatModel) (net : ℕ) (firsts : List ℕ) (are : AreFirsts (AreJoined flat net) (piece_count flat net) firsts) where
+module _ (both : JoinedBothWays) (design : DesignModel) (flat : FlatModel) (net : ℕ) (firsts : List ℕ)
+    (are : AreFirsts (AreJoined flat net) (piece_count flat net) firsts) where
   pub open_by_firsts : net < length design.nets → Any IsOther firsts → IsOpenNet design flat net
   open_by_firsts entry any =
       let k = any.0 in
@@ -52,7 +53,8 @@ module _ (both : JoinedBothWays) (design : DesignModel) (flat : FlatModel) (net 
     there = slice_get-get_or firsts is_open.0 0 low
 
     by : (get_or firsts is_open.0 0 ≡ 0) ⊎ (get_or firsts is_open.0 0 ≢ 0) → Any IsOther firsts
-    by (inl zero) = absurd (is_open.1.open_piece (both flat net is_open.0 0 (subst (λ f. AreJoined flat net is_open.0 f) zero (are.each is_open.0 first there).joined)))
+    by (inl zero) =
+        absurd (is_open.1.open_piece (both flat net is_open.0 0 (subst (λ f. AreJoined flat net is_open.0 f) zero (are.each is_open.0 first there).joined)))
     by (inr other) = (is_open.0, first, low, get_or_default firsts is_open.0 first 0 low, other)
 
 -- a list of open nets as it grows
@@ -79,7 +81,8 @@ module _ {A : Type 0} (limit : ℕ) (design : DesignModel) (flat : FlatModel) (n
 
   pub open_more : (one : OpenNet A) → one.net ≡ limit → IsOpenWith design flat one → AreOpenNetsBelow (limit + 1) design flat (nets ++ one ∷ [])
   open_more one is with = record {
-    increasing = all_pairs_push (λ (a b : OpenNet A). a.net < b.net) nets one are.increasing (λ k d low. rw is (All-get_or (IsBelow limit) nets k d low are.below));
+    increasing =
+        all_pairs_push (λ (a b : OpenNet A). a.net < b.net) nets one are.increasing (λ k d low. rw is (All-get_or (IsBelow limit) nets k d low are.below));
     below = All-push (IsBelow (limit + 1)) nets one wider (omega (arith, is));
     each = All-push (IsOpenWith design flat) nets one are.each with;
     all = all;
@@ -99,7 +102,8 @@ none_open {A} design flat = record {
   all = λ n less is_open. absurd (omega (arith, less));
 }
 
-pub all_open : {A : Type 0} (design : DesignModel) (flat : FlatModel) (limit : ℕ) (nets : List (OpenNet A)) → limit ≡ length design.nets → AreOpenNetsBelow limit design flat nets → AreOpenNets design flat nets
+pub all_open : {A : Type 0} (design : DesignModel) (flat : FlatModel) (limit : ℕ) (nets : List (OpenNet A)) → limit ≡ length design.nets
+    → AreOpenNetsBelow limit design flat nets → AreOpenNets design flat nets
 all_open design flat limit nets is are = record {
   increasing = are.increasing;
   each = are.each;
@@ -107,14 +111,23 @@ all_open design flat limit nets is are = record {
 }
 
 -- the lists of the shapes' numbers, as they are taken one after another
-pub lists_first : (flat : FlatModel) (count : ℕ) (lists : List (List ℕ)) → length lists ≡ count → ((net : ℕ) → net < count → AreNumbersOf flat.shapes net (get_or lists net [])) → AreListsFrom flat 0 count lists
-lists_first flat count lists long each = record { count_is = omega (arith, long); each = λ k low. let same : k ≡ 0 + k = omega arith in subst (λ n. AreNumbersOf flat.shapes n (get_or lists k [])) same (each k (omega (arith, low, long))) }
+pub lists_first : (flat : FlatModel) (count : ℕ) (lists : List (List ℕ)) → length lists ≡ count
+    → ((net : ℕ) → net < count → AreNumbersOf flat.shapes net (get_or lists net [])) → AreListsFrom flat 0 count lists
+lists_first flat count lists long each =
+    record {
+      count_is = omega (arith, long);
+      each = λ k low. let same : k ≡ 0 + k = omega arith in
+          subst (λ n. AreNumbersOf flat.shapes n (get_or lists k [])) same (each k (omega (arith, low, long)));
+    }
 
-pub list_here : (flat : FlatModel) (net count : ℕ) (own : List ℕ) (lists : List (List ℕ)) → AreListsFrom flat net count (own ∷ lists) → AreNumbersOf flat.shapes net own
+pub list_here : (flat : FlatModel) (net count : ℕ) (own : List ℕ) (lists : List (List ℕ)) → AreListsFrom flat net count (own ∷ lists)
+    → AreNumbersOf flat.shapes net own
 list_here flat net count own lists are = let none : net + 0 ≡ net = omega arith in subst (λ n. AreNumbersOf flat.shapes n own) none (are.each 0 (omega arith))
 
-pub lists_next : (flat : FlatModel) (net count : ℕ) (own : List ℕ) (lists : List (List ℕ)) → AreListsFrom flat net count (own ∷ lists) → AreListsFrom flat (net + 1) count lists
+pub lists_next : (flat : FlatModel) (net count : ℕ) (own : List ℕ) (lists : List (List ℕ)) → AreListsFrom flat net count (own ∷ lists)
+    → AreListsFrom flat (net + 1) count lists
 lists_next flat net count own lists are = record {
   count_is = let long = are.count_is in omega (arith, long);
-  each = λ k low. let same : net + suc k ≡ (net + 1) + k = omega arith in subst (λ n. AreNumbersOf flat.shapes n (get_or lists k [])) same (are.each (suc k) (omega (arith, low)));
+  each = λ k low. let same : net + suc k ≡ (net + 1) + k = omega arith in
+      subst (λ n. AreNumbersOf flat.shapes n (get_or lists k [])) same (are.each (suc k) (omega (arith, low)));
 }

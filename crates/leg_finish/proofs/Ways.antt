@@ -27,7 +27,8 @@ module _ {Point : Type 0} {Open : Point → Type 0} {Step : Point → Point → 
   walk_last (here is_open) = is_open
   walk_last (on is_open step rest) = walk_last rest
 
-module _ (grid : GridModel) (apart : (n : ℕ) (a b : Node) → IsNumberOf grid n a → IsNumberOf grid n b → a ≡ b) (numbered : (a : Node) → IsNode grid.design a → (n : ℕ) × IsNumberOf grid n a) where
+module _ (grid : GridModel) (apart : (n : ℕ) (a b : Node) → IsNumberOf grid n a → IsNumberOf grid n b → a ≡ b)
+    (numbered : (a : Node) → IsNode grid.design a → (n : ℕ) × IsNumberOf grid n a) where
   -- the nodes in these slots are those of which this holds
   module _ (numbers : List ℕ) (P : Node → Type 0) (are : (n : ℕ) → Contains numbers n ↔ IsOneOf (IsNumberOf grid) P n) where
     among : (node : Node) → IsNode grid.design node → P node → IsNodeAmong grid numbers node
@@ -37,11 +38,13 @@ module _ (grid : GridModel) (apart : (n : ℕ) (a b : Node) → IsNumberOf grid 
     holds_of : (node : Node) → IsNodeAmong grid numbers node → P node
     holds_of node is = let one = (are is.n).0 is.has in subst P (apart is.n one.node node one.is is.is) one.holds
 
-  pub same_way : (flat : FlatModel) (net : ℕ) (starts ends : List ℕ) (Start End : Node → Type 0) → ((n : ℕ) → Contains starts n ↔ IsOneOf (IsNumberOf grid) Start n)
+  pub same_way : (flat : FlatModel) (net : ℕ) (starts ends : List ℕ) (Start End : Node → Type 0)
+      → ((n : ℕ) → Contains starts n ↔ IsOneOf (IsNumberOf grid) Start n)
       → ((n : ℕ) → Contains ends n ↔ IsOneOf (IsNumberOf grid) End n)
       → HasNoWay grid flat net starts ends ↔ NoWalk (IsOpenNode grid.design flat net) (IsOpenStep grid.design flat net) Start End
   same_way flat net starts ends Start End first last = (
-    λ none a b nodes start is_end walk. none a b nodes (among starts Start first a (walk_first walk).is_node start) (among ends End last b (walk_last walk).is_node is_end) walk,
+    λ none a b nodes start is_end walk. none a b nodes (among starts Start first a (walk_first walk).is_node start)
+        (among ends End last b (walk_last walk).is_node is_end) walk,
     λ none a b nodes start is_end walk. none a b nodes (holds_of starts Start first a start) (holds_of ends End last b is_end) walk,
   )
 
@@ -56,13 +59,17 @@ module _ (grid : GridModel) (flat : FlatModel) (net : ℕ) (starts ends : List �
   -- what a search answers
   module _ (slots : List SlotAccess) (origin around : List SlotBox) where
     abbrev pub IsFound : Option (List ℕ) → Type 0
-    IsFound answer = IsShortestIfAny (IsNodeAdmitted slots net) (IsStep (IsNeighbourNear grid origin around) (IsStepAdmitted grid slots net)) (Contains starts) (Contains ends) answer
+    IsFound answer =
+        IsShortestIfAny (IsNodeAdmitted slots net) (IsStep (IsNeighbourNear grid origin around) (IsStepAdmitted grid slots net)) (Contains starts)
+        (Contains ends) answer
 
     abbrev pub IsWay : List Node → Type 0
     IsWay nodes = IsShortest (IsOpenNode grid.design flat net) (IsOpenStep grid.design flat net) (IsNodeAmong grid starts) (IsNodeAmong grid ends) nodes
 
-    pub way_told : ((numbers : List ℕ) → IsFound (Some numbers) → (nodes : List Node) × AllZip (IsNumberOf grid) numbers nodes × IsWay nodes) → (IsFound None → HasNoWay grid flat net starts ends)
-        → {V : Type 0} (items : V → List ℕ) (walk : Option V) (none : Bool) → IsFound (option_map items walk) → is_some walk ≡ not none → IsTrue none ↔ HasNoWay grid flat net starts ends
+    pub way_told : ((numbers : List ℕ) → IsFound (Some numbers) → (nodes : List Node) × AllZip (IsNumberOf grid) numbers nodes × IsWay nodes)
+        → (IsFound None → HasNoWay grid flat net starts ends)
+        → {V : Type 0} (items : V → List ℕ) (walk : Option V) (none : Bool) → IsFound (option_map items walk) → is_some walk ≡ not none
+        → IsTrue none ↔ HasNoWay grid flat net starts ends
     way_told walks no_way items None true found same = (λ is. no_way found, λ no. refl)
     way_told walks no_way items None false found same = absurd (false≢true same)
     way_told walks no_way items (Some v) true found same = absurd (true≢false same)

@@ -18,7 +18,8 @@ NoWiresByNet = (count : ℕ) → AreByNet count [] (replicate count [])
 
 abbrev pub GrowthGoesOn : Type 0
 GrowthGoesOn =
-    (design : DesignModel) (first then : List AddedWire) (before between after : FlatModel) → Grows design first before between → Grows design then between after
+    (design : DesignModel) (first then : List AddedWire) (before between after : FlatModel) → Grows design first before between → Grows design
+    then between after
     → Grows design (first ++ then) before after
 
 abbrev pub MoreWiresByNet : Type 0
@@ -32,17 +33,20 @@ replicated (suc count) zero x y there = same_Some y x (sym there)
 replicated (suc count) (suc n) x y there = replicated count n x y there
 
 -- nothing is laid out yet
-pub laid_first : NoWiresByNet → (design : DesignModel) (flat : FlatModel) (lists : List (List Wire)) → lists ≡ replicate (length design.nets) [] → IsLaidOut design flat flat lists
+pub laid_first : NoWiresByNet → (design : DesignModel) (flat : FlatModel) (lists : List (List Wire)) → lists ≡ replicate (length design.nets) []
+    → IsLaidOut design flat flat lists
 laid_first none design flat lists is = record {
   added = [];
   grows = refl;
   by_net = rw is (none (length design.nets));
   spelled = rw is (All-replicate (All (IsWire design.library design.vias false)) (length design.nets) [] (All-nil (IsWire design.library design.vias false)));
-  open_only = λ n wires there some. absurd (some (replicated (length design.nets) n [] wires (ap (λ (ls : List (List Wire)). slice_get ls n) (sym is) ∙ there)));
+  open_only =
+      λ n wires there some. absurd (some (replicated (length design.nets) n [] wires (ap (λ (ls : List (List Wire)). slice_get ls n) (sym is) ∙ there)));
 }
 
 -- one net more
-pub laid_next : GrowthGoesOn → MoreWiresByNet → (design : DesignModel) (first before after : FlatModel) (net : ℕ) (lists more : List (List Wire)) → IsLaidOut design first before lists
+pub laid_next : GrowthGoesOn → MoreWiresByNet → (design : DesignModel) (first before after : FlatModel) (net : ℕ) (lists more : List (List Wire))
+    → IsLaidOut design first before lists
     → IsOpenNet design first net → IsMoreLaid design net before after lists more → IsLaidOut design first after more
 laid_next goes_on by_net design first before after net lists more laid is_open step = record {
   added = laid.added ++ of_net net step.wires;
@@ -61,7 +65,8 @@ laid_next goes_on by_net design first before after net lists more laid is_open s
     had_spelled : All (IsWire design.library design.vias false) step.had
     had_spelled =
         let low = slice_get_within lists net step.had step.there in
-        All-contains (All (IsWire design.library design.vias false)) lists step.had laid.spelled (net, low, get_or_from_slice_get lists net step.had step.had step.there)
+        All-contains (All (IsWire design.library design.vias false)) lists step.had laid.spelled
+        (net, low, get_or_from_slice_get lists net step.had step.had step.there)
 
     open_only : (n : ℕ) (wires : List Wire) → slice_get more n ≡ Some wires → wires ≢ [] → IsOpenNet design first n
     open_only n wires there some = by (cases_eq net n) where

@@ -2,7 +2,6 @@
 use Rattle.std.proofs.Common.{◌≡◌, ◌↔◌, ◌+◌, ◌≤◌, ℕ, List, [], ◌∷◌, false, All, length, map, sum_by, inl, inr, refl, arith}
 use Rattle.std.proofs.lemmas.List.Elements.{All-nil, All-cons, All-head, All-tail}
 use Rattle.std.proofs.lemmas.List.Sums.{sum_by-cons}
-use Rattle.leg_lib_records.specs.Records.{LibraryModel}
 use Rattle.leg_lib_records.specs.Sound.{IsSound}
 use Rattle.leg_rules.specs.Placement.Violations.{IsPlacementViolation}
 use Rattle.leg_design_records.specs.declared.fault.Fault.{Fault}
@@ -25,12 +24,14 @@ use Rattle.leg_finish.proofs.AddedWires.{wires_more}
 
 abbrev pub FinishedIsLegal : Type 0
 FinishedIsLegal =
-    (library : LibraryModel) (design : DesignModel) (added : List AddedWire) (grown : FlatModel) (lists : List (List Wire)) (end : FlatModel) → IsFinishedFrom design added grown lists end
-    → ((fault : Fault) → ¬ IsPlacementViolation library design fault) → HasNoSpacingFault library grown → ((n : ℕ) → ¬ IsOpenNet design grown n)
-    → (fault : Fault) → ¬ IsViolationIn library (finished design lists) end fault
+    (design : DesignModel) (added : List AddedWire) (grown : FlatModel) (lists : List (List Wire)) (end : FlatModel)
+    → IsFinishedFrom design added grown lists end
+    → ((fault : Fault) → ¬ IsPlacementViolation design fault) → HasNoSpacingFault design.library grown → ((n : ℕ) → ¬ IsOpenNet design grown n)
+    → (fault : Fault) → ¬ IsViolationIn (finished design lists) end fault
 
 abbrev pub PlacementStays : Type 0
-PlacementStays = (library : LibraryModel) (design : DesignModel) (lists : List (List Wire)) (fault : Fault) → IsPlacementViolation library design fault ↔ IsPlacementViolation library (finished design lists) fault
+PlacementStays =
+    (design : DesignModel) (lists : List (List Wire)) (fault : Fault) → IsPlacementViolation design fault ↔ IsPlacementViolation (finished design lists) fault
 
 abbrev pub ShapesStayAsMany : Type 0
 ShapesStayAsMany =
@@ -50,7 +51,8 @@ module _ (design : DesignModel) (lists : List (List Wire)) (it : AreFinishing de
       → wire_count (with_more_wires design.nets lists) + wire_count design.special ≤ PART_LIMIT
   few_wires stay have sound proper = let few = few_shapes stay in let wires = have design lists sound proper it.laid.spelled in omega (arith, few, wires)
 
-  pub few_added : ShapesStayAsMany → WiresHaveShapes → IsSound design.library → IsWellFormed design → sum_by (λ (wires : List Wire). length wires) lists ≤ PART_LIMIT
+  pub few_added : ShapesStayAsMany → WiresHaveShapes → IsSound design.library → IsWellFormed design
+      → sum_by (λ (wires : List Wire). length wires) lists ≤ PART_LIMIT
   few_added stay have sound proper =
       let few = few_wires stay have sound proper in
       let more = wires_more design.nets lists it.laid.by_net.one_each in
@@ -68,12 +70,13 @@ module _ (design : DesignModel) (lists : List (List Wire)) (it : AreFinishing de
       is_end = is_end;
     }
 
-    no_violation : (fault : Fault) → ¬ IsViolation design.library (finished design lists) fault
+    no_violation : (fault : Fault) → ¬ IsViolation (finished design lists) fault
     no_violation fault holds =
         elim holds [
-          | inl placed ↦ it.comes.clean.none fault (inl ((placement design.library design lists fault).1 placed))
+          | inl placed ↦ it.comes.clean.none fault (inl ((placement design lists fault).1 placed))
           | inr metal ↦
-              is_legal design.library design it.laid.added it.grown lists metal.flat (from metal.flat metal.is_flat) (λ f placed. it.comes.clean.none f (inl placed)) it.no_fault.spacing
+              is_legal design it.laid.added it.grown lists metal.flat (from metal.flat metal.is_flat)
+              (λ f placed. it.comes.clean.none f (inl placed)) it.no_fault.spacing
               it.no_fault.joined fault (inr metal.holds)
         ]
 

@@ -24,7 +24,8 @@ use Rattle.leg_flat.proofs.NetPlaces.{in_net, below_is, none_below}
 among_passes : (t : Terminal) (p : Terminal → Bool) (ts : List Terminal) → is_among t ts ≡ true → p t ≡ true → is_among t (filter p ts) ≡ true
 among_passes t p [] among passes = absurd (false≢true among)
 among_passes t p (u ∷ ts) among passes = by (λ rest. among_passes t p ts rest passes) (is_same_terminal t u) refl (p u) refl where
-  by : (is_among t ts ≡ true → is_among t (filter p ts) ≡ true) → (same : Bool) → is_same_terminal t u ≡ same → (b : Bool) → p u ≡ b → is_among t (filter p (u ∷ ts)) ≡ true
+  by : (is_among t ts ≡ true → is_among t (filter p ts) ≡ true) → (same : Bool) → is_same_terminal t u ≡ same → (b : Bool) → p u ≡ b
+      → is_among t (filter p (u ∷ ts)) ≡ true
   by rest true same true is = rw (is, same) refl
   by rest true same false is =
       let it : t ≡ u = same_is t u same in
@@ -37,7 +38,8 @@ or_first true b e = refl
 or_first false b e = absurd (false≢true e)
 
 -- the entry of SPECIALNETS of the net that an entry is of is that one
-pub special_of : (design : DesignModel) → HasNets design → (k : ℕ) (net : NetModel) → slice_get design.special k ≡ Some net → special_entry design (number_of_special design k net) ≡ Some net
+pub special_of : (design : DesignModel) → HasNets design → (k : ℕ) (net : NetModel) → slice_get design.special k ≡ Some net
+    → special_entry design (number_of_special design k net) ≡ Some net
 special_of design has k net there = by (place_of net.name (net_names design.nets)) refl where
   by : (o : Option ℕ) → place_of net.name (net_names design.nets) ≡ o → special_entry design (number_of_special design k net) ≡ Some net
   by (Some m) found =
@@ -58,8 +60,10 @@ module _ (design : DesignModel) (has : HasNets design) (t : Terminal) where
   regular_among : (n : ℕ) → is_among t (entry_terminals (regular_entry design n)) ≡ true → is_among t (terminals_of design n) ≡ true
   unfolding terminals_of
   regular_among n lists =
-      list_any-append (is_same_terminal t) (entry_terminals (regular_entry design n)) (filter (λ u. not (is_among u (entry_terminals (regular_entry design n)))) (entry_terminals (special_entry design n)))
-      ∙ or_first (is_among t (entry_terminals (regular_entry design n))) (is_among t (filter (λ u. not (is_among u (entry_terminals (regular_entry design n)))) (entry_terminals (special_entry design n)))) lists
+      list_any-append (is_same_terminal t) (entry_terminals (regular_entry design n))
+      (filter (λ u. not (is_among u (entry_terminals (regular_entry design n)))) (entry_terminals (special_entry design n)))
+      ∙ or_first (is_among t (entry_terminals (regular_entry design n)))
+      (is_among t (filter (λ u. not (is_among u (entry_terminals (regular_entry design n)))) (entry_terminals (special_entry design n)))) lists
 
   special_among : (n : ℕ) → is_among t (entry_terminals (special_entry design n)) ≡ true → is_among t (terminals_of design n) ≡ true
   unfolding terminals_of
@@ -130,12 +134,16 @@ pub record AreNetsBelow (design : DesignModel) (n : ℕ) (nets : NetsModel) : Ty
   pub place : (terminal : Terminal) → place_in nets.placed terminal ≡ place_below design n terminal
 
 -- no nets yet
-pub nets_started : (design : DesignModel) (pieces : List (List Piece)) (counts : List ℕ) (placed : List (Terminal × (ℕ × ℕ))) (special : List ℕ) → pieces ≡ [] → counts ≡ [] → ((t : Terminal) → place_in placed t ≡ None) → AreNetsBelow design 0 (record { pieces = pieces; counts = counts; placed = placed; special = special })
+pub nets_started : (design : DesignModel) (pieces : List (List Piece)) (counts : List ℕ) (placed : List (Terminal × (ℕ × ℕ))) (special : List ℕ) → pieces ≡ []
+    → counts ≡ [] → ((t : Terminal) → place_in placed t ≡ None)
+    → AreNetsBelow design 0 (record { pieces = pieces; counts = counts; placed = placed; special = special })
 unfolding place_below
 nets_started design pieces counts placed special no_pieces no_counts nothing = record { pieces = no_pieces; counts = no_counts; place = nothing }
 
 -- one more net
-pub nets_more : (design : DesignModel) (n : ℕ) (nets more : NetsModel) → AreNetsBelow design n nets → more.pieces ≡ nets.pieces ++ pieces_of design n ∷ [] → more.counts ≡ nets.counts ++ length (terminals_of design n) ∷ [] → ((t : Terminal) → place_in more.placed t ≡ place_below design (suc n) t) → AreNetsBelow design (n + 1) more
+pub nets_more : (design : DesignModel) (n : ℕ) (nets more : NetsModel) → AreNetsBelow design n nets → more.pieces ≡ nets.pieces ++ pieces_of design n ∷ []
+    → more.counts ≡ nets.counts ++ length (terminals_of design n) ∷ [] → ((t : Terminal) → place_in more.placed t ≡ place_below design (suc n) t)
+    → AreNetsBelow design (n + 1) more
 nets_more design n nets more below pushed pushed_count known = record {
   pieces =
       pushed ∙ rw below.pieces (sym (map-range_with_len_more (pieces_of design) 0 n n (omega arith)));
@@ -146,7 +154,8 @@ nets_more design n nets more below pushed pushed_count known = record {
 }
 
 -- all nets
-pub nets_done : (design : DesignModel) → HasNets design → (n : ℕ) (nets : NetsModel) → n ≡ length design.nets + length design.special → AreNetsBelow design n nets → AreSpecialNumbers design nets.special → AreNetsOf design nets
+pub nets_done : (design : DesignModel) → HasNets design → (n : ℕ) (nets : NetsModel) → n ≡ length design.nets + length design.special
+    → AreNetsBelow design n nets → AreSpecialNumbers design nets.special → AreNetsOf design nets
 nets_done design has n nets all below special = record {
   pieces = below.pieces ∙ rw all refl;
   counts = below.counts ∙ rw all refl;

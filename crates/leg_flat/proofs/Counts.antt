@@ -17,7 +17,8 @@ use Rattle.leg_flat.proofs.Parts.{AreSteps, step_on}
 pub belonging_length : (belongs : Belonging) (outlines : List OnLayer) → length (belonging belongs outlines) ≡ length outlines
 belonging_length belongs outlines = length-map outlines (λ (m : OnLayer). record { metal = m; belongs = belongs })
 
-pub drawn_length : (belongs : Belonging) (place : Place) (size : ExtentModel) (shapes : List Shape) → length (belonging belongs (drawn place size shapes)) ≡ length shapes
+pub drawn_length : (belongs : Belonging) (place : Place) (size : ExtentModel) (shapes : List Shape)
+    → length (belonging belongs (drawn place size shapes)) ≡ length shapes
 drawn_length belongs place size shapes =
     belonging_length belongs (drawn place size shapes) ∙ length-map shapes (λ (s : Shape). record { layer = s.layer; outline = Drawn place size s.rect })
 
@@ -27,18 +28,22 @@ counted_both start n m total count after first second all = omega arith
 
 -- a loop over a list that counts what each element gives
 module _ {X Y : Type 0} (f : ℕ → X → List Y) (k : ℕ) (xs : List X) (start : ℕ) where
-  pub counts_more : (i j : ℕ) (x : X) (count after more : ℕ) → j ≡ k + i → i < length xs → x ≡ get_or xs i x → count ≡ counted start (length (walk f k (take i xs))) → after ≡ counted count more → more ≡ length (f j x) → after ≡ counted start (length (walk f k (take (i + 1) xs)))
+  pub counts_more : (i j : ℕ) (x : X) (count after more : ℕ) → j ≡ k + i → i < length xs → x ≡ get_or xs i x
+      → count ≡ counted start (length (walk f k (take i xs))) → after ≡ counted count more → more ≡ length (f j x)
+      → after ≡ counted start (length (walk f k (take (i + 1) xs)))
   counts_more i j x count after more number less is before one many =
       let grown : length (walk f k (take (i + 1) xs)) ≡ length (walk f k (take i xs)) + length (f j x) =
       rw (add-one, number) (ap length (walk_more f k xs i x less is) ∙ length-append (walk f k (take i xs)) (f (k + i) x)) in
       counted_both start (length (walk f k (take i xs))) more _ count after before one (rw many grown)
 
   -- the same where the element is known to stand there
-  pub counts_at : (i j : ℕ) (x : X) (count after more : ℕ) → j ≡ k + i → slice_get xs i ≡ Some x → count ≡ counted start (length (walk f k (take i xs))) → after ≡ counted count more → more ≡ length (f j x) → after ≡ counted start (length (walk f k (take (i + 1) xs)))
+  pub counts_at : (i j : ℕ) (x : X) (count after more : ℕ) → j ≡ k + i → slice_get xs i ≡ Some x → count ≡ counted start (length (walk f k (take i xs)))
+      → after ≡ counted count more → more ≡ length (f j x) → after ≡ counted start (length (walk f k (take (i + 1) xs)))
   counts_at i j x count after more number there before one many =
       counts_more i j x count after more number (slice_get_within xs i x there) (sym (get_or_from_slice_get xs i x x there)) before one many
 
-  pub counts_all : (i before count : ℕ) (metal : List Y) → length xs ≤ i → start ≡ counted before 0 → metal ≡ walk f k xs → count ≡ counted start (length (walk f k (take i xs))) → count ≡ counted before (length metal)
+  pub counts_all : (i before count : ℕ) (metal : List Y) → length xs ≤ i → start ≡ counted before 0 → metal ≡ walk f k xs
+      → count ≡ counted start (length (walk f k (take i xs))) → count ≡ counted before (length metal)
   counts_all i before count metal past first is so_far =
       let all : length (walk f k (take i xs)) ≡ length metal = ap (λ ys. length (walk f k ys)) (take_all i xs past) ∙ ap length (sym is) in
       counted_both before 0 (length metal) (length metal) start count first (rw (← all) so_far) (sym (zero-add (length metal)))

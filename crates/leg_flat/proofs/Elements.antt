@@ -5,7 +5,8 @@ use Rattle.std.proofs.lemmas.Bool.Decides.{nat_tests}
 use Rattle.std.proofs.lemmas.Option.{slice_get_past, slice_get_read}
 
 -- the element of a list
-pub got_is : {X : Type 0} (xs : List X) (i : ℕ) (got : Option (Bor X)) → is_some got ≡ nat_lt i (length xs) → IfSome got (λ x. x.now ≡ get_or xs i x.now) → option_map (λ x. x.now) got ≡ slice_get xs i
+pub got_is : {X : Type 0} (xs : List X) (i : ℕ) (got : Option (Bor X)) → is_some got ≡ nat_lt i (length xs) → IfSome got (λ x. x.now ≡ get_or xs i x.now)
+    → option_map (λ x. x.now) got ≡ slice_get xs i
 got_is xs i None found is = sym (slice_get_past xs i (grind (arith, nat_tests)))
 got_is xs i (Some x) found is = sym (slice_get_read xs (length xs) i x.now refl (grind (arith, nat_tests)) is)
 
@@ -20,10 +21,12 @@ behind (x ∷ xs) ys zero j is = absurd (omega (arith, is))
 behind (x ∷ xs) ys (suc i) j is = behind xs ys i j (omega (arith, is))
 
 -- an element of the first of two lists
-pub got_first : {X : Type 0} (xs ys : List X) (i : ℕ) (got : Option (Bor X)) → i < length xs → is_some got ≡ nat_lt i (length xs) → IfSome got (λ x. x.now ≡ get_or xs i x.now) → option_map (λ x. x.now) got ≡ slice_get (xs ++ ys) i
+pub got_first : {X : Type 0} (xs ys : List X) (i : ℕ) (got : Option (Bor X)) → i < length xs → is_some got ≡ nat_lt i (length xs)
+    → IfSome got (λ x. x.now ≡ get_or xs i x.now) → option_map (λ x. x.now) got ≡ slice_get (xs ++ ys) i
 got_first xs ys i got less found is = got_is xs i got found is ∙ sym (in_first xs ys i less)
 
 -- an element of the second
-pub got_second : {X : Type 0} (xs ys : List X) (i : ℕ) (got : Option (Bor X)) → length xs ≤ i → is_some got ≡ nat_lt (i - length xs) (length ys) → IfSome got (λ x. x.now ≡ get_or ys (i - length xs) x.now) → option_map (λ x. x.now) got ≡ slice_get (xs ++ ys) i
+pub got_second : {X : Type 0} (xs ys : List X) (i : ℕ) (got : Option (Bor X)) → length xs ≤ i → is_some got ≡ nat_lt (i - length xs) (length ys)
+    → IfSome got (λ x. x.now ≡ get_or ys (i - length xs) x.now) → option_map (λ x. x.now) got ≡ slice_get (xs ++ ys) i
 got_second xs ys i got past found is =
     got_is ys (i - length xs) got found is ∙ sym (behind xs ys i (i - length xs) (omega arith))

@@ -31,7 +31,8 @@ module _ (design : DesignModel) (has : HasNets design) where
   within : (n : ℕ) (net : NetModel) → place_of net.name (net_names design.nets) ≡ Some n → n < length design.nets
   within n net found = slice_get_within design.nets n _ (named_at net.name design.nets n found).there
 
-  same_name : (n : ℕ) (a b : NetModel) → (place_of a.name (net_names design.nets) ≡ Some n) ⊎ IsAlone design n a → (place_of b.name (net_names design.nets) ≡ Some n) ⊎ IsAlone design n b → a.name ≡ b.name
+  same_name : (n : ℕ) (a b : NetModel) → (place_of a.name (net_names design.nets) ≡ Some n) ⊎ IsAlone design n a
+      → (place_of b.name (net_names design.nets) ≡ Some n) ⊎ IsAlone design n b → a.name ≡ b.name
   same_name n a b (inl at) (inl too) =
       let first = named_at a.name design.nets n at in
       let second = named_at b.name design.nets n too in
@@ -46,7 +47,8 @@ module _ (design : DesignModel) (has : HasNets design) where
       let same : a ≡ b = cc in
       ap (λ (m : NetModel). m.name) same
 
-  same_number : (n m : ℕ) (a b : NetModel) → a.name ≡ b.name → (place_of a.name (net_names design.nets) ≡ Some n) ⊎ IsAlone design n a → (place_of b.name (net_names design.nets) ≡ Some m) ⊎ IsAlone design m b → n ≡ m
+  same_number : (n m : ℕ) (a b : NetModel) → a.name ≡ b.name → (place_of a.name (net_names design.nets) ≡ Some n) ⊎ IsAlone design n a
+      → (place_of b.name (net_names design.nets) ≡ Some m) ⊎ IsAlone design m b → n ≡ m
   same_number n m a b same (inl at) (inl too) =
       let e : ◌≡◌ {A = Option ℕ} (Some n) (Some m) = sym at ∙ ap (λ name. place_of name (net_names design.nets)) same ∙ too in
       cc
@@ -60,7 +62,8 @@ module _ (design : DesignModel) (has : HasNets design) where
       let place : one.k ≡ other.k = one_of_name design.special has.special.apart one.k other.k a b one.there other.there same in
       one.number ∙ ap (λ k. length design.nets + k) place ∙ sym other.number
 
-pub one_number : (design : DesignModel) → IsWellFormed design → (n m : ℕ) (a b : NetModel) → IsEntryOf design n a → IsEntryOf design m b → (n ≡ m) ↔ (a.name ≡ b.name)
+pub one_number : (design : DesignModel) → IsWellFormed design → (n m : ℕ) (a b : NetModel) → IsEntryOf design n a → IsEntryOf design m b
+    → (n ≡ m) ↔ (a.name ≡ b.name)
 one_number design proper n m a b of_a of_b = (to, from) where
   to : n ≡ m → a.name ≡ b.name
   to same = same_name design proper.nets n a b (told design proper.nets n a of_a) (rw same (told design proper.nets m b of_b))

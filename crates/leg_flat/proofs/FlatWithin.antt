@@ -41,9 +41,11 @@ module _ (design : DesignModel) (has : HasNets design) where
       )
 
   -- the pieces of each net of a design are few
-  pub all_few_pieces : (pieces : List (List Piece)) → pieces ≡ map (pieces_of design) (net_numbers design) → All (λ (of : List Piece). length of < 2 ^ 32) pieces
+  pub all_few_pieces : (pieces : List (List Piece)) → pieces ≡ map (pieces_of design) (net_numbers design)
+      → All (λ (of : List Piece). length of < 2 ^ 32) pieces
   all_few_pieces pieces is =
-      rw is (All-map (λ (of : List Piece). length of < 2 ^ 32) (pieces_of design) (net_numbers design) (λ i n less. omega (arith, few_pieces (get_or (net_numbers design) i n))))
+      rw is (All-map (λ (of : List Piece). length of < 2 ^ 32) (pieces_of design) (net_numbers design)
+      (λ i n less. omega (arith, few_pieces (get_or (net_numbers design) i n))))
 
   are_pieces : (shapes n : ℕ) → ArePieces shapes (pieces_of design n)
   unfolding pieces_of

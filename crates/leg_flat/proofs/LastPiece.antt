@@ -55,6 +55,7 @@ wires_by_wire terminals (suc m) last is =
     number_of (Term terminal) = 0
     number_of (Wire n) = n
 
-pub wires_by_terminal : (terminals : List Terminal) (wires : ℕ) (terminal : Terminal) → last_piece (pieces_with terminals wires) ≡ Some (Term terminal) → 0 ≡ wires
+pub wires_by_terminal : (terminals : List Terminal) (wires : ℕ) (terminal : Terminal) → last_piece (pieces_with terminals wires) ≡ Some (Term terminal)
+    → 0 ≡ wires
 wires_by_terminal terminals zero terminal is = refl
 wires_by_terminal terminals (suc m) terminal is = absurd (differ terminal m (sym (same_Some (Wire m) (Term terminal) (sym (last_is_wire terminals m) ∙ is))))

@@ -78,7 +78,8 @@ given f k (x ∷ xs) y c = by (given f (suc k) xs y) (Contains-append_cases (f k
       let next : suc k + it.i ≡ k + suc it.i = omega arith in
       record { i = suc it.i; x = it.x; there = it.there; given = subst (λ n. Contains (f n it.x) y) next it.given }
 
-pub gives : {X Y : Type 0} (f : ℕ → X → List Y) (k : ℕ) (xs : List X) (i : ℕ) (x : X) (y : Y) → slice_get xs i ≡ Some x → Contains (f (k + i) x) y → Contains (walk f k xs) y
+pub gives : {X Y : Type 0} (f : ℕ → X → List Y) (k : ℕ) (xs : List X) (i : ℕ) (x : X) (y : Y) → slice_get xs i ≡ Some x → Contains (f (k + i) x) y
+    → Contains (walk f k xs) y
 gives f k [] i x y at c = absurd (let e : ⊥ = omega (arith, slice_get_within [] i x at) in e)
 gives f k (w ∷ xs) zero x y at c =
     let it : w ≡ x = cc in
@@ -101,6 +102,7 @@ given_at f xs metal y is c =
     let it = given f 0 xs y (subst (λ ys. Contains ys y) is c) in
     record { i = it.i; x = it.x; there = it.there; given = subst (λ n. Contains (f n it.x) y) (zero-add it.i) it.given }
 
-pub gives_at : {X Y : Type 0} (f : ℕ → X → List Y) (xs : List X) (metal : List Y) (i : ℕ) (x : X) (y : Y) → metal ≡ walk f 0 xs → slice_get xs i ≡ Some x → Contains (f i x) y → Contains metal y
+pub gives_at : {X Y : Type 0} (f : ℕ → X → List Y) (xs : List X) (metal : List Y) (i : ℕ) (x : X) (y : Y) → metal ≡ walk f 0 xs → slice_get xs i ≡ Some x
+    → Contains (f i x) y → Contains metal y
 gives_at f xs metal i x y is at c =
     subst (λ ys. Contains ys y) (sym is) (gives f 0 xs i x y at (subst (λ n. Contains (f n x) y) (sym (zero-add i)) c))

@@ -8,7 +8,8 @@ use Rattle.leg_design_records.proofs.SameTerminal.{among_contains}
 use Rattle.leg_rules.specs.Metal.Owner.{listing_place, net_of, lone_owner, owner_of, piece_of}
 use Rattle.leg_flat.specs.Sources.{IsLone}
 
-nowhere_listed : (terminal : Terminal) (nets : List NetModel) → ((net : NetModel) → Contains nets net → ¬ Contains net.terminals terminal) → listing_place terminal nets ≡ None
+nowhere_listed : (terminal : Terminal) (nets : List NetModel) → ((net : NetModel) → Contains nets net → ¬ Contains net.terminals terminal)
+    → listing_place terminal nets ≡ None
 nowhere_listed terminal [] none = refl
 nowhere_listed terminal (net ∷ nets) none =
     by (nowhere_listed terminal nets (λ one has. none one (Contains-append_right (net ∷ []) nets one has))) (is_among terminal net.terminals) refl

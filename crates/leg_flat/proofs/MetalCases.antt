@@ -29,7 +29,9 @@ module _ (design : DesignModel) (has : HasNets design) (Q : Metal → Type 0)
     (blockage : (k : ℕ) (shape : OnLayer) → IsOfBlockage design k shape → Q (of_blockage k shape))
     (terminal : (t : Terminal) (shape : OnLayer) → IsOfTerminal design t shape → Q (of_terminal_shape design t shape))
     (wire : (n w : ℕ) (shape : OnLayer) → IsMetalOfPiece design n (Wire w) shape → Q (of_piece n (length (terminals_of design n) + w) (Wire w) shape)) where
-  of_pins : (c : ℕ) (component : Component) (place : Place) (master : library.MasterModel) (m : Metal) → slice_get design.components c ≡ Some component → component.place ≡ Some place → slice_get design.library.masters component.master ≡ Some master → Contains (pins_metal design c place master.size 0 master.pins) m → Q m
+  of_pins : (c : ℕ) (component : Component) (place : Place) (master : library.MasterModel) (m : Metal) → slice_get design.components c ≡ Some component
+      → component.place ≡ Some place → slice_get design.library.masters component.master ≡ Some master
+      → Contains (pins_metal design c place master.size 0 master.pins) m → Q m
   of_pins c component place master m at placed is there =
       let it = given_at (pin_metal design c place master.size) master.pins _ m (pins_walk design c place master.size 0 master.pins) there in
       let from = comes _ (drawn place master.size it.x.shapes) m it.given in
@@ -45,9 +47,11 @@ module _ (design : DesignModel) (has : HasNets design) (Q : Metal → Type 0)
         draws = contains_at (drawn place master.size it.x.shapes) from.k from.x from.there;
       }))
 
-  of_component : (c : ℕ) (component : Component) (m : Metal) → slice_get design.components c ≡ Some component → Contains (one_component design c component) m → Q m
+  of_component : (c : ℕ) (component : Component) (m : Metal) → slice_get design.components c ≡ Some component
+      → Contains (one_component design c component) m → Q m
   of_component c component m at there = by component.place refl (slice_get design.library.masters component.master) refl there where
-    by : (place : Option Place) → component.place ≡ place → (master : Option library.MasterModel) → slice_get design.library.masters component.master ≡ master → Contains (component_metal design c place master) m → Q m
+    by : (place : Option Place) → component.place ≡ place → (master : Option library.MasterModel) → slice_get design.library.masters component.master ≡ master
+        → Contains (component_metal design c place master) m → Q m
     by None placed None is there = absurd (nothing_in m there)
     by None placed (Some master) is there = absurd (nothing_in m there)
     by (Some place) placed None is there = absurd (nothing_in m there)
@@ -106,7 +110,9 @@ module _ (design : DesignModel) (has : HasNets design) (Q : Metal → Type 0)
       let it = given_at one_blockage design.blockages _ m (blockages_walk 0 design.blockages) there in
       of_blockage_at it.i it.x m it.there it.given
 
-  of_wires : (n first piece : ℕ) (wires : List records.Wire) (m : Metal) → piece ≡ length (terminals_of design n) + first → ((i : ℕ) (one : records.Wire) → slice_get wires i ≡ Some one → slice_get (wires_of design n) (first + i) ≡ Some one) → Contains (wires_metal design n piece wires) m → Q m
+  of_wires : (n first piece : ℕ) (wires : List records.Wire) (m : Metal) → piece ≡ length (terminals_of design n) + first
+      → ((i : ℕ) (one : records.Wire) → slice_get wires i ≡ Some one → slice_get (wires_of design n) (first + i) ≡ Some one)
+      → Contains (wires_metal design n piece wires) m → Q m
   of_wires n first piece wires m from_piece stand there =
       let it = given (wire_metal design n) piece wires m (subst (λ ms. Contains ms m) (wires_walk design n piece wires) there) in
       let from = comes _ (wire_outlines design it.x) m it.given in
@@ -127,7 +133,8 @@ module _ (design : DesignModel) (has : HasNets design) (Q : Metal → Type 0)
       let it = given_at (one_special design) design.special _ m (specials_walk design 0 design.special) there in
       let n = number_of_special design it.i it.x in
       let entry : special_entry design n ≡ Some it.x = special_of design has it.i it.x it.there in
-      of_wires n (length (entry_wires (regular_entry design n))) (length (terminals_of design n) + length (entry_wires (regular_entry design n))) it.x.wires m refl
+      of_wires n (length (entry_wires (regular_entry design n)))
+      (length (terminals_of design n) + length (entry_wires (regular_entry design n))) it.x.wires m refl
       (λ j one at. special_wire design n j one (ap (λ o. slice_get (entry_wires o) j) entry ∙ at)) it.given
 
   pub each_metal : (m : Metal) → Contains (metal_of design) m → Q m

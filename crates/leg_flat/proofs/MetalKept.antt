@@ -25,14 +25,20 @@ kept_number z n = grind (arith, ints, to_z-of_z)
 same_size : (w h : ℤ) (size : ExtentModel) → w ≡ size.width → h ≡ size.height → record { width = w; height = h } ≡ size
 same_size w h size e f = rw (e, f) refl
 
-pub kept_size : (w h : ℤ) (size : ExtentModel) → w ≡ size.width → h ≡ size.height → IsExtent size → record { width = to_z w64 (of_z w64 w); height = to_z w64 (of_z w64 h) } ≡ size
+pub kept_size : (w h : ℤ) (size : ExtentModel) → w ≡ size.width → h ≡ size.height → IsExtent size
+    → record { width = to_z w64 (of_z w64 w); height = to_z w64 (of_z w64 h) } ≡ size
 kept_size w h size e f is =
     let width : IsNumber w = rw e is.width in
     let height : IsNumber h = rw f is.height in
     same_size _ _ size (kept_number w width ∙ e) (kept_number h height ∙ f)
 
 -- a segment is one shape
-pub segment_adds : (design : DesignModel) (layer : ℕ) (from to : PointModel) (width ext_from ext_to : ℤ) (belongs : Belonging) (s after : List Shape) (rect : RectModel) → IsRect rect → IsLineWithin from to width ext_from ext_to → ((p : PointModel) → HasPoint rect p ↔ HasPointOf (Line from to (to_z w64 (of_z w64 width)) (to_z w64 (of_z w64 ext_from)) (to_z w64 (of_z w64 ext_to))) p) → after ≡ s ++ record { layer = layer; rect = rect; owner = belongs.owner; component = belongs.component; piece = belongs.piece } ∷ [] → AddsMetal (belonging belongs (wire_outlines design (Segment layer from to width ext_from ext_to))) s after
+pub segment_adds : (design : DesignModel) (layer : ℕ) (from to : PointModel) (width ext_from ext_to : ℤ) (belongs : Belonging) (s after : List Shape)
+    (rect : RectModel) → IsRect rect → IsLineWithin from to width ext_from ext_to
+    → ((p : PointModel) → HasPoint rect p ↔ HasPointOf
+    (Line from to (to_z w64 (of_z w64 width)) (to_z w64 (of_z w64 ext_from)) (to_z w64 (of_z w64 ext_to))) p)
+    → after ≡ s ++ record { layer = layer; rect = rect; owner = belongs.owner; component = belongs.component; piece = belongs.piece } ∷ []
+    → AddsMetal (belonging belongs (wire_outlines design (Segment layer from to width ext_from ext_to))) s after
 segment_adds design layer from to width ext_from ext_to belongs s after rect proper is points grown =
     let e = kept_number width is.wide.within in
     let f = kept_number ext_from is.before.within in

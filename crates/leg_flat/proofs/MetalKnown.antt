@@ -56,7 +56,8 @@ design_via_drawn : (library : LibraryModel) (via : ViaModel) → IsDesignVia lib
 design_via_drawn library via is = all_follow (IsMetalShape library) (λ s. IsDrawnWithin s.rect) (drawn_of_metal library) via.shapes is.shapes
 
 -- shapes of a via, of the library or of the design
-pub via_drawn : (design : DesignModel) (number : ℕ) (via : ViaModel) → IsSound design.library → IsWellFormed design → slice_get (design.library.vias ++ design.vias) number ≡ Some via → AreDrawnWithin via.shapes
+pub via_drawn : (design : DesignModel) (number : ℕ) (via : ViaModel) → IsSound design.library → IsWellFormed design
+    → slice_get (design.library.vias ++ design.vias) number ≡ Some via → AreDrawnWithin via.shapes
 via_drawn design number via sound proper is =
     let drawn = λ (v : ViaModel). AreDrawnWithin v.shapes in
     all_at drawn (design.library.vias ++ design.vias) number via is

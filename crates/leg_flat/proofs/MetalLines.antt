@@ -55,17 +55,20 @@ half_reach (pos a) is =
     record { forth = omega (arith, ints); within = omega (arith, ints) }
 half_reach (negsuc a) is = absurd (let some = is.some in let e : ⊥ = omega (arith, ints) in e)
 
-default_reach : (library : LibraryModel) (special : Bool) (layer : ℕ) (width : ℤ) → IsSound library → IsWidth library special layer width → IsMetalReach (default_extension library (written special) layer)
+default_reach : (library : LibraryModel) (special : Bool) (layer : ℕ) (width : ℤ) → IsSound library → IsWidth library special layer width
+    → IsMetalReach (default_extension library (written special) layer)
 unfolding default_extension
 default_reach library false layer width sound is = rw is (half_reach width (layer_width library layer width sound is))
 default_reach library true layer width sound is = record { forth = omega (arith, ints); within = omega arith }
 
-reach_within : (library : LibraryModel) (special : Bool) (layer : ℕ) (width ext : ℤ) → IsSound library → IsWidth library special layer width → IsExtension library special layer ext → IsMetalReach ext
+reach_within : (library : LibraryModel) (special : Bool) (layer : ℕ) (width ext : ℤ) → IsSound library → IsWidth library special layer width
+    → IsExtension library special layer ext → IsMetalReach ext
 reach_within library special layer width ext sound is (inl given) = record { forth = given.1; within = given.0 }
 reach_within library special layer width ext sound is (inr default) = rw default (default_reach library special layer width sound is)
 
 -- a wire that a DEF can spell
-pub wire_within : (library : LibraryModel) (vias : List ViaModel) (special : Bool) → IsSound library → (wire : Wire) → IsWire library vias special wire → IsWireWithin wire
+pub wire_within : (library : LibraryModel) (vias : List ViaModel) (special : Bool) → IsSound library → (wire : Wire) → IsWire library vias special wire
+    → IsWireWithin wire
 wire_within library vias special sound (Segment layer from to width ext_from ext_to) is = record {
   begins = is.from_;
   ends = is.to_;

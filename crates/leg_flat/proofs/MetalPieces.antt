@@ -23,20 +23,24 @@ use Rattle.leg_flat.proofs.PiecePlaces.{at_place, terminal_piece, wire_piece}
 
 module _ (design : DesignModel) (has : HasNets design) where
   -- metal of a terminal in no net
-  by_use : (metal : OnLayer) (component : Option ℕ) (t : Terminal) (pin : Option library.MasterPinModel) → HasItsPiece design (record { metal = metal; belongs = record { owner = owner_by_use t pin; component = component; piece = None } })
+  by_use : (metal : OnLayer) (component : Option ℕ) (t : Terminal) (pin : Option library.MasterPinModel)
+      → HasItsPiece design (record { metal = metal; belongs = record { owner = owner_by_use t pin; component = component; piece = None } })
   by_use metal component t None = refl
   by_use metal component t (Some pin) = by pin.supply refl where
-    by : (supply : Supply) → pin.supply ≡ supply → HasItsPiece design (record { metal = metal; belongs = record { owner = owner_by_use t (Some pin); component = component; piece = None } })
+    by : (supply : Supply) → pin.supply ≡ supply → HasItsPiece design
+        (record { metal = metal; belongs = record { owner = owner_by_use t (Some pin); component = component; piece = None } })
     by NoSupply is = rw is refl
     by Power is = rw is refl
     by Ground is = rw is refl
 
-  lone : (metal : OnLayer) (component : Option ℕ) (t : Terminal) → HasItsPiece design (record { metal = metal; belongs = record { owner = lone_owner design t; component = component; piece = None } })
+  lone : (metal : OnLayer) (component : Option ℕ) (t : Terminal)
+      → HasItsPiece design (record { metal = metal; belongs = record { owner = lone_owner design t; component = component; piece = None } })
   lone metal component (Comp c k) = by_use metal component (Comp c k) (master_pin design c k)
   lone metal component (Pin p) = refl
 
   -- metal of a terminal
-  terminal_has : (t : Terminal) (metal : OnLayer) → IsOfTerminal design t metal → HasItsPiece design (record { metal = metal; belongs = of_terminal design (terminal_component t) t })
+  terminal_has : (t : Terminal) (metal : OnLayer) → IsOfTerminal design t metal
+      → HasItsPiece design (record { metal = metal; belongs = of_terminal design (terminal_component t) t })
   unfolding owner_of piece_of
   terminal_has t metal of_t = by (net_of design t) refl where
     by : (o : Option ℕ) → net_of design t ≡ o → HasItsPiece design (record { metal = metal; belongs = of_terminal design (terminal_component t) t })
@@ -56,7 +60,8 @@ module _ (design : DesignModel) (has : HasNets design) where
         )
 
   -- metal of a wire
-  wire_has : (n j : ℕ) (wire : records.Wire) (metal : OnLayer) → slice_get (wires_of design n) j ≡ Some wire → Contains (wire_outlines design wire) metal → HasItsPiece design (record { metal = metal; belongs = record { owner = Net n; component = None; piece = Some (length (terminals_of design n) + j) } })
+  wire_has : (n j : ℕ) (wire : records.Wire) (metal : OnLayer) → slice_get (wires_of design n) j ≡ Some wire → Contains (wire_outlines design wire) metal
+      → HasItsPiece design (record { metal = metal; belongs = record { owner = Net n; component = None; piece = Some (length (terminals_of design n) + j) } })
   wire_has n j wire metal at draws = (
     length (terminals_of design n) + j,
     refl,

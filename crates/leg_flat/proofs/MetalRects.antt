@@ -41,7 +41,8 @@ are_boxes : (shapes : List Shape) → AreDrawnWithin shapes → AreProperShapes 
 are_boxes shapes within proper = λ k d less. record { within = within k d less; proper = proper k d less }
 
 -- what the elements of a list give, one after another
-All-walk : {X Y : Type 0} (Q : X → Type 0) (P : Y → Type 0) (f : ℕ → X → List Y) → ((k : ℕ) (x : X) → Q x → All P (f k x)) → (k : ℕ) (xs : List X) → All Q xs → All P (walk f k xs)
+All-walk : {X Y : Type 0} (Q : X → Type 0) (P : Y → Type 0) (f : ℕ → X → List Y) → ((k : ℕ) (x : X) → Q x → All P (f k x)) → (k : ℕ) (xs : List X) → All Q xs
+    → All P (walk f k xs)
 All-walk Q P f each k [] all = All-nil P
 All-walk Q P f each k (x ∷ xs) all =
     All-append P (f k x) (walk f (suc k) xs) (each k x (All-head Q x xs all)) (All-walk Q P f each (suc k) xs (All-tail Q x xs all))
@@ -66,29 +67,34 @@ blockage_rects k (Some layer) rects are =
     belonging_rects _ _ (All-map IsRectOn _ rects (all_follow IsArea _ (λ r is. rectangle_has r is) rects are))
 
 module _ (images : ArePlacedImages) where
-  drawn_rects : (place : Place) (size : ExtentModel) (shapes : List Shape) → IsPosition place.at → IsNumber size.width → IsNumber size.height → AreBoxes shapes → All IsRectOn (drawn place size shapes)
+  drawn_rects : (place : Place) (size : ExtentModel) (shapes : List Shape) → IsPosition place.at → IsNumber size.width → IsNumber size.height
+      → AreBoxes shapes → All IsRectOn (drawn place size shapes)
   drawn_rects place size shapes there wide high boxes =
       All-map IsRectOn _ shapes (all_follow (λ (s : Shape). IsBox s.rect) _ (λ s is. drawn_has images place size s.rect there wide high is) shapes boxes)
 
-  shifted_rects : (at : PointModel) (shapes : List Shape) → IsPosition at → AreBoxes shapes → All IsRectOn (map (λ s. record { layer = s.layer; outline = Shifted at s.rect }) shapes)
+  shifted_rects : (at : PointModel) (shapes : List Shape) → IsPosition at → AreBoxes shapes
+      → All IsRectOn (map (λ s. record { layer = s.layer; outline = Shifted at s.rect }) shapes)
   shifted_rects at shapes there boxes =
       All-map IsRectOn _ shapes (all_follow (λ (s : Shape). IsBox s.rect) _ (λ s is. shifted_has images at s.rect there is) shapes boxes)
 
-  pins_rects : (design : DesignModel) (c : ℕ) (place : Place) (master : MasterModel) → IsPosition place.at → IsMasterOfBoxes master → All IsRectMetal (walk (pin_metal design c place master.size) 0 master.pins)
+  pins_rects : (design : DesignModel) (c : ℕ) (place : Place) (master : MasterModel) → IsPosition place.at → IsMasterOfBoxes master
+      → All IsRectMetal (walk (pin_metal design c place master.size) 0 master.pins)
   pins_rects design c place master there is =
       All-walk (λ (pin : MasterPinModel). AreBoxes pin.shapes) IsRectMetal (pin_metal design c place master.size)
       (λ k pin boxes. belonging_rects _ _ (drawn_rects place master.size pin.shapes there is.proper.size.width is.proper.size.height boxes))
       0 master.pins
       (λ k d less. are_boxes _ (master_drawn _ (is.sound.pins k d less)) (is.proper.pins k d less))
 
-  master_rects : (design : DesignModel) (c : ℕ) (place : Place) (master : MasterModel) → IsPosition place.at → IsMasterOfBoxes master → All IsRectMetal (master_metal design c place master)
+  master_rects : (design : DesignModel) (c : ℕ) (place : Place) (master : MasterModel) → IsPosition place.at → IsMasterOfBoxes master
+      → All IsRectMetal (master_metal design c place master)
   master_rects design c place master there is =
       let obstructions = are_boxes master.obstructions (master_drawn master.obstructions is.sound.obstructions) is.proper.obstructions in
       All-append IsRectMetal _ _
       (All-same IsRectMetal _ _ (pins_walk design c place master.size 0 master.pins) (pins_rects design c place master there is))
       (belonging_rects _ _ (drawn_rects place master.size master.obstructions there is.proper.size.width is.proper.size.height obstructions))
 
-  component_rects : (design : DesignModel) (c : ℕ) (place : Option Place) (master : Option MasterModel) → IsPlaceWithin place → ((m : MasterModel) → master ≡ Some m → IsMasterOfBoxes m) → All IsRectMetal (component_metal design c place master)
+  component_rects : (design : DesignModel) (c : ℕ) (place : Option Place) (master : Option MasterModel) → IsPlaceWithin place
+      → ((m : MasterModel) → master ≡ Some m → IsMasterOfBoxes m) → All IsRectMetal (component_metal design c place master)
   component_rects design c None None there known = All-nil IsRectMetal
   component_rects design c None (Some m) there known = All-nil IsRectMetal
   component_rects design c (Some place) None there known = All-nil IsRectMetal
@@ -98,7 +104,8 @@ module _ (images : ArePlacedImages) where
   port_rects None shapes there boxes = All-nil IsRectOn
   port_rects (Some place) shapes there boxes = drawn_rects place no_size shapes there zero_number zero_number boxes
 
-  via_rects : (via : Option ViaModel) (number : ℕ) (at : PointModel) → IsPosition at → ((v : ViaModel) → via ≡ Some v → AreBoxes v.shapes) → All IsRectOn (via_outlines via (ViaAt number at))
+  via_rects : (via : Option ViaModel) (number : ℕ) (at : PointModel) → IsPosition at → ((v : ViaModel) → via ≡ Some v → AreBoxes v.shapes)
+      → All IsRectOn (via_outlines via (ViaAt number at))
   via_rects None number at there known = All-nil IsRectOn
   via_rects (Some v) number at there known = shifted_rects at v.shapes there (known v refl)
 
@@ -113,7 +120,8 @@ module _ (images : ArePlacedImages) where
     components_rects =
         All-same IsRectMetal _ _ (components_walk design 0 design.components)
         (All-walk (IsComponent design.library) IsRectMetal (one_component design)
-        (λ c component is. component_rects design c component.place (slice_get design.library.masters component.master) (placed_within component.status component.place is.placed) (master_of_boxes component.master))
+        (λ c component is. component_rects design c component.place (slice_get design.library.masters component.master)
+        (placed_within component.status component.place is.placed) (master_of_boxes component.master))
         0 design.components well.components.each)
 
     one_port_rects : (port : PortModel) → IsPort design.library port → All IsRectOn (port_outlines port.place port.shapes)
@@ -149,17 +157,20 @@ module _ (images : ArePlacedImages) where
 
     wire_rects : (special : Bool) (wire : Wire) → IsWire design.library design.vias special wire → All IsRectOn (wire_outlines design wire)
     wire_rects special (Segment layer from to width ext_from ext_to) is =
-        one_rect _ (line_has from to width ext_from ext_to (wire_within design.library design.vias special sound (Segment layer from to width ext_from ext_to) is))
+        one_rect _ (line_has from to width ext_from ext_to
+        (wire_within design.library design.vias special sound (Segment layer from to width ext_from ext_to) is))
     wire_rects special (ViaAt number at) is =
         via_rects (slice_get (design.library.vias ++ design.vias) number) number at is.0
         (λ v there. are_boxes v.shapes (via_drawn design number v sound well there) (via_proper number v there))
     wire_rects special (Patch layer at rect) is =
         one_rect _ (shifted_has images at rect is.2 (record { within = drawn_of_area rect is.3; proper = is.3.proper }))
 
-    wires_rects : (special : Bool) (n piece : ℕ) (wires : List Wire) → All (IsWire design.library design.vias special) wires → All IsRectMetal (wires_metal design n piece wires)
+    wires_rects : (special : Bool) (n piece : ℕ) (wires : List Wire) → All (IsWire design.library design.vias special) wires
+        → All IsRectMetal (wires_metal design n piece wires)
     wires_rects special n piece wires each =
         All-same IsRectMetal _ _ (wires_walk design n piece wires)
-        (All-walk (IsWire design.library design.vias special) IsRectMetal (wire_metal design n) (λ k wire is. belonging_rects _ _ (wire_rects special wire is)) piece wires each)
+        (All-walk (IsWire design.library design.vias special) IsRectMetal (wire_metal design n)
+        (λ k wire is. belonging_rects _ _ (wire_rects special wire is)) piece wires each)
 
     nets_rects : All IsRectMetal (nets_metal design 0 design.nets)
     nets_rects =
@@ -169,7 +180,8 @@ module _ (images : ArePlacedImages) where
     specials_rects : All IsRectMetal (specials_metal design 0 design.special)
     specials_rects =
         All-same IsRectMetal _ _ (specials_walk design 0 design.special)
-        (All-walk (IsNet design true) IsRectMetal (one_special design) (λ k net is. wires_rects true (number_of_special design k net) _ net.wires is.wires) 0 design.special well.nets.special.each)
+        (All-walk (IsNet design true) IsRectMetal (one_special design)
+        (λ k net is. wires_rects true (number_of_special design k net) _ net.wires is.wires) 0 design.special well.nets.special.each)
 
     pub metal_rects : All IsRectMetal (metal_of design)
     unfolding metal_of

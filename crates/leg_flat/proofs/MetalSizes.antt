@@ -29,7 +29,8 @@ read_said said items xs i x same less is =
     rw (← same) (slice_get-map said items i ∙ rw (read_at items items i x refl less is) refl)
 
 -- the wires of an entry can be drawn
-pub wires_within : (design : DesignModel) (special : Bool) (nets : List NetModel) (n : ℕ) (net : NetModel) (wires : List Wire) → IsSound design.library → All (IsNet design special) nets → slice_get nets n ≡ Some net → wires ≡ net.wires → All IsWireWithin wires
+pub wires_within : (design : DesignModel) (special : Bool) (nets : List NetModel) (n : ℕ) (net : NetModel) (wires : List Wire) → IsSound design.library
+    → All (IsNet design special) nets → slice_get nets n ≡ Some net → wires ≡ net.wires → All IsWireWithin wires
 wires_within design special nets n net wires sound each there is =
     let known : IsNet design special net = all_at (IsNet design special) nets n net there each in
     rw is (all_follow (IsWire design.library design.vias special) IsWireWithin (wire_within design.library design.vias special sound) net.wires known.wires)
@@ -41,7 +42,13 @@ module _ (design : DesignModel) (has : HasNets design) where
       let first = entry_terminals (regular_entry design n) in
       let second = entry_terminals (special_entry design n) in
       let p = λ (t : Terminal). not (is_among t first) in
-      omega (arith, length-append first (filter p second), length-filter p second, count_by-le-length p second, few_terminals design has n first second refl refl)
+      omega (
+        arith,
+        length-append first (filter p second),
+        length-filter p second,
+        count_by-le-length p second,
+        few_terminals design has n first second refl refl,
+      )
 
   pub regular_wires_few : (n : ℕ) → length (entry_wires (regular_entry design n)) ≤ PART_LIMIT
   regular_wires_few n = omega (arith, few_wires design has n _ _ refl refl)
@@ -63,14 +70,17 @@ module _ (design : DesignModel) (nets : NetsModel) (are : AreNetsOf design nets)
       ∙ get_or-map-range_with_len (λ n. length (terminals_of design n)) 0 (length design.nets + length design.special) n n 0 less (zero-add n)
 
   -- the number of the net of an entry of SPECIALNETS
-  pub special_is_number : (k n : ℕ) (net : NetModel) → slice_get design.special k ≡ Some net → slice_get nets.special k ≡ Some n → n ≡ number_of_special design k net
+  pub special_is_number : (k n : ℕ) (net : NetModel) → slice_get design.special k ≡ Some net → slice_get nets.special k ≡ Some n
+      → n ≡ number_of_special design k net
   special_is_number k n net there at =
       let both : ◌≡◌ {A = Option ℕ} (Some n) (Some (number_of_special design k net)) = sym at ∙ are.special.each k net there in
       cc
 
-  pub special_below : (k n : ℕ) (net : NetModel) → slice_get design.special k ≡ Some net → slice_get nets.special k ≡ Some n → n < length design.nets + length design.special
+  pub special_below : (k n : ℕ) (net : NetModel) → slice_get design.special k ≡ Some net → slice_get nets.special k ≡ Some n
+      → n < length design.nets + length design.special
   special_below k n net there at =
       rw (special_is_number k n net there at) (number_within design k net (slice_get_within design.special k net there))
 
-  pub special_count : (k n count : ℕ) (net : NetModel) → slice_get design.special k ≡ Some net → slice_get nets.special k ≡ Some n → slice_get nets.counts n ≡ Some count → count ≡ length (terminals_of design n)
+  pub special_count : (k n count : ℕ) (net : NetModel) → slice_get design.special k ≡ Some net → slice_get nets.special k ≡ Some n
+      → slice_get nets.counts n ≡ Some count → count ≡ length (terminals_of design n)
   special_count k n count net there at counted = count_is n count (special_below k n net there at) counted

@@ -25,14 +25,16 @@ abbrev pub drawn_metal : Place → ExtentModel → Belonging → ℕ → Shape �
 drawn_metal place size belongs k s =
     record { metal = record { layer = s.layer; outline = Drawn place size s.rect }; belongs = belongs } ∷ []
 
-pub drawn_walk : (place : Place) (size : ExtentModel) (belongs : Belonging) (shapes : List Shape) → belonging belongs (drawn place size shapes) ≡ walk (drawn_metal place size belongs) 0 shapes
+pub drawn_walk : (place : Place) (size : ExtentModel) (belongs : Belonging) (shapes : List Shape)
+    → belonging belongs (drawn place size shapes) ≡ walk (drawn_metal place size belongs) 0 shapes
 drawn_walk place size belongs shapes = walk_map _ _ 0 shapes
 
 abbrev pub shifted_metal : PointModel → Belonging → ℕ → Shape → List Metal
 shifted_metal at belongs k s =
     record { metal = record { layer = s.layer; outline = Shifted at s.rect }; belongs = belongs } ∷ []
 
-pub shifted_walk : (at : PointModel) (belongs : Belonging) (shapes : List Shape) → belonging belongs (map (λ s. record { layer = s.layer; outline = Shifted at s.rect }) shapes) ≡ walk (shifted_metal at belongs) 0 shapes
+pub shifted_walk : (at : PointModel) (belongs : Belonging) (shapes : List Shape)
+    → belonging belongs (map (λ s. record { layer = s.layer; outline = Shifted at s.rect }) shapes) ≡ walk (shifted_metal at belongs) 0 shapes
 shifted_walk at belongs shapes = walk_map _ _ 0 shapes
 
 -- a rectangle as it is, on a layer
@@ -49,18 +51,21 @@ rects_walk layer belongs rects = walk_map _ _ 0 rects
 abbrev pub pin_metal : DesignModel → ℕ → Place → ExtentModel → ℕ → library.MasterPinModel → List Metal
 pin_metal design c place size k pin = belonging (of_terminal design (Some c) (Comp c k)) (drawn place size pin.shapes)
 
-pub pins_walk : (design : DesignModel) (c : ℕ) (place : Place) (size : ExtentModel) (k : ℕ) (pins : List library.MasterPinModel) → pins_metal design c place size k pins ≡ walk (pin_metal design c place size) k pins
+pub pins_walk : (design : DesignModel) (c : ℕ) (place : Place) (size : ExtentModel) (k : ℕ) (pins : List library.MasterPinModel)
+    → pins_metal design c place size k pins ≡ walk (pin_metal design c place size) k pins
 unfolding pins_metal
 pins_walk design c place size k [] = refl
 pins_walk design c place size k (pin ∷ pins) =
     ap (λ z. pin_metal design c place size k pin ++ z) (pins_walk design c place size (suc k) pins)
 
-pub no_place : (design : DesignModel) (c : ℕ) (place : Option Place) (master : Option library.MasterModel) → place ≡ None → component_metal design c place master ≡ []
+pub no_place : (design : DesignModel) (c : ℕ) (place : Option Place) (master : Option library.MasterModel) → place ≡ None
+    → component_metal design c place master ≡ []
 no_place design c None None is = refl
 no_place design c None (Some m) is = refl
 no_place design c (Some p) master is = absurd (let e : ⊥ = cc in e)
 
-pub no_master : (design : DesignModel) (c : ℕ) (place : Option Place) (master : Option library.MasterModel) → master ≡ None → component_metal design c place master ≡ []
+pub no_master : (design : DesignModel) (c : ℕ) (place : Option Place) (master : Option library.MasterModel) → master ≡ None
+    → component_metal design c place master ≡ []
 no_master design c None None is = refl
 no_master design c (Some p) None is = refl
 no_master design c place (Some m) is = absurd (let e : ⊥ = cc in e)
@@ -68,7 +73,8 @@ no_master design c place (Some m) is = absurd (let e : ⊥ = cc in e)
 abbrev pub one_component : DesignModel → ℕ → Component → List Metal
 one_component design c component = component_metal design c component.place (slice_get design.library.masters component.master)
 
-pub components_walk : (design : DesignModel) (c : ℕ) (components : List Component) → components_metal design c components ≡ walk (one_component design) c components
+pub components_walk : (design : DesignModel) (c : ℕ) (components : List Component)
+    → components_metal design c components ≡ walk (one_component design) c components
 unfolding components_metal
 components_walk design c [] = refl
 components_walk design c (component ∷ components) =

@@ -10,7 +10,8 @@ use Rattle.leg_flat.proofs.MoreMetal.{adds_none, adds_both}
 use Rattle.leg_flat.proofs.Parts.{AreSteps, step_on}
 
 -- what the parts add, one after another from no shapes on, is the metal
-pub metal_from_parts : (design : DesignModel) (shapes : List Shape) → AreSteps AddsMetal (metal_parts design) [] shapes → OneForOne IsShapeOf (metal_of design) shapes
+pub metal_from_parts : (design : DesignModel) (shapes : List Shape) → AreSteps AddsMetal (metal_parts design) [] shapes
+    → OneForOne IsShapeOf (metal_of design) shapes
 unfolding metal_of
 metal_from_parts design shapes steps =
     let all = step_on AddsMetal adds_both (metal_parts design) [] [] [] shapes (adds_none []) steps in

@@ -40,7 +40,8 @@ walk f k (x ∷ xs) = f k x ++ walk f (suc k) xs
 later : (k i : ℕ) → suc k + i ≡ k + suc i
 later k i = omega arith
 
-pub walk_more : {X Y : Type 0} (f : ℕ → X → List Y) (k : ℕ) (xs : List X) (i : ℕ) (x : X) → i < length xs → x ≡ get_or xs i x → walk f k (take (suc i) xs) ≡ walk f k (take i xs) ++ f (k + i) x
+pub walk_more : {X Y : Type 0} (f : ℕ → X → List Y) (k : ℕ) (xs : List X) (i : ℕ) (x : X) → i < length xs → x ≡ get_or xs i x
+    → walk f k (take (suc i) xs) ≡ walk f k (take i xs) ++ f (k + i) x
 walk_more f k [] i x less is = absurd (omega arith)
 walk_more f k (w ∷ xs) zero x less is = rw (is, add-zero k) (append-nil (f k w))
 walk_more f k (w ∷ xs) (suc i) x less is =
@@ -48,15 +49,18 @@ walk_more f k (w ∷ xs) (suc i) x less is =
 
 -- a loop over a list that adds what each element gives
 module _ {X : Type 0} (f : ℕ → X → List Metal) (k : ℕ) (xs : List X) (s : List Shape) where
-  pub adds_more : (i j : ℕ) (x : X) (t u : List Shape) → j ≡ k + i → i < length xs → x ≡ get_or xs i x → AddsMetal (walk f k (take i xs)) s t → AddsMetal (f j x) t u → AddsMetal (walk f k (take (i + 1) xs)) s u
+  pub adds_more : (i j : ℕ) (x : X) (t u : List Shape) → j ≡ k + i → i < length xs → x ≡ get_or xs i x → AddsMetal (walk f k (take i xs)) s t
+      → AddsMetal (f j x) t u → AddsMetal (walk f k (take (i + 1) xs)) s u
   adds_more i j x t u number less is before one =
       adds_same _ _ s u (rw (add-one, number) (walk_more f k xs i x less is)) (adds_both (walk f k (take i xs)) (f j x) s t u before one)
 
-  pub adds_all : (i : ℕ) (t : List Shape) (metal : List Metal) → length xs ≤ i → metal ≡ walk f k xs → AddsMetal (walk f k (take i xs)) s t → AddsMetal metal s t
+  pub adds_all : (i : ℕ) (t : List Shape) (metal : List Metal) → length xs ≤ i → metal ≡ walk f k xs → AddsMetal (walk f k (take i xs)) s t
+      → AddsMetal metal s t
   adds_all i t metal past is before =
       adds_same _ metal s t (is ∙ ap (walk f k) (sym (take_all i xs past))) before
 
   -- the same where the element is known to stand there
-  pub adds_at : (i j : ℕ) (x : X) (t u : List Shape) → j ≡ k + i → slice_get xs i ≡ Some x → AddsMetal (walk f k (take i xs)) s t → AddsMetal (f j x) t u → AddsMetal (walk f k (take (i + 1) xs)) s u
+  pub adds_at : (i j : ℕ) (x : X) (t u : List Shape) → j ≡ k + i → slice_get xs i ≡ Some x → AddsMetal (walk f k (take i xs)) s t → AddsMetal (f j x) t u
+      → AddsMetal (walk f k (take (i + 1) xs)) s u
   adds_at i j x t u number there before one =
       adds_more i j x t u number (slice_get_within xs i x there) (sym (get_or_from_slice_get xs i x x there)) before one

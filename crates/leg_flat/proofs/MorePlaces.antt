@@ -25,7 +25,8 @@ asked (Some place) p false e same = rw (← same) refl
 pub among_filter : (q : Terminal) (p : Terminal → Bool) (ts : List Terminal) → is_among q ts ≡ false → is_among q (filter p ts) ≡ false
 among_filter q p [] none = refl
 among_filter q p (t ∷ ts) none = by (among_filter q p ts) (is_same_terminal q t) refl (p t) refl where
-  by : (is_among q ts ≡ false → is_among q (filter p ts) ≡ false) → (same : Bool) → is_same_terminal q t ≡ same → (passes : Bool) → p t ≡ passes → is_among q (filter p (t ∷ ts)) ≡ false
+  by : (is_among q ts ≡ false → is_among q (filter p ts) ≡ false) → (same : Bool) → is_same_terminal q t ≡ same → (passes : Bool) → p t ≡ passes
+      → is_among q (filter p (t ∷ ts)) ≡ false
   by rest true same passes is = absurd (let among : is_among q (t ∷ ts) ≡ true = rw same refl in true≢false (sym among ∙ none))
   by rest false other true is = rw (is, other) (rest (rw other at none))
   by rest false other false is = rw is (rest (rw other at none))
@@ -39,10 +40,9 @@ not_before ts i t once less there =
     let it : t ≡ get_or ts j d = same_is t (get_or (take i ts) j d) same ∙ get_or-take i ts j d before in
     once j i d before less (sym it ∙ there ∙ get_or_default ts i t d less)))
 
-module _ (net : ℕ) (ts : List Terminal) (i : ℕ) (t : Terminal) (before after : List (Terminal × (ℕ × ℕ))) (pieces more : List Piece) (once : AllPairs (λ a b. a ≢ b) ts) (less : i < length ts) (there : t ≡ get_or ts i t) (added : ArePiecesAdded net (take i ts) before pieces after more) where
-  new : List Terminal
-  new = new_among before (take i ts)
-
+module _ (net : ℕ) (ts : List Terminal) (i : ℕ) (t : Terminal) (before after : List (Terminal × (ℕ × ℕ))) (pieces more : List Piece)
+    (once : AllPairs (λ a b. a ≢ b) ts) (less : i < length ts) (there : t ≡ get_or ts i t)
+    (added : ArePiecesAdded net (take i ts) before pieces after more) where
   nowhere : place_among t (new_among before (take i ts)) ≡ None
   nowhere = no_place t (new_among before (take i ts)) (among_filter t (λ t. is_none (place_in before t)) (take i ts) (not_before ts i t once less there))
 
@@ -61,21 +61,27 @@ module _ (net : ℕ) (ts : List Terminal) (i : ℕ) (t : Terminal) (before after
   -- a terminal that is in a net
   pub added_skipped : is_none (place_in after t) ≡ false → ArePiecesAdded net (take (i + 1) ts) before pieces after more
   added_skipped some =
-      let same : new_among before (take (i + 1) ts) ≡ new_among before (take i ts) = taken false (ap is_none (sym known) ∙ some) ∙ append-nil (new_among before (take i ts)) in
+      let same : new_among before (take (i + 1) ts) ≡ new_among before (take i ts) =
+      taken false (ap is_none (sym known) ∙ some) ∙ append-nil (new_among before (take i ts)) in
       record {
         grown = rw same added.grown;
         places = λ q. rw same (added.places q);
       }
 
   -- a terminal that isn't
-  pub added_more : (last : List (Terminal × (ℕ × ℕ))) (longer : List Piece) → is_none (place_in after t) ≡ true → longer ≡ more ++ Term t ∷ [] → ((q : Terminal) → place_in last q ≡ cond (is_same_terminal t q) (Some (net, length more)) (place_in after q)) → ArePiecesAdded net (take (i + 1) ts) before pieces last longer
+  pub added_more : (last : List (Terminal × (ℕ × ℕ))) (longer : List Piece) → is_none (place_in after t) ≡ true → longer ≡ more ++ Term t ∷ []
+      → ((q : Terminal) → place_in last q ≡ cond (is_same_terminal t q) (Some (net, length more)) (place_in after q))
+      → ArePiecesAdded net (take (i + 1) ts) before pieces last longer
   added_more last longer none pushed updates =
       let longest : new_among before (take (i + 1) ts) ≡ new_among before (take i ts) ++ t ∷ [] = taken true (ap is_none (sym known) ∙ none) in
-      let count : length more ≡ length pieces + length (new_among before (take i ts)) = ap length added.grown ∙ length-append pieces (map Term (new_among before (take i ts))) ∙ ap (λ n. length pieces + n) (length-map (new_among before (take i ts)) Term) in
+      let count : length more ≡ length pieces + length (new_among before (take i ts)) =
+      ap length added.grown ∙ length-append pieces (map Term (new_among before (take i ts)))
+      ∙ ap (λ n. length pieces + n) (length-map (new_among before (take i ts)) Term) in
       record {
         grown =
             pushed
-            ∙ rw (added.grown, longest, map-append Term (new_among before (take i ts)) (t ∷ [])) (append_assoc pieces (map Term (new_among before (take i ts))) (Term t ∷ []));
+            ∙ rw (added.grown, longest, map-append Term (new_among before (take i ts)) (t ∷ []))
+            (append_assoc pieces (map Term (new_among before (take i ts))) (Term t ∷ []));
         places = λ q.
             updates q
             ∙ rw (count, added.places q, longest) (sym (one_more (place_in before q) net (length pieces) (new_among before (take i ts)) t q (λ same.

@@ -11,7 +11,8 @@ use Rattle.leg_design_records.specs.WellFormedNets.{HasNets}
 use Rattle.leg_rules.specs.Metal.Nets.{number_of_special}
 
 -- each is below the number of all entries
-pub number_within : (design : DesignModel) (k : ℕ) (net : NetModel) → k < length design.special → number_of_special design k net < length design.nets + length design.special
+pub number_within : (design : DesignModel) (k : ℕ) (net : NetModel) → k < length design.special
+    → number_of_special design k net < length design.nets + length design.special
 number_within design k net less = by (place_of net.name (net_names design.nets)) refl where
   by : (o : Option ℕ) → place_of net.name (net_names design.nets) ≡ o → number_of_special design k net < length design.nets + length design.special
   by None none = rw none (omega arith)
@@ -19,12 +20,16 @@ number_within design k net less = by (place_of net.name (net_names design.nets))
       let stands = place_stands net.name (net_names design.nets) i found in
       rw found (omega (arith, stands.within, length-map design.nets (λ (n : NetModel). n.name)))
 
-pub number_fits : (design : DesignModel) (k : ℕ) (net : NetModel) (n : ℕ) → HasNets design → k < length design.special → n ≡ number_of_special design k net → Fits w32 n
+pub number_fits : (design : DesignModel) (k : ℕ) (net : NetModel) (n : ℕ) → HasNets design → k < length design.special → n ≡ number_of_special design k net
+    → Fits w32 n
 number_fits design k net n has less is =
     rw is (omega (arith, number_within design k net less, has.few))
 
 -- one more entry's
-pub number_more : (design : DesignModel) (numbers : List ℕ) (k n : ℕ) (net : NetModel) → length numbers ≡ k → ((j : ℕ) (other : NetModel) → j < k → slice_get design.special j ≡ Some other → slice_get numbers j ≡ Some (number_of_special design j other)) → net ≡ get_or design.special k net → n ≡ number_of_special design k net → (j : ℕ) (other : NetModel) → j < k + 1 → slice_get design.special j ≡ Some other → slice_get (numbers ++ n ∷ []) j ≡ Some (number_of_special design j other)
+pub number_more : (design : DesignModel) (numbers : List ℕ) (k n : ℕ) (net : NetModel) → length numbers ≡ k
+    → ((j : ℕ) (other : NetModel) → j < k → slice_get design.special j ≡ Some other → slice_get numbers j ≡ Some (number_of_special design j other))
+    → net ≡ get_or design.special k net → n ≡ number_of_special design k net → (j : ℕ) (other : NetModel) → j < k + 1
+    → slice_get design.special j ≡ Some other → slice_get (numbers ++ n ∷ []) j ≡ Some (number_of_special design j other)
 number_more design numbers k n net count each there is j other less at = by (nat_lt j k) refl where
   within : j < length (numbers ++ n ∷ [])
   within = omega (arith, length-append numbers (n ∷ []))

@@ -19,7 +19,8 @@ pub record IsListedAt (t : Terminal) (nets : List NetModel) (k : ℕ) : Type 0 w
 pub listed_at : (t : Terminal) (nets : List NetModel) (k : ℕ) → listing_place t nets ≡ Some k → IsListedAt t nets k
 listed_at t [] k found = absurd (let e : ⊥ = cc in e)
 listed_at t (net ∷ nets) k found = by (listed_at t nets) (is_among t net.terminals) refl (listing_place t nets) refl where
-  by : ((j : ℕ) → listing_place t nets ≡ Some j → IsListedAt t nets j) → (here : Bool) → is_among t net.terminals ≡ here → (o : Option ℕ) → listing_place t nets ≡ o → IsListedAt t (net ∷ nets) k
+  by : ((j : ℕ) → listing_place t nets ≡ Some j → IsListedAt t nets j) → (here : Bool) → is_among t net.terminals ≡ here → (o : Option ℕ)
+      → listing_place t nets ≡ o → IsListedAt t (net ∷ nets) k
   by rest true here o is =
       let first : listing_place t (net ∷ nets) ≡ Some 0 = rw here refl in
       let zeroth : k ≡ 0 = cc in
@@ -34,33 +35,40 @@ listed_at t (net ∷ nets) k found = by (listed_at t nets) (is_among t net.termi
       record { net = at.net; there = rw place at.there; lists = at.lists }
 
 -- no entry lists a terminal that has no place
-pub not_listed_at : (t : Terminal) (nets : List NetModel) → listing_place t nets ≡ None → (k : ℕ) (net : NetModel) → slice_get nets k ≡ Some net → is_among t net.terminals ≡ false
+pub not_listed_at : (t : Terminal) (nets : List NetModel) → listing_place t nets ≡ None → (k : ℕ) (net : NetModel) → slice_get nets k ≡ Some net
+    → is_among t net.terminals ≡ false
 not_listed_at t [] none k net there = absurd (let e : ⊥ = omega (arith, slice_get_within [] k net there) in e)
-not_listed_at t (first ∷ nets) none k net there = by (λ none. not_listed_at t nets none) (is_among t first.terminals) refl (listing_place t nets) refl k there where
-  by : (listing_place t nets ≡ None → (k : ℕ) (other : NetModel) → slice_get nets k ≡ Some other → is_among t other.terminals ≡ false) → (here : Bool) → is_among t first.terminals ≡ here → (o : Option ℕ) → listing_place t nets ≡ o → (k : ℕ) → slice_get (first ∷ nets) k ≡ Some net → is_among t net.terminals ≡ false
-  by rest true here o is k there =
-      let found : listing_place t (first ∷ nets) ≡ Some 0 = rw here refl in
-      absurd (let e : ⊥ = cc in e)
-  by rest false other (Some j) is k there =
-      let found : listing_place t (first ∷ nets) ≡ Some (suc j) = rw (other, is) refl in
-      absurd (let e : ⊥ = cc in e)
-  by rest false other None is zero there = let it : first ≡ net = cc in rw (← it) other
-  by rest false other None is (suc k) there = rest is k net there
+not_listed_at t (first ∷ nets) none k net there =
+    by (λ none. not_listed_at t nets none) (is_among t first.terminals) refl (listing_place t nets) refl k there where
+      by : (listing_place t nets ≡ None → (k : ℕ) (other : NetModel) → slice_get nets k ≡ Some other → is_among t other.terminals ≡ false) → (here : Bool)
+          → is_among t first.terminals ≡ here → (o : Option ℕ) → listing_place t nets ≡ o → (k : ℕ) → slice_get (first ∷ nets) k ≡ Some net
+          → is_among t net.terminals ≡ false
+      by rest true here o is k there =
+          let found : listing_place t (first ∷ nets) ≡ Some 0 = rw here refl in
+          absurd (let e : ⊥ = cc in e)
+      by rest false other (Some j) is k there =
+          let found : listing_place t (first ∷ nets) ≡ Some (suc j) = rw (other, is) refl in
+          absurd (let e : ⊥ = cc in e)
+      by rest false other None is zero there = let it : first ≡ net = cc in rw (← it) other
+      by rest false other None is (suc k) there = rest is k net there
 
 -- an element at a place
 pub contains_at : {X : Type 0} (xs : List X) (k : ℕ) (x : X) → slice_get xs k ≡ Some x → Contains xs x
 contains_at xs k x there = (k, slice_get_within xs k x there, get_or_from_slice_get xs k x x there)
 
 -- the entry of a name stands where the name does
-pub name_place : (nets : List NetModel) → AreApart (net_names nets) → (i : ℕ) (net : NetModel) → slice_get nets i ≡ Some net → place_of net.name (net_names nets) ≡ Some i
+pub name_place : (nets : List NetModel) → AreApart (net_names nets) → (i : ℕ) (net : NetModel) → slice_get nets i ≡ Some net
+    → place_of net.name (net_names nets) ≡ Some i
 name_place nets apart i net there =
     let less : i < length nets = slice_get_within nets i net there in
     let within : i < length (net_names nets) = omega (arith, length-map nets (λ (n : NetModel). n.name)) in
-    let named : get_or (net_names nets) i [] ≡ net.name = get_or-map (λ n. n.name) nets i net [] less ∙ ap (λ n. n.name) (get_or_from_slice_get nets i net net there) in
+    let named : get_or (net_names nets) i [] ≡ net.name =
+    get_or-map (λ n. n.name) nets i net [] less ∙ ap (λ n. n.name) (get_or_from_slice_get nets i net net there) in
     rw named at (apart i within)
 
 -- no two entries have one name
-pub one_of_name : (nets : List NetModel) → AreApart (net_names nets) → (i j : ℕ) (a b : NetModel) → slice_get nets i ≡ Some a → slice_get nets j ≡ Some b → a.name ≡ b.name → i ≡ j
+pub one_of_name : (nets : List NetModel) → AreApart (net_names nets) → (i j : ℕ) (a b : NetModel) → slice_get nets i ≡ Some a → slice_get nets j ≡ Some b
+    → a.name ≡ b.name → i ≡ j
 one_of_name nets apart i j a b at_i at_j same =
     let first : place_of a.name (net_names nets) ≡ Some i = name_place nets apart i a at_i in
     let second : place_of b.name (net_names nets) ≡ Some j = name_place nets apart j b at_j in

@@ -20,7 +20,8 @@ module _ (design : DesignModel) (has : HasNets design) (t : Terminal) where
   special : (k : ℕ) (net : NetModel) → slice_get design.special k ≡ Some net → Contains (design.nets ++ design.special) net
   special k net there = Contains-append_right design.nets design.special net (contains_at design.special k net there)
 
-  one_name : (a b : NetModel) → Contains (design.nets ++ design.special) a → Contains (design.nets ++ design.special) b → is_among t a.terminals ≡ true → is_among t b.terminals ≡ true → a.name ≡ b.name
+  one_name : (a b : NetModel) → Contains (design.nets ++ design.special) a → Contains (design.nets ++ design.special) b → is_among t a.terminals ≡ true
+      → is_among t b.terminals ≡ true → a.name ≡ b.name
   one_name a b there here lists too =
       has.one_net a b t there here (among_contains t a.terminals lists) (among_contains t b.terminals too)
 
@@ -37,10 +38,12 @@ module _ (design : DesignModel) (has : HasNets design) (t : Terminal) where
         rw (found, place) refl
 
   -- a terminal that an entry of SPECIALNETS lists is in the net that the entry is of
-  pub in_special : (k : ℕ) (net : NetModel) → slice_get design.special k ≡ Some net → is_among t net.terminals ≡ true → net_of design t ≡ Some (number_of_special design k net)
+  pub in_special : (k : ℕ) (net : NetModel) → slice_get design.special k ≡ Some net → is_among t net.terminals ≡ true
+      → net_of design t ≡ Some (number_of_special design k net)
   unfolding net_of
   in_special k net there lists = by (listing_place t design.nets) refl (listing_place t design.special) refl where
-    by : (o : Option ℕ) → listing_place t design.nets ≡ o → (p : Option ℕ) → listing_place t design.special ≡ p → net_of design t ≡ Some (number_of_special design k net)
+    by : (o : Option ℕ) → listing_place t design.nets ≡ o → (p : Option ℕ) → listing_place t design.special ≡ p
+        → net_of design t ≡ Some (number_of_special design k net)
     by (Some m) found p is =
         let first = listed_at t design.nets m found in
         let same : first.net.name ≡ net.name = one_name first.net net (regular m first.net first.there) (special k net there) first.lists lists in

@@ -43,18 +43,25 @@ none_mapped f None = refl
 none_mapped f (Some k) = refl
 
 -- the first entry's terminals are the first pieces
-pub first_count : (net : ℕ) (a : List Terminal) (before after : List (Terminal × (ℕ × ℕ))) (none more : List Piece) → none ≡ [] → ArePiecesAdded net a before none after more → length more ≤ length a
+pub first_count : (net : ℕ) (a : List Terminal) (before after : List (Terminal × (ℕ × ℕ))) (none more : List Piece) → none ≡ []
+    → ArePiecesAdded net a before none after more → length more ≤ length a
 first_count net a before after none more empty added =
-    let count : length more ≡ length none + length (map Term (new_among before a)) = ap length added.grown ∙ length-append none (map Term (new_among before a)) in
+    let count : length more ≡ length none + length (map Term (new_among before a)) =
+    ap length added.grown ∙ length-append none (map Term (new_among before a)) in
     omega (arith, count, ap length empty, length-map (new_among before a) Term, filter_shorter (λ t. is_none (place_in before t)) a)
 
 -- behind the terminals come the wires
-pub all_pieces : (design : DesignModel) (n v w : ℕ) (second made : List Piece) → second ≡ map Term (terminals_of design n) → v ≡ length (entry_wires (regular_entry design n)) → w ≡ length (entry_wires (special_entry design n)) → made ≡ second ++ map Wire (range_with_len 0 (v + w)) → made ≡ pieces_of design n
+pub all_pieces : (design : DesignModel) (n v w : ℕ) (second made : List Piece) → second ≡ map Term (terminals_of design n)
+    → v ≡ length (entry_wires (regular_entry design n)) → w ≡ length (entry_wires (special_entry design n))
+    → made ≡ second ++ map Wire (range_with_len 0 (v + w)) → made ≡ pieces_of design n
 unfolding pieces_of wires_of
 all_pieces design n v w second made is first rest grown =
     grown ∙ rw (is, first, rest, length-append (entry_wires (regular_entry design n)) (entry_wires (special_entry design n))) refl
 
-module _ (design : DesignModel) (has : HasNets design) (n : ℕ) (a b : List Terminal) (regular : a ≡ entry_terminals (regular_entry design n)) (special : b ≡ entry_terminals (special_entry design n)) (none first second : List Piece) (empty : none ≡ []) (before between after : List (Terminal × (ℕ × ℕ))) (below : (t : Terminal) → place_in before t ≡ place_below design n t) (one : ArePiecesAdded n a before none between first) (two : ArePiecesAdded n b between first after second) where
+module _ (design : DesignModel) (has : HasNets design) (n : ℕ) (a b : List Terminal) (regular : a ≡ entry_terminals (regular_entry design n))
+    (special : b ≡ entry_terminals (special_entry design n)) (none first second : List Piece) (empty : none ≡ [])
+    (before between after : List (Terminal × (ℕ × ℕ))) (below : (t : Terminal) → place_in before t ≡ place_below design n t)
+    (one : ArePiecesAdded n a before none between first) (two : ArePiecesAdded n b between first after second) where
   new_here : (t : Terminal) → is_among t a ≡ true → place_in before t ≡ None
   new_here t among =
       below t ∙ not_below design has n t (regular_in design has n t (ap (λ ts. is_among t ts) (sym regular) ∙ among))
@@ -98,7 +105,8 @@ module _ (design : DesignModel) (has : HasNets design) (n : ℕ) (a b : List Ter
 
   pub net_fits : (count : ℕ) → count ≡ length second → Fits w32 count
   net_fits count is =
-      let all : length second ≡ length first + length (map Term (new_among between b)) = ap length two.grown ∙ length-append first (map Term (new_among between b)) in
+      let all : length second ≡ length first + length (map Term (new_among between b)) =
+      ap length two.grown ∙ length-append first (map Term (new_among between b)) in
       let sum : length a + length b ≤ PART_LIMIT = few_terminals design has n a b regular special in
       let less : length first ≤ length a = first_count n a before between none first empty one in
       let rest : length (new_among between b) ≤ length b = filter_shorter (λ t. is_none (place_in between t)) b in

@@ -50,7 +50,8 @@ module _ (design : DesignModel) (has : HasNets design) where
   below_is zero t place found = absurd (let e : ⊥ = cc in e)
   below_is (suc n) t place found =
       by (below_is n t) (place_below design n t) refl (place_among t (terminals_of design n)) refl where
-        by : ((p : ℕ × ℕ) → place_below design n t ≡ Some p → IsBelow n t p) → (o : Option (ℕ × ℕ)) → place_below design n t ≡ o → (k : Option ℕ) → place_among t (terminals_of design n) ≡ k → IsBelow (suc n) t place
+        by : ((p : ℕ × ℕ) → place_below design n t ≡ Some p → IsBelow n t p) → (o : Option (ℕ × ℕ)) → place_below design n t ≡ o → (k : Option ℕ)
+            → place_among t (terminals_of design n) ≡ k → IsBelow (suc n) t place
         by rest (Some p) is k at =
             let e : ◌≡◌ {A = Option (ℕ × ℕ)} (Some p) (Some place) = rw is at found in
             let same : p ≡ place = cc in
@@ -70,7 +71,8 @@ module _ (design : DesignModel) (has : HasNets design) where
   unfolding place_below
   none_below zero t none m less = absurd (let e : ⊥ = omega arith in e)
   none_below (suc n) t none m less = by (none_below n t) (place_below design n t) refl (place_among t (terminals_of design n)) refl (m == n) refl where
-    by : (place_below design n t ≡ None → (m : ℕ) → m < n → place_among t (terminals_of design m) ≡ None) → (o : Option (ℕ × ℕ)) → place_below design n t ≡ o → (k : Option ℕ) → place_among t (terminals_of design n) ≡ k → (last : Bool) → (m == n) ≡ last → place_among t (terminals_of design m) ≡ None
+    by : (place_below design n t ≡ None → (m : ℕ) → m < n → place_among t (terminals_of design m) ≡ None) → (o : Option (ℕ × ℕ)) → place_below design n t ≡ o
+        → (k : Option ℕ) → place_among t (terminals_of design n) ≡ k → (last : Bool) → (m == n) ≡ last → place_among t (terminals_of design m) ≡ None
     by rest (Some p) is k at last same = let e : ◌≡◌ {A = Option (ℕ × ℕ)} (Some p) None = rw is at none in absurd (let f : ⊥ = cc in f)
     by rest None is (Some j) at last same = let e : ◌≡◌ {A = Option (ℕ × ℕ)} (Some (n, 0 + j)) None = rw (is, at) at none in absurd (let f : ⊥ = cc in f)
     by rest None is None at true same = let it : m ≡ n = grind (arith, nat_tests, same) in rw it at

@@ -31,7 +31,8 @@ pub record IsSpecialOf (design : DesignModel) (n : ℕ) (net : NetModel) : Type 
 module _ (design : DesignModel) (has : HasNets design) where
   pub special_is : (n : ℕ) (net : NetModel) → special_entry design n ≡ Some net → IsSpecialOf design n net
   special_is n net is = by (slice_get design.nets n) refl where
-    named : (first : NetModel) → slice_get design.nets n ≡ Some first → special_named design first.name ≡ Some net → (o : Option ℕ) → place_of first.name (net_names design.special) ≡ o → IsSpecialOf design n net
+    named : (first : NetModel) → slice_get design.nets n ≡ Some first → special_named design first.name ≡ Some net → (o : Option ℕ)
+        → place_of first.name (net_names design.special) ≡ o → IsSpecialOf design n net
     named first at said None none = absurd (let e : ⊥ = cc (rw none at said) in e)
     named first at said (Some k) found =
         let it : slice_get design.special k ≡ Some net = rw found at said in
@@ -41,7 +42,9 @@ module _ (design : DesignModel) (has : HasNets design) where
         let place : place_of net.name (net_names design.nets) ≡ Some n = rw name (name_place design.nets has.nets.apart n first at) in
         record { k = k; there = it; number = rw place refl }
 
-    alone : (past : length design.nets ≤ n) → (m : ℕ) → m ≡ n - length design.nets → special_alone design m ≡ Some net → (o : Option NetModel) → slice_get design.special m ≡ o → (p : NetModel → Option ℕ) → ((q : NetModel) → place_of q.name (net_names design.nets) ≡ p q) → IsSpecialOf design n net
+    alone : (past : length design.nets ≤ n) → (m : ℕ) → m ≡ n - length design.nets → special_alone design m ≡ Some net → (o : Option NetModel)
+        → slice_get design.special m ≡ o → (p : NetModel → Option ℕ) → ((q : NetModel) → place_of q.name (net_names design.nets) ≡ p q)
+        → IsSpecialOf design n net
     alone past m is_m said None none p place = absurd (let e : ⊥ = cc (rw none at said) in e)
     alone past m is_m said (Some entry) there p place = last (p entry) (place entry) where
       last : (o : Option ℕ) → place_of entry.name (net_names design.nets) ≡ o → IsSpecialOf design n net
@@ -58,7 +61,8 @@ module _ (design : DesignModel) (has : HasNets design) where
     by : (o : Option NetModel) → slice_get design.nets n ≡ o → IsSpecialOf design n net
     by (Some first) at = named first at (rw at at is) (place_of first.name (net_names design.special)) refl
     by None none =
-        alone (none_past design.nets n blank none) (n - length design.nets) refl (rw none at is) (slice_get design.special (n - length design.nets)) refl (λ q. place_of q.name (net_names design.nets)) (λ q. refl)
+        alone (none_past design.nets n blank none) (n - length design.nets) refl (rw none at is) (slice_get design.special (n - length design.nets)) refl
+        (λ q. place_of q.name (net_names design.nets)) (λ q. refl)
 
   -- a terminal of an entry of a net is in the net
   pub regular_in : (n : ℕ) (t : Terminal) → is_among t (entry_terminals (regular_entry design n)) ≡ true → net_of design t ≡ Some n

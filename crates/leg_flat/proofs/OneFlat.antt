@@ -24,7 +24,8 @@ with_sides : (x1 y1 x2 y2 : ℤ) (r : RectModel) → x1 ≡ r.x1 → y1 ≡ r.y1
 with_sides x1 y1 x2 y2 r e f g h = rw (e, f, g, h) refl
 
 -- rectangles that have the points of one another have the same sides
-same_sides : (a b : RectModel) → IsRect a → IsRect b → ((p : PointModel) → HasPoint a p → HasPoint b p) → ((p : PointModel) → HasPoint b p → HasPoint a p) → a ≡ b
+same_sides : (a b : RectModel) → IsRect a → IsRect b → ((p : PointModel) → HasPoint a p → HasPoint b p)
+    → ((p : PointModel) → HasPoint b p → HasPoint a p) → a ≡ b
 same_sides a b of_a of_b there back =
     let low = there _ (lower_left a of_a) in
     let high = there _ (upper_right a of_a) in
@@ -33,14 +34,17 @@ same_sides a b of_a of_b there back =
     with_sides a.x1 a.y1 a.x2 a.y2 b (same_number a.x1 b.x1 low_back.left low.left) (same_number a.y1 b.y1 low_back.bottom low.bottom)
     (same_number a.x2 b.x2 high.right high_back.right) (same_number a.y2 b.y2 high.top high_back.top)
 
-with_parts : (layer : ℕ) (rect : RectModel) (owner : Owner) (component piece : Option ℕ) (s : Shape) → layer ≡ s.layer → rect ≡ s.rect → owner ≡ s.owner → component ≡ s.component → piece ≡ s.piece → record { layer = layer; rect = rect; owner = owner; component = component; piece = piece } ≡ s
+with_parts : (layer : ℕ) (rect : RectModel) (owner : Owner) (component piece : Option ℕ) (s : Shape) → layer ≡ s.layer → rect ≡ s.rect → owner ≡ s.owner
+    → component ≡ s.component → piece ≡ s.piece → record { layer = layer; rect = rect; owner = owner; component = component; piece = piece } ≡ s
 with_parts layer rect owner component piece s e f g h i = rw (e, f, g, h, i) refl
 
 -- one shape for each piece of metal
 same_shape : (metal : Metal) (a b : Shape) → IsShapeOf metal a → IsShapeOf metal b → a ≡ b
 same_shape metal a b of_a of_b =
-    let rect : a.rect ≡ b.rect = same_sides a.rect b.rect of_a.proper of_b.proper (λ p h. (of_b.points p).1 ((of_a.points p).0 h)) (λ p h. (of_a.points p).1 ((of_b.points p).0 h)) in
-    with_parts a.layer a.rect a.owner a.component a.piece b (of_a.layer ∙ sym of_b.layer) rect (of_a.owner ∙ sym of_b.owner) (of_a.component ∙ sym of_b.component) (of_a.piece ∙ sym of_b.piece)
+    let rect : a.rect ≡ b.rect =
+    same_sides a.rect b.rect of_a.proper of_b.proper (λ p h. (of_b.points p).1 ((of_a.points p).0 h)) (λ p h. (of_a.points p).1 ((of_b.points p).0 h)) in
+    with_parts a.layer a.rect a.owner a.component a.piece b (of_a.layer ∙ sym of_b.layer) rect (of_a.owner ∙ sym of_b.owner)
+    (of_a.component ∙ sym of_b.component) (of_a.piece ∙ sym of_b.piece)
 
 same_shapes : (metal : List Metal) (xs ys : List Shape) → OneForOne IsShapeOf metal xs → OneForOne IsShapeOf metal ys → xs ≡ ys
 same_shapes [] [] [] one two = refl
@@ -53,7 +57,8 @@ same_shapes (m ∷ ms) (x ∷ xs) (y ∷ ys) one two =
     let rest : xs ≡ ys = same_shapes ms xs ys one.1 two.1 in
     cc
 
-with_lists : (shapes : List Shape) (pieces : List (List Piece)) (flat : FlatModel) → shapes ≡ flat.shapes → pieces ≡ flat.pieces → record { shapes = shapes; pieces = pieces } ≡ flat
+with_lists : (shapes : List Shape) (pieces : List (List Piece)) (flat : FlatModel) → shapes ≡ flat.shapes → pieces ≡ flat.pieces
+    → record { shapes = shapes; pieces = pieces } ≡ flat
 with_lists shapes pieces flat e f = rw (e, f) refl
 
 pub one_flat : (design : DesignModel) (a b : FlatModel) → IsFlatOf design a → IsFlatOf design b → a ≡ b

@@ -46,7 +46,8 @@ abbrev IsMarked : library.LibraryModel → library.ViaModel → Type 0
 IsMarked contents via = via.good ≡ is_good_via contents via.name via.shapes
 
 -- a wire has a shape
-pub some_outlines : (design : DesignModel) → IsSound design.library → IsWellFormed design → (wire : records.Wire) → IsWire design.library design.vias false wire → 1 ≤ length (wire_outlines design wire)
+pub some_outlines : (design : DesignModel) → IsSound design.library → IsWellFormed design → (wire : records.Wire)
+    → IsWire design.library design.vias false wire → 1 ≤ length (wire_outlines design wire)
 some_outlines design sound proper (Segment layer from to width ext_from ext_to) is = omega arith
 some_outlines design sound proper (Patch layer at rect) is = omega arith
 some_outlines design sound proper (ViaAt number at) is =
@@ -57,16 +58,19 @@ some_outlines design sound proper (ViaAt number at) is =
     let via = known.0 in
     let vias = design.library.vias ++ design.vias in
     let mark : IsMarked design.library via =
-    subst (IsMarked design.library) (get_or_from_slice_get vias number via via known.1) (All-get_or (IsMarked design.library) vias number via (slice_get_within vias number via known.1) marked) in
+    subst (IsMarked design.library) (get_or_from_slice_get vias number via via known.1)
+    (All-get_or (IsMarked design.library) vias number via (slice_get_within vias number via known.1) marked) in
     rw (known.1, length-map via.shapes) (good_has_shapes design.library via.name via.shapes (sym mark ∙ known.2))
 
-pub metal_count : (design : DesignModel) (net k : ℕ) (wire : records.Wire) (added : List Shape) → OneForOne IsShapeOf (wire_metal design net k wire) added → length added ≡ length (wire_outlines design wire)
+pub metal_count : (design : DesignModel) (net k : ℕ) (wire : records.Wire) (added : List Shape) → OneForOne IsShapeOf (wire_metal design net k wire) added
+    → length added ≡ length (wire_outlines design wire)
 metal_count design net k wire added each =
     sym (same_length IsShapeOf (wire_metal design net k wire) added each) ∙ length-map (wire_outlines design wire) _
 
 one_more_piece : (terminals : List Terminal) (wires : ℕ) → pieces_with terminals (wires + 1) ≡ pieces_with terminals wires ++ Wire wires ∷ []
 one_more_piece terminals wires =
-    rw (map-range_with_len_more Wire 0 wires wires (omega arith)) (sym (append_assoc (map Term terminals) (map Wire (range_with_len 0 wires)) (Wire wires ∷ [])))
+    rw (map-range_with_len_more Wire 0 wires wires (omega arith))
+    (sym (append_assoc (map Term terminals) (map Wire (range_with_len 0 wires)) (Wire wires ∷ [])))
 
 -- what is known where a net gets a wire
 pub record GetsWire (before : FlatModel) (net : ℕ) (pieces : List Piece) (number : ℕ) (added : List Shape) : Type 0 where
@@ -112,14 +116,17 @@ module _ (before : FlatModel) (net : ℕ) (pieces : List Piece) (number : ℕ) (
   is_within = record {
     shapes = omega (arith, longer, gets.few);
     nets = rw (length-set) gets.within.nets;
-    pieces = All-set (λ (of : List Piece). length of < 2 ^ 32) before.pieces net (pieces ++ Wire number ∷ []) (omega (arith, new_pieces.few, longer, gets.few)) gets.within.pieces;
+    pieces =
+        All-set (λ (of : List Piece). length of < 2 ^ 32) before.pieces net (pieces ++ Wire number ∷ [])
+        (omega (arith, new_pieces.few, longer, gets.few)) gets.within.pieces;
     of_nets = All-set (ArePieces (length after.shapes)) before.pieces net (pieces ++ Wire number ∷ []) new_pieces
         (All-weaker (ArePieces (length before.shapes)) (ArePieces (length after.shapes)) more before.pieces gets.within.of_nets);
   } where
     more : (of : List Piece) → ArePieces (length before.shapes) of → ArePieces (length after.shapes) of
     more of are = record { terminals = are.terminals; wires = are.wires; are = are.are; few = omega (arith, are.few, longer) }
 
-  pub has_more : (design : DesignModel) (wire : records.Wire) → OneForOne IsShapeOf (wire_metal design net (length pieces) wire) added → HasOneMoreWire design net wire before after
+  pub has_more : (design : DesignModel) (wire : records.Wire) → OneForOne IsShapeOf (wire_metal design net (length pieces) wire) added
+      → HasOneMoreWire design net wire before after
   has_more design wire each =
       let old = old_pieces in
       record {
@@ -140,7 +147,8 @@ pub on_err_anyway : {T E P : Type 0} (r : Result T E) → P → OnErr r P
 on_err_anyway (Ok done) holds = tt
 on_err_anyway (Err refusal) holds = holds
 
-pub has_pieces : (before : FlatModel) (net : ℕ) (pieces : List Piece) → IsWithinLimits before → net < length before.pieces → pieces ≡ get_or before.pieces net pieces
+pub has_pieces : (before : FlatModel) (net : ℕ) (pieces : List Piece) → IsWithinLimits before → net < length before.pieces
+    → pieces ≡ get_or before.pieces net pieces
     → (terminals : List Terminal) × ((wires : ℕ) × (pieces ≡ pieces_with terminals wires))
 has_pieces before net pieces within there is =
     let old = All-get_or (ArePieces (length before.shapes)) before.pieces net pieces there within.of_nets in

@@ -18,7 +18,8 @@ RunsAlong from to ext_from ext_to s = (z : ℤ) → HasNumber s z ↔ IsAlong fr
 abbrev pub RunsAcross : ℤ → ℤ → Interval → Type 0
 RunsAcross line width s = (z : ℤ) → HasNumber s z ↔ IsAcross line width z
 
-pub along_up : (from to ext_from ext_to low high : ℤ) → from <ℤ to → low ≡ from -ℤ ext_from → high ≡ to +ℤ ext_to → RunsAlong from to ext_from ext_to (ends low high)
+pub along_up : (from to ext_from ext_to low high : ℤ) → from <ℤ to → low ≡ from -ℤ ext_from → high ≡ to +ℤ ext_to
+    → RunsAlong from to ext_from ext_to (ends low high)
 along_up from to ext_from ext_to low high up l h z = (
   λ m.
       let above = m.above in
@@ -30,7 +31,8 @@ along_up from to ext_from ext_to low high up l h z = (
       record { above = grind (arith, ints); below = grind (arith, ints) },
 )
 
-pub along_down : (from to ext_from ext_to low high : ℤ) → to <ℤ from → low ≡ to -ℤ ext_to → high ≡ from +ℤ ext_from → RunsAlong from to ext_from ext_to (ends low high)
+pub along_down : (from to ext_from ext_to low high : ℤ) → to <ℤ from → low ≡ to -ℤ ext_to → high ≡ from +ℤ ext_from
+    → RunsAlong from to ext_from ext_to (ends low high)
 along_down from to ext_from ext_to low high down l h z = (
   λ m.
       let above = m.above in
@@ -48,7 +50,9 @@ spot x y = record { x = x; y = y }
 pub same_spot : (x y u v : ℤ) → x ≡ u → y ≡ v → spot x y ≡ spot u v
 same_spot x y u v e f = cc
 
-pub horizontal_points : (from to : PointModel) (width ext_from ext_to : ℤ) (r : RectModel) → from ≢ to → from.y ≡ to.y → RunsAlong from.x to.x ext_from ext_to (ends r.x1 r.x2) → RunsAcross from.y width (ends r.y1 r.y2) → (p : PointModel) → HasPoint r p ↔ (IsOfHorizontal from to width ext_from ext_to p ⊎ IsOfVertical from to width ext_from ext_to p)
+pub horizontal_points : (from to : PointModel) (width ext_from ext_to : ℤ) (r : RectModel) → from ≢ to → from.y ≡ to.y
+    → RunsAlong from.x to.x ext_from ext_to (ends r.x1 r.x2) → RunsAcross from.y width (ends r.y1 r.y2) → (p : PointModel)
+    → HasPoint r p ↔ (IsOfHorizontal from to width ext_from ext_to p ⊎ IsOfVertical from to width ext_from ext_to p)
 horizontal_points from to width ext_from ext_to r long level along across p = (
   λ m. inl (record {
     level = level;
@@ -64,7 +68,9 @@ horizontal_points from to width ext_from ext_to r long level along across p = (
   ],
 )
 
-pub vertical_points : (from to : PointModel) (width ext_from ext_to : ℤ) (r : RectModel) → from.x ≡ to.x → from.y ≢ to.y → RunsAcross from.x width (ends r.x1 r.x2) → RunsAlong from.y to.y ext_from ext_to (ends r.y1 r.y2) → (p : PointModel) → HasPoint r p ↔ (IsOfHorizontal from to width ext_from ext_to p ⊎ IsOfVertical from to width ext_from ext_to p)
+pub vertical_points : (from to : PointModel) (width ext_from ext_to : ℤ) (r : RectModel) → from.x ≡ to.x → from.y ≢ to.y
+    → RunsAcross from.x width (ends r.x1 r.x2) → RunsAlong from.y to.y ext_from ext_to (ends r.y1 r.y2) → (p : PointModel)
+    → HasPoint r p ↔ (IsOfHorizontal from to width ext_from ext_to p ⊎ IsOfVertical from to width ext_from ext_to p)
 vertical_points from to width ext_from ext_to r upright long across along p = (
   λ m. inr (record {
     upright = upright;
@@ -102,7 +108,8 @@ pub same_sides : (x1 y1 x2 y2 u1 v1 u2 v2 : ℤ) → x1 ≡ u1 → y1 ≡ v1 →
 same_sides x1 y1 x2 y2 u1 v1 u2 v2 e f g h = cc
 
 kept_sides-is : (x y : Interval) → IsSpan x → IsSpan y → kept_sides x y ≡ sides_of x y
-kept_sides-is x y wide high = same_sides _ _ _ _ _ _ _ _ (kept x.low _ refl wide.low) (kept y.low _ refl high.low) (kept x.high _ refl wide.high) (kept y.high _ refl high.high)
+kept_sides-is x y wide high =
+    same_sides _ _ _ _ _ _ _ _ (kept x.low _ refl wide.low) (kept y.low _ refl high.low) (kept x.high _ refl wide.high) (kept y.high _ refl high.high)
 
 pub there_where : {T : Type 0} (made : Option T) (P : Type 0) (v : T) → SomeIff made P v → P → IsSome made
 there_where None P v says p = absurd (says p)
@@ -117,5 +124,6 @@ pub is_made : (made : Option RectModel) (x y : Interval) → IsSpan x → IsSpan
 is_made made x y wide high says = there_where made _ _ says (rw (kept_sides-is x y wide high) (IsRect-sides_of x y wide high))
 
 -- and is that rectangle
-pub made_is : (made : Option RectModel) (r : RectModel) (x y : Interval) → IsSpan x → IsSpan y → SomeIff made (IsRect (kept_sides x y)) (kept_sides x y) → made ≡ Some r → r ≡ sides_of x y
+pub made_is : (made : Option RectModel) (r : RectModel) (x y : Interval) → IsSpan x → IsSpan y → SomeIff made (IsRect (kept_sides x y)) (kept_sides x y)
+    → made ≡ Some r → r ≡ sides_of x y
 made_is made r x y wide high says is = which made _ _ r says is ∙ kept_sides-is x y wide high

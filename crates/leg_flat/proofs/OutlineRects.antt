@@ -35,13 +35,15 @@ record HasAcross (line width : ℤ) : Type 0 where
   pub span : IsSpan interval
   pub runs : RunsAcross line width interval
 
-span_along : (low high ext_low ext_high : ℤ) → IsNumber low → IsNumber high → low <ℤ high → IsMetalReach ext_low → IsMetalReach ext_high → IsSpan (ends (low -ℤ ext_low) (high +ℤ ext_high))
+span_along : (low high ext_low ext_high : ℤ) → IsNumber low → IsNumber high → low <ℤ high → IsMetalReach ext_low → IsMetalReach ext_high
+    → IsSpan (ends (low -ℤ ext_low) (high +ℤ ext_high))
 span_along low high ext_low ext_high a b less before behind = record { low = omega (arith, ints); high = omega (arith, ints); long = omega (arith, ints) }
 
 below : (a b : ℤ) → a ≢ b → b ≤ℤ a → b <ℤ a
 below a b differ most = grind (arith, ints)
 
-has_along : (from to ext_from ext_to : ℤ) → IsNumber from → IsNumber to → from ≢ to → IsMetalReach ext_from → IsMetalReach ext_to → HasAlong from to ext_from ext_to
+has_along : (from to ext_from ext_to : ℤ) → IsNumber from → IsNumber to → from ≢ to → IsMetalReach ext_from → IsMetalReach ext_to
+    → HasAlong from to ext_from ext_to
 has_along from to ext_from ext_to a b differ before behind =
     by_lt_z from to
     (λ up. record {
@@ -58,7 +60,8 @@ has_along from to ext_from ext_to a b differ before behind =
     })
 
 span_across : (line width half : ℤ) → IsNumber line → IsWidthWithin width → width ≡ half +ℤ half → IsSpan (ends (line -ℤ half) (line +ℤ half))
-span_across line width half near is twice = record { low = omega (arith, ints, is.some, is.within); high = omega (arith, ints, is.some, is.within); long = omega (arith, ints, is.some) }
+span_across line width half near is twice =
+    record { low = omega (arith, ints, is.some, is.within); high = omega (arith, ints, is.some, is.within); long = omega (arith, ints, is.some) }
 
 runs_across : (line width half : ℤ) → width ≡ half +ℤ half → RunsAcross line width (ends (line -ℤ half) (line +ℤ half))
 runs_across line width half twice z = (
@@ -130,7 +133,8 @@ rect_opposite : (p q : PointModel) → IsSpot p → IsSpot q → AreApart p q �
 rect_opposite p q of_p of_q differ = IsRect-sides_of _ _ (span_between p.x q.x of_p.x of_q.x differ.x) (span_between p.y q.y of_p.y of_q.y differ.y)
 
 -- the images of two opposite corners lie apart
-corners_apart : (o : Orient) (at : PointModel) (w h : ℤ) (r : RectModel) → IsProper r → AreApart (placed at o w h (lower_left r)) (placed at o w h (upper_right r))
+corners_apart : (o : Orient) (at : PointModel) (w h : ℤ) (r : RectModel) → IsProper r
+    → AreApart (placed at o w h (lower_left r)) (placed at o w h (upper_right r))
 corners_apart N at w h r is = record { x = λ e. omega (arith, ints); y = λ e. omega (arith, ints) }
 corners_apart S at w h r is = record { x = λ e. omega (arith, ints); y = λ e. omega (arith, ints) }
 corners_apart W at w h r is = record { x = λ e. omega (arith, ints); y = λ e. omega (arith, ints) }
@@ -158,10 +162,12 @@ rect_of_box r is = record {
 rect_placed : (o : Orient) (at : PointModel) (w h : ℤ) (r : RectModel) → IsPosition at → IsNumber w → IsNumber h → IsBox r → IsRect (placed_rect at o w h r)
 rect_placed o at w h r there wide high is =
     let stays = StaysWithin-drawn o at w h r there wide high is.within in
-    rect_opposite _ _ (stays (lower_left r) (has_lower_left r is.proper)) (stays (upper_right r) (has_upper_right r is.proper)) (corners_apart o at w h r is.proper)
+    rect_opposite _ _ (stays (lower_left r) (has_lower_left r is.proper)) (stays (upper_right r) (has_upper_right r is.proper))
+    (corners_apart o at w h r is.proper)
 
 -- a rectangle of a box that is at a place
-pub drawn_has : ArePlacedImages → (place : Place) (size : ExtentModel) (r : RectModel) → IsPosition place.at → IsNumber size.width → IsNumber size.height → IsBox r → HasRect (Drawn place size r)
+pub drawn_has : ArePlacedImages → (place : Place) (size : ExtentModel) (r : RectModel) → IsPosition place.at → IsNumber size.width → IsNumber size.height
+    → IsBox r → HasRect (Drawn place size r)
 drawn_has images place size r there wide high is = record {
   rect = placed_rect place.at place.orient size.width size.height r;
   proper = rect_placed place.orient place.at size.width size.height r there wide high is;

@@ -17,7 +17,8 @@ record IsPointWithin (p : PointModel) : Type 0 where
 drawn_point : (r : RectModel) (p : PointModel) → IsDrawnWithin r → HasPoint r p → IsPointWithin p
 drawn_point r p within m = record { x = omega (arith, ints); y = omega (arith, ints) }
 
-placed_point : (o : Orient) (at : PointModel) (w h : ℤ) (p : PointModel) → IsPosition at → IsNumber w → IsNumber h → IsPointWithin p → IsSpot (placed at o w h p)
+placed_point : (o : Orient) (at : PointModel) (w h : ℤ) (p : PointModel) → IsPosition at → IsNumber w → IsNumber h → IsPointWithin p
+    → IsSpot (placed at o w h p)
 placed_point N at w h p there wide high within = record { x = omega (arith, ints); y = omega (arith, ints) }
 placed_point S at w h p there wide high within = record { x = omega (arith, ints); y = omega (arith, ints) }
 placed_point W at w h p there wide high within = record { x = omega (arith, ints); y = omega (arith, ints) }
@@ -28,5 +29,6 @@ placed_point FW at w h p there wide high within = record { x = omega (arith, int
 placed_point FE at w h p there wide high within = record { x = omega (arith, ints); y = omega (arith, ints) }
 
 -- a rectangle that is drawn in a box stays within the limit once the box is placed
-pub StaysWithin-drawn : (o : Orient) (at : PointModel) (w h : ℤ) (r : RectModel) → IsPosition at → IsNumber w → IsNumber h → IsDrawnWithin r → StaysWithin (placed at o w h) r
+pub StaysWithin-drawn : (o : Orient) (at : PointModel) (w h : ℤ) (r : RectModel) → IsPosition at → IsNumber w → IsNumber h → IsDrawnWithin r
+    → StaysWithin (placed at o w h) r
 StaysWithin-drawn o at w h r there wide high within p m = placed_point o at w h p there wide high (drawn_point r p within m)

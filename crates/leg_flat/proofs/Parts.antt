@@ -13,7 +13,8 @@ abbrev pub whole : {X : Type 0} → List (List X) → List X
 whole parts = flat_map (λ part. part) parts
 
 -- what is in a part is in the whole
-pub from_part : {X : Type 0} (parts : List (List X)) (k : ℕ) (part : List X) (x : X) → slice_get parts k ≡ Some part → Contains part x → Contains (whole parts) x
+pub from_part : {X : Type 0} (parts : List (List X)) (k : ℕ) (part : List X) (x : X) → slice_get parts k ≡ Some part → Contains part x
+    → Contains (whole parts) x
 from_part [] k part x at c = absurd (none-some part at)
 from_part (first ∷ parts) zero part x at c =
     let same : first ≡ part = same_Some first part at in

@@ -52,14 +52,17 @@ module _ (design : DesignModel) (m : Metal) where
 
 module _ (design : DesignModel) where
   -- a terminal's shapes are metal
-  pub terminal_metal : (t : Terminal) (metal : OnLayer) → IsOfTerminal design t metal → Contains (metal_of design) (record { metal = metal; belongs = of_terminal design (terminal_component t) t })
+  pub terminal_metal : (t : Terminal) (metal : OnLayer) → IsOfTerminal design t metal
+      → Contains (metal_of design) (record { metal = metal; belongs = of_terminal design (terminal_component t) t })
   terminal_metal (Comp c k) metal is =
       let belongs = of_terminal design (Some c) (Comp c k) in
       let m = with_belonging belongs metal in
       let shapes = drawn is.place is.master.size is.pin.shapes in
       let obstructions = belonging (record { owner = Obs c; component = Some c; piece = None }) (drawn is.place is.master.size is.master.obstructions) in
       let pin : Contains (belonging belongs shapes) m = goes (with_belonging belongs) shapes metal is.draws in
-      let pins : Contains (pins_metal design c is.place is.master.size 0 is.master.pins) m = gives_at (pin_metal design c is.place is.master.size) is.master.pins _ k is.pin m (pins_walk design c is.place is.master.size 0 is.master.pins) is.has_pin pin in
+      let pins : Contains (pins_metal design c is.place is.master.size 0 is.master.pins) m =
+      gives_at (pin_metal design c is.place is.master.size) is.master.pins _ k is.pin m
+      (pins_walk design c is.place is.master.size 0 is.master.pins) is.has_pin pin in
       let whole : Contains (pins_metal design c is.place is.master.size 0 is.master.pins ++ obstructions) m = Contains-append_left _ obstructions m pins in
       let component : Contains (one_component design c is.component) m = rw (is.has_place, is.has_master) whole in
       from_components design m
@@ -102,14 +105,17 @@ module _ (design : DesignModel) where
   of_wire n k = record { owner = Net n; component = None; piece = Some k }
 
   -- the shapes of a wire are among those of the wires that it stands among
-  wire_among : (n piece i k : ℕ) (wires : List records.Wire) (wire : records.Wire) (metal : OnLayer) → k ≡ piece + i → slice_get wires i ≡ Some wire → Contains (wire_outlines design wire) metal → Contains (wires_metal design n piece wires) (with_belonging (of_wire n k) metal)
+  wire_among : (n piece i k : ℕ) (wires : List records.Wire) (wire : records.Wire) (metal : OnLayer) → k ≡ piece + i → slice_get wires i ≡ Some wire
+      → Contains (wire_outlines design wire) metal → Contains (wires_metal design n piece wires) (with_belonging (of_wire n k) metal)
   wire_among n piece i k wires wire metal number at draws =
       let m = with_belonging (of_wire n (piece + i)) metal in
       let one : Contains (wire_metal design n (piece + i) wire) m = goes (with_belonging (of_wire n (piece + i))) (wire_outlines design wire) metal draws in
-      let all : Contains (wires_metal design n piece wires) m = subst (λ ms. Contains ms m) (sym (wires_walk design n piece wires)) (gives (wire_metal design n) piece wires i wire m at one) in
+      let all : Contains (wires_metal design n piece wires) m =
+      subst (λ ms. Contains ms m) (sym (wires_walk design n piece wires)) (gives (wire_metal design n) piece wires i wire m at one) in
       subst (λ p. Contains (wires_metal design n piece wires) (with_belonging (of_wire n p) metal)) (sym number) all
 
-  regular_wire_metal : (n j : ℕ) (wire : records.Wire) (metal : OnLayer) → slice_get (entry_wires (regular_entry design n)) j ≡ Some wire → Contains (wire_outlines design wire) metal → Contains (metal_of design) (with_belonging (of_wire n (length (terminals_of design n) + j)) metal)
+  regular_wire_metal : (n j : ℕ) (wire : records.Wire) (metal : OnLayer) → slice_get (entry_wires (regular_entry design n)) j ≡ Some wire
+      → Contains (wire_outlines design wire) metal → Contains (metal_of design) (with_belonging (of_wire n (length (terminals_of design n) + j)) metal)
   regular_wire_metal n j wire metal at draws = by (regular_entry design n) refl where
     m : Metal
     m = with_belonging (of_wire n (length (terminals_of design n) + j)) metal
@@ -124,7 +130,9 @@ module _ (design : DesignModel) where
         (gives_at (net_metal design) design.nets _ n net m (nets_walk design 0 design.nets) there
         (wire_among n (length (terminals_of design n)) j (length (terminals_of design n) + j) net.wires wire metal refl it draws))
 
-  special_wire_metal : HasNets design → (n j : ℕ) (wire : records.Wire) (metal : OnLayer) → slice_get (entry_wires (special_entry design n)) j ≡ Some wire → Contains (wire_outlines design wire) metal → Contains (metal_of design) (with_belonging (of_wire n (length (terminals_of design n) + (length (entry_wires (regular_entry design n)) + j))) metal)
+  special_wire_metal : HasNets design → (n j : ℕ) (wire : records.Wire) (metal : OnLayer) → slice_get (entry_wires (special_entry design n)) j ≡ Some wire
+      → Contains (wire_outlines design wire) metal
+      → Contains (metal_of design) (with_belonging (of_wire n (length (terminals_of design n) + (length (entry_wires (regular_entry design n)) + j))) metal)
   special_wire_metal has n j wire metal at draws = by (special_entry design n) refl where
     k : ℕ
     k = length (terminals_of design n) + (length (entry_wires (regular_entry design n)) + j)
@@ -139,23 +147,30 @@ module _ (design : DesignModel) where
     by (Some net) entry =
         let of = special_is design has n net entry in
         let it : slice_get net.wires j ≡ Some wire = ap (λ o. slice_get (entry_wires o) j) (sym entry) ∙ at in
-        let there : Contains (wires_metal design n (length (terminals_of design n) + length (entry_wires (regular_entry design n))) net.wires) m = wire_among n (length (terminals_of design n) + length (entry_wires (regular_entry design n))) j k net.wires wire metal (omega arith) it draws in
-        let one : Contains (one_special design of.k net) m = subst (λ i. Contains (wires_metal design i (length (terminals_of design i) + length (entry_wires (regular_entry design i))) net.wires) m) (sym of.number) there in
+        let there : Contains (wires_metal design n (length (terminals_of design n) + length (entry_wires (regular_entry design n))) net.wires) m =
+        wire_among n (length (terminals_of design n) + length (entry_wires (regular_entry design n))) j k net.wires wire metal (omega arith) it draws in
+        let one : Contains (one_special design of.k net) m =
+        subst (λ i. Contains (wires_metal design i (length (terminals_of design i) + length (entry_wires (regular_entry design i))) net.wires) m)
+        (sym of.number) there in
         from_specials design m
         (gives_at (one_special design) design.special _ of.k net m (specials_walk design 0 design.special) of.there one)
 
   -- a terminal of a net is told as that piece of it
-  terminal_of_net : HasNets design → (n k : ℕ) (t : Terminal) → slice_get (terminals_of design n) k ≡ Some t → of_terminal design (terminal_component t) t ≡ record { owner = Net n; component = terminal_component t; piece = Some k }
+  terminal_of_net : HasNets design → (n k : ℕ) (t : Terminal) → slice_get (terminals_of design n) k ≡ Some t
+      → of_terminal design (terminal_component t) t ≡ record { owner = Net n; component = terminal_component t; piece = Some k }
   unfolding owner_of piece_of
   terminal_of_net has n k t at =
       let net : net_of design t ≡ Some n = in_net design has n t (among_from t (terminals_of design n) (contains_at (terminals_of design n) k t at)) in
       rw (net, place_is design has n k t at) refl
 
-pub piece_has : (design : DesignModel) → IsWellFormed design → (n k : ℕ) (piece : Piece) (metal : OnLayer) → slice_get (pieces_of design n) k ≡ Some piece → IsMetalOfPiece design n piece metal → Contains (metal_of design) (of_piece n k piece metal)
+pub piece_has : (design : DesignModel) → IsWellFormed design → (n k : ℕ) (piece : Piece) (metal : OnLayer) → slice_get (pieces_of design n) k ≡ Some piece
+    → IsMetalOfPiece design n piece metal → Contains (metal_of design) (of_piece n k piece metal)
 piece_has design proper n k piece metal at draws = by (piece_cases design n k piece at) where
   wire : (j : ℕ) → k ≡ length (terminals_of design n) + j → IsMetalOfPiece design n (Wire j) metal → Contains (metal_of design) (of_piece n k (Wire j) metal)
   wire j place (it, there, draws) = rw place (which (wire_cases design n j it there)) where
-    which : (slice_get (entry_wires (regular_entry design n)) j ≡ Some it) ⊎ InSecond (entry_wires (regular_entry design n)) (entry_wires (special_entry design n)) j it → Contains (metal_of design) (of_piece n (length (terminals_of design n) + j) (Wire j) metal)
+    which : (slice_get (entry_wires (regular_entry design n)) j ≡ Some it)
+        ⊎ InSecond (entry_wires (regular_entry design n)) (entry_wires (special_entry design n)) j it
+        → Contains (metal_of design) (of_piece n (length (terminals_of design n) + j) (Wire j) metal)
     which (inl regular) = regular_wire_metal design n j it metal regular draws
     which (inr special) =
         subst (λ i. Contains (metal_of design) (of_piece n (length (terminals_of design n) + i) (Wire j) metal)) (sym special.place)
@@ -164,7 +179,9 @@ piece_has design proper n k piece metal at draws = by (piece_cases design n k pi
   by : IsTerminalPiece design n k piece ⊎ IsWirePiece design n k piece → Contains (metal_of design) (of_piece n k piece metal)
   by (inl it) =
       let of_t : IsOfTerminal design it.terminal metal = subst (λ p. IsMetalOfPiece design n p metal) it.is draws in
-      let told : Contains (metal_of design) (of_piece n k (Term it.terminal) metal) = subst (λ b. Contains (metal_of design) (record { metal = metal; belongs = b })) (terminal_of_net design proper.nets n k it.terminal it.there) (terminal_metal design it.terminal metal of_t) in
+      let told : Contains (metal_of design) (of_piece n k (Term it.terminal) metal) =
+      subst (λ b. Contains (metal_of design) (record { metal = metal; belongs = b })) (terminal_of_net design proper.nets n k it.terminal it.there)
+      (terminal_metal design it.terminal metal of_t) in
       subst (λ p. Contains (metal_of design) (of_piece n k p metal)) (sym it.is) told
   by (inr it) =
       let of_w : IsMetalOfPiece design n (Wire it.j) metal = subst (λ p. IsMetalOfPiece design n p metal) it.is draws in

@@ -19,7 +19,8 @@ use Rattle.leg_flat.proofs.ListPlaces.{get_first, get_second, InSecond, get_case
 pub at_place : (t : Terminal) (ts : List Terminal) (k : ℕ) → place_among t ts ≡ Some k → slice_get ts k ≡ Some t
 at_place t [] k is = absurd (let e : ⊥ = cc in e)
 at_place t (u ∷ ts) k is = by (at_place t ts) (is_same_terminal t u) refl (place_among t ts) refl where
-  by : ((j : ℕ) → place_among t ts ≡ Some j → slice_get ts j ≡ Some t) → (same : Bool) → is_same_terminal t u ≡ same → (o : Option ℕ) → place_among t ts ≡ o → slice_get (u ∷ ts) k ≡ Some t
+  by : ((j : ℕ) → place_among t ts ≡ Some j → slice_get ts j ≡ Some t) → (same : Bool) → is_same_terminal t u ≡ same → (o : Option ℕ) → place_among t ts ≡ o
+      → slice_get (u ∷ ts) k ≡ Some t
   by rest true same o at =
       let e : ◌≡◌ {A = Option ℕ} (Some 0) (Some k) = rw same at is in
       let place : k ≡ 0 = cc in
@@ -33,7 +34,8 @@ at_place t (u ∷ ts) k is = by (at_place t ts) (is_same_terminal t u) refl (pla
       rw place (rest j at)
 
 -- the terminal of a piece
-pub terminal_piece : (design : DesignModel) (n k : ℕ) (t : Terminal) → slice_get (terminals_of design n) k ≡ Some t → slice_get (pieces_of design n) k ≡ Some (Term t)
+pub terminal_piece : (design : DesignModel) (n k : ℕ) (t : Terminal) → slice_get (terminals_of design n) k ≡ Some t
+    → slice_get (pieces_of design n) k ≡ Some (Term t)
 unfolding pieces_of
 terminal_piece design n k t at =
     get_first (map Term (terminals_of design n)) (map Wire (range_with_len 0 (length (wires_of design n)))) k (Term t)
@@ -45,7 +47,8 @@ counted n k less =
     ∙ ap Some (get_or-range_with_len 0 n k 0 less ∙ zero-add k)
 
 -- the wire of a piece
-pub wire_piece : (design : DesignModel) (n j : ℕ) → j < length (wires_of design n) → slice_get (pieces_of design n) (length (terminals_of design n) + j) ≡ Some (Wire j)
+pub wire_piece : (design : DesignModel) (n j : ℕ) → j < length (wires_of design n)
+    → slice_get (pieces_of design n) (length (terminals_of design n) + j) ≡ Some (Wire j)
 unfolding pieces_of
 wire_piece design n j less =
     let wires = map Wire (range_with_len 0 (length (wires_of design n))) in
@@ -77,13 +80,15 @@ numbered n k j at =
     let e : ◌≡◌ {A = Option ℕ} (Some j) (Some k) = sym at ∙ counted n k less in
     cc
 
-pub piece_cases : (design : DesignModel) (n k : ℕ) (piece : Piece) → slice_get (pieces_of design n) k ≡ Some piece → IsTerminalPiece design n k piece ⊎ IsWirePiece design n k piece
+pub piece_cases : (design : DesignModel) (n k : ℕ) (piece : Piece) → slice_get (pieces_of design n) k ≡ Some piece
+    → IsTerminalPiece design n k piece ⊎ IsWirePiece design n k piece
 unfolding pieces_of
 piece_cases design n k piece at = by (get_cases (map Term (terminals_of design n)) wires k piece at) where
   wires : List Piece
   wires = map Wire (range_with_len 0 (length (wires_of design n)))
 
-  by : (slice_get (map Term (terminals_of design n)) k ≡ Some piece) ⊎ InSecond (map Term (terminals_of design n)) wires k piece → IsTerminalPiece design n k piece ⊎ IsWirePiece design n k piece
+  by : (slice_get (map Term (terminals_of design n)) k ≡ Some piece) ⊎ InSecond (map Term (terminals_of design n)) wires k piece
+      → IsTerminalPiece design n k piece ⊎ IsWirePiece design n k piece
   by (inl first) =
       let from = mapped_at Term (terminals_of design n) k piece first in
       inl (record { terminal = from.0; is = from.2; there = from.1 })
@@ -97,14 +102,18 @@ piece_cases design n k piece at = by (get_cases (map Term (terminals_of design n
       })
 
 -- wires of the entry of NETS, and those behind them
-pub regular_wire : (design : DesignModel) (n i : ℕ) (wire : records.Wire) → slice_get (entry_wires (regular_entry design n)) i ≡ Some wire → slice_get (wires_of design n) i ≡ Some wire
+pub regular_wire : (design : DesignModel) (n i : ℕ) (wire : records.Wire) → slice_get (entry_wires (regular_entry design n)) i ≡ Some wire
+    → slice_get (wires_of design n) i ≡ Some wire
 unfolding wires_of
 regular_wire design n i wire at = get_first (entry_wires (regular_entry design n)) (entry_wires (special_entry design n)) i wire at
 
-pub special_wire : (design : DesignModel) (n i : ℕ) (wire : records.Wire) → slice_get (entry_wires (special_entry design n)) i ≡ Some wire → slice_get (wires_of design n) (length (entry_wires (regular_entry design n)) + i) ≡ Some wire
+pub special_wire : (design : DesignModel) (n i : ℕ) (wire : records.Wire) → slice_get (entry_wires (special_entry design n)) i ≡ Some wire
+    → slice_get (wires_of design n) (length (entry_wires (regular_entry design n)) + i) ≡ Some wire
 unfolding wires_of
 special_wire design n i wire at = get_second (entry_wires (regular_entry design n)) (entry_wires (special_entry design n)) i ∙ at
 
-pub wire_cases : (design : DesignModel) (n j : ℕ) (wire : records.Wire) → slice_get (wires_of design n) j ≡ Some wire → (slice_get (entry_wires (regular_entry design n)) j ≡ Some wire) ⊎ InSecond (entry_wires (regular_entry design n)) (entry_wires (special_entry design n)) j wire
+pub wire_cases : (design : DesignModel) (n j : ℕ) (wire : records.Wire) → slice_get (wires_of design n) j ≡ Some wire
+    → (slice_get (entry_wires (regular_entry design n)) j ≡ Some wire)
+    ⊎ InSecond (entry_wires (regular_entry design n)) (entry_wires (special_entry design n)) j wire
 unfolding wires_of
 wire_cases design n j wire at = get_cases (entry_wires (regular_entry design n)) (entry_wires (special_entry design n)) j wire at

@@ -16,6 +16,8 @@ module _ {S : Type 0} (eq : Terminal → Terminal → Bool) (agree : (a b : Term
   pub place_by : (m : HashMap Terminal (ℕ × ℕ) S) (t : Terminal) → place_in m.entries t ≡ get_by (eq t) m
   place_by m t = lookup_agrees (is_same_terminal t) (eq t) (λ k. sym (agree t k)) m.entries
 
-  pub placed_by : (m n : HashMap Terminal (ℕ × ℕ) S) (t : Terminal) (place : ℕ × ℕ) → ((q : Terminal) → get_by (eq q) n ≡ cond (eq t q) (Some place) (get_by (eq q) m)) → (q : Terminal) → place_in n.entries q ≡ cond (is_same_terminal t q) (Some place) (place_in m.entries q)
+  pub placed_by : (m n : HashMap Terminal (ℕ × ℕ) S) (t : Terminal) (place : ℕ × ℕ)
+      → ((q : Terminal) → get_by (eq q) n ≡ cond (eq t q) (Some place) (get_by (eq q) m)) → (q : Terminal)
+      → place_in n.entries q ≡ cond (is_same_terminal t q) (Some place) (place_in m.entries q)
   placed_by m n t place updates q =
       place_by n q ∙ updates q ∙ rw (agree t q, place_by m q) refl

@@ -15,7 +15,8 @@ is_placed q (t ∷ ts) = by (is_placed q ts) (is_same_terminal q t) refl where
   mapped None = refl
   mapped (Some k) = refl
 
-  by : is_none (place_among q ts) ≡ not (is_among q ts) → (same : Bool) → is_same_terminal q t ≡ same → is_none (place_among q (t ∷ ts)) ≡ not (is_among q (t ∷ ts))
+  by : is_none (place_among q ts) ≡ not (is_among q ts) → (same : Bool) → is_same_terminal q t ≡ same
+      → is_none (place_among q (t ∷ ts)) ≡ not (is_among q (t ∷ ts))
   by rest true same = rw same refl
   by rest false other = rw other (mapped (place_among q ts) ∙ rest)
 
@@ -56,21 +57,25 @@ later n (Some j) y = refl
 pub place_append : (q : Terminal) (a b : List Terminal) → place_among q (a ++ b) ≡ or_else (place_among q a) (option_map (λ k. length a + k) (place_among q b))
 place_append q [] b = from_zero (place_among q b)
 place_append q (t ∷ a) b = by (place_append q a b) (is_same_terminal q t) refl where
-  by : place_among q (a ++ b) ≡ or_else (place_among q a) (option_map (λ k. length a + k) (place_among q b)) → (same : Bool) → is_same_terminal q t ≡ same → place_among q (t ∷ a ++ b) ≡ or_else (place_among q (t ∷ a)) (option_map (λ k. length (t ∷ a) + k) (place_among q b))
+  by : place_among q (a ++ b) ≡ or_else (place_among q a) (option_map (λ k. length a + k) (place_among q b)) → (same : Bool) → is_same_terminal q t ≡ same
+      → place_among q (t ∷ a ++ b) ≡ or_else (place_among q (t ∷ a)) (option_map (λ k. length (t ∷ a) + k) (place_among q b))
   by rest true same = rw same refl
   by rest false other = rw (other, rest) (later (length a) (place_among q a) (place_among q b))
 
 -- the pieces of a net in two lists
-pub two_pieces : (known : Option (ℕ × ℕ)) (net from : ℕ) (a b : List Terminal) (q : Terminal) → with_pieces (with_pieces known net from a q) net (from + length a) b q ≡ with_pieces known net from (a ++ b) q
+pub two_pieces : (known : Option (ℕ × ℕ)) (net from : ℕ) (a b : List Terminal) (q : Terminal)
+    → with_pieces (with_pieces known net from a q) net (from + length a) b q ≡ with_pieces known net from (a ++ b) q
 two_pieces (Some place) net from a b q = refl
 two_pieces None net from a b q = rw (place_append q a b) (by (place_among q a) (place_among q b)) where
-  by : (x y : Option ℕ) → or_else {X = ℕ × ℕ} (option_map (λ k. (net, from + k)) x) (option_map (λ k. (net, from + length a + k)) y) ≡ option_map (λ k. (net, from + k)) (or_else x (option_map (λ k. length a + k) y))
+  by : (x y : Option ℕ) → or_else {X = ℕ × ℕ} (option_map (λ k. (net, from + k)) x) (option_map (λ k. (net, from + length a + k)) y) ≡ option_map
+      (λ k. (net, from + k)) (or_else x (option_map (λ k. length a + k) y))
   by (Some j) y = refl
   by None None = refl
   by None (Some k) = ap (λ m. Some (net, m)) (omega arith)
 
 -- one more piece, of a terminal that isn't known
-pub one_more : (known : Option (ℕ × ℕ)) (net from : ℕ) (ts : List Terminal) (t q : Terminal) → (t ≡ q → with_pieces known net from ts q ≡ None) → with_pieces known net from (ts ++ t ∷ []) q ≡ cond (is_same_terminal t q) (Some (net, from + length ts)) (with_pieces known net from ts q)
+pub one_more : (known : Option (ℕ × ℕ)) (net from : ℕ) (ts : List Terminal) (t q : Terminal) → (t ≡ q → with_pieces known net from ts q ≡ None)
+    → with_pieces known net from (ts ++ t ∷ []) q ≡ cond (is_same_terminal t q) (Some (net, from + length ts)) (with_pieces known net from ts q)
 one_more known net from ts t q new =
     sym (two_pieces known net from ts (t ∷ []) q) ∙ by (is_same_terminal t q) refl (is_same_terminal q t) refl where
       before : Option (ℕ × ℕ)
@@ -80,7 +85,8 @@ one_more known net from ts t q new =
       nothing None = refl
       nothing (Some x) = refl
 
-      by : (same : Bool) → is_same_terminal t q ≡ same → (back : Bool) → is_same_terminal q t ≡ back → with_pieces before net (from + length ts) (t ∷ []) q ≡ cond (is_same_terminal t q) (Some (net, from + length ts)) before
+      by : (same : Bool) → is_same_terminal t q ≡ same → (back : Bool) → is_same_terminal q t ≡ back
+          → with_pieces before net (from + length ts) (t ∷ []) q ≡ cond (is_same_terminal t q) (Some (net, from + length ts)) before
       by true same true back = rw (same, back, new (same_is t q same)) (ap (λ m. Some (net, m)) (omega arith))
       by true same false back =
           let it : t ≡ q = same_is t q same in

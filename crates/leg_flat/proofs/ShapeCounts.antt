@@ -18,7 +18,8 @@ use Rattle.leg_flat.proofs.Counts.{belonging_length, drawn_length}
 use Rattle.leg_flat.proofs.Parts.{whole_length}
 
 -- a walk gives as much as its elements give
-walk_length : {X Y : Type 0} (f : ℕ → X → List Y) (size : X → ℕ) → ((k : ℕ) (x : X) → length (f k x) ≡ size x) → (k : ℕ) (xs : List X) → length (walk f k xs) ≡ sum_by size xs
+walk_length : {X Y : Type 0} (f : ℕ → X → List Y) (size : X → ℕ) → ((k : ℕ) (x : X) → length (f k x) ≡ size x) → (k : ℕ) (xs : List X)
+    → length (walk f k xs) ≡ sum_by size xs
 walk_length f size is k [] = refl
 walk_length f size is k (x ∷ xs) =
     let first = is k x in
@@ -26,11 +27,13 @@ walk_length f size is k (x ∷ xs) =
     let both : length (f k x) + length (walk f (suc k) xs) ≡ size x + sum_by size xs = omega (arith, first, rest) in
     length-append (f k x) (walk f (suc k) xs) ∙ both ∙ sym (sum_by-cons size x xs)
 
-walked : {X Y : Type 0} (f : ℕ → X → List Y) (size : X → ℕ) (metal : List Y) (k : ℕ) (xs : List X) → metal ≡ walk f k xs → ((k : ℕ) (x : X) → length (f k x) ≡ size x) → length metal ≡ sum_by size xs
+walked : {X Y : Type 0} (f : ℕ → X → List Y) (size : X → ℕ) (metal : List Y) (k : ℕ) (xs : List X) → metal ≡ walk f k xs
+    → ((k : ℕ) (x : X) → length (f k x) ≡ size x) → length metal ≡ sum_by size xs
 walked f size metal k xs is each = ap length is ∙ walk_length f size each k xs
 
 module _ (design : DesignModel) where
-  component_count : (c : ℕ) (place : Option Place) (master : Option library.MasterModel) → length (component_metal design c place master) ≡ component_shape_count place master
+  component_count : (c : ℕ) (place : Option Place) (master : Option library.MasterModel)
+      → length (component_metal design c place master) ≡ component_shape_count place master
   component_count c None None = refl
   component_count c None (Some master) = refl
   component_count c (Some place) None = refl
@@ -41,7 +44,9 @@ module _ (design : DesignModel) where
       let belongs : Belonging = record { owner = Obs c; component = Some c; piece = None } in
       let obstructions = drawn_length belongs place master.size master.obstructions in
       length-append (pins_metal design c place master.size 0 master.pins) (belonging belongs (drawn place master.size master.obstructions))
-      ∙ (let e : length (pins_metal design c place master.size 0 master.pins) + length (belonging belongs (drawn place master.size master.obstructions)) ≡ sum_by (λ pin. length pin.shapes) master.pins + length master.obstructions = omega (arith, pins, obstructions) in e)
+      ∙ (let e : length (pins_metal design c place master.size 0 master.pins) + length
+      (belonging belongs (drawn place master.size master.obstructions)) ≡ sum_by (λ pin. length pin.shapes) master.pins + length master.obstructions =
+      omega (arith, pins, obstructions) in e)
 
   components_count : length (components_metal design 0 design.components) ≡ sum_by (component_shapes design) design.components
   components_count =
@@ -61,7 +66,8 @@ module _ (design : DesignModel) where
   specials_count : length (specials_metal design 0 design.special) ≡ sum_by (wire_shapes design) design.special
   specials_count =
       walked (one_special design) (wire_shapes design) _ 0 design.special (specials_walk design 0 design.special)
-      (λ k net. wires_count (number_of_special design k net) (length (terminals_of design (number_of_special design k net)) + length (entry_wires (regular_entry design (number_of_special design k net)))) net)
+      (λ k net. wires_count (number_of_special design k net)
+      (length (terminals_of design (number_of_special design k net)) + length (entry_wires (regular_entry design (number_of_special design k net)))) net)
 
 port_count : (place : Option Place) (shapes : List Shape) → length (port_outlines place shapes) ≡ port_shape_count place (length shapes)
 port_count None shapes = refl

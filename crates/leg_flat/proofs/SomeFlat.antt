@@ -38,7 +38,8 @@ shapes_for (m ∷ metal) all =
     let rest = shapes_for metal (All-tail IsRectMetal m metal all) in
     record { shapes = shape_of m first ∷ rest.shapes; each = (shape_is m first, rest.each) }
 
-pub some_flat : ArePlacedImages → (design : DesignModel) → IsSound design.library → IsProperLibrary design.library → IsWellFormed design → (flat : FlatModel) × IsFlatOf design flat
+pub some_flat : ArePlacedImages → (design : DesignModel) → IsSound design.library → IsProperLibrary design.library → IsWellFormed design
+    → (flat : FlatModel) × IsFlatOf design flat
 some_flat images design sound proper well =
     let has = shapes_for (metal_of design) (metal_rects images design sound proper well) in (
       record { shapes = has.shapes; pieces = map (pieces_of design) (range_with_len 0 (length design.nets + length design.special)) },

@@ -72,7 +72,8 @@ module _ (design : DesignModel) (has : HasNets design) (n : ℕ) where
     by (inl a) (inr b) = absurd (not_both i b.j a b.there)
     by (inr a) (inl b) = absurd (not_both j a.j b a.there)
     by (inr a) (inr b) =
-        let place : a.j ≡ b.j = once_at rest (AllPairs-filter (λ t u. t ≢ u) is_new (entry_terminals (special_entry design n)) special_once) a.j b.j t a.there b.there in
+        let place : a.j ≡ b.j =
+        once_at rest (AllPairs-filter (λ t u. t ≢ u) is_new (entry_terminals (special_entry design n)) special_once) a.j b.j t a.there b.there in
         a.place ∙ ap (λ k. length first + k) place ∙ sym b.place
 
   -- a terminal's place is the one where it stands

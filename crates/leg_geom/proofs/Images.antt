@@ -110,7 +110,11 @@ IsImage-placed_rect at FW w h r p = IsImage-crossed _ _ _ _ (Carries-moved at.x 
 IsImage-placed_rect at FE w h r p = IsImage-crossed _ _ _ _ (Carries-mirrored at.x h _ (IsSpan-y_ends r p)) (Carries-mirrored at.y w _ (IsSpan-x_ends r p))
 
 -- the same rectangle, from corners and images that are named
-pub placed_rect-corners : (o : Orient) (at : PointModel) (w h : ℤ) (r s : RectModel) (low high p q : PointModel) → low ≡ spot r.x1 r.y1 → high ≡ spot r.x2 r.y2 → p ≡ placed at o w h low → q ≡ placed at o w h high → x_ends s ≡ between p.x q.x → y_ends s ≡ between p.y q.y → s ≡ placed_rect at o w h r
+pub placed_rect-corners : (o : Orient) (at : PointModel) (w h : ℤ) (r s : RectModel) (low high p q : PointModel) → low ≡ spot r.x1 r.y1
+    → high ≡ spot r.x2 r.y2 → p ≡ placed at o w h low → q ≡ placed at o w h high → x_ends s ≡ between p.x q.x → y_ends s ≡ between p.y q.y
+    → s ≡ placed_rect at o w h r
 placed_rect-corners o at w h r s low high p q el eh ep eq ex ey =
-    let e : s ≡ opposite p q = same_sides _ _ _ _ _ _ _ _ (ap (λ (e : Interval). e.low) ex) (ap (λ (e : Interval). e.low) ey) (ap (λ (e : Interval). e.high) ex) (ap (λ (e : Interval). e.high) ey) in
+    let e : s ≡ opposite p q =
+    same_sides _ _ _ _ _ _ _ _ (ap (λ (e : Interval). e.low) ex) (ap (λ (e : Interval). e.low) ey) (ap (λ (e : Interval). e.high) ex)
+    (ap (λ (e : Interval). e.high) ey) in
     rw (e, ep, eq, el, eh) refl

@@ -34,7 +34,7 @@ ConcernsSettled design done (OpenNet n k) = ⊥
 
 -- no violation holds among them
 pub record NoneSettled (design : DesignModel) (done : List ℕ) : Type 0 where
-  pub none : (fault : Fault) → IsPlacementViolation design.library design fault → ConcernsSettled design done fault → ⊥
+  pub none : (fault : Fault) → IsPlacementViolation design fault → ConcernsSettled design done fault → ⊥
 
 -- one more component takes a free position
 module _ (now : DesignModel) (sound : HasSoundRows now) (done : List ℕ) (c : ℕ) (component : Component) (place : Place)
@@ -59,13 +59,13 @@ module _ (now : DesignModel) (sound : HasSoundRows now) (done : List ℕ) (c : �
       none-some place (sym (rw is at h.unplaced))
 
   -- it lies in the die
-  inside_here : IsOutside now.library after c → ⊥
+  inside_here : IsOutside after c → ⊥
   inside_here h =
       let is : h.box ≡ placed_box free.stands.master.size place = box_here now c component place at free.stands.master h.box is_master h.stands in
       h.outside (free.clear.inside h.square (rw is at h.inside))
 
   -- it stands on sites
-  on_site_here : IsOffSite now.library after c → ⊥
+  on_site_here : IsOffSite after c → ⊥
   on_site_here h =
       let is : h.component ≡ placed_at component place = is_here now c component place at h.component h.there in
       let same_place : h.place ≡ place = same_Some h.place place (sym (rw is at h.placed)) in
@@ -76,18 +76,18 @@ module _ (now : DesignModel) (sound : HasSoundRows now) (done : List ℕ) (c : �
       (rw (same_master, same_number, same_place) (stands_on_row now sound c position place free.stands))
 
   -- no other settled component shares a unit square with it
-  alone_here : (d : ℕ) (box other : RectModel) → (d ≡ c → ⊥) → IsSettled after more d → HasBox now.library after c box → HasBox now.library after d other → ShareSquare other box → ⊥
+  alone_here : (d : ℕ) (box other : RectModel) → (d ≡ c → ⊥) → IsSettled after more d → HasBox after c box → HasBox after d other → ShareSquare other box → ⊥
   alone_here d box other apart settled stands_c stands_d shared =
       let is : box ≡ placed_box free.stands.master.size place = box_here now c component place at free.stands.master box is_master stands_c in
       free.clear.alone other (taken_before now c component place at movable done d other apart settled stands_d) (rw is at shared)
 
   -- no placement blockage does
-  clear_here : IsBlocked now.library after c → ⊥
+  clear_here : IsBlocked after c → ⊥
   clear_here h =
       let is : h.box ≡ placed_box free.stands.master.size place = box_here now c component place at free.stands.master h.box is_master h.stands in
       free.clear.alone h.rect (inr h.blocks) (rw is at (ShareSquare-symmetric h.box h.rect h.shared))
 
-  none_after : (fault : Fault) → IsPlacementViolation now.library after fault → ConcernsSettled after more fault → ⊥
+  none_after : (fault : Fault) → IsPlacementViolation after fault → ConcernsSettled after more fault → ⊥
   none_after v (unplaced {c = d} h) settled =
       elim (cases_eq d c) [
         | inl same ↦ placed_here (rw same at h)
@@ -101,7 +101,13 @@ module _ (now : DesignModel) (sound : HasSoundRows now) (done : List ℕ) (c : �
         | inl same ↦ inside_here (rw same at h)
         | inr apart ↦
             before.none (Outside d)
-            (outside (record { box = h.box; stands = box_elsewhere now c component place at d h.box apart h.stands; square = h.square; inside = h.inside; outside = h.outside }))
+            (outside (record {
+              box = h.box;
+              stands = box_elsewhere now c component place at d h.box apart h.stands;
+              square = h.square;
+              inside = h.inside;
+              outside = h.outside;
+            }))
             (settled_before now c component place at movable done d apart settled)
       ]
   none_after v (off_site {c = d} h) settled =
@@ -138,8 +144,10 @@ module _ (now : DesignModel) (sound : HasSoundRows now) (done : List ℕ) (c : �
                 stands_a = box_elsewhere now c component place at a h.box_a a_apart h.stands_a;
                 stands_b = box_elsewhere now c component place at b h.box_b b_apart h.stands_b;
                 shared = h.shared;
-              }))
-              (settled_before now c component place at movable done a a_apart settled.0, settled_before now c component place at movable done b b_apart settled.1)
+              })) (
+                settled_before now c component place at movable done a a_apart settled.0,
+                settled_before now c component place at movable done b b_apart settled.1,
+              )
         ]
       ]
   none_after v (blocked {c = d} h) settled =

@@ -23,7 +23,7 @@ use Rattle.leg_legal_sites.proofs.BestSoFar.{no_worse_itself, best_of_both, best
 use Rattle.leg_legal_sites.proofs.MacroPlaces.{some_sites}
 use Rattle.leg_design_records.specs.Movable.{IsMovable}
 use Rattle.leg_rules.specs.Legalise.Start.{start_of, distance}
-use Rattle.leg_rules.specs.Legalise.Places.{orient_of, Takes, IsPlacedOn}
+use Rattle.leg_rules.specs.Legalise.Places.{orient_if_placed, Takes, IsPlacedOn}
 use Rattle.leg_rules.specs.Legalise.Free.{IsSettled, IsTaken, IsFree, TakesBest}
 use Rattle.leg_rules.specs.Legalise.Refusals.{HasRowFor}
 use Rattle.leg_legal.specs.FreePlaces.{HasMacroSizes}
@@ -147,7 +147,7 @@ module _ (design : DesignModel) (done : List ℕ) where
   record IsInTheWay (box : RectModel) (d : ℕ) : Type 0 where
     settled : IsSettled design done d
     other : RectModel
-    stands : HasBox design.library design d other
+    stands : HasBox design d other
     shared : ShareSquare other box
 
   in_the_way_or_not : (box : RectModel) (d : ℕ) → HoldsOrNot (IsInTheWay box d)
@@ -249,12 +249,13 @@ module _ (design : DesignModel) (sound : HasSoundRows design) (sized : HasMacroS
       s_within = rw s_many at s.within
 
     -- the position on a row from this site on
-    module _ (number : ℕ) (row : Row) (is_row : slice_get design.rows number ≡ Some row) (same : row.site ≡ m.number) (first : ℕ) (within : pos (first + many) ≤ℤ row.count) where
-      orient : (orient : Orient) × Takes row.orient m.master.y_symmetric (orient_of m.component.place) orient
-      orient = taken_orient row.orient m.master.y_symmetric (orient_of m.component.place)
+    module _ (number : ℕ) (row : Row) (is_row : slice_get design.rows number ≡ Some row) (same : row.site ≡ m.number) (first : ℕ)
+        (within : pos (first + many) ≤ℤ row.count) where
+      orient : (orient : Orient) × Takes row.orient m.master.y_symmetric (orient_if_placed m.component.place) orient
+      orient = taken_orient row.orient m.master.y_symmetric (orient_if_placed m.component.place)
 
-      flag : (flag : Bool) × (IsTrue flag ↔ IsTurned row.orient m.master.y_symmetric (orient_of m.component.place))
-      flag = flag_of (turned_or_not row.orient m.master.y_symmetric (orient_of m.component.place))
+      flag : (flag : Bool) × (IsTrue flag ↔ IsTurned row.orient m.master.y_symmetric (orient_if_placed m.component.place))
+      flag = flag_of (turned_or_not row.orient m.master.y_symmetric (orient_if_placed m.component.place))
 
       place_there : Place
       place_there = record { at = record { x = row.at.x +ℤ pos first *ℤ h.site.size.width; y = row.at.y }; orient = orient.0 }
@@ -295,8 +296,9 @@ module _ (design : DesignModel) (sound : HasSoundRows design) (sized : HasMacroS
 
         s_orient : place.orient ≡ orient.0
         s_orient =
-            let takes : Takes row.orient m.master.y_symmetric (orient_of m.component.place) place.orient = rw (s_row, s_master k place s, s_component k place s) at s.takes in
-            one_orient row.orient m.master.y_symmetric (orient_of m.component.place) place.orient orient.0 takes orient.1
+            let takes : Takes row.orient m.master.y_symmetric (orient_if_placed m.component.place) place.orient =
+            rw (s_row, s_master k place s, s_component k place s) at s.takes in
+            one_orient row.orient m.master.y_symmetric (orient_if_placed m.component.place) place.orient orient.0 takes orient.1
 
         s_place : place ≡ place_there
         unfolding place_there
@@ -308,7 +310,8 @@ module _ (design : DesignModel) (sound : HasSoundRows design) (sized : HasMacroS
 
         s_turned : k.turned ≡ flag.0
         s_turned =
-            let told : IsTrue k.turned ↔ IsTurned row.orient m.master.y_symmetric (orient_of m.component.place) = rw (s_row, s_master k place s, s_component k place s) at s.turned in
+            let told : IsTrue k.turned ↔ IsTurned row.orient m.master.y_symmetric (orient_if_placed m.component.place) =
+            rw (s_row, s_master k place s, s_component k place s) at s.turned in
             both_ways k.turned flag.0 (λ t. flag.1.1 (told.0 t)) (λ t. told.1 (flag.1.0 t))
 
         s_position : k ≡ position_there
@@ -352,7 +355,8 @@ module _ (design : DesignModel) (sound : HasSoundRows design) (sized : HasMacroS
                 (λ other f. s_position number row is_row same first within other f.place f.free.stands f.row f.first_is)
             | inr never ↦
                 best_of_none (IsFreeFrom number first)
-                (λ other f. never (s_clear number row is_row same first within other f.place f.free.stands f.row f.first_is (IsClear design.die (IsTaken design done)) f.free.clear))
+                (λ other f. never (s_clear number row is_row same first within other f.place f.free.stands f.row f.first_is
+                (IsClear design.die (IsTaken design done)) f.free.clear))
           ]
 
       best_from : (first : ℕ) → HasBest (IsFreeFrom number first)
@@ -385,11 +389,16 @@ module _ (design : DesignModel) (sound : HasSoundRows design) (sized : HasMacroS
                 found.0,
                 best_of_same (HasBelow (IsFreeFrom number) (unsigned_abs row.count)) (IsFreeIn number)
                     (λ k b. record { row = b.has.row; place = b.has.place; free = b.has.free })
-                    (λ k f. record { number = k.first; below = below_count number row is_row k f; has = record { row = f.row; first_is = refl; place = f.place; free = f.free } })
+                    (λ k f. record {
+                      number = k.first;
+                      below = below_count number row is_row k f;
+                      has = record { row = f.row; first_is = refl; place = f.place; free = f.free };
+                    })
                     found.0 found.1,
               )
         ] where
-          below_count : (number : ℕ) (row : Row) → slice_get design.rows number ≡ Some row → (k : Candidate) → IsFreeIn number k → k.first < unsigned_abs row.count
+          below_count : (number : ℕ) (row : Row) → slice_get design.rows number ≡ Some row → (k : Candidate) → IsFreeIn number k
+              → k.first < unsigned_abs row.count
           below_count number row is_row k f =
               let one : f.free.stands.row ≡ row = row_of number row is_row k f.place f.free.stands f.row in
               let upto : pos (k.first + many) ≤ℤ row.count = rw one at (s_within k f.place f.free.stands) in

@@ -24,7 +24,7 @@ use Rattle.leg_legal_sites.specs.declared.stretch.Stretch.{Stretch}
 use Rattle.leg_rules.specs.declared.position.Candidate.{Candidate}
 use Rattle.leg_legal_sites.specs.declared.candidate.Wanted.{Wanted}
 use Rattle.leg_legal_sites.specs.Steps.Stretches.{IsFreeSite, AreFreeSites}
-use Rattle.leg_legal_sites.specs.Steps.ClearSites.{IsKnown}
+use Rattle.leg_legal_sites.specs.Steps.ClearSites.{IsFreeList}
 use Rattle.leg_rules.specs.Legalise.Clear.{IsClear}
 use Rattle.leg_legal_sites.specs.Steps.FreeLists.{RowLists, AreFreeLists, IsOfItsSite}
 use Rattle.leg_legal_sites.specs.Steps.BestPosition.{AreReady, IsCandidate}
@@ -33,7 +33,7 @@ use Rattle.leg_legal_sites.proofs.MacroBoxes.{fitting_upright}
 use Rattle.leg_legal_sites.proofs.MacroPlaces.{free_just_where_macro_clear}
 use Rattle.leg_design_records.specs.Movable.{IsMovable}
 use Rattle.leg_rules.specs.Legalise.Start.{start_of, distance}
-use Rattle.leg_rules.specs.Legalise.Places.{orient_of, Takes}
+use Rattle.leg_rules.specs.Legalise.Places.{orient_if_placed, Takes}
 use Rattle.leg_rules.specs.Legalise.Refusals.{FitsSites, HasRowFor, IsUnsuited}
 use Rattle.leg_legal.specs.Steps.Seats.{IsWantedOf, IsFreeOf, IsBestPlace}
 use Rattle.leg_legal.proofs.Elements.{all_at}
@@ -74,7 +74,8 @@ module _ (site size : ExtentModel) (area : HasArea site) (has_area : HasArea siz
       let width : site.width ≡ pos n = omega (arith, ints, area.wide) in
       let product : pos many *ℤ site.width ≡ pos (many * n) = rw width (pos-*ℤ-pos many n) in
       let rest : unsigned_abs size.width % n ≡ 0 = rest_from_fits site size area has_area fits in
-      let parts : unsigned_abs size.width ≡ many * n = omega (arith, mod-eq-sub-div-mul (unsigned_abs size.width) n, rest, div-mul-le_self (unsigned_abs size.width) n) in
+      let parts : unsigned_abs size.width ≡ many * n =
+      omega (arith, mod-eq-sub-div-mul (unsigned_abs size.width) n, rest, div-mul-le_self (unsigned_abs size.width) n) in
       omega (arith, ints, has_area.wide, parts, product)
 
 -- what a movable component asks that isn't unsuited
@@ -95,9 +96,19 @@ module _ (design : DesignModel) (c : ℕ) (m : IsMovable design c) (suited : IsU
         | inr beyond ↦ absurd (misfit_none (no_row_beyond design master.size number beyond))
       ]
 
-  pub wanted_is : (site : Site) → slice_get design.library.sites number ≡ Some site → IsExtent site.size → IsExtent master.size → (wanted : Wanted) → wanted ≡ record { start = start_of design.die component.place; site = number; site_width = site.size.width; many = unsigned_abs master.size.width / unsigned_abs site.size.width; orient = orient_of component.place; y_symmetric = master.y_symmetric } → IsWantedOf design c wanted
+  pub wanted_is : (site : Site) → slice_get design.library.sites number ≡ Some site → IsExtent site.size → IsExtent master.size → (wanted : Wanted)
+      → wanted ≡ record {
+        start = start_of design.die component.place;
+        site = number;
+        site_width = site.size.width;
+        many = unsigned_abs master.size.width / unsigned_abs site.size.width;
+        orient = orient_if_placed component.place;
+        y_symmetric = master.y_symmetric;
+      }
+      → IsWantedOf design c wanted
   wanted_is site is_site area has_area wanted is =
-      let fits : FitsSites site.size master.size = fits_stable site.size master.size area.area has_area.area (λ unfit. misfit_none (no_row_unfit design master.size number site is_site unfit)) in
+      let fits : FitsSites site.size master.size =
+      fits_stable site.size master.size area.area has_area.area (λ unfit. misfit_none (no_row_unfit design master.size number site is_site unfit)) in
       rw is (record {
         component = component;
         there = there;
@@ -173,22 +184,27 @@ module _ (design : DesignModel) (proper : IsWellFormed design) (c : ℕ) (wanted
     sited : slice_get design.library.sites row.site ≡ Some asks.site
     sited = rw same asks.is_site
 
-    pub list_known : IsKnown row asks.site.size design.die (Contains boxes) list
+    pub list_known : IsFreeList row asks.site.size design.die (Contains boxes) list
     list_known = known.each number row asks.site list (record { there = there; sited = sited }) listed
 
     pub site_within : (k : ℕ) → IsFreeSite list k → IsNumber (row.at.x +ℤ pos k *ℤ wanted.site_width)
     site_within k site = begins_within row row_is same k ((list_known k).0 site).0
 
     pub fits_upright : (orient : Orient) → Takes row.orient wanted.y_symmetric wanted.orient orient → IsTrue (is_upright orient)
-    fits_upright orient takes = fitting_upright row.orient wanted.y_symmetric orient row_is.upright (takes_fits row.orient wanted.y_symmetric wanted.orient orient takes)
+    fits_upright orient takes =
+        fitting_upright row.orient wanted.y_symmetric orient row_is.upright (takes_fits row.orient wanted.y_symmetric wanted.orient orient takes)
 
-    pub just_where : (first : ℕ) (place : Place) → place.at ≡ record { x = row.at.x +ℤ pos first *ℤ asks.site.size.width; y = row.at.y } → IsTrue (is_upright place.orient) → AreFreeSites list wanted.many first ↔ ((pos (first + wanted.many) ≤ℤ row.count) × IsClear design.die (Contains boxes) (placed_box asks.master.size place))
+    pub just_where : (first : ℕ) (place : Place) → place.at ≡ record { x = row.at.x +ℤ pos first *ℤ asks.site.size.width; y = row.at.y }
+        → IsTrue (is_upright place.orient) → AreFreeSites list wanted.many first ↔
+        ((pos (first + wanted.many) ≤ℤ row.count) × IsClear design.die (Contains boxes) (placed_box asks.master.size place))
     just_where first place at upright =
         free_just_where_macro_clear row asks.site.size asks.master.size wanted.many asks.area.area asks.has_area.area asks.wide asks.high
         design.die (Contains boxes) list list_known first place at upright
 
   -- where the first of some sites of the row begins is a point that a DEF may have
-  pub position_of : (number : ℕ) (row : Row) (there : slice_get design.rows number ≡ Some row) (same : row.site ≡ wanted.site) (list : List Stretch) (listed : slice_get free.lists number ≡ Some list) (first : ℕ) → AreFreeSites list wanted.many first → (place : Place) → place.at ≡ record { x = row.at.x +ℤ pos first *ℤ wanted.site_width; y = row.at.y } → IsPosition place.at
+  pub position_of : (number : ℕ) (row : Row) (there : slice_get design.rows number ≡ Some row) (same : row.site ≡ wanted.site) (list : List Stretch)
+      (listed : slice_get free.lists number ≡ Some list) (first : ℕ) → AreFreeSites list wanted.many first → (place : Place)
+      → place.at ≡ record { x = row.at.x +ℤ pos first *ℤ wanted.site_width; y = row.at.y } → IsPosition place.at
   position_of number row there same list listed first sites place at =
       let row_is : IsRow design.library row = all_at (IsRow design.library) design.rows number row proper.rows there in
       rw at (record {
@@ -208,7 +224,7 @@ module _ (design : DesignModel) (proper : IsWellFormed design) (c : ℕ) (wanted
         (just_where k.row is.row is.there is.same is.stretches is.known k.first place at_site
         (fits_upright k.row is.row is.there is.same is.stretches is.known place.orient takes)).0 is.sites
 
-    taken_orient : Takes is.row.orient asks.master.y_symmetric (orient_of asks.component.place) place.orient
+    taken_orient : Takes is.row.orient asks.master.y_symmetric (orient_if_placed asks.component.place) place.orient
     taken_orient = rw (asks.y_symmetric, asks.orient) at takes
 
     distance_is : k.distance ≡ distance place.at (start_of design.die asks.component.place)
@@ -272,12 +288,14 @@ module _ (design : DesignModel) (proper : IsWellFormed design) (c : ℕ) (wanted
 
     s_takes : Takes f.stands.row.orient wanted.y_symmetric wanted.orient place.orient
     s_takes =
-        let told : Takes f.stands.row.orient asks.master.y_symmetric (orient_of asks.component.place) place.orient = rw (s_master, s_component) at f.stands.takes in
+        let told : Takes f.stands.row.orient asks.master.y_symmetric (orient_if_placed asks.component.place) place.orient =
+        rw (s_master, s_component) at f.stands.takes in
         rw (asks.y_symmetric, asks.orient) told
 
     s_turned : IsTrue k.turned ↔ IsTurned f.stands.row.orient wanted.y_symmetric wanted.orient
     s_turned =
-        let told : IsTrue k.turned ↔ IsTurned f.stands.row.orient asks.master.y_symmetric (orient_of asks.component.place) = rw (s_master, s_component) at f.stands.turned in
+        let told : IsTrue k.turned ↔ IsTurned f.stands.row.orient asks.master.y_symmetric (orient_if_placed asks.component.place) =
+        rw (s_master, s_component) at f.stands.turned in
         rw (asks.y_symmetric, asks.orient) told
 
     s_within : pos (k.first + wanted.many) ≤ℤ f.stands.row.count
@@ -297,7 +315,8 @@ module _ (design : DesignModel) (proper : IsWellFormed design) (c : ℕ) (wanted
 
     s_distance : k.distance ≡ apart (f.stands.row.at.x +ℤ pos k.first *ℤ wanted.site_width) wanted.start.x + apart f.stands.row.at.y wanted.start.y
     s_distance =
-        let start : start_of design.die f.stands.component.place ≡ wanted.start = ap (λ (x : Component). start_of design.die x.place) s_component ∙ sym asks.start in
+        let start : start_of design.die f.stands.component.place ≡ wanted.start =
+        ap (λ (x : Component). start_of design.die x.place) s_component ∙ sym asks.start in
         let by : asks.site.size.width ≡ wanted.site_width = sym asks.site_width in
         f.stands.distance
         ∙ (λ i. apart (s_at i).x (start i).x + apart (s_at i).y (start i).y)
@@ -321,7 +340,10 @@ module _ (design : DesignModel) (proper : IsWellFormed design) (c : ℕ) (wanted
   pub none_best : ((k : Candidate) → IsCandidate design.rows free.lists wanted k → ⊥) → IsBestPlace design boxes c None
   none_best none = λ k place f. none k (candidate_from_free k place f)
 
-  pub best_is : (k : Candidate) (is : IsCandidate design.rows free.lists wanted k) → ((other : Candidate) → IsCandidate design.rows free.lists wanted other → IsNoWorse k other) → (place : Place) → place.at ≡ record { x = is.row.at.x +ℤ pos k.first *ℤ wanted.site_width; y = is.row.at.y } → Takes is.row.orient wanted.y_symmetric wanted.orient place.orient → IsBestPlace design boxes c (Some place)
+  pub best_is : (k : Candidate) (is : IsCandidate design.rows free.lists wanted k)
+      → ((other : Candidate) → IsCandidate design.rows free.lists wanted other → IsNoWorse k other) → (place : Place)
+      → place.at ≡ record { x = is.row.at.x +ℤ pos k.first *ℤ wanted.site_width; y = is.row.at.y }
+      → Takes is.row.orient wanted.y_symmetric wanted.orient place.orient → IsBestPlace design boxes c (Some place)
   best_is k is least place at takes = record {
     position = k;
     free = free_from_candidate k is place at takes;

@@ -13,7 +13,7 @@ use Rattle.leg_legal.specs.declared.fault.LegalFault.TheVariants.{FixedIllegal, 
 use Rattle.leg_legal.specs.declared.taken.Taken.{Taken}
 use Rattle.leg_legal.specs.declared.turns.TurnKey.{TurnKey}
 use Rattle.leg_legal.specs.Refusals.{IsLegaliseRefusal}
-use Rattle.leg_rules.specs.Legalise.Refusals.{HoldsOfStaying, NoneStaying, AreSuited}
+use Rattle.leg_rules.specs.Legalise.Refusals.{IsStayingViolation, NoneStaying, AreSuited}
 use Rattle.leg_legal.specs.Steps.AfterPlaces.{CanTake, placed_all}
 use Rattle.leg_legal.specs.Steps.TurnKeys.{numbers, AreInOrder}
 use Rattle.leg_legal.specs.Steps.Boxes.{AreAllTaken, IsTakingFault}
@@ -28,7 +28,7 @@ none_there (x ∷ xs) is = absurd (omega (arith, is))
 
 module _ (design : DesignModel) where
   -- no violation concerns only components that stay
-  pub staying_from_none : (faults : List Fault) → IsListOf (HoldsOfStaying design) faults → faults ≡ [] → NoneStaying design
+  pub staying_from_none : (faults : List Fault) → IsListOf (IsStayingViolation design) faults → faults ≡ [] → NoneStaying design
   staying_from_none faults list is = λ fault holds. Contains-nil fault (rw is at (list.all fault holds))
 
   pub chosen_none : (taken : List Taken) → taken ≡ [] → IsWellFormed design → IsLegallyPlaced design → AreChosen design taken
@@ -40,7 +40,8 @@ module _ (design : DesignModel) where
         legalised = inl (legal, refl);
       })
 
-  pub chosen_run : (taken : List Taken) → IsWellFormed design → IsSound design.library → NoneStaying design → (IsLegallyPlaced design → ⊥) → AreRun design taken → AreChosen design taken
+  pub chosen_run : (taken : List Taken) → IsWellFormed design → IsSound design.library → NoneStaying design → (IsLegallyPlaced design → ⊥)
+      → AreRun design taken → AreChosen design taken
   chosen_run taken proper sound staying illegal r =
       let rows : HasSoundRows design = record { sites = sound.sites; rows = proper.rows } in
       record {
@@ -60,7 +61,8 @@ module _ {A : Type 0} (design : DesignModel) where
   run_fault_of keys (NoRoom c) order f = record { order = numbers keys; is_order = order.order; stuck = f }
   run_fault_of keys Memory order f = tt
 
-  pub refusal_of : (fault : LegalFault A) → NoneStaying design → AreSuited design → (IsLegallyPlaced design → ⊥) → IsRunFault design fault → IsLegaliseRefusal design fault
+  pub refusal_of : (fault : LegalFault A) → NoneStaying design → AreSuited design → (IsLegallyPlaced design → ⊥) → IsRunFault design fault
+      → IsLegaliseRefusal design fault
   refusal_of (FixedIllegal faults) staying suited illegal f = absurd f
   refusal_of (NoSite c) staying suited illegal f = absurd f
   refusal_of (NoRoom c) staying suited illegal f = (

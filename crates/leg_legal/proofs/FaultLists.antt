@@ -24,7 +24,8 @@ module _ (v w : Fault) (kinds : kind_number v ≡ kind_number w) where
 by_kind : (v w : Fault) → kind_number v < kind_number w → ComesBefore v w
 by_kind v w below = record { kind = omega arith; first = λ same. absurd (omega arith); second = λ same firsts. absurd (omega arith) }
 
-module _ (design : DesignModel) (P : Fault → Type 0) (holds : (fault : Fault) → P fault → IsPlacementViolation design.library design fault) (each : (fault : Fault) → HoldsOrNot (P fault)) where
+module _ (design : DesignModel) (P : Fault → Type 0) (holds : (fault : Fault) → P fault → IsPlacementViolation design fault)
+    (each : (fault : Fault) → HoldsOrNot (P fault)) where
   abbrev count : ℕ
   count = length design.components
 
@@ -68,7 +69,7 @@ module _ (design : DesignModel) (P : Fault → Type 0) (holds : (fault : Fault) 
     has : P fault
 
   below_count : (fault : Fault) → P fault → (numbers_of fault).0 < count
-  below_count fault p = component_below design.library design fault (holds fault p)
+  below_count fault p = component_below design fault (holds fault p)
 
   -- the list of one kind that names one component, by its number
   of_one_component : (kind : ComponentKind) → HasListing ComesBefore (IsOfNumber (number_of_kind kind))
@@ -88,8 +89,8 @@ module _ (design : DesignModel) (P : Fault → Type 0) (holds : (fault : Fault) 
   overlap_below fault is p =
       let first = (numbers_of fault).0 in
       let second = (numbers_of fault).1 in
-      let h : IsPlacementViolation design.library design (Overlap first second) = subst (IsPlacementViolation design.library design) (is_overlap fault is) (holds fault p) in
-      let o = overlap_there design.library design first second h in
+      let h : IsPlacementViolation design (Overlap first second) = subst (IsPlacementViolation design) (is_overlap fault is) (holds fault p) in
+      let o = overlap_there design first second h in
       slice_get_within design.components second o.stands_b.component o.stands_b.there
 
   of_overlaps : HasListing ComesBefore (IsOfNumber overlap_kind)
@@ -111,7 +112,7 @@ module _ (design : DesignModel) (P : Fault → Type 0) (holds : (fault : Fault) 
   -- no violation of placement is of another kind
   of_no_other : (number : ℕ) → ((kind : ComponentKind) → number ≢ number_of_kind kind) → number ≢ overlap_kind → HasListing ComesBefore (IsOfNumber number)
   of_no_other number no_component no_overlap =
-      listing_of_none ComesBefore (IsOfNumber number) (λ fault n. elim (component_or_overlap design.library design fault (holds fault n.has)) [
+      listing_of_none ComesBefore (IsOfNumber number) (λ fault n. elim (component_or_overlap design fault (holds fault n.has)) [
         | inl (kind, same) ↦ no_component kind (sym n.is ∙ same)
         | inr same ↦ no_overlap (sym n.is ∙ same)
       ])
@@ -134,7 +135,7 @@ module _ (design : DesignModel) (P : Fault → Type 0) (holds : (fault : Fault) 
   all_kinds =
       listing_same ComesBefore (IsOfKind IsOfNumber end) P
       (λ fault k. k.holds.has)
-      (λ fault p. record { kind = kind_number fault; below = kind_below design.library design fault (holds fault p); holds = record { is = refl; has = p } })
+      (λ fault p. record { kind = kind_number fault; below = kind_below design fault (holds fault p); holds = record { is = refl; has = p } })
       (listing_below ComesBefore IsOfNumber of_each_kind (λ j k v w below s t. by_kind v w (let s_is = s.is in let t_is = t.is in omega arith)) end)
 
   pub list_of : (faults : List Fault) × IsListOf P faults

@@ -14,7 +14,7 @@ use Rattle.leg_rules.specs.Placement.Violations.{IsUnplaced, IsOutside, DoOverla
 use Rattle.leg_rules.specs.Placement.Violations.IsPlacementViolation.{unplaced, outside, off_site, overlap, blocked}
 use Rattle.leg_rules.specs.Placement.Sites.{IsOnRow, IsOffSite}
 use Rattle.leg_place.proofs.PlaceFaults.{kind_below, unplaced_there, outside_there, off_site_there, overlap_there, blocked_there}
-use Rattle.leg_rules.specs.Legalise.Refusals.{ConcernsStaying, HoldsOfStaying}
+use Rattle.leg_rules.specs.Legalise.Refusals.{ConcernsStaying, IsStayingViolation}
 use Rattle.leg_legal.proofs.OnRow.{HasSoundRows}
 use Rattle.leg_design_records.proofs.MovableOrNot.{movable_or_not}
 use Rattle.leg_legal.proofs.Decisions.{HoldsOrNot, by_other, both_or_not, never_or_not, less_or_not, some_or_not, there_or_not}
@@ -23,18 +23,19 @@ use Rattle.leg_legal.proofs.RowTests.{some_element, on_row_or_not}
 
 module _ (design : DesignModel) where
   -- a component is in a box, or in none
-  pub box_or_not : (c : ℕ) → HoldsOrNot ((box : RectModel) × HasBox design.library design c box)
+  pub box_or_not : (c : ℕ) → HoldsOrNot ((box : RectModel) × HasBox design c box)
   box_or_not c =
       elim (there_or_not design.components c) [
         | inr none ↦ inr (λ (box, s). none (s.component, s.there))
         | inl (component, there) ↦ elim (some_or_not (box_of design.library component)) [
           | inl (box, is) ↦ inl (box, record { component = component; there = there; placed = is })
-          | inr none ↦ inr (λ (box, s). none (box, (let same : s.component ≡ component = same_Some s.component component (sym s.there ∙ there) in rw same at s.placed)))
+          | inr none ↦
+              inr (λ (box, s). none (box, (let same : s.component ≡ component = same_Some s.component component (sym s.there ∙ there) in rw same at s.placed)))
         ]
       ]
 
   -- and in one alone
-  pub one_box : (c : ℕ) (a b : RectModel) → HasBox design.library design c a → HasBox design.library design c b → a ≡ b
+  pub one_box : (c : ℕ) (a b : RectModel) → HasBox design c a → HasBox design c b → a ≡ b
   one_box c a b s t =
       let same : s.component ≡ t.component = same_Some s.component t.component (sym s.there ∙ t.there) in
       same_Some a b (sym (rw same at s.placed) ∙ t.placed)
@@ -44,7 +45,9 @@ module _ (design : DesignModel) where
       elim (there_or_not design.components c) [
         | inr none ↦ inr (λ u. none (u.component, u.there))
         | inl (component, there) ↦ elim (some_or_not component.place) [
-          | inl (place, is) ↦ inr (λ u. none-some place (let same : u.component ≡ component = same_Some u.component component (sym u.there ∙ there) in sym (rw same at u.unplaced) ∙ is))
+          | inl (place, is) ↦
+              inr (λ u. none-some place (let same : u.component ≡ component = same_Some u.component component (sym u.there ∙ there) in
+              sym (rw same at u.unplaced) ∙ is))
           | inr none ↦ inl (record { component = component; there = there; unplaced = none_is component.place none })
         ]
       ] where
@@ -52,7 +55,7 @@ module _ (design : DesignModel) where
         none_is None none = refl
         none_is (Some place) none = absurd (none (place, refl))
 
-  outside_or_not : (c : ℕ) → HoldsOrNot (IsOutside design.library design c)
+  outside_or_not : (c : ℕ) → HoldsOrNot (IsOutside design c)
   outside_or_not c =
       elim (box_or_not c) [
         | inr none ↦ inr (λ o. none (o.box, o.stands))
@@ -62,7 +65,7 @@ module _ (design : DesignModel) where
         ]
       ]
 
-  overlap_or_not : (a b : ℕ) → HoldsOrNot (DoOverlap design.library design a b)
+  overlap_or_not : (a b : ℕ) → HoldsOrNot (DoOverlap design a b)
   overlap_or_not a b =
       elim (less_or_not a b) [
         | inr not_less ↦ inr (λ o. not_less o.in_order)
@@ -85,7 +88,7 @@ module _ (design : DesignModel) where
   pub meets_or_not : (box : RectModel) → HoldsOrNot ((rect : RectModel) × Contains (placement_rects design.blockages) rect × ShareSquare box rect)
   meets_or_not box = some_element (ShareSquare box) (placement_rects design.blockages) (λ rect has. share_or_not box rect)
 
-  blocked_or_not : (c : ℕ) → HoldsOrNot (IsBlocked design.library design c)
+  blocked_or_not : (c : ℕ) → HoldsOrNot (IsBlocked design c)
   blocked_or_not c =
       elim (movable_or_not design c) [
         | inr stays ↦ inr (λ b. stays b.movable)
@@ -101,7 +104,7 @@ module _ (design : DesignModel) where
       ]
 
   module _ (sound : HasSoundRows design) where
-    off_site_or_not : (c : ℕ) → HoldsOrNot (IsOffSite design.library design c)
+    off_site_or_not : (c : ℕ) → HoldsOrNot (IsOffSite design c)
     off_site_or_not c =
         elim (there_or_not design.components c) [
           | inr none ↦ inr (λ o. none (o.component, o.there))
@@ -109,7 +112,7 @@ module _ (design : DesignModel) where
         ] where
           on_some_row : (component : Component) (place : Place) (master : MasterModel) (number : ℕ) → slice_get design.components c ≡ Some component
               → component.place ≡ Some place → slice_get design.library.masters component.master ≡ Some master → master.site ≡ Some number
-              → HoldsOrNot (IsOffSite design.library design c)
+              → HoldsOrNot (IsOffSite design c)
           on_some_row component place master number there placed is_master site =
               elim (some_element (IsOnRow design.library master number place) design.rows (on_row_or_not design sound master number place)) [
                 | inr none ↦ inl (record {
@@ -132,7 +135,7 @@ module _ (design : DesignModel) where
               ]
 
           sited : (component : Component) (place : Place) (master : MasterModel) → slice_get design.components c ≡ Some component
-              → component.place ≡ Some place → slice_get design.library.masters component.master ≡ Some master → HoldsOrNot (IsOffSite design.library design c)
+              → component.place ≡ Some place → slice_get design.library.masters component.master ≡ Some master → HoldsOrNot (IsOffSite design c)
           sited component place master there is is_master =
               elim (some_or_not master.site) [
                 | inl (number, site) ↦ on_some_row component place master number there is is_master site
@@ -142,7 +145,8 @@ module _ (design : DesignModel) where
                     none (o.number, rw master_is at o.site))
               ]
 
-          mastered : (component : Component) (place : Place) → slice_get design.components c ≡ Some component → component.place ≡ Some place → HoldsOrNot (IsOffSite design.library design c)
+          mastered : (component : Component) (place : Place) → slice_get design.components c ≡ Some component → component.place ≡ Some place
+              → HoldsOrNot (IsOffSite design c)
           mastered component place there is =
               elim (there_or_not design.library.masters component.master) [
                 | inl (master, is_master) ↦ sited component place master there is is_master
@@ -151,7 +155,7 @@ module _ (design : DesignModel) where
                     none (o.master, rw one at o.is_master))
               ]
 
-          placed : (component : Component) → slice_get design.components c ≡ Some component → HoldsOrNot (IsOffSite design.library design c)
+          placed : (component : Component) → slice_get design.components c ≡ Some component → HoldsOrNot (IsOffSite design c)
           placed component there =
               elim (some_or_not component.place) [
                 | inl (place, is) ↦ mastered component place there is
@@ -161,15 +165,15 @@ module _ (design : DesignModel) where
               ]
 
     -- a violation of placement holds or not
-    pub holds_or_not : (fault : Fault) → HoldsOrNot (IsPlacementViolation design.library design fault)
-    holds_or_not (Unplaced c) = by_other (λ h. unplaced h) (unplaced_there design.library design c) (unplaced_or_not c)
-    holds_or_not (Outside c) = by_other (λ h. outside h) (outside_there design.library design c) (outside_or_not c)
-    holds_or_not (OffSite c) = by_other (λ h. off_site h) (off_site_there design.library design c) (off_site_or_not c)
-    holds_or_not (Overlap a b) = by_other (λ h. overlap h) (overlap_there design.library design a b) (overlap_or_not a b)
-    holds_or_not (Blocked c) = by_other (λ h. blocked h) (blocked_there design.library design c) (blocked_or_not c)
-    holds_or_not (Short a b) = inr (λ h. let below = kind_below design.library design (Short a b) h in omega arith)
-    holds_or_not (TooNear a b) = inr (λ h. let below = kind_below design.library design (TooNear a b) h in omega arith)
-    holds_or_not (OpenNet n k) = inr (λ h. let below = kind_below design.library design (OpenNet n k) h in omega arith)
+    pub holds_or_not : (fault : Fault) → HoldsOrNot (IsPlacementViolation design fault)
+    holds_or_not (Unplaced c) = by_other (λ h. unplaced h) (unplaced_there design c) (unplaced_or_not c)
+    holds_or_not (Outside c) = by_other (λ h. outside h) (outside_there design c) (outside_or_not c)
+    holds_or_not (OffSite c) = by_other (λ h. off_site h) (off_site_there design c) (off_site_or_not c)
+    holds_or_not (Overlap a b) = by_other (λ h. overlap h) (overlap_there design a b) (overlap_or_not a b)
+    holds_or_not (Blocked c) = by_other (λ h. blocked h) (blocked_there design c) (blocked_or_not c)
+    holds_or_not (Short a b) = inr (λ h. let below = kind_below design (Short a b) h in omega arith)
+    holds_or_not (TooNear a b) = inr (λ h. let below = kind_below design (TooNear a b) h in omega arith)
+    holds_or_not (OpenNet n k) = inr (λ h. let below = kind_below design (OpenNet n k) h in omega arith)
 
     stays_or_not : (c : ℕ) → HoldsOrNot (IsMovable design c → ⊥)
     stays_or_not c = never_or_not (movable_or_not design c)
@@ -185,7 +189,7 @@ module _ (design : DesignModel) where
     concerns_or_not (TooNear a b) = inr (λ never. never)
     concerns_or_not (OpenNet n k) = inr (λ never. never)
 
-    pub of_staying_or_not : (fault : Fault) → HoldsOrNot (HoldsOfStaying design fault)
+    pub of_staying_or_not : (fault : Fault) → HoldsOrNot (IsStayingViolation design fault)
     of_staying_or_not fault =
         by_other (λ both. record { holds = both.0; staying = both.1 }) (λ h. (h.holds, h.staying))
         (both_or_not (holds_or_not fault) (concerns_or_not fault))

@@ -20,7 +20,7 @@ use Rattle.leg_rules.specs.Legalise.Preference.{IsTurned}
 use Rattle.leg_legal_sites.proofs.MacroBoxes.{upright_box, fitting_upright}
 use Rattle.leg_design_records.specs.Movable.{MayMove, IsMovable}
 use Rattle.leg_rules.specs.Legalise.Start.{start_of, distance}
-use Rattle.leg_rules.specs.Legalise.Places.{orient_of}
+use Rattle.leg_rules.specs.Legalise.Places.{orient_if_placed}
 use Rattle.leg_rules.specs.Legalise.Refusals.{IsStuck}
 use Rattle.leg_legal.specs.FreePlaces.{HasMacroSizes, IsFreePlace, HasFreePosition}
 use Rattle.leg_legal.proofs.Elements.{all_at}
@@ -119,7 +119,8 @@ module _ (design : DesignModel) (sound : HasSoundRows design) (sized : HasMacroS
     has_area : HasArea f.movable.master.size
     has_area = (all_at (λ (m : MasterModel). IsExtent m.size) design.library.masters f.movable.component.master f.movable.master sized f.movable.is_master).area
 
-    box_is : placed_box f.movable.master.size place ≡ record { x1 = place.at.x; y1 = place.at.y; x2 = place.at.x +ℤ f.movable.master.size.width; y2 = place.at.y +ℤ f.movable.master.size.height }
+    box_is : placed_box f.movable.master.size place ≡
+        record { x1 = place.at.x; y1 = place.at.y; x2 = place.at.x +ℤ f.movable.master.size.width; y2 = place.at.y +ℤ f.movable.master.size.height }
     box_is =
         upright_box f.movable.master.size place.at place.orient has_area
         (fitting_upright f.row.orient f.movable.master.y_symmetric place.orient is_row.upright f.on_row.fits)
@@ -127,8 +128,8 @@ module _ (design : DesignModel) (sound : HasSoundRows design) (sized : HasMacroS
     at : IsAtSites f.row f.on_row.site.size f.movable.master.size place.at
     at = at_sites f.row f.on_row.site.size f.movable.master.size area has_area place.at (placed_box f.movable.master.size place) box_is f.on_row.sites
 
-    flag : (flag : Bool) × (IsTrue flag ↔ IsTurned f.row.orient f.movable.master.y_symmetric (orient_of f.movable.component.place))
-    flag = flag_of (turned_or_not f.row.orient f.movable.master.y_symmetric (orient_of f.movable.component.place))
+    flag : (flag : Bool) × (IsTrue flag ↔ IsTurned f.row.orient f.movable.master.y_symmetric (orient_if_placed f.movable.component.place))
+    flag = flag_of (turned_or_not f.row.orient f.movable.master.y_symmetric (orient_if_placed f.movable.component.place))
 
     pub position_of_place : HasFreePosition design done c number place
     position_of_place = record {

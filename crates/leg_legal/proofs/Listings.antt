@@ -89,7 +89,9 @@ module _ {X : Type 0} (R : X → X → Type 0) (trans : (x y z : X) → R x y �
         | inl first ↦ (
           x ∷ y ∷ ys,
           record {
-            rising = AllPairs-cons R x (y ∷ ys) (All-cons (R x) y ys first (All-weaker (R y) (R x) (λ z yz. trans x y z first yz) ys (AllPairs-head R y ys rise))) rise;
+            rising =
+                AllPairs-cons R x (y ∷ ys) (All-cons (R x) y ys first
+                (All-weaker (R y) (R x) (λ z yz. trans x y z first yz) ys (AllPairs-head R y ys rise))) rise;
             all = λ z h. h;
             only = λ z h. h;
           },
@@ -125,7 +127,8 @@ module _ {X : Type 0} (R : X → X → Type 0) (trans : (x y z : X) → R x y �
         )
 
   -- where it stands in R to each other one, or each to it
-  pub listing_with : (P S : X → Type 0) → P x → ((y : X) → S y → P y) → ((y : X) → P y → (x ≡ y) ⊎ S y) → ((y : X) → S y → R x y ⊎ R y x) → HasListing R S → HasListing R P
+  pub listing_with : (P S : X → Type 0) → P x → ((y : X) → S y → P y) → ((y : X) → P y → (x ≡ y) ⊎ S y) → ((y : X) → S y → R x y ⊎ R y x) → HasListing R S
+      → HasListing R P
   listing_with P S here wider split order (xs, listing) =
       let put = inserted xs listing.rising (λ y h. order y (All-contains S xs y listing.each h)) in (
         put.0,

@@ -12,7 +12,6 @@ use Rattle.leg_design_records.specs.Records.{DesignModel}
 use Rattle.leg_design_records.specs.declared.records.Component.{Component}
 use Rattle.leg_design_records.specs.Movable.{IsMovable}
 use Rattle.leg_rules.specs.Legalise.Refusals.{FitsSites, HasRowFor, IsUnsuited, IsLeastUnsuited, AreSuited}
-use Rattle.leg_legal.specs.Steps.SiteMarks.{HasRow}
 
 -- a width is a number of sites just where nothing is left over
 module _ (site size : ExtentModel) (area : HasArea site) (has_area : HasArea size) where
@@ -27,7 +26,8 @@ module _ (site size : ExtentModel) (area : HasArea site) (has_area : HasArea siz
   pub fits_from_rest : size.height ≡ site.height → unsigned_abs size.width % unsigned_abs site.width ≡ 0 → FitsSites site size
   fits_from_rest high rest =
       let many : ℕ = unsigned_abs size.width / n in
-      let parts : unsigned_abs size.width ≡ many * n = omega (arith, mod-eq-sub-div-mul (unsigned_abs size.width) n, rest, div-mul-le_self (unsigned_abs size.width) n) in
+      let parts : unsigned_abs size.width ≡ many * n =
+      omega (arith, mod-eq-sub-div-mul (unsigned_abs size.width) n, rest, div-mul-le_self (unsigned_abs size.width) n) in
       let product : pos many *ℤ site.width ≡ pos (many * n) = product_is many in
       record { high = high; many = many; wide = omega (arith, ints, has_area.wide, parts, product) }
 
@@ -52,14 +52,9 @@ module _ (design : DesignModel) (size : ExtentModel) (number : ℕ) where
     pub no_row_unfit : (FitsSites site.size size → ⊥) → HasRowFor design size number → ⊥
     no_row_unfit unfit h = let same : h.site ≡ site = same_Some h.site site (sym h.is_site ∙ there) in unfit (rw same at h.fits)
 
-    pub row_for : (b : Bool) → FitsSites site.size size → IsTrue b ↔ HasRow design.rows number → IsTrue b ↔ HasRowFor design size number
-    row_for b fits test = (
-      λ t. let has = test.0 t in record { site = site; is_site = there; fits = fits; row = has.row; has = has.has; same = has.same },
-      λ h. test.1 (record { row = h.row; has = h.has; same = h.same }),
-    )
-
 -- a movable component's macro has a site
-pub has_site : (design : DesignModel) (c : ℕ) (component : Component) (master : MasterModel) → slice_get design.components c ≡ Some component → slice_get design.library.masters component.master ≡ Some master → IsMovable design c → master.site ≡ None → ⊥
+pub has_site : (design : DesignModel) (c : ℕ) (component : Component) (master : MasterModel) → slice_get design.components c ≡ Some component
+    → slice_get design.library.masters component.master ≡ Some master → IsMovable design c → master.site ≡ None → ⊥
 has_site design c component master there is_master m none =
     let one : m.component ≡ component = same_Some m.component component (sym m.there ∙ there) in
     let same : m.master ≡ master = same_Some m.master master (sym (rw one at m.is_master) ∙ is_master) in
@@ -67,7 +62,8 @@ has_site design c component master there is_master m none =
 
 -- whether a component is unsuited, by its macro
 module _ (design : DesignModel) (c : ℕ) (component : Component) (master : MasterModel) (number : ℕ)
-    (there : slice_get design.components c ≡ Some component) (is_master : slice_get design.library.masters component.master ≡ Some master) (site : master.site ≡ Some number) where
+    (there : slice_get design.components c ≡ Some component) (is_master : slice_get design.library.masters component.master ≡ Some master)
+    (site : master.site ≡ Some number) where
   pub told : (m : IsMovable design c) → m.master ≡ master
   told m =
       let one : m.component ≡ component = same_Some m.component component (sym m.there ∙ there) in

@@ -64,15 +64,20 @@ module _ (before now : DesignModel) (each : List ℤ) (taken : Taken) (component
   was : slice_get each taken.number ≡ Some (get_or each taken.number z)
   was = slice_get-get_or each taken.number z (omega (arith, below, known.count))
 
-  distance_here : (old new : Component) → slice_get before.components taken.number ≡ Some old → slice_get (moved_to now taken.number current taken.place).components taken.number ≡ Some new → slice_get (set each taken.number z) taken.number ≡ Some (pos (moved_by before.die old new))
+  distance_here : (old new : Component) → slice_get before.components taken.number ≡ Some old
+      → slice_get (moved_to now taken.number current taken.place).components taken.number ≡ Some new
+      → slice_get (set each taken.number z) taken.number ≡ Some (pos (moved_by before.die old new))
   distance_here old new at_old at_new =
       let same_old : old ≡ component = same_Some old component (sym at_old ∙ at) in
       let same_new : new ≡ placed_at current taken.place = is_here now taken.number current taken.place is_current new at_new in
       set_same each taken.number (get_or each taken.number z) z was ∙ rw (same_old, same_new) (ap Some is)
 
-  distance_elsewhere : (c : ℕ) (old new : Component) → (c ≡ taken.number → ⊥) → slice_get before.components c ≡ Some old → slice_get (moved_to now taken.number current taken.place).components c ≡ Some new → slice_get (set each taken.number z) c ≡ Some (pos (moved_by before.die old new))
+  distance_elsewhere : (c : ℕ) (old new : Component) → (c ≡ taken.number → ⊥) → slice_get before.components c ≡ Some old
+      → slice_get (moved_to now taken.number current taken.place).components c ≡ Some new
+      → slice_get (set each taken.number z) c ≡ Some (pos (moved_by before.die old new))
   distance_elsewhere c old new apart at_old at_new =
-      set_other each taken.number c z apart ∙ known.distances c old new at_old (sym (elsewhere now taken.number current taken.place is_current c apart) ∙ at_new)
+      set_other each taken.number c z apart ∙ known.distances c old new at_old
+      (sym (elsewhere now taken.number current taken.place is_current c apart) ∙ at_new)
 
   moved : AreDistances before (moved_to now taken.number current taken.place) (set each taken.number z)
   moved = record {

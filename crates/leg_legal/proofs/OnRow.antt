@@ -11,7 +11,7 @@ use Rattle.leg_design_records.specs.WellFormedParts.{IsRow}
 use Rattle.leg_rules.specs.Placement.Sites.{Fits, IsOnRow}
 use Rattle.leg_rules.specs.declared.position.Candidate.{Candidate}
 use Rattle.leg_legal_sites.proofs.MacroBoxes.{macro_on_sites, fitting_upright}
-use Rattle.leg_rules.specs.Legalise.Places.{orient_of, Takes, IsPlacedOn}
+use Rattle.leg_rules.specs.Legalise.Places.{orient_if_placed, Takes, IsPlacedOn}
 use Rattle.leg_legal.proofs.Elements.{all_at}
 
 -- the sites of the library have area, and rows are as a design has them
@@ -26,7 +26,8 @@ takes_fits row symmetric (Some old) orient (inl kept) = rw kept.1 kept.0
 takes_fits row symmetric (Some old) orient (inr changed) = inl changed.1
 
 -- a macro as high as a site and as wide as some of them has area
-pub area_of_sites : (site size : ExtentModel) (many : ℕ) → HasArea site → 1 ≤ many → size.width ≡ pos many *ℤ site.width → size.height ≡ site.height → HasArea size
+pub area_of_sites : (site size : ExtentModel) (many : ℕ) → HasArea site → 1 ≤ many → size.width ≡ pos many *ℤ site.width → size.height ≡ site.height
+    → HasArea size
 area_of_sites site size many area some wide high =
     let n : ℕ = unsigned_abs site.width in
     let width : site.width ≡ pos n = omega (arith, ints, area.wide) in
@@ -38,7 +39,7 @@ area_of_sites site size many area some wide high =
 module _ (design : DesignModel) (sound : HasSoundRows design) (c : ℕ) (position : Candidate) (place : Place)
     (stands : IsPlacedOn design c position place) where
   fits : Fits stands.row.orient stands.master.y_symmetric place.orient
-  fits = takes_fits stands.row.orient stands.master.y_symmetric (orient_of stands.component.place) place.orient stands.takes
+  fits = takes_fits stands.row.orient stands.master.y_symmetric (orient_if_placed stands.component.place) place.orient stands.takes
 
   pub site_area : HasArea stands.site.size
   site_area = (all_at (λ site. IsExtent site.size) design.library.sites stands.row.site stands.site sound.sites stands.is_site).area

@@ -13,7 +13,8 @@ module _ (u v w : Fault) (one : ComesBefore u v) (two : ComesBefore v w) where
   inner_kinds : kind_number u ≡ kind_number w → (kind_number u ≡ kind_number v) × (kind_number v ≡ kind_number w)
   inner_kinds same = (omega (arith, same, one.kind, two.kind), omega (arith, same, one.kind, two.kind))
 
-  inner_numbers : kind_number u ≡ kind_number w → (numbers_of u).0 ≡ (numbers_of w).0 → ((numbers_of u).0 ≡ (numbers_of v).0) × ((numbers_of v).0 ≡ (numbers_of w).0)
+  inner_numbers : kind_number u ≡ kind_number w → (numbers_of u).0 ≡ (numbers_of w).0
+      → ((numbers_of u).0 ≡ (numbers_of v).0) × ((numbers_of v).0 ≡ (numbers_of w).0)
   inner_numbers same first =
       let kinds = inner_kinds same in
       let a = one.first kinds.0 in
@@ -24,7 +25,9 @@ module _ (u v w : Fault) (one : ComesBefore u v) (two : ComesBefore v w) where
   ComesBefore-transitive = record {
     kind = omega (arith, one.kind, two.kind);
     first = λ same. (let kinds = inner_kinds same in omega (arith, one.first kinds.0, two.first kinds.1));
-    second = λ same first. (let kinds = inner_kinds same in let numbers = inner_numbers same first in omega (arith, one.second kinds.0 numbers.0, two.second kinds.1 numbers.1));
+    second =
+        λ same first. (let kinds = inner_kinds same in let numbers = inner_numbers same first in
+        omega (arith, one.second kinds.0 numbers.0, two.second kinds.1 numbers.1));
   }
 
 pub one_list : (Holds : Fault → Type 0) (xs ys : List Fault) → IsListOf Holds xs → IsListOf Holds ys → xs ≡ ys

@@ -15,9 +15,6 @@ use Rattle.leg_rules.specs.Legalise.Run.{placed_at, moved_to}
 use Rattle.leg_legal.proofs.Elements.{set_same, set_other}
 
 module _ (now : DesignModel) (c : ℕ) (component : Component) (place : Place) (at : slice_get now.components c ≡ Some component) where
-  abbrev after : DesignModel
-  after = moved_to now c component place
-
   -- the component is there
   pub here : slice_get (moved_to now c component place).components c ≡ Some (placed_at component place)
   here = set_same now.components c component (placed_at component place) at
@@ -31,14 +28,15 @@ module _ (now : DesignModel) (c : ℕ) (component : Component) (place : Place) (
   is_here other there = same_Some other (placed_at component place) (sym there ∙ here)
 
   -- its box
-  pub box_here : (master : MasterModel) (box : RectModel) → slice_get now.library.masters component.master ≡ Some master → HasBox now.library (moved_to now c component place) c box → box ≡ placed_box master.size place
+  pub box_here : (master : MasterModel) (box : RectModel) → slice_get now.library.masters component.master ≡ Some master
+      → HasBox (moved_to now c component place) c box → box ≡ placed_box master.size place
   box_here master box is_master s =
       let told : box_of now.library (placed_at component place) ≡ Some box = rw (is_here s.component s.there) at s.placed in
       let is : box_of now.library (placed_at component place) ≡ Some (placed_box master.size place) = rw is_master refl in
       same_Some box (placed_box master.size place) (sym told ∙ is)
 
   -- the others stand where they stood
-  pub box_elsewhere : (d : ℕ) (box : RectModel) → (d ≡ c → ⊥) → HasBox now.library (moved_to now c component place) d box → HasBox now.library now d box
+  pub box_elsewhere : (d : ℕ) (box : RectModel) → (d ≡ c → ⊥) → HasBox (moved_to now c component place) d box → HasBox now d box
   box_elsewhere d box apart s = record { component = s.component; there = sym (elsewhere d apart) ∙ s.there; placed = s.placed }
 
   module _ (movable : IsMovable now c) where
@@ -94,6 +92,7 @@ module _ (now : DesignModel) (c : ℕ) (component : Component) (place : Place) (
         ]
 
     -- and its box was taken
-    pub taken_before : (done : List ℕ) (d : ℕ) (box : RectModel) → (d ≡ c → ⊥) → IsSettled (moved_to now c component place) (done ++ c ∷ []) d → HasBox now.library (moved_to now c component place) d box → IsTaken now done box
+    pub taken_before : (done : List ℕ) (d : ℕ) (box : RectModel) → (d ≡ c → ⊥) → IsSettled (moved_to now c component place) (done ++ c ∷ []) d
+        → HasBox (moved_to now c component place) d box → IsTaken now done box
     taken_before done d box apart settled stands =
         inl (record { d = d; settled = settled_before done d apart settled; stands = box_elsewhere d box apart stands })

@@ -24,7 +24,7 @@ use Rattle.leg_rules.specs.Legalise.Run.LegaliseRun.{none, one}
 use Rattle.leg_rules.specs.Legalise.SameButForPlaces.{IsSameButForPlaces}
 use Rattle.leg_rules.specs.Legalise.Moves.{total_of, greatest_of, AreMoves}
 use Rattle.leg_legal.specs.Refusals.{IsLegaliseRefusal}
-use Rattle.leg_rules.specs.Legalise.Refusals.{ConcernsStaying, HoldsOfStaying, NoneStaying, HasRowFor, IsLeastUnsuited, AreSuited, IsStuck}
+use Rattle.leg_rules.specs.Legalise.Refusals.{ConcernsStaying, IsStayingViolation, NoneStaying, HasRowFor, IsLeastUnsuited, AreSuited, IsStuck}
 use Rattle.leg_legal.proofs.Elements.{contains_at}
 use Rattle.leg_legal.proofs.RunSoFar.{AreMovable, IsSoFar, so_far, earlier_movable, last_fresh}
 use Rattle.leg_legal.proofs.AfterPlaces.{there_is}
@@ -70,9 +70,9 @@ module _ (before after : DesignModel) (count : length after.components ≡ lengt
   )
 
 -- a list of violations of components that stay, not empty, has one
-pub some_staying : (design : DesignModel) (faults : List Fault) → IsListOf (HoldsOfStaying design) faults → faults ≢ [] → NoneStaying design → ⊥
+pub some_staying : (design : DesignModel) (faults : List Fault) → IsListOf (IsStayingViolation design) faults → faults ≢ [] → NoneStaying design → ⊥
 some_staying design [] list some staying = some refl
-some_staying design (v ∷ vs) list some staying = staying v (All-head (HoldsOfStaying design) v vs list.each)
+some_staying design (v ∷ vs) list some staying = staying v (All-head (IsStayingViolation design) v vs list.each)
 
 -- a violation of components that stay holds whatever the others do
 module _ (before : DesignModel) (components : List Component)
@@ -80,10 +80,10 @@ module _ (before : DesignModel) (components : List Component)
   abbrev others_moved : DesignModel
   others_moved = record before { components = components }
 
-  stands_still : (c : ℕ) (box : RectModel) → (IsMovable before c → ⊥) → HasBox before.library before c box → HasBox before.library others_moved c box
+  stands_still : (c : ℕ) (box : RectModel) → (IsMovable before c → ⊥) → HasBox before c box → HasBox others_moved c box
   stands_still c box still s = record { component = s.component; there = stays c still ∙ s.there; placed = s.placed }
 
-  holds_still : (v : Fault) → IsPlacementViolation before.library before v → ConcernsStaying before v → IsPlacementViolation before.library (record before { components = components }) v
+  holds_still : (v : Fault) → IsPlacementViolation before v → ConcernsStaying before v → IsPlacementViolation (record before { components = components }) v
   holds_still v (unplaced {c = c} h) still = unplaced (record { component = h.component; there = stays c still ∙ h.there; unplaced = h.unplaced })
   holds_still v (outside {c = c} h) still =
       outside (record { box = h.box; stands = stands_still c h.box still h.stands; square = h.square; inside = h.inside; outside = h.outside })
@@ -114,7 +114,7 @@ module _ (before : DesignModel) (components : List Component)
 never_legal : (before after : DesignModel) → IsSameButForPlaces before after → IsLegallyPlaced after → NoneStaying before
 never_legal before after same legal v h =
     legal v
-    (subst (λ (d : DesignModel). IsPlacementViolation d.library d v) (sym same.rest)
+    (subst (λ (d : DesignModel). IsPlacementViolation d v) (sym same.rest)
     (holds_still before after.components same.stays v h.holds h.staying))
 
 -- a movable component that stands on sites fits a row, wherever others are
@@ -165,7 +165,8 @@ module _ (before : DesignModel) (c : ℕ) (stuck : IsStuck before c) where
 
   run_not_stuck : (after : DesignModel) → IsRunOfAll before after → ⊥
   run_not_stuck after all =
-      not_taken (turn_in before all.order after all.run stuck.done c stuck.rest (order_unique before all.order (stuck.done ++ c ∷ stuck.rest) all.is_order stuck.is_order))
+      not_taken (turn_in before all.order after all.run stuck.done c stuck.rest
+      (order_unique before all.order (stuck.done ++ c ∷ stuck.rest) all.is_order stuck.is_order))
 
 -- one component is the first without room
 one_stuck : (before : DesignModel) (c d : ℕ) → IsStuck before c → IsStuck before d → c ≡ d
@@ -183,10 +184,11 @@ one_unsuited design c d least also = omega (arith, least.least d also.unsuited, 
 
 module _ {A : Type 0} (design : DesignModel) where
   -- two causes of refusal are the same, byte for byte
-  pub one_cause : (fault other : LegalFault A) → IsLegaliseRefusal design fault → IsLegaliseRefusal design other → fault ≢ Memory → other ≢ Memory → fault ≡ other
+  pub one_cause : (fault other : LegalFault A) → IsLegaliseRefusal design fault → IsLegaliseRefusal design other → fault ≢ Memory → other ≢ Memory
+      → fault ≡ other
   one_cause Memory other p q told also = absurd (told refl)
   one_cause fault Memory p q told also = absurd (also refl)
-  one_cause (FixedIllegal xs) (FixedIllegal ys) p q told also = ap FixedIllegal (one_list (HoldsOfStaying design) xs ys p.0 q.0)
+  one_cause (FixedIllegal xs) (FixedIllegal ys) p q told also = ap FixedIllegal (one_list (IsStayingViolation design) xs ys p.0 q.0)
   one_cause (FixedIllegal xs) (NoSite d) p q told also = absurd (some_staying design xs p.0 p.1 q.1)
   one_cause (FixedIllegal xs) (NoRoom d) p q told also = absurd (some_staying design xs p.0 p.1 q.0)
   one_cause (NoSite c) (FixedIllegal ys) p q told also = absurd (some_staying design ys q.0 q.1 p.1)
@@ -197,7 +199,8 @@ module _ {A : Type 0} (design : DesignModel) where
   one_cause (NoRoom c) (NoRoom d) p q told also = ap NoRoom (one_stuck design c d p.2 q.2)
 
   -- a design that is refused is not legalised
-  pub no_outcome : (after : DesignModel) (fault : LegalFault A) → IsLegaliseRefusal design fault → fault ≢ Memory → IsLegalised design after → IsLegallyPlaced after → ⊥
+  pub no_outcome : (after : DesignModel) (fault : LegalFault A) → IsLegaliseRefusal design fault → fault ≢ Memory → IsLegalised design after
+      → IsLegallyPlaced after → ⊥
   no_outcome after Memory p told made legal = told refl
   no_outcome after (FixedIllegal faults) p told (inl kept) legal = some_staying design faults p.0 p.1 (λ v h. kept.0 v h.holds)
   no_outcome after (FixedIllegal faults) p told (inr anew) legal =

@@ -8,7 +8,7 @@ use Rattle.leg_design_records.specs.Records.{DesignModel}
 use Rattle.leg_design_records.specs.declared.records.Component.{Component}
 use Rattle.leg_rules.specs.declared.position.Candidate.{Candidate}
 use Rattle.leg_rules.specs.Legalise.Preference.{IsNoWorse}
-use Rattle.leg_rules.specs.Legalise.Places.{orient_of, Takes, IsPlacedOn}
+use Rattle.leg_rules.specs.Legalise.Places.{orient_if_placed, Takes, IsPlacedOn}
 use Rattle.leg_rules.specs.Legalise.Free.{TakesBest}
 use Rattle.leg_rules.specs.Legalise.Run.{moved_to, LegaliseRun}
 use Rattle.leg_rules.specs.Legalise.Run.LegaliseRun.{none, one}
@@ -53,8 +53,8 @@ module _ (design : DesignModel) (c : ℕ) (position : Candidate) (a b : Place) (
 
   one_turn : a.orient ≡ b.orient
   one_turn =
-      let takes : Takes s.row.orient s.master.y_symmetric (orient_of s.component.place) b.orient = rw (one_row, one_master, one_component) at t.takes in
-      one_orient s.row.orient s.master.y_symmetric (orient_of s.component.place) a.orient b.orient s.takes takes
+      let takes : Takes s.row.orient s.master.y_symmetric (orient_if_placed s.component.place) b.orient = rw (one_row, one_master, one_component) at t.takes in
+      one_orient s.row.orient s.master.y_symmetric (orient_if_placed s.component.place) a.orient b.orient s.takes takes
 
   place_at : a ≡ b
   place_at = λ i. record { at = one_spot i; orient = one_turn i }
@@ -125,7 +125,8 @@ pub one_run : (before : DesignModel) (xs ys : List ℕ) (a b : DesignModel) → 
 one_run before _ _ _ _ none none same = refl
 one_run before _ _ _ _ none (one {done = ys} {c = d} also is best) same = absurd (no_end ys d [] same)
 one_run before _ _ _ _ (one {done = xs} {c = c} run there takes) none same = absurd (no_end xs c [] (sym same))
-one_run before _ _ _ _ (one {done = xs} {now = now} {c = c} {component = x} {place = p} run there takes) (one {done = ys} {now = other} {c = d} {component = y} {place = q} also is best) same =
+one_run before _ _ _ _ (one {done = xs} {now = now} {c = c} {component = x} {place = p} run there takes)
+    (one {done = ys} {now = other} {c = d} {component = y} {place = q} also is best) same =
     let ends = same_ends xs ys c d same in
     let designs : now ≡ other = one_run before xs ys now other run also ends.0 in
     one_step now other xs ys c d x y p q there is takes best (sym designs) (sym ends.0) (sym ends.1)

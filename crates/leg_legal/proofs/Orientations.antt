@@ -25,7 +25,8 @@ number FE = 7
 
 abbrev numbered : ℕ → Orient
 numbered n =
-    if n == 0 then N else (if n == 1 then S else (if n == 2 then W else (if n == 3 then E else (if n == 4 then FN else (if n == 5 then FS else (if n == 6 then FW else FE))))))
+    if n == 0 then N else (if n == 1 then S else (if n == 2 then W
+    else (if n == 3 then E else (if n == 4 then FN else (if n == 5 then FS else (if n == 6 then FW else FE))))))
 
 numbered_back : (o : Orient) → numbered (number o) ≡ o
 numbered_back N = refl

@@ -20,7 +20,7 @@ use Rattle.leg_rules.specs.Legalise.Start.{start_of}
 use Rattle.leg_rules.specs.Legalise.Turns.{Turn, IsEarlier, HasTurn, IsTakenBefore, IsOrderOfTaking}
 use Rattle.leg_rules.specs.Legalise.Run.{moved_to, LegaliseRun}
 use Rattle.leg_rules.specs.Legalise.Run.LegaliseRun.{none, one}
-use Rattle.leg_rules.specs.Legalise.Refusals.{HoldsOfStaying, NoneStaying, IsUnsuited, IsLeastUnsuited, AreSuited}
+use Rattle.leg_rules.specs.Legalise.Refusals.{IsStayingViolation, NoneStaying, IsUnsuited, IsLeastUnsuited, AreSuited}
 use Rattle.leg_legal.specs.FreePlaces.{HasMacroSizes}
 use Rattle.leg_legal.specs.Outcome.{HasOutcome}
 use Rattle.leg_legal.specs.Steps.Boxes.{IsStuckAt}
@@ -155,7 +155,8 @@ module _ (before : DesignModel) (proper : IsWellFormed before) (sound : IsSound 
             run_on (done ++ c ∷ []) rest (moved_to now c movable.component place) (is ∙ sym (append_assoc done (c ∷ []) rest)) (one run movable.there takes)
       ] where
         movable_at : (done : List ℕ) (c : ℕ) (rest : List ℕ) → AreMovable before (done ++ c ∷ rest) → IsMovable before c
-        movable_at done c rest are = All-contains (IsMovable before) (done ++ c ∷ rest) c are.each (Contains-append_right done (c ∷ rest) c (Contains-here c rest))
+        movable_at done c rest are =
+            All-contains (IsMovable before) (done ++ c ∷ rest) c are.each (Contains-append_right done (c ∷ rest) c (Contains-here c rest))
 
 module _ (design : DesignModel) (proper : IsWellFormed design) (sound : IsSound design.library) (sized : HasMacroSizes design.library) where
   rows : HasSoundRows design
@@ -194,13 +195,13 @@ module _ (design : DesignModel) (proper : IsWellFormed design) (sound : IsSound 
         )
       ]
 
-  legal_from_none : (faults : List Fault) → IsListOf (IsPlacementViolation design.library design) faults → HoldsOrNot (IsLegallyPlaced design)
+  legal_from_none : (faults : List Fault) → IsListOf (IsPlacementViolation design) faults → HoldsOrNot (IsLegallyPlaced design)
   legal_from_none [] list = inl (λ fault holds. Contains-nil fault (list.all fault holds))
-  legal_from_none (fault ∷ faults) list = inr (λ legal. legal fault (All-head (IsPlacementViolation design.library design) fault faults list.each))
+  legal_from_none (fault ∷ faults) list = inr (λ legal. legal fault (All-head (IsPlacementViolation design) fault faults list.each))
 
   legal_or_not : HoldsOrNot (IsLegallyPlaced design)
   legal_or_not =
-      let found = list_of design (IsPlacementViolation design.library design) (λ fault h. h) (holds_or_not design rows) in
+      let found = list_of design (IsPlacementViolation design) (λ fault h. h) (holds_or_not design rows) in
       legal_from_none found.0 found.1
 
   module _ {A : Type 0} where
@@ -236,7 +237,7 @@ module _ (design : DesignModel) (proper : IsWellFormed design) (sound : IsSound 
           let order = order_is design in
           by_run order.0 order.1 suited (run_on design proper sound sized order.0 order.1 [] order.0 design refl none)
 
-    by_staying : (IsLegallyPlaced design → ⊥) → (faults : List Fault) → IsListOf (HoldsOfStaying design) faults → HasOutcome A design
+    by_staying : (IsLegallyPlaced design → ⊥) → (faults : List Fault) → IsListOf (IsStayingViolation design) faults → HasOutcome A design
     by_staying illegal [] list = by_suited illegal (λ fault h. Contains-nil fault (list.all fault h)) suited_or_least
     by_staying illegal (fault ∷ faults) list = inr (record {
       fault = FixedIllegal (fault ∷ faults);
@@ -250,6 +251,6 @@ module _ (design : DesignModel) (proper : IsWellFormed design) (sound : IsSound 
         elim legal_or_not [
           | inl legal ↦ inl (record { after = design; legal = legal; legalised = inl (legal, refl) })
           | inr illegal ↦
-              let found = list_of design (HoldsOfStaying design) (λ fault h. h.holds) (of_staying_or_not design rows) in
+              let found = list_of design (IsStayingViolation design) (λ fault h. h.holds) (of_staying_or_not design rows) in
               by_staying illegal found.0 found.1
         ]

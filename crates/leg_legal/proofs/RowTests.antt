@@ -111,7 +111,8 @@ module _ (design : DesignModel) (sound : HasSoundRows design) where
   site_area : (number : ℕ) (site : Site) → slice_get design.library.sites number ≡ Some site → HasArea site.size
   site_area number site is = (all_at (λ s. IsExtent s.size) design.library.sites number site sound.sites is).area
 
-  pub on_row_or_not : (master : MasterModel) (number : ℕ) (place : Place) (row : Row) → Contains design.rows row → HoldsOrNot (IsOnRow design.library master number place row)
+  pub on_row_or_not : (master : MasterModel) (number : ℕ) (place : Place) (row : Row) → Contains design.rows row
+      → HoldsOrNot (IsOnRow design.library master number place row)
   on_row_or_not master number place row has =
       elim (cases_eq row.site number) [
         | inr differ ↦ inr (λ on. differ on.same)

@@ -45,7 +45,8 @@ module _ (design : DesignModel) where
   staying_up i box s = record { d = s.d; below = omega (arith, s.below); staying = s.staying }
 
   -- one more component has no box that stays
-  pub staying_skip : (free : RowLists) (i : ℕ) → ((box : RectModel) → IsStayingIn design i box → ⊥) → KnowStaying design i free → KnowStaying design (i + 1) free
+  pub staying_skip : (free : RowLists) (i : ℕ) → ((box : RectModel) → IsStayingIn design i box → ⊥) → KnowStaying design i free
+      → KnowStaying design (i + 1) free
   staying_skip free i never k = record {
     boxes = k.boxes;
     known = k.known;
@@ -59,7 +60,9 @@ module _ (design : DesignModel) where
   }
 
   -- or it has this one
-  pub staying_more : (free after : RowLists) (i : ℕ) (component : Component) (rect : RectModel) → slice_get design.components i ≡ Some component → box_of design.library component ≡ Some rect → (IsMovable design i → ⊥) → (k : KnowStaying design i free) → AreFreeLists design (k.boxes ++ rect ∷ []) after → KnowStaying design (i + 1) after
+  pub staying_more : (free after : RowLists) (i : ℕ) (component : Component) (rect : RectModel) → slice_get design.components i ≡ Some component
+      → box_of design.library component ≡ Some rect → (IsMovable design i → ⊥) → (k : KnowStaying design i free)
+      → AreFreeLists design (k.boxes ++ rect ∷ []) after → KnowStaying design (i + 1) after
   staying_more free after i component rect there is stays k known = record {
     boxes = k.boxes ++ rect ∷ [];
     known = known;
@@ -76,7 +79,7 @@ module _ (design : DesignModel) where
         | inl earlier ↦ Contains-append_left k.boxes (rect ∷ []) box ((k.staying box).1 (record { d = s.d; below = earlier; staying = s.staying }))
         | inr late ↦
             let here_is : s.d ≡ i = omega (arith, s.below, late) in
-            let in_box : HasBox design.library design i box = rw here_is at s.staying.stands in
+            let in_box : HasBox design i box = rw here_is at s.staying.stands in
             let one_is : in_box.component ≡ component = same_Some in_box.component component (sym in_box.there ∙ there) in
             let told : box_of design.library component ≡ Some box = subst (λ (x : Component). box_of design.library x ≡ Some box) one_is in_box.placed in
             let same : rect ≡ box = same_Some rect box (sym is ∙ told) in
@@ -245,7 +248,7 @@ module _ (design : DesignModel) (done : List ℕ) (now : DesignModel) (run : Leg
     abbrev moved : DesignModel
     moved = moved_to now c component place
 
-    stands_here : (box : RectModel) → rect ≡ box → HasBox now.library moved c box
+    stands_here : (box : RectModel) → rect ≡ box → HasBox moved c box
     stands_here box same = record {
       component = placed_at component place;
       there = here now c component place there_now;
@@ -277,7 +280,7 @@ module _ (design : DesignModel) (done : List ℕ) (now : DesignModel) (run : Leg
     in_boxes box (inl t) =
         elim (cases_eq t.d c) [
           | inl same ↦
-              let in_box : HasBox now.library moved c box = rw same at t.stands in
+              let in_box : HasBox moved c box = rw same at t.stands in
               let is : box ≡ rect = box_here now c component place there_now master box is_master in_box in
               rw is (Contains-push known.boxes rect)
           | inr apart ↦
@@ -304,24 +307,29 @@ module _ (design : DesignModel) (keys : List TurnKey) (order : AreInOrder design
   number_at : (i : ℕ) (key : TurnKey) → i < length keys → key ≡ get_or keys i key → key.number ≡ get_or (numbers keys) i key.number
   number_at i key within is = ap (λ (k : TurnKey). k.number) is ∙ sym (get_or-map (λ (k : TurnKey). k.number) keys i key)
 
-  pub number_taken : (i : ℕ) (key : TurnKey) → i < length keys → key ≡ get_or keys i key → take (i + 1) (numbers keys) ≡ take i (numbers keys) ++ key.number ∷ []
+  pub number_taken : (i : ℕ) (key : TurnKey) → i < length keys → key ≡ get_or keys i key
+      → take (i + 1) (numbers keys) ≡ take i (numbers keys) ++ key.number ∷ []
   number_taken i key within is =
       take_more (numbers keys) i key.number (rw length-map within)
       ∙ ap (λ (n : ℕ). take i (numbers keys) ++ n ∷ []) (sym (number_at i key within is))
 
   pub key_movable : (i : ℕ) (key : TurnKey) → i < length keys → key ≡ get_or keys i key → IsMovable design key.number
-  key_movable i key within is = let told : IsTurnKeyOf design (get_or keys i key) = order.each i key within in (subst (λ (k : TurnKey). IsTurnKeyOf design k) (sym is) told).movable
+  key_movable i key within is = let told : IsTurnKeyOf design (get_or keys i key) = order.each i key within in
+      (subst (λ (k : TurnKey). IsTurnKeyOf design k) (sym is) told).movable
 
   are_movable : (i : ℕ) (key : TurnKey) → i < length keys → key ≡ get_or keys i key → AreMovable design (take i (numbers keys) ++ key.number ∷ [])
   are_movable i key within is =
-      let front : AreMovable design (take (i + 1) (numbers keys)) = are_movable_front design (i + 1) (numbers keys) (order_movable design (numbers keys) order.order) in
+      let front : AreMovable design (take (i + 1) (numbers keys)) =
+      are_movable_front design (i + 1) (numbers keys) (order_movable design (numbers keys) order.order) in
       rw (number_taken i key within is) at front
 
   pub begin_taking : (free : RowLists) → KnowTaken design design [] free → IsUnderWay design keys 0 [] free
   begin_taking free known = record { can = All-nil (CanTake design); run = none; known = known }
 
-  module _ (i : ℕ) (key : TurnKey) (within : i < length keys) (is : key ≡ get_or keys i key) (taken : List Taken) (free : RowLists) (u : IsUnderWay design keys i taken free) where
-    pub next_taken : (place : Place) (after : RowLists) → IsPosition place.at → IsSeated design u.known.boxes key.number place after → IsUnderWay design keys (i + 1) (taken ++ record { number = key.number; place = place } ∷ []) after
+  module _ (i : ℕ) (key : TurnKey) (within : i < length keys) (is : key ≡ get_or keys i key) (taken : List Taken) (free : RowLists)
+      (u : IsUnderWay design keys i taken free) where
+    pub next_taken : (place : Place) (after : RowLists) → IsPosition place.at → IsSeated design u.known.boxes key.number place after
+        → IsUnderWay design keys (i + 1) (taken ++ record { number = key.number; place = place } ∷ []) after
     next_taken place after position s =
         let next : Taken = record { number = key.number; place = place } in
         let now = placed_all design taken in
@@ -329,9 +337,11 @@ module _ (design : DesignModel) (keys : List TurnKey) (order : AreInOrder design
         let are = are_movable i key within is in
         let m = key_movable i key within is in
         let there = there_now design done now u.run key.number are free u.known place after s in
-        let last : placed_all design (taken ++ next ∷ []) ≡ moved_to now key.number s.best.free.stands.component place = placed_last design taken next s.best.free.stands.component there in
+        let last : placed_all design (taken ++ next ∷ []) ≡ moved_to now key.number s.best.free.stands.component place =
+        placed_last design taken next s.best.free.stands.component there in
         record {
-          can = All-push (CanTake design) taken next u.can (record { number = slice_get_within design.components key.number m.component m.there; place = position });
+          can = All-push (CanTake design) taken next u.can
+              (record { number = slice_get_within design.components key.number m.component m.there; place = position });
           run = rw (number_taken i key within is, last) (run_more design done now u.run key.number are free u.known place after s);
           known = rw (number_taken i key within is, last) (known_more design done now u.run key.number are free u.known place after s);
         }

@@ -30,7 +30,8 @@ pub record IsSoFar (before : DesignModel) (done : List ℕ) (now : DesignModel) 
   pub rest : now ≡ record before { components = now.components }
   pub count : length now.components ≡ length before.components
   pub waiting : (d : ℕ) → (Contains done d → ⊥) → slice_get now.components d ≡ slice_get before.components d
-  pub moved : (d : ℕ) (old new : Component) → Contains done d → slice_get before.components d ≡ Some old → slice_get now.components d ≡ Some new → IsPlacedAnew old new
+  pub moved : (d : ℕ) (old new : Component) → Contains done d → slice_get before.components d ≡ Some old → slice_get now.components d ≡ Some new
+      → IsPlacedAnew old new
   pub movable : (d : ℕ) → IsMovable before d → IsMovable now d
   pub movable_back : (d : ℕ) → IsMovable now d → IsMovable before d
   pub sound : HasSoundRows before → HasSoundRows now
@@ -51,7 +52,8 @@ module _ (before : DesignModel) (done : List ℕ) (now : DesignModel) (c : ℕ) 
   abbrev after : DesignModel
   after = moved_to now c component place
 
-  moved_one : (d : ℕ) (old new : Component) → Contains (done ++ c ∷ []) d → slice_get before.components d ≡ Some old → slice_get after.components d ≡ Some new → IsPlacedAnew old new
+  moved_one : (d : ℕ) (old new : Component) → Contains (done ++ c ∷ []) d → slice_get before.components d ≡ Some old → slice_get after.components d ≡ Some new
+      → IsPlacedAnew old new
   moved_one d old new has was is =
       elim (cases_eq d c) [
         | inl same ↦
@@ -116,7 +118,8 @@ staying_only design (Short a b) s = s
 staying_only design (TooNear a b) s = s
 staying_only design (OpenNet n k) s = s
 
-pub none_settled : (before : DesignModel) (done : List ℕ) (now : DesignModel) → HasSoundRows before → NoneStaying before → LegaliseRun before done now → AreMovable before done → NoneSettled now done
+pub none_settled : (before : DesignModel) (done : List ℕ) (now : DesignModel) → HasSoundRows before → NoneStaying before → LegaliseRun before done now
+    → AreMovable before done → NoneSettled now done
 none_settled before done now sound staying none are =
     record { none = λ fault holds settled. staying fault (record { holds = holds; staying = staying_only before fault settled }) }
 none_settled before _ _ sound staying (one {done = done} {now = now} {c = c} {component = component} {place = place} run at takes) are =

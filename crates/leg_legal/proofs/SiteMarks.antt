@@ -61,13 +61,15 @@ module _ (design : DesignModel) where
     each = λ number. (
       λ at. let has = (known.each number).0 at in record { row = has.row; has = contains_at design.rows has.place has.row has.there; same = has.same },
       λ has.
-          let there : slice_get design.rows has.has.0 ≡ Some has.row = slice_get_read design.rows (length design.rows) has.has.0 has.row refl has.has.1 (sym has.has.2) in
+          let there : slice_get design.rows has.has.0 ≡ Some has.row =
+          slice_get_read design.rows (length design.rows) has.has.0 has.row refl has.has.1 (sym has.has.2) in
           (known.each number).1 (record { place = has.has.0; below = omega (arith, has.has.1, all); row = has.row; there = there; same = has.same }),
     );
   }
 
   -- a mark tells whether a row has the site
-  pub marked : (marks : List Bool) (number : ℕ) (mark : Bool) → AreSiteMarks design marks → slice_get marks number ≡ Some mark → IsTrue mark ↔ HasRow design.rows number
+  pub marked : (marks : List Bool) (number : ℕ) (mark : Bool) → AreSiteMarks design marks → slice_get marks number ≡ Some mark
+      → IsTrue mark ↔ HasRow design.rows number
   marked marks number mark known at = (
     λ t. (known.each number).0 (at ∙ ap Some t),
     λ has. same_Some mark true (sym at ∙ (known.each number).1 has),

@@ -9,9 +9,9 @@ use Rattle.leg_design_records.specs.declared.fault.Fault.{Fault}
 use Rattle.leg_design_records.specs.Violation.{IsListOf}
 use Rattle.leg_rules.specs.Placement.Violations.{IsPlacementViolation}
 use Rattle.leg_rules.specs.Placement.Violations.IsPlacementViolation.{unplaced, outside, off_site, overlap, blocked}
-use Rattle.leg_place.specs.Among.{NamesOnlyMarked, HoldsAmong}
+use Rattle.leg_place.specs.Among.{NamesOnlyMarked, IsViolationAmong}
 use Rattle.leg_design_records.specs.Movable.{IsMovable}
-use Rattle.leg_rules.specs.Legalise.Refusals.{ConcernsStaying, HoldsOfStaying}
+use Rattle.leg_rules.specs.Legalise.Refusals.{ConcernsStaying, IsStayingViolation}
 use Rattle.leg_legal.specs.Steps.Marks.{AreMarksBelow}
 
 -- a mark of a component that isn't movable
@@ -31,7 +31,8 @@ get_last xs x i count =
     slice_get-get_or (xs ++ x ∷ []) i x within ∙ ap Some (get_or_push xs x x i count)
 
 -- the mark at the end
-told_at_end : (marks : List Bool) (m : Bool) (i : ℕ) {Stays : Type 0} → length marks ≡ i → (m ≡ true) ↔ Stays → (slice_get (marks ++ m ∷ []) i ≡ Some true) ↔ Stays
+told_at_end : (marks : List Bool) (m : Bool) (i : ℕ) {Stays : Type 0} → length marks ≡ i → (m ≡ true) ↔ Stays
+    → (slice_get (marks ++ m ∷ []) i ≡ Some true) ↔ Stays
 told_at_end marks m i count test = (
   λ t. test.0 (same_Some m true (sym (get_last marks m i count) ∙ t)),
   λ stays. get_last marks m i count ∙ ap Some (test.1 stays),
@@ -42,7 +43,8 @@ module _ (design : DesignModel) where
   marks_none marks is = rw is (record { count = refl; each = λ c below. absurd (omega (arith, below)) })
 
   -- one more mark
-  pub marks_more : (i : ℕ) (marks : List Bool) (b : Bool) → IsTrue b ↔ IsMovable design i → AreMarksBelow design i marks → AreMarksBelow design (i + 1) (marks ++ not b ∷ [])
+  pub marks_more : (i : ℕ) (marks : List Bool) (b : Bool) → IsTrue b ↔ IsMovable design i → AreMarksBelow design i marks
+      → AreMarksBelow design (i + 1) (marks ++ not b ∷ [])
   marks_more i marks b test are = record {
     count = length_push marks (not b) ∙ (let n = are.count in omega (arith, n));
     each = λ c below. elim (cases_lt c i) [
@@ -57,7 +59,7 @@ module _ (design : DesignModel) where
 
   -- where the marks tell which components stay, a violation tells marked ones alone just where it concerns only such
   module _ (marks : List Bool) (are : AreMarksBelow design (length design.components) marks) where
-    staying_of : (v : Fault) → IsPlacementViolation design.library design v → NamesOnlyMarked marks v → ConcernsStaying design v
+    staying_of : (v : Fault) → IsPlacementViolation design v → NamesOnlyMarked marks v → ConcernsStaying design v
     staying_of v (unplaced {c = c} h) told = (are.each c (slice_get_within design.components c h.component h.there)).0 told
     staying_of v (outside {c = c} h) told = (are.each c (slice_get_within design.components c h.stands.component h.stands.there)).0 told
     staying_of v (off_site {c = c} h) told = (are.each c (slice_get_within design.components c h.component h.there)).0 told
@@ -67,7 +69,7 @@ module _ (design : DesignModel) where
     )
     staying_of v (blocked {c = c} h) told = (are.each c (slice_get_within design.components c h.stands.component h.stands.there)).0 told
 
-    marked_of : (v : Fault) → IsPlacementViolation design.library design v → ConcernsStaying design v → NamesOnlyMarked marks v
+    marked_of : (v : Fault) → IsPlacementViolation design v → ConcernsStaying design v → NamesOnlyMarked marks v
     marked_of v (unplaced {c = c} h) stays = (are.each c (slice_get_within design.components c h.component h.there)).1 stays
     marked_of v (outside {c = c} h) stays = (are.each c (slice_get_within design.components c h.stands.component h.stands.there)).1 stays
     marked_of v (off_site {c = c} h) stays = (are.each c (slice_get_within design.components c h.component h.there)).1 stays
@@ -78,11 +80,11 @@ module _ (design : DesignModel) where
     marked_of v (blocked {c = c} h) stays = (are.each c (slice_get_within design.components c h.stands.component h.stands.there)).1 stays
 
     -- so the list of the ones is that of the others
-    pub staying_list : (faults : List Fault) → IsListOf (HoldsAmong design.library design marks) faults → IsListOf (HoldsOfStaying design) faults
+    pub staying_list : (faults : List Fault) → IsListOf (IsViolationAmong design marks) faults → IsListOf (IsStayingViolation design) faults
     staying_list faults list = record {
       increasing = list.increasing;
       each =
-          All-weaker (HoldsAmong design.library design marks) (HoldsOfStaying design)
+          All-weaker (IsViolationAmong design marks) (IsStayingViolation design)
           (λ v held. record { holds = held.holds; staying = staying_of v held.holds held.marked }) faults list.each;
       all = λ v held. list.all v (record { holds = held.holds; marked = marked_of v held.holds held.staying });
     }

@@ -16,7 +16,7 @@ use Rattle.leg_rules.specs.Placement.Violations.IsPlacementViolation.{unplaced, 
 use Rattle.leg_design_records.specs.Movable.{MayMove, IsMovable}
 use Rattle.leg_rules.specs.Legalise.Free.{IsSettled}
 use Rattle.leg_rules.specs.Legalise.Turns.{IsOrderOfTaking}
-use Rattle.leg_rules.specs.Legalise.Run.{LegaliseRun, IsLegalised}
+use Rattle.leg_rules.specs.Legalise.Run.{LegaliseRun}
 use Rattle.leg_rules.specs.Legalise.SameButForPlaces.{IsPlacedAnew, IsSameButForPlaces}
 use Rattle.leg_rules.specs.Legalise.Refusals.{NoneStaying}
 use Rattle.leg_legal.proofs.Elements.{all_at}
@@ -38,7 +38,7 @@ module _ (before after : DesignModel) (order : List ℕ) (is_order : IsOrderOfTa
         | inr stays ↦ inl stays
       ]
 
-  all_concerned : (fault : Fault) → IsPlacementViolation after.library after fault → ConcernsSettled after order fault
+  all_concerned : (fault : Fault) → IsPlacementViolation after fault → ConcernsSettled after order fault
   all_concerned v (unplaced {c = c} h) = all_settled c
   all_concerned v (outside {c = c} h) = all_settled c
   all_concerned v (off_site {c = c} h) = all_settled c
@@ -60,7 +60,8 @@ module _ (before after : DesignModel) (order : List ℕ) (is_order : IsOrderOfTa
   }
 
 -- a component that may move and has a place is PLACED there
-is_placed : (component : Component) (status : Status) (place : Option Place) → component.status ≡ status → component.place ≡ place → MayMove status → IsPlaced status place → (place ≡ None → ⊥) → IsPlacedAnew component component
+is_placed : (component : Component) (status : Status) (place : Option Place) → component.status ≡ status → component.place ≡ place → MayMove status
+    → IsPlaced status place → (place ≡ None → ⊥) → IsPlacedAnew component component
 is_placed component status.Unplaced None s p may placed some = absurd (some refl)
 is_placed component status.Unplaced (Some place) s p may placed some = absurd placed
 is_placed component status.Placed None s p may placed some = absurd placed

@@ -56,7 +56,8 @@ module _ (zs : List ℤ) (i : ℕ) (total : ℤ) (each : All IsMoveDistance zs) 
   on : i + 1 ≡ suc i
   on = omega arith
 
-  pub total_next : let kept_sum = to_z w64 (of_z w64 (total +ℤ to_z w64 (of_z w64 (get_or zs i (pos 0))))) in (kept_sum ≡ total_of (take (i + 1) zs)) × (pos 0 ≤ℤ kept_sum) × (kept_sum ≤ℤ pos (4 * COORDINATE_LIMIT * (i + 1)))
+  pub total_next : let kept_sum = to_z w64 (of_z w64 (total +ℤ to_z w64 (of_z w64 (get_or zs i (pos 0))))) in (kept_sum ≡ total_of (take (i + 1) zs))
+      × (pos 0 ≤ℤ kept_sum) × (kept_sum ≤ℤ pos (4 * COORDINATE_LIMIT * (i + 1)))
   total_next = (
     sum_kept ∙ ap (λ z. z +ℤ next) is ∙ sym (total_more zs i (pos 0) below) ∙ ap (λ n. total_of (take n zs)) (sym on),
     omega (arith, ints, sum_kept, within.least),

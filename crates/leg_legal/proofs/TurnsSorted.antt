@@ -50,7 +50,8 @@ module _ (design : DesignModel) where
 
   has_turn : (key : TurnKey) (is : IsTurnKeyOf design key) → HasTurn design key.number (turn_of key is)
   unfolding turn_of
-  has_turn key is = record { component = is.movable.component; there = is.movable.there; master = is.movable.master; is_master = is.movable.is_master; is = refl }
+  has_turn key is =
+      record { component = is.movable.component; there = is.movable.there; master = is.movable.master; is_master = is.movable.is_master; is = refl }
 
   earlier_from_below : (a b : TurnKey) (is_a : IsTurnKeyOf design a) (is_b : IsTurnKeyOf design b) → IsBelow a b → IsEarlier (turn_of a is_a) (turn_of b is_b)
   unfolding turn_of
@@ -75,7 +76,9 @@ module _ (design : DesignModel) where
   }
 
   -- the key of a component, by what is read of it
-  pub key_of_movable : (c : ℕ) (m : IsMovable design c) (component : Component) (master : MasterModel) (narrow x : ℤ) → slice_get design.components c ≡ Some component → slice_get design.library.masters component.master ≡ Some master → narrow ≡ pos 0 -ℤ master.size.width → x ≡ (start_of design.die component.place).x → IsTurnKeyOf design (record { narrow = narrow; x = x; number = c })
+  pub key_of_movable : (c : ℕ) (m : IsMovable design c) (component : Component) (master : MasterModel) (narrow x : ℤ)
+      → slice_get design.components c ≡ Some component → slice_get design.library.masters component.master ≡ Some master → narrow ≡ pos 0 -ℤ master.size.width
+      → x ≡ (start_of design.die component.place).x → IsTurnKeyOf design (record { narrow = narrow; x = x; number = c })
   key_of_movable c m component master narrow x there is_master narrow_is x_is =
       let one : component ≡ m.component = same_Some component m.component (sym there ∙ m.there) in
       let told : slice_get design.library.masters m.component.master ≡ Some master = rw one at is_master in
@@ -95,7 +98,8 @@ module _ (design : DesignModel) where
   }
 
   -- the key of one more component
-  pub keys_more : (keys : List TurnKey) (i : ℕ) (key : TurnKey) → IsTurnKeyOf design key → key.number ≡ i → AreTurnKeysBelow design i keys → AreTurnKeysBelow design (i + 1) (keys ++ key ∷ [])
+  pub keys_more : (keys : List TurnKey) (i : ℕ) (key : TurnKey) → IsTurnKeyOf design key → key.number ≡ i → AreTurnKeysBelow design i keys
+      → AreTurnKeysBelow design (i + 1) (keys ++ key ∷ [])
   keys_more keys i key is number done = record {
     each = All-push (IsTurnKeyOf design) keys key done.each is;
     below =
@@ -108,7 +112,9 @@ module _ (design : DesignModel) where
           let last = Contains-map (λ (k : TurnKey). k.number) (keys ++ key ∷ []) key (Contains-push keys key) in
           rw (← here) last
     ];
-    rising = all_pairs_push (λ a b. a.number < b.number) keys key done.rising (λ k d within. let below : (get_or keys k d).number < i = done.below k d within in omega (arith, number));
+    rising =
+        all_pairs_push (λ a b. a.number < b.number) keys key done.rising
+        (λ k d within. let below : (get_or keys k d).number < i = done.below k d within in omega (arith, number));
   }
 
   -- none for a component that isn't movable
@@ -124,7 +130,8 @@ module _ (design : DesignModel) where
   }
 
   -- the keys once they are sorted
-  pub order_from_sort : (keys sorted : List TurnKey) → AreTurnKeysBelow design (length design.components) keys → IsPermutation keys sorted → IsSorted key_cmp sorted → AreInOrder design sorted
+  pub order_from_sort : (keys sorted : List TurnKey) → AreTurnKeysBelow design (length design.components) keys → IsPermutation keys sorted
+      → IsSorted key_cmp sorted → AreInOrder design sorted
   order_from_sort keys sorted are moved up =
       let alike : TurnKey → TurnKey → Bool = λ a b. eqb a.number b.number in
       let start : IsDistinct alike keys =
@@ -141,7 +148,8 @@ module _ (design : DesignModel) where
         each = each;
         order = record {
           in_order = AllPairs-map_where IsBelow (IsTakenBefore design) (λ k. k.number) (IsTurnKeyOf design) taken_before sorted each rising;
-          each = All-map (IsMovable design) (λ (k : TurnKey). k.number) sorted (All-weaker (IsTurnKeyOf design) (λ k. IsMovable design k.number) (λ k is. is.movable) sorted each);
+          each = All-map (IsMovable design) (λ (k : TurnKey). k.number) sorted
+              (All-weaker (IsTurnKeyOf design) (λ k. IsMovable design k.number) (λ k is. is.movable) sorted each);
           all = λ c m.
               Contains-permutation (numbers keys) (numbers sorted) c (IsPermutation-map (λ (k : TurnKey). k.number) keys sorted moved)
               (are.all c (slice_get_within design.components c m.component m.there) m);

@@ -11,7 +11,7 @@ use Rattle.leg_rules.specs.Placement.Sites.{IsOnRow}
 use Rattle.leg_rules.specs.Legalise.Clear.{IsClear}
 use Rattle.leg_rules.specs.declared.position.Candidate.{Candidate}
 use Rattle.leg_design_records.specs.Movable.{IsMovable}
-use Rattle.leg_rules.specs.Legalise.Places.{orient_of, Takes}
+use Rattle.leg_rules.specs.Legalise.Places.{orient_if_placed, Takes}
 use Rattle.leg_rules.specs.Legalise.Free.{IsTaken, IsFree}
 
 -- each macro has a width and a height, within the limit of numbers
@@ -26,7 +26,7 @@ pub record IsFreePlace (design : DesignModel) (done : List ℕ) (c number : ℕ)
   pub row : Row
   pub is_row : slice_get design.rows number ≡ Some row
   pub on_row : IsOnRow design.library movable.master movable.number place row
-  pub takes : Takes row.orient movable.master.y_symmetric (orient_of movable.component.place) place.orient
+  pub takes : Takes row.orient movable.master.y_symmetric (orient_if_placed movable.component.place) place.orient
   pub clear : IsClear design.die (IsTaken design done) (placed_box movable.master.size place)
 
 -- a free position of component c in the row of this number has this place

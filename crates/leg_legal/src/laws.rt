@@ -12,7 +12,7 @@ ghost use Rattle.leg_legal.specs.FreePlaces.{HasMacroSizes, IsFreePlace, HasFree
 ghost use Rattle.leg_rules.specs.Legalise.Run.{IsLegalised};
 ghost use Rattle.leg_rules.specs.Legalise.Moves.{AreMoves};
 ghost use Rattle.leg_legal.specs.Refusals.{IsLegaliseRefusal};
-ghost use Rattle.leg_rules.specs.Legalise.Refusals.{HoldsOfStaying, IsStuck};
+ghost use Rattle.leg_rules.specs.Legalise.Refusals.{IsStayingViolation, IsStuck};
 ghost use Rattle.leg_legal.specs.Outcome.{HasOutcome};
 ghost use Rattle.leg_legal.specs.declared.fault.LegalFault.TheVariants.{Memory};
 
@@ -52,7 +52,7 @@ pub fn refused_design_is_not_legalised<A: Allocator>(fault: &LegalFault<A>)
 
 /// A component that stays may stand in a placement blockage: of components that stay, no violation of that kind holds.
 pub fn component_that_stays_is_not_blocked()
-    ensures { (design : DesignModel) (c : ℕ) → ¬ HoldsOfStaying design (Blocked c) }
+    ensures { (design : DesignModel) (c : ℕ) → ¬ IsStayingViolation design (Blocked c) }
 {}
 
 /// A movable component's free positions, which are told by numbers of sites, are its free places, which are told by unit

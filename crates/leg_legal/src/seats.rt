@@ -7,7 +7,7 @@ ghost use Rattle.leg_lib_records.specs.Measure.{IsExtent};
 ghost use Rattle.leg_design_records.specs.WellFormedParts.{IsPosition};
 ghost use Rattle.leg_legal_sites.specs.Steps.FreeLists.{AreFreeLists};
 ghost use Rattle.leg_design_records.specs.Movable.{IsMovable};
-ghost use Rattle.leg_rules.specs.Legalise.Places.{orient_of, Takes};
+ghost use Rattle.leg_rules.specs.Legalise.Places.{orient_if_placed, Takes};
 ghost use Rattle.leg_rules.specs.Legalise.Refusals.{IsUnsuited};
 ghost use Rattle.leg_legal.specs.Steps.Seats.{IsWantedOf, IsBestPlace, AreToBeAsked};
 
@@ -20,7 +20,7 @@ use std::alloc::Allocator;
 
 /// The orientation that a component has, if it is placed.
 fn orient_of(place: &Option<Place>) -> Option<Orient>
-    ensures { result ≡ orient_of place.now }
+    ensures { result ≡ orient_if_placed place.now }
 {
     match place {
         Some(place) => Some(place.orient),
@@ -36,7 +36,7 @@ fn wanted_with<A: Allocator>(
     number: usize,
     site: &Extent,
 ) -> Wanted
-    ensures is { result ≡ record { start = start; site = number; site_width = site.now.width; many = unsigned_abs master.now.size.width / unsigned_abs site.now.width; orient = orient_of place.now; y_symmetric = master.now.y_symmetric } }
+    ensures is { result ≡ record { start = start; site = number; site_width = site.now.width; many = unsigned_abs master.now.size.width / unsigned_abs site.now.width; orient = orient_if_placed place.now; y_symmetric = master.now.y_symmetric } }
     ensures area { IsExtent site.now }
     ensures has_area { IsExtent master.now.size }
 {

@@ -2,7 +2,7 @@
 
 ghost use Rattle.std.specs.Prelude.{◌≡◌, length, IfOk};
 ghost use Rattle.leg_design_records.specs.Violation.{IsListOf};
-ghost use Rattle.leg_rules.specs.Legalise.Refusals.{HoldsOfStaying};
+ghost use Rattle.leg_rules.specs.Legalise.Refusals.{IsStayingViolation};
 ghost use Rattle.leg_legal.specs.Steps.Marks.{AreMarksBelow};
 
 use leg_design_records::{Design, Fault};
@@ -31,7 +31,7 @@ pub(crate) fn staying_faults<A: Allocator + Copy>(
     design: &Design<'_, A>,
 ) -> Result<Vec<Fault, A>, AllocError>
     requires { library.now ≡ design.now.library }
-    ensures { IfOk result (λ staying. IsListOf (HoldsOfStaying design.now) staying.items) }
+    ensures { IfOk result (λ staying. IsListOf (IsStayingViolation design.now) staying.items) }
 {
     let marks = marks_of_staying(alloc, design)?;
     let faults = place_faults_among(alloc, library, design, &marks)?;

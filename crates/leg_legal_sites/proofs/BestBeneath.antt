@@ -32,7 +32,8 @@ best_alone None = λ d is. none-some d is
 best_alone (Some c) = (refl, λ d is. let one : c ≡ d = same_Some c d is in rw (← one) (no_worse_itself c))
 
 -- what is no worse than each of some is the best of them and itself
-pub best_stays : (P : Candidate → Type 0) (best : Option Candidate) → ((d : Candidate) → P d → best ≡ None → ⊥) → ((c d : Candidate) → best ≡ Some c → P d → IsNoWorse c d) → IsBestOf (λ d. P d ⊎ (best ≡ Some d)) best
+pub best_stays : (P : Candidate → Type 0) (best : Option Candidate) → ((d : Candidate) → P d → best ≡ None → ⊥)
+    → ((c d : Candidate) → best ≡ Some c → P d → IsNoWorse c d) → IsBestOf (λ d. P d ⊎ (best ≡ Some d)) best
 best_stays P None none worse = λ d is. elim is [
   | inl p ↦ none d p refl
   | inr same ↦ none-some d same
@@ -46,7 +47,8 @@ best_stays P (Some c) none worse = (
 )
 
 -- the better one of the best before and of the best of some
-pub best_with : (P : Candidate → Type 0) (best found r : Option Candidate) → IsBestOf P found → IsBetterOf best found r → IsBestOf (λ d. P d ⊎ (best ≡ Some d)) r
+pub best_with : (P : Candidate → Type 0) (best found r : Option Candidate) → IsBestOf P found → IsBetterOf best found r
+    → IsBestOf (λ d. P d ⊎ (best ≡ Some d)) r
 best_with P best found r is better =
     best_of_both (λ d. best ≡ Some d) P (λ d. P d ⊎ (best ≡ Some d)) (λ d same. inr same) (λ d p. inl p)
     (λ d either. elim either [ inl p ↦ inr p | inr same ↦ inl same ])
@@ -54,7 +56,8 @@ best_with P best found r is better =
 
 module _ (P Q : Candidate → Type 0) where
   -- the best of the second kind and of the best of the first kind is the best of both
-  pub best_through : (best mid r : Option Candidate) → IsBestOf (λ d. P d ⊎ (best ≡ Some d)) mid → IsBestOf (λ d. Q d ⊎ (mid ≡ Some d)) r → IsBestOf (λ d. (P d ⊎ Q d) ⊎ (best ≡ Some d)) r
+  pub best_through : (best mid r : Option Candidate) → IsBestOf (λ d. P d ⊎ (best ≡ Some d)) mid → IsBestOf (λ d. Q d ⊎ (mid ≡ Some d)) r
+      → IsBestOf (λ d. (P d ⊎ Q d) ⊎ (best ≡ Some d)) r
   best_through best None None none never = λ d is. elim is [
     | inl either ↦ elim either [
       | inl p ↦ none d (inl p)
@@ -108,7 +111,8 @@ module _ (design : DesignModel) (proper : All (IsRow design.library) design.rows
       let has = of_all (IsRow design.library) design.rows d.row is.row proper is.there in
       (has.site, record { there = is.there; sited = has.there })
 
-  module _ (node : ℕ) (bounds : Bounds) (fits : (key : RowKey) → IsLeafBeneath order node key → DoFit design free bounds key.row) (d : Candidate) (is : Beneath node d) where
+  module _ (node : ℕ) (bounds : Bounds) (fits : (key : RowKey) → IsLeafBeneath order node key → DoFit design free bounds key.row) (d : Candidate)
+      (is : Beneath node d) where
     abbrev at : (site : Site) × IsRowAt design d.row is.candidate.row site
     at = row_at d is.candidate
 
@@ -164,7 +168,8 @@ module _ (design : DesignModel) (proper : All (IsRow design.library) design.rows
         }
 
   -- none beneath a node is better than the best one so far
-  pub best_kept : (node : ℕ) (bounds : Bounds) (best : Option Candidate) → ((key : RowKey) → IsLeafBeneath order node key → DoFit design free bounds key.row) → AreNoBetter bounds wanted best → IsBestOf (OrBest node best) best
+  pub best_kept : (node : ℕ) (bounds : Bounds) (best : Option Candidate) → ((key : RowKey) → IsLeafBeneath order node key → DoFit design free bounds key.row)
+      → AreNoBetter bounds wanted best → IsBestOf (OrBest node best) best
   best_kept node bounds None fits none =
       best_stays (Beneath node) None (λ d is same. none_beneath node bounds fits d is none) (λ c d is p. absurd (none-some c is))
   best_kept node bounds (Some b) fits either =
@@ -176,11 +181,14 @@ module _ (design : DesignModel) (proper : All (IsRow design.library) design.rows
       ]))
 
   -- a leaf has one row
-  pub best_at_leaf : (node place : ℕ) (key : RowKey) (best found r : Option Candidate) → length order ≤ node → node ≡ length order + place → slice_get order place ≡ Some key → IsBestOf (IsCandidateOf design.rows free wanted key.row) found → IsBetterOf best found r → IsBestOf (OrBest node best) r
+  pub best_at_leaf : (node place : ℕ) (key : RowKey) (best found r : Option Candidate) → length order ≤ node → node ≡ length order + place
+      → slice_get order place ≡ Some key → IsBestOf (IsCandidateOf design.rows free wanted key.row) found → IsBetterOf best found r
+      → IsBestOf (OrBest node best) r
   best_at_leaf node place key best found r from is there best_found better =
       best_of_same (λ d. IsCandidateOf design.rows free wanted key.row d ⊎ (best ≡ Some d)) (OrBest node best)
       (λ d either. elim either [
-        | inl of ↦ inl (record { candidate = of.candidate; key = key; leaf = record { place = place; there = there; levels = 0; beneath = sym is }; row = sym of.row })
+        | inl of ↦
+            inl (record { candidate = of.candidate; key = key; leaf = record { place = place; there = there; levels = 0; beneath = sym is }; row = sym of.row })
         | inr same ↦ inr same
       ])
       (λ d either. elim either [
@@ -208,7 +216,9 @@ module _ (design : DesignModel) (proper : All (IsRow design.library) design.rows
   swapped (inr q) = inl q
 
   -- the rows beneath a node are those beneath the two below it, whichever is looked at first
-  pub best_of_two : (node near far : ℕ) (best mid r : Option Candidate) → node < length order → ((near ≡ 2 * node) × (far ≡ 2 * node + 1)) ⊎ ((near ≡ 2 * node + 1) × (far ≡ 2 * node)) → IsBestOf (OrBest near best) mid → IsBestOf (OrBest far mid) r → IsBestOf (OrBest node best) r
+  pub best_of_two : (node near far : ℕ) (best mid r : Option Candidate) → node < length order
+      → ((near ≡ 2 * node) × (far ≡ 2 * node + 1)) ⊎ ((near ≡ 2 * node + 1) × (far ≡ 2 * node)) → IsBestOf (OrBest near best) mid
+      → IsBestOf (OrBest far mid) r → IsBestOf (OrBest node best) r
   best_of_two node near far best mid r before sides first then =
       best_of_same (λ d. (Beneath near d ⊎ Beneath far d) ⊎ (best ≡ Some d)) (OrBest node best)
       (λ d either. elim either [

@@ -41,7 +41,8 @@ no_worse_than_worse a b c ab bc =
     }
 
 -- the better of the best of two kinds is the best of both
-pub best_of_both : (P Q R : Candidate → Type 0) → ((d : Candidate) → P d → R d) → ((d : Candidate) → Q d → R d) → ((d : Candidate) → R d → P d ⊎ Q d) → (a b r : Option Candidate) → IsBestOf P a → IsBestOf Q b → IsBetterOf a b r → IsBestOf R r
+pub best_of_both : (P Q R : Candidate → Type 0) → ((d : Candidate) → P d → R d) → ((d : Candidate) → Q d → R d) → ((d : Candidate) → R d → P d ⊎ Q d)
+    → (a b r : Option Candidate) → IsBestOf P a → IsBestOf Q b → IsBetterOf a b r → IsBestOf R r
 best_of_both P Q R from_p from_q split None None r no_p no_q is =
     rw is (λ d has. elim (split d has) [
       | inl p ↦ no_p d p
@@ -87,6 +88,7 @@ best_of_both P Q R from_p from_q split (Some a) (Some b) r best_p best_q is =
           )
     ]
 
-pub best_of_same : (P R : Candidate → Type 0) → ((d : Candidate) → P d → R d) → ((d : Candidate) → R d → P d) → (best : Option Candidate) → IsBestOf P best → IsBestOf R best
+pub best_of_same : (P R : Candidate → Type 0) → ((d : Candidate) → P d → R d) → ((d : Candidate) → R d → P d) → (best : Option Candidate) → IsBestOf P best
+    → IsBestOf R best
 best_of_same P R from_p from_r None no_p = λ d has. no_p d (from_r d has)
 best_of_same P R from_p from_r (Some c) is = (from_p c is.0, λ d has. is.1 d (from_r d has))

@@ -21,7 +21,7 @@ use Rattle.leg_legal_sites.specs.Steps.SiteBounds.{DoBoundSite}
 use Rattle.leg_legal_sites.specs.Steps.RowOrder.{IsRowOrder}
 use Rattle.leg_legal_sites.specs.Steps.FreeLists.{IsRowAt, DoFit, AreRowsOf}
 use Rattle.leg_legal_sites.specs.Steps.TreeOfRows.{IsLeafBeneath}
-use Rattle.leg_legal_sites.specs.Steps.FreeListSharing.{list_at, place_of, row_list, row_lists}
+use Rattle.leg_legal_sites.specs.Steps.FreeListSharing.{list_of_node, place_of_row, row_list, row_lists}
 use Rattle.leg_legal_sites.specs.Steps.Bounds.{AreWithinBounds, DoBoundAlike}
 use Rattle.leg_legal_sites.specs.Steps.FreeRows.{LosesMet, AreTakenBeneath}
 use Rattle.leg_legal_sites.specs.Steps.SharedLists.{own_list, AreShared, LosesShared, IsMetThroughout}
@@ -33,7 +33,8 @@ use Rattle.leg_legal_sites.proofs.RowPlaces.{some_is, key_there, place_of_key, o
 use Rattle.leg_legal_sites.proofs.SharedLists.{IsNotBeneath, decide_beneath, same_elsewhere, same_above, row_lists_long, row_list_there}
 
 -- a rectangle that meets two boxes along y, which lie side by side along x, shares a unit square with both or none
-pub shared_along : (rect box other : RectModel) → ShareSquare rect box → other.x1 ≡ box.x1 → other.x2 ≡ box.x2 → other.y1 <ℤ rect.y2 → rect.y1 <ℤ other.y2 → other.y1 <ℤ other.y2 → ShareSquare rect other
+pub shared_along : (rect box other : RectModel) → ShareSquare rect box → other.x1 ≡ box.x1 → other.x2 ≡ box.x2 → other.y1 <ℤ rect.y2 → rect.y1 <ℤ other.y2
+    → other.y1 <ℤ other.y2 → ShareSquare rect other
 shared_along rect box other shared left right above below high = record {
   square = record { x = shared.square.x; y = int_max rect.y1 other.y1 };
   in_a = record {
@@ -56,26 +57,31 @@ lt_from_test a b test = grind (arith, ints, test)
 module _ (design : DesignModel) (rect : RectModel) (order : List RowKey) (old new : List (Option (List Stretch))) (node : ℕ) (some : 1 ≤ node)
     (others : (k : ℕ) → IsNotBeneath node k → get_or new k None ≡ get_or old k None) (is_order : IsRowOrder design.rows order) where
   -- where the rows beneath a node lose what the rectangle meets, and no list elsewhere changes
-  pub taken_beneath : ((key : RowKey) (a b : List Stretch) → IsLeafBeneath order node key → slice_get (row_lists order old) key.row ≡ Some a → slice_get (row_lists order new) key.row ≡ Some b → LosesMet design rect key.row a b) → AreTakenBeneath design rect order node (row_lists order old) (row_lists order new)
+  pub taken_beneath : ((key : RowKey) (a b : List Stretch) → IsLeafBeneath order node key → slice_get (row_lists order old) key.row ≡ Some a
+      → slice_get (row_lists order new) key.row ≡ Some b → LosesMet design rect key.row a b)
+      → AreTakenBeneath design rect order node (row_lists order old) (row_lists order new)
   taken_beneath these = record {
     count = row_lists_long order new ∙ sym (row_lists_long order old);
     each = each;
     these = these;
   } where
-    each : (number : ℕ) (a b : List Stretch) → slice_get (row_lists order old) number ≡ Some a → slice_get (row_lists order new) number ≡ Some b → LosesMet design rect number a b ⊎ (b ≡ a)
+    each : (number : ℕ) (a b : List Stretch) → slice_get (row_lists order old) number ≡ Some a → slice_get (row_lists order new) number ≡ Some b
+        → LosesMet design rect number a b ⊎ (b ≡ a)
     each number a b at now =
-        let leaf = length order + place_of order number in
+        let leaf = length order + place_of_row order number in
         let below = slice_get_within (row_lists order old) number a at in
         let long = row_lists_long order old in
-        let was : a ≡ row_list order old number = same_Some a (row_list order old number) (sym at ∙ row_list_there order old number (omega (arith, below, long))) in
-        let is : b ≡ row_list order new number = same_Some b (row_list order new number) (sym now ∙ row_list_there order new number (omega (arith, below, long))) in
+        let was : a ≡ row_list order old number =
+        same_Some a (row_list order old number) (sym at ∙ row_list_there order old number (omega (arith, below, long))) in
+        let is : b ≡ row_list order new number =
+        same_Some b (row_list order new number) (sym now ∙ row_list_there order new number (omega (arith, below, long))) in
         elim (decide_beneath leaf node leaf (omega arith) some) [
           | inl beneath ↦
               inl (λ row site there.
               let key : RowKey = record { site = row.site; y = row.at.y; x = row.at.x; row = number } in
               let found = (is_order.keys key).1 (record { row = row; there = there.there; site = refl; bottom = refl; left = refl }) in
               let at_place : slice_get order found.0 ≡ Some key = slice_get-get_or order found.0 key found.1 ∙ ap Some found.2 in
-              let here : place_of order number ≡ found.0 = place_of_key design.rows order is_order found.0 key at_place in
+              let here : place_of_row order number ≡ found.0 = place_of_key design.rows order is_order found.0 key at_place in
               these key a b (record { place = found.0; there = at_place; levels = beneath.levels; beneath = rw here at beneath.beneath }) at now row site there)
           | inr never ↦ inr (is ∙ ap (λ o. unwrap_or o []) (same_elsewhere old new node others leaf leaf (omega arith) never) ∙ sym was)
         ]
@@ -83,7 +89,8 @@ module _ (design : DesignModel) (rect : RectModel) (order : List RowKey) (old ne
 either_list : (a b : Option (List Stretch)) → is_some b ≡ is_some a → (l : List Stretch) → b ≡ Some l → IsSome a
 either_list a b kept l has = sym kept ∙ ap is_some has
 
-module _ (design : DesignModel) (rect : RectModel) (order : List RowKey) (old : List (Option (List Stretch))) (rest : Option (List Stretch)) (nodes : List Bounds) (node : ℕ)
+module _ (design : DesignModel) (rect : RectModel) (order : List RowKey) (old : List (Option (List Stretch))) (rest : Option (List Stretch))
+    (nodes : List Bounds) (node : ℕ)
     (shared : AreShared order old) (some : 1 ≤ node) (within : node < length old)
     (kept : is_some rest ≡ is_some (get_or old node None)) where
   abbrev pub taken : List (Option (List Stretch))
@@ -108,10 +115,10 @@ module _ (design : DesignModel) (rect : RectModel) (order : List RowKey) (old : 
     ];
   }
 
-  module _ (rows : AreRowsOf design (record { lists = row_lists order old; order = order; nodes = nodes })) (alone : list_at old (node / 2) ≡ None)
+  module _ (rows : AreRowsOf design (record { lists = row_lists order old; order = order; nodes = nodes })) (alone : list_of_node old (node / 2) ≡ None)
       (met : IsMetThroughout design rect order old nodes node) (bounds : Bounds) (there : slice_get nodes node ≡ Some bounds)
       (key : RowKey) (leaf : IsLeafBeneath order node key) (row : Row) (site : Site) (at : IsRowAt design key.row row site) where
-    pub taken_alone : list_at taken (node / 2) ≡ None
+    pub taken_alone : list_of_node taken (node / 2) ≡ None
     taken_alone = same_above old taken node taken_others some ∙ alone
 
     has_or_leaf : (length order ≤ node) ⊎ IsSome (get_or old node None)
@@ -142,13 +149,18 @@ module _ (design : DesignModel) (rect : RectModel) (order : List RowKey) (old : 
     ]
 
     module _ (loses : LosesShared rect row site.size (unwrap_or (get_or old node None) []) (unwrap_or rest [])) where
-      bounded : (k : RowKey) (other : Row) (its : Site) → IsLeafBeneath order node k → IsRowAt design k.row other its → (n : ℕ) → IsFreeSite (unwrap_or (get_or old node None) []) n → slice_get (row_lists order old) k.row ≡ Some (own_list old node) → DoBoundSite bounds k.row other its.size n
+      bounded : (k : RowKey) (other : Row) (its : Site) → IsLeafBeneath order node k → IsRowAt design k.row other its → (n : ℕ)
+          → IsFreeSite (unwrap_or (get_or old node None) []) n → slice_get (row_lists order old) k.row ≡ Some (own_list old node)
+          → DoBoundSite bounds k.row other its.size n
       bounded k other its beneath is n free known = (rows.nodes.fit node bounds k some there beneath (own_list old node) known other its is).sites n free
 
-      module _ (k : RowKey) (other : Row) (its : Site) (beneath : IsLeafBeneath order node k) (is : IsRowAt design k.row other its) (known : slice_get (row_lists order old) k.row ≡ Some (own_list old node))
+      module _ (k : RowKey) (other : Row) (its : Site) (beneath : IsLeafBeneath order node k) (is : IsRowAt design k.row other its)
+          (known : slice_get (row_lists order old) k.row ≡ Some (own_list old node))
           (known_first : slice_get (row_lists order old) key.row ≡ Some (own_list old node)) (area : HasArea site.size) where
         -- a site of one row is met where that of the other is
-        met_both : (n : ℕ) → IsFreeSite (own_list old node) n → (ShareSquare rect (site_box other its.size n) → ShareSquare rect (site_box row site.size n)) × (ShareSquare rect (site_box row site.size n) → ShareSquare rect (site_box other its.size n))
+        met_both : (n : ℕ) → IsFreeSite (own_list old node) n
+            → (ShareSquare rect (site_box other its.size n) → ShareSquare rect (site_box row site.size n))
+            × (ShareSquare rect (site_box row site.size n) → ShareSquare rect (site_box other its.size n))
         met_both n free = elim met [
           | inl from ↦
               let one = leaf_alone order node key leaf from in
@@ -193,7 +205,8 @@ module _ (design : DesignModel) (rect : RectModel) (order : List RowKey) (old : 
             let at_k = row_list_there order old k.row (omega (arith, below, long, count)) in
             at_k ∙ ap Some (had_is k (row_list order old k.row) beneath at_k)
 
-        losing : (k : RowKey) (a b : List Stretch) → IsLeafBeneath order node k → slice_get (row_lists order old) k.row ≡ Some a → slice_get (row_lists order taken) k.row ≡ Some b → LosesMet design rect k.row a b
+        losing : (k : RowKey) (a b : List Stretch) → IsLeafBeneath order node k → slice_get (row_lists order old) k.row ≡ Some a
+            → slice_get (row_lists order taken) k.row ≡ Some b → LosesMet design rect k.row a b
         losing k a b beneath at_a at_b other its is n =
             let was = had_is k a beneath at_a in
             let now = has_is k b beneath at_b in
@@ -204,9 +217,12 @@ module _ (design : DesignModel) (rect : RectModel) (order : List RowKey) (old : 
 
         -- what is left lies in the die, and so within the limit
         pub left_within : IsArea design.die → AreWithinBounds row site.size (unwrap_or rest [])
-        left_within die = within_die key.row row site.size area design.die die (unwrap_or rest []) (λ n free. rows.inside key.row (own_list old node) (known_of key leaf) row site at n ((loses n).0 free).0)
+        left_within die =
+            within_die key.row row site.size area design.die die (unwrap_or rest [])
+            (λ n free. rows.inside key.row (own_list old node) (known_of key leaf) row site at n ((loses n).0 free).0)
 
-        pub rows_at_node : All (IsRow design.library) design.rows → (fresh : Bounds) → DoBoundAlike bounds row site.size (unwrap_or rest []) fresh → AreRowsOf design (record { lists = row_lists order taken; order = order; nodes = set nodes node fresh })
+        pub rows_at_node : All (IsRow design.library) design.rows → (fresh : Bounds) → DoBoundAlike bounds row site.size (unwrap_or rest []) fresh
+            → AreRowsOf design (record { lists = row_lists order taken; order = order; nodes = set nodes node fresh })
         rows_at_node proper fresh fresh_fits = record {
           lists = taken_at_node.count ∙ rows.lists;
           inside = inside_still design rect (row_lists order old) (row_lists order taken) taken_at_node.count taken_at_node.each rows.inside;
@@ -217,6 +233,8 @@ module _ (design : DesignModel) (rect : RectModel) (order : List RowKey) (old : 
               let same = like k other its beneath is in
               let near = (of_all (IsRow design.library) design.rows k.row other proper is.there).at.y in
               let far : IsCoordinate other.at.y = omega (arith, near) in
-              rw (now, same.1) (fresh_fits k.row other same.0 far (λ n free. rw same.1 at (bounded k other its beneath is n ((loses n).0 free).0 (known_of k beneath)))))
-              (nodes_weaker order (DoFit design (row_lists order old)) (DoFit design (row_lists order taken)) nodes (fit_still design rect (row_lists order old) (row_lists order taken) taken_at_node.count taken_at_node.each) rows.nodes);
+              rw (now, same.1) (fresh_fits k.row other same.0 far
+              (λ n free. rw same.1 at (bounded k other its beneath is n ((loses n).0 free).0 (known_of k beneath)))))
+              (nodes_weaker order (DoFit design (row_lists order old)) (DoFit design (row_lists order taken)) nodes
+              (fit_still design rect (row_lists order old) (row_lists order taken) taken_at_node.count taken_at_node.each) rows.nodes);
         }

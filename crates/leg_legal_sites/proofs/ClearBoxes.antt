@@ -7,14 +7,15 @@ use Rattle.leg_design_records.specs.declared.records.Row.{Row}
 use Rattle.leg_rules.specs.Placement.Sites.{site_box}
 use Rattle.leg_legal_sites.specs.declared.stretch.Stretch.{Stretch}
 use Rattle.leg_legal_sites.specs.Steps.Stretches.{AreFreeSites}
-use Rattle.leg_legal_sites.specs.Steps.ClearSites.{IsKnown, sites_box}
+use Rattle.leg_legal_sites.specs.Steps.ClearSites.{IsFreeList, sites_box}
 use Rattle.leg_rules.specs.Legalise.Clear.{IsClear}
 use Rattle.leg_legal_sites.proofs.SiteSquares.{site_of_square, square_of_site}
 
 module _ (row : Row) (size : ExtentModel) (area : HasArea size) (die : RectModel) (Taken : RectModel → Type 0) where
   module _ (first many : ℕ) where
     -- a box of sites that are each clear is clear
-    pub clear_from_sites : ((k : ℕ) → first ≤ k → k < first + many → IsClear die Taken (site_box row size k)) → IsClear die Taken (sites_box row size first many)
+    pub clear_from_sites : ((k : ℕ) → first ≤ k → k < first + many → IsClear die Taken (site_box row size k))
+        → IsClear die Taken (sites_box row size first many)
     clear_from_sites each = record {
       inside = λ square c. let s = site_of_square row size area first many square c in (each s.k s.from s.below).inside square s.inside;
       alone = λ other taken shared.
@@ -25,13 +26,15 @@ module _ (row : Row) (size : ExtentModel) (area : HasArea size) (die : RectModel
     -- and the other way round
     pub site_from_clear : IsClear die Taken (sites_box row size first many) → (k : ℕ) → first ≤ k → k < first + many → IsClear die Taken (site_box row size k)
     site_from_clear clear k from below =
-        let in_box : (square : PointModel) → HasSquare (site_box row size k) square → HasSquare (sites_box row size first many) square = λ square c. square_of_site row size area first many square (record { k = k; from = from; below = below; inside = c }) in
+        let in_box : (square : PointModel) → HasSquare (site_box row size k) square → HasSquare (sites_box row size first many) square =
+        λ square c. square_of_site row size area first many square (record { k = k; from = from; below = below; inside = c }) in
         record {
           inside = λ square c. clear.inside square (in_box square c);
-          alone = λ other taken shared. clear.alone other taken (record { square = shared.square; in_a = shared.in_a; in_b = in_box shared.square shared.in_b });
+          alone = λ other taken shared. clear.alone other taken
+              (record { square = shared.square; in_a = shared.in_a; in_b = in_box shared.square shared.in_b });
         }
 
-  module _ (free : List Stretch) (known : IsKnown row size die Taken free) (many first : ℕ) (some : 1 ≤ many) where
+  module _ (free : List Stretch) (known : IsFreeList row size die Taken free) (many first : ℕ) (some : 1 ≤ many) where
     -- free sites are sites of the row, and their box is clear
     pub free_sites_within : AreFreeSites free many first → pos (first + many) ≤ℤ row.count
     free_sites_within sites =

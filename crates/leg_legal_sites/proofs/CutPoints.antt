@@ -20,7 +20,9 @@ starts_partitioned free end are i j d order within test =
           lt-ltb (get_or free i d).from end (omega arith)
     ]
 
-pub cut_from_points : (free : List Stretch) (from end first last : ℕ) → IsPartitionPoint (λ s. nat_le s.end from ≡ true) (λ s. nat_le s.end from ≡ false) free first → IsPartitionPoint (λ s. nat_lt s.from end ≡ true) (λ s. nat_lt s.from end ≡ false) free last → IsCutAt free from end first last
+pub cut_from_points : (free : List Stretch) (from end first last : ℕ)
+    → IsPartitionPoint (λ s. nat_le s.end from ≡ true) (λ s. nat_le s.end from ≡ false) free first
+    → IsPartitionPoint (λ s. nat_lt s.from end ≡ true) (λ s. nat_lt s.from end ≡ false) free last → IsCutAt free from end first last
 cut_from_points free from end first last ends begins = record {
   before = λ i s early there.
       let test = ends.0 i s (omega arith) early in

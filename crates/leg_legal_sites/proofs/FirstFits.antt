@@ -26,7 +26,8 @@ abbrev pub IsPassed : List Stretch → ℕ → ℕ → ℕ → Type 0
 IsPassed free many least i =
     (first number : ℕ) → least ≤ first → LieIn free many first number → i ≤ number
 
-pub passed_none : (free : List Stretch) (many least i : ℕ) → 1 ≤ many → IsPartitionPoint (λ s. nat_le s.end least ≡ true) (λ s. nat_le s.end least ≡ false) free i → IsPassed free many least i
+pub passed_none : (free : List Stretch) (many least i : ℕ) → 1 ≤ many
+    → IsPartitionPoint (λ s. nat_le s.end least ≡ true) (λ s. nat_le s.end least ≡ false) free i → IsPassed free many least i
 passed_none free many least i some point first number above lie =
     elim (cases_lt number i) [
       | inl early ↦
@@ -40,7 +41,8 @@ passed_none free many least i some point first number above lie =
     ]
 
 -- a stretch that is too short is passed
-pub passed_more : (free : List Stretch) (many least i : ℕ) (s : Stretch) → slice_get free i ≡ Some s → s.end - max s.from least < many → IsPassed free many least i → IsPassed free many least (i + 1)
+pub passed_more : (free : List Stretch) (many least i : ℕ) (s : Stretch) → slice_get free i ≡ Some s → s.end - max s.from least < many
+    → IsPassed free many least i → IsPassed free many least (i + 1)
 passed_more free many least i s at short passed first number above lie =
     let upto = passed first number above lie in
     elim (cases_eq number i) [
@@ -55,7 +57,8 @@ passed_more free many least i s at short passed first number above lie =
     ]
 
 -- one that is long enough has the first
-pub first_found : (free : List Stretch) (many least i : ℕ) (s : Stretch) → AreFreeStretches free → 1 ≤ many → slice_get free i ≡ Some s → many ≤ s.end - max s.from least → IsPassed free many least i → IsFirstFit (FitsFrom free many least) (Some (max s.from least))
+pub first_found : (free : List Stretch) (many least i : ℕ) (s : Stretch) → AreFreeStretches free → 1 ≤ many → slice_get free i ≡ Some s
+    → many ≤ s.end - max s.from least → IsPassed free many least i → IsFirstFit (FitsFrom free many least) (Some (max s.from least))
 first_found free many least i s are some at long passed = (
   record {
     sites = free_in free many (max s.from least) i (record { stretch = s; there = at; above = omega arith; below = omega arith });
@@ -78,7 +81,8 @@ first_found free many least i s are some at long passed = (
       ],
 )
 
-pub first_none : (free : List Stretch) (many least i : ℕ) → AreFreeStretches free → 1 ≤ many → length free ≤ i → IsPassed free many least i → IsFirstFit (FitsFrom free many least) None
+pub first_none : (free : List Stretch) (many least i : ℕ) → AreFreeStretches free → 1 ≤ many → length free ≤ i → IsPassed free many least i
+    → IsFirstFit (FitsFrom free many least) None
 first_none free many least i are some end passed k fits =
     let found = one_stretch free many k are some fits.sites in
     let upto = passed k found.0 fits.above found.1 in

@@ -57,10 +57,12 @@ free_append_cases xs ys k lies =
     ]
 
 pub free_append_left : (xs ys : List Stretch) (k : ℕ) → FreeIn xs k → FreeIn (xs ++ ys) k
-free_append_left xs ys k lies = record { stretch = lies.stretch; has = Contains-append_left xs ys lies.stretch lies.has; above = lies.above; below = lies.below }
+free_append_left xs ys k lies =
+    record { stretch = lies.stretch; has = Contains-append_left xs ys lies.stretch lies.has; above = lies.above; below = lies.below }
 
 pub free_append_right : (xs ys : List Stretch) (k : ℕ) → FreeIn ys k → FreeIn (xs ++ ys) k
-free_append_right xs ys k lies = record { stretch = lies.stretch; has = Contains-append_right xs ys lies.stretch lies.has; above = lies.above; below = lies.below }
+free_append_right xs ys k lies =
+    record { stretch = lies.stretch; has = Contains-append_right xs ys lies.stretch lies.has; above = lies.above; below = lies.below }
 
 -- a stretch at a place of the list
 pub record IsAt {X : Type 0} (xs : List X) (i : ℕ) (x : X) : Type 0 where

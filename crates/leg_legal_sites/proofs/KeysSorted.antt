@@ -7,7 +7,7 @@ use Rattle.std.proofs.lemmas.Bool.{cases_lt, eqb-false, ne_eqb}
 use Rattle.std.proofs.lemmas.Bool.Decides.{nat_tests}
 use Rattle.std.proofs.lemmas.Cmp.{nat_eq_equiv, nat_cmp_total, int_cmp_total, on_total, then_total}
 use Rattle.std.proofs.lemmas.Int.{ints}
-use Rattle.std.proofs.lemmas.List.Elements.{All-nil, All-push, All-contains, Contains-append_left, Contains-push}
+use Rattle.std.proofs.lemmas.List.Elements.{All-push, All-contains, Contains-append_left, Contains-push}
 use Rattle.std.proofs.lemmas.List.Quantifiers.{all_pairs_push}
 use Rattle.std.proofs.lemmas.List.Sorted.{ranks_by, sorted_far, All-permutation, Contains-permutation}
 use Rattle.std.proofs.lemmas.Map.Keys.{IsDistinct-from_apart, apart_from_distinct, IsDistinct-IsPermutation}
@@ -23,7 +23,8 @@ key_cmp a b = ordering_then (nat_cmp a.site b.site) (ordering_then (int_cmp a.y 
 key_cmp_total : IsTotalOrder key_cmp
 key_cmp_total =
     then_total (on_total (λ (k : RowKey). k.site) nat_cmp_total)
-    (then_total (on_total (λ (k : RowKey). k.y) int_cmp_total) (then_total (on_total (λ (k : RowKey). k.x) int_cmp_total) (on_total (λ (k : RowKey). k.row) nat_cmp_total)))
+    (then_total (on_total (λ (k : RowKey). k.y) int_cmp_total)
+    (then_total (on_total (λ (k : RowKey). k.x) int_cmp_total) (on_total (λ (k : RowKey). k.row) nat_cmp_total)))
 
 -- keys of rows of different numbers that are not in falling order are in rising order
 before_from_test : (a b : RowKey) → is_lt (key_cmp b a) ≡ false → (a.row ≡ b.row → ⊥) → IsBefore a b
@@ -38,17 +39,9 @@ same_key rows key row is there =
     let left : key.x ≡ row.at.x = is.left ∙ ap (λ (r : Row). r.at.x) one in
     λ i. record { site = site i; y = bottom i; x = left i; row = key.row }
 
-pub keys_none : (rows : List Row) → AreKeysBelow rows 0 []
-keys_none rows = record {
-  count = refl;
-  each = All-nil (IsKeyOf rows);
-  below = All-nil (λ key. key.row < 0);
-  all = λ number row below there. absurd (omega arith);
-  rising = λ i j d order within. absurd (omega arith);
-}
-
 -- the key of one more row
-pub keys_more : (rows : List Row) (keys : List RowKey) (i : ℕ) (row : Row) → slice_get rows i ≡ Some row → AreKeysBelow rows i keys → AreKeysBelow rows (i + 1) (keys ++ key_of row i ∷ [])
+pub keys_more : (rows : List Row) (keys : List RowKey) (i : ℕ) (row : Row) → slice_get rows i ≡ Some row → AreKeysBelow rows i keys
+    → AreKeysBelow rows (i + 1) (keys ++ key_of row i ∷ [])
 keys_more rows keys i row at done =
     let key : RowKey = key_of row i in
     record {
@@ -66,7 +59,8 @@ keys_more rows keys i row at done =
     }
 
 -- the keys once they are sorted
-pub order_from_sort : (rows : List Row) (keys sorted : List RowKey) → AreKeysBelow rows (length rows) keys → IsPermutation keys sorted → IsSorted key_cmp sorted → IsRowOrder rows sorted
+pub order_from_sort : (rows : List Row) (keys sorted : List RowKey) → AreKeysBelow rows (length rows) keys → IsPermutation keys sorted
+    → IsSorted key_cmp sorted → IsRowOrder rows sorted
 order_from_sort rows keys sorted are moved up =
     let alike : RowKey → RowKey → Bool = λ a b. eqb a.row b.row in
     let start : IsDistinct alike keys =

@@ -26,7 +26,8 @@ abbrev pub IsPassedDown : List Stretch → ℕ → ℕ → ℕ → Type 0
 IsPassedDown free many most i =
     (first number : ℕ) → first ≤ most → LieIn free many first number → number < i
 
-pub passed_down_none : (free : List Stretch) (many most i : ℕ) → IsPartitionPoint (λ s. nat_le s.from most ≡ true) (λ s. nat_le s.from most ≡ false) free i → IsPassedDown free many most i
+pub passed_down_none : (free : List Stretch) (many most i : ℕ) → IsPartitionPoint (λ s. nat_le s.from most ≡ true) (λ s. nat_le s.from most ≡ false) free i
+    → IsPassedDown free many most i
 passed_down_none free many most i point first number upto lie =
     elim (cases_lt number i) [
       | inl early ↦ early
@@ -40,7 +41,8 @@ passed_down_none free many most i point first number upto lie =
     ]
 
 -- a stretch that is too short is passed
-pub passed_down_more : (free : List Stretch) (many most i : ℕ) (s : Stretch) → slice_get free i ≡ Some s → s.end - s.from < many → IsPassedDown free many most (i + 1) → IsPassedDown free many most i
+pub passed_down_more : (free : List Stretch) (many most i : ℕ) (s : Stretch) → slice_get free i ≡ Some s → s.end - s.from < many
+    → IsPassedDown free many most (i + 1) → IsPassedDown free many most i
 passed_down_more free many most i s at short passed first number upto lie =
     let before = passed first number upto lie in
     elim (cases_eq number i) [
@@ -55,7 +57,8 @@ passed_down_more free many most i s at short passed first number upto lie =
     ]
 
 -- one that is long enough has the last
-pub last_found : (free : List Stretch) (many most i : ℕ) (s : Stretch) → AreFreeStretches free → 1 ≤ many → slice_get free i ≡ Some s → s.from ≤ most → many ≤ s.end - s.from → IsPassedDown free many most (i + 1) → IsLast (FitsUpTo free many most) (Some (min most (s.end - many)))
+pub last_found : (free : List Stretch) (many most i : ℕ) (s : Stretch) → AreFreeStretches free → 1 ≤ many → slice_get free i ≡ Some s → s.from ≤ most
+    → many ≤ s.end - s.from → IsPassedDown free many most (i + 1) → IsLast (FitsUpTo free many most) (Some (min most (s.end - many)))
 last_found free many most i s are some at begins long passed = (
   record {
     sites = free_in free many (min most (s.end - many)) i (record { stretch = s; there = at; above = omega arith; below = omega arith });

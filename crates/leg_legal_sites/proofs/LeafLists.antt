@@ -11,7 +11,7 @@ use Rattle.leg_legal_sites.specs.declared.stretch.Stretch.{Stretch}
 use Rattle.leg_legal_sites.specs.declared.bounds.Bounds.{Bounds}
 use Rattle.leg_legal_sites.specs.declared.row_keys.RowKey.{RowKey}
 use Rattle.leg_legal_sites.specs.Steps.RowOrder.{IsRowOrder}
-use Rattle.leg_legal_sites.specs.Steps.ClearSites.{IsKnown}
+use Rattle.leg_legal_sites.specs.Steps.ClearSites.{IsFreeList}
 use Rattle.leg_legal_sites.specs.Steps.FreeLists.{IsRowAt, AreInDie, DoBoundRow, DoFit}
 use Rattle.leg_legal_sites.specs.Steps.FreeListSharing.{row_lists}
 use Rattle.leg_legal_sites.specs.Steps.FreeRows.{AreInside}
@@ -50,18 +50,25 @@ module _ (design : DesignModel) (order : List RowKey) where
   }
 
   -- one more leaf
-  pub leaf_more : (place : ℕ) (key : RowKey) (list : List Stretch) (lists : List (Option (List Stretch))) → slice_get order place ≡ Some key → ((row : Row) (site : Site) → IsRowAt design key.row row site → IsKnown row site.size design.die (Contains []) list) → AreLeafLists design order place lists → AreLeafLists design order (place + 1) (lists ++ Some list ∷ [])
+  pub leaf_more : (place : ℕ) (key : RowKey) (list : List Stretch) (lists : List (Option (List Stretch))) → slice_get order place ≡ Some key
+      → ((row : Row) (site : Site) → IsRowAt design key.row row site → IsFreeList row site.size design.die (Contains []) list)
+      → AreLeafLists design order place lists → AreLeafLists design order (place + 1) (lists ++ Some list ∷ [])
   leaf_more place key list lists at known so_far = record {
     count = let count = so_far.count in omega (arith, count, length-append lists (Some list ∷ []));
-    above = λ node inner. get_or_append_left lists (Some list ∷ []) None node (let count = so_far.count in omega (arith, count, inner)) ∙ so_far.above node inner;
+    above = λ node inner. get_or_append_left lists (Some list ∷ []) None node (let count = so_far.count in omega (arith, count, inner))
+        ∙ so_far.above node inner;
     each = λ other its row site below there is. elim (cases_eq other place) [
       | inl same ↦
           let one : its ≡ key = same_Some its key (sym there ∙ ap (slice_get order) same ∙ at) in
           let end : length order + other ≡ length lists = let count = so_far.count in omega (arith, count, same) in
           (list, ap (λ (n : ℕ). get_or (lists ++ Some list ∷ []) n None) end ∙ last_is, known row site (rw one at is))
       | inr differ ↦
-          let before = so_far.each other its row site (omega (arith, below, differ)) there is in
-          (before.0, get_or_append_left lists (Some list ∷ []) None (length order + other) (let count = so_far.count in omega (arith, count, below, differ)) ∙ before.1, before.2)
+          let before = so_far.each other its row site (omega (arith, below, differ)) there is in (
+            before.0,
+            get_or_append_left lists (Some list ∷ []) None (length order + other) (let count = so_far.count in omega (arith, count, below, differ))
+                ∙ before.1,
+            before.2,
+          )
     ];
   } where
     last_is : get_or (lists ++ Some list ∷ []) (length lists) None ≡ Some list
@@ -71,7 +78,8 @@ module _ (design : DesignModel) (order : List RowKey) where
 
   module _ (is_order : IsRowOrder design.rows order) (lists : List (Option (List Stretch))) (are : AreLeafLists design order (length order) lists) where
     -- a row's list is its leaf's own
-    pub leaf_has : (place : ℕ) (key : RowKey) (list : List Stretch) → slice_get order place ≡ Some key → slice_get (row_lists order lists) key.row ≡ Some list → list ≡ own_list lists (length order + place)
+    pub leaf_has : (place : ℕ) (key : RowKey) (list : List Stretch) → slice_get order place ≡ Some key → slice_get (row_lists order lists) key.row ≡ Some list
+        → list ≡ own_list lists (length order + place)
     leaf_has place key list there at =
         let within = slice_get_within order place key there in
         let above = none_at lists ((length order + place) / 2) (λ k upto. are.above k (omega (arith, upto, within))) in
@@ -97,7 +105,8 @@ module _ (design : DesignModel) (order : List RowKey) where
         ((known.2 k).0 (let same : own_list lists (length order + place) ≡ known.0 = ap (λ o. unwrap_or o []) known.1 in rw same at free)).1.inside
 
     -- what bounds a leaf's own sites bounds those of its row
-    pub leaf_fits : (place : ℕ) (key : RowKey) (bounds : Bounds) → slice_get order place ≡ Some key → DoBoundRow design bounds key.row (own_list lists (length order + place)) → DoFit design (row_lists order lists) bounds key.row
+    pub leaf_fits : (place : ℕ) (key : RowKey) (bounds : Bounds) → slice_get order place ≡ Some key
+        → DoBoundRow design bounds key.row (own_list lists (length order + place)) → DoFit design (row_lists order lists) bounds key.row
     leaf_fits place key bounds there fits list at = rw (leaf_has place key list there at) fits
 
     pub leaves_none : HaveNoneAbove order lists

@@ -13,29 +13,32 @@ use Rattle.leg_legal_sites.specs.declared.row_keys.RowKey.{RowKey}
 use Rattle.leg_legal_sites.specs.Steps.SiteBounds.{DoBoundSite}
 use Rattle.leg_legal_sites.specs.Steps.FreeLists.{DoFit, AreRowsOf}
 use Rattle.leg_legal_sites.specs.Steps.TreeOfRows.{IsLevelsBeneath, IsLeafBeneath}
-use Rattle.leg_legal_sites.specs.Steps.FreeListSharing.{list_within, list_at, row_lists}
+use Rattle.leg_legal_sites.specs.Steps.FreeListSharing.{list_within, list_of_node, row_lists}
 use Rattle.leg_legal_sites.specs.Steps.Bounds.{AreOfBoth}
-use Rattle.leg_legal_sites.specs.Steps.SharedLists.{HaveAlikeLists, AreShared, HaveNoneAbove, IsShareable, IsSharedFrom}
+use Rattle.leg_legal_sites.specs.Steps.SharedLists.{HaveAlikeLists, AreShared, IsShareable, IsSharedFrom}
 use Rattle.leg_legal_sites.proofs.RowTree.{beneath_either, beneath_left, beneath_right, nodes_set}
 use Rattle.leg_legal_sites.proofs.SharedLists.{half_of_left, half_of_right, half_below, own_is, from_above, IsNotBeneath, decide_beneath, same_elsewhere, same_above, same_rows}
 
-module _ (node : ℕ) (some : 1 ≤ node) (list : List Stretch) (lists : List (Option (List Stretch))) (alone : list_at lists (node / 2) ≡ None) where
+module _ (node : ℕ) (some : 1 ≤ node) (list : List Stretch) (lists : List (Option (List Stretch))) (alone : list_of_node lists (node / 2) ≡ None) where
   -- a node whose list those beneath it have
-  pub gives_own : get_or lists node None ≡ Some list → (levels other : ℕ) → IsLevelsBeneath (suc levels) node other → list_at lists other ≡ Some list
+  pub gives_own : get_or lists node None ≡ Some list → (levels other : ℕ) → IsLevelsBeneath (suc levels) node other → list_of_node lists other ≡ Some list
   gives_own has levels other beneath = from_above (suc levels) node other lists list some beneath (own_is lists (node / 2) node some refl alone ∙ has)
 
   -- both nodes below it, whose list they have
-  pub gives_both : get_or lists node None ≡ None → get_or lists (2 * node) None ≡ Some list → get_or lists (2 * node + 1) None ≡ Some list → (levels other : ℕ) → IsLevelsBeneath (suc levels) node other → list_at lists other ≡ Some list
+  pub gives_both : get_or lists node None ≡ None → get_or lists (2 * node) None ≡ Some list → get_or lists (2 * node + 1) None ≡ Some list
+      → (levels other : ℕ) → IsLevelsBeneath (suc levels) node other → list_of_node lists other ≡ Some list
   gives_both none left right levels other (inl beneath) =
-      from_above levels (2 * node) other lists list (omega (arith, some)) beneath (own_is lists node (2 * node) (omega (arith, some)) (half_of_left node) (own_is lists (node / 2) node some refl alone ∙ none) ∙ left)
+      from_above levels (2 * node) other lists list (omega (arith, some)) beneath
+      (own_is lists node (2 * node) (omega (arith, some)) (half_of_left node) (own_is lists (node / 2) node some refl alone ∙ none) ∙ left)
   gives_both none left right levels other (inr beneath) =
-      from_above levels (2 * node + 1) other lists list (omega arith) beneath (own_is lists node (2 * node + 1) (omega arith) (half_of_right node) (own_is lists (node / 2) node some refl alone ∙ none) ∙ right)
+      from_above levels (2 * node + 1) other lists list (omega arith) beneath
+      (own_is lists node (2 * node + 1) (omega arith) (half_of_right node) (own_is lists (node / 2) node some refl alone ∙ none) ∙ right)
 
 module _ (order : List RowKey) (node : ℕ) (some : 1 ≤ node) (inner : node < length order) (list : List Stretch) (old new : List (Option (List Stretch)))
     (others : (k : ℕ) → IsNotBeneath node k → get_or new k None ≡ get_or old k None)
-    (had : (levels other : ℕ) → IsLevelsBeneath (suc levels) node other → list_at old other ≡ Some list)
-    (has : (levels other : ℕ) → IsLevelsBeneath (suc levels) node other → list_at new other ≡ Some list) where
-  same_beneath : (levels leaf : ℕ) → length order ≤ leaf → IsLevelsBeneath levels node leaf → list_at new leaf ≡ list_at old leaf
+    (had : (levels other : ℕ) → IsLevelsBeneath (suc levels) node other → list_of_node old other ≡ Some list)
+    (has : (levels other : ℕ) → IsLevelsBeneath (suc levels) node other → list_of_node new other ≡ Some list) where
+  same_beneath : (levels leaf : ℕ) → length order ≤ leaf → IsLevelsBeneath levels node leaf → list_of_node new leaf ≡ list_of_node old leaf
   same_beneath zero leaf from same = absurd (omega (arith, same, from, inner))
   same_beneath (suc levels) leaf from beneath = has levels leaf beneath ∙ sym (had levels leaf beneath)
 
@@ -55,16 +58,20 @@ module _ (lists : List (Option (List Stretch))) (i j k : ℕ) (a b c : Option (L
   three_long = length-set (set (set lists i a) j b) k c ∙ length-set (set lists i a) j b ∙ length-set lists i a
 
   pub three_others : (n : ℕ) → n ≢ i → n ≢ j → n ≢ k → get_or three_set n None ≡ get_or lists n None
-  three_others n not_i not_j not_k = get_or-set_other (set (set lists i a) j b) k n c None not_k ∙ get_or-set_other (set lists i a) j n b None not_j ∙ get_or-set_other lists i n a None not_i
+  three_others n not_i not_j not_k =
+      get_or-set_other (set (set lists i a) j b) k n c None not_k ∙ get_or-set_other (set lists i a) j n b None not_j ∙ get_or-set_other lists i n a None not_i
 
   pub third_is : k < length lists → get_or three_set k None ≡ c
   third_is below = get_or-set_at (set (set lists i a) j b) k k c None refl (omega (arith, below, length-set (set lists i a) j b, length-set lists i a))
 
   pub second_is : j ≢ k → j < length lists → get_or three_set j None ≡ b
-  second_is apart below = get_or-set_other (set (set lists i a) j b) k j c None apart ∙ get_or-set_at (set lists i a) j j b None refl (omega (arith, below, length-set lists i a))
+  second_is apart below =
+      get_or-set_other (set (set lists i a) j b) k j c None apart ∙ get_or-set_at (set lists i a) j j b None refl (omega (arith, below, length-set lists i a))
 
   pub first_is : i ≢ j → i ≢ k → i < length lists → get_or three_set i None ≡ a
-  first_is not_j not_k below = get_or-set_other (set (set lists i a) j b) k i c None not_k ∙ get_or-set_other (set lists i a) j i b None not_j ∙ get_or-set_at lists i i a None refl below
+  first_is not_j not_k below =
+      get_or-set_other (set (set lists i a) j b) k i c None not_k ∙ get_or-set_other (set lists i a) j i b None not_j
+      ∙ get_or-set_at lists i i a None refl below
 
 pub alike_left : (order : List RowKey) (node : ℕ) → HaveAlikeLists order node → HaveAlikeLists order (2 * node)
 alike_left order node alike a b leaf_a leaf_b = alike a b (beneath_left order node a leaf_a) (beneath_left order node b leaf_b)
@@ -73,7 +80,8 @@ pub alike_right : (order : List RowKey) (node : ℕ) → HaveAlikeLists order no
 alike_right order node alike a b leaf_a leaf_b = alike a b (beneath_right order node a leaf_a) (beneath_right order node b leaf_b)
 
 -- the rows beneath two nodes are alike, where one beneath each is like the other
-pub alike_both : (order : List RowKey) (node : ℕ) (a b : RowKey) → node < length order → HaveAlikeLists order (2 * node) → HaveAlikeLists order (2 * node + 1) → IsLeafBeneath order (2 * node) a → IsLeafBeneath order (2 * node + 1) b → a.x ≡ b.x → a.site ≡ b.site → HaveAlikeLists order node
+pub alike_both : (order : List RowKey) (node : ℕ) (a b : RowKey) → node < length order → HaveAlikeLists order (2 * node) → HaveAlikeLists order (2 * node + 1)
+    → IsLeafBeneath order (2 * node) a → IsLeafBeneath order (2 * node + 1) b → a.x ≡ b.x → a.site ≡ b.site → HaveAlikeLists order node
 alike_both order node a b inner left right leaf_a leaf_b x site p q leaf_p leaf_q =
     let of_p = like p leaf_p in
     let of_q = like q leaf_q in
@@ -89,23 +97,25 @@ apart_left node some same = omega (arith, some, same)
 
 -- A node's list is that of both nodes below it now.
 module _ (order : List RowKey) (node : ℕ) (some : 1 ≤ node) (inner : node < length order) (list : List Stretch) (old : List (Option (List Stretch)))
-    (shared : AreShared order old) (alone : list_at old (node / 2) ≡ None) (had : get_or old node None ≡ Some list) where
+    (shared : AreShared order old) (alone : list_of_node old (node / 2) ≡ None) (had : get_or old node None ≡ Some list) where
   abbrev pub handed : List (Option (List Stretch))
   handed = three_set old (2 * node + 1) node (2 * node) (Some list) None (Some list)
 
   handed_others : (k : ℕ) → IsNotBeneath node k → get_or handed k None ≡ get_or old k None
-  handed_others k never = three_others old (2 * node + 1) node (2 * node) (Some list) None (Some list) k (λ same. never 1 (inr same)) (λ same. never 0 same) (λ same. never 1 (inl same))
+  handed_others k never =
+      three_others old (2 * node + 1) node (2 * node) (Some list) None (Some list) k (λ same. never 1 (inr same)) (λ same. never 0 same)
+      (λ same. never 1 (inl same))
 
   room : 2 * node + 1 < length old
   room = let count = shared.count in omega (arith, count, inner)
 
-  handed_alone : list_at handed (node / 2) ≡ None
+  handed_alone : list_of_node handed (node / 2) ≡ None
   handed_alone = same_above old handed node handed_others some ∙ alone
 
   handed_own : get_or handed node None ≡ None
   handed_own = second_is old (2 * node + 1) node (2 * node) (Some list) None (Some list) (λ same. omega (arith, some, same)) (omega (arith, room))
 
-  pub handed_none : list_at handed node ≡ None
+  pub handed_none : list_of_node handed node ≡ None
   handed_none = own_is handed (node / 2) node some refl handed_alone ∙ handed_own
 
   handed_left : get_or handed (2 * node) None ≡ Some list
@@ -116,7 +126,8 @@ module _ (order : List RowKey) (node : ℕ) (some : 1 ≤ node) (inner : node < 
 
   pub handed_same : row_lists order handed ≡ row_lists order old
   handed_same =
-      same_view order node some inner list old handed handed_others (gives_own node some list old alone had) (gives_both node some list handed handed_alone handed_own handed_left handed_right)
+      same_view order node some inner list old handed handed_others (gives_own node some list old alone had)
+      (gives_both node some list handed handed_alone handed_own handed_left handed_right)
 
   pub handed_shared : AreShared order handed
   handed_shared = record {
@@ -127,14 +138,16 @@ module _ (order : List RowKey) (node : ℕ) (some : 1 ≤ node) (inner : node < 
         | inl same ↦ rw same (alike_left order node (shared.alike node list some had))
         | inr not_left ↦ elim (cases_eq k (2 * node + 1)) [
           | inl same ↦ rw same (alike_right order node (shared.alike node list some had))
-          | inr not_right ↦ shared.alike k l first (sym (three_others old (2 * node + 1) node (2 * node) (Some list) None (Some list) k not_right not_node not_left) ∙ has)
+          | inr not_right ↦
+              shared.alike k l first (sym (three_others old (2 * node + 1) node (2 * node) (Some list) None (Some list) k not_right not_node not_left) ∙ has)
         ]
       ]
     ];
   }
 
 -- what both bound, their narrower ones do
-both_site : (number : ℕ) (row : Row) (size : ExtentModel) (k : ℕ) (a b both : Bounds) → AreOfBoth a b both → DoBoundSite a number row size k → DoBoundSite b number row size k → DoBoundSite both number row size k
+both_site : (number : ℕ) (row : Row) (size : ExtentModel) (k : ℕ) (a b both : Bounds) → AreOfBoth a b both → DoBoundSite a number row size k
+    → DoBoundSite b number row size k → DoBoundSite both number row size k
 both_site number row size k a b both of in_a in_b = record {
   least_row = omega (arith, of.least_row, in_a.least_row, in_b.least_row);
   least_site = omega (arith, of.least_site, in_a.least_site, in_b.least_site);
@@ -147,7 +160,8 @@ both_site number row size k a b both of in_a in_b = record {
   corner = omega (arith, ints, clamps, of.corner, in_a.corner, in_b.corner);
 }
 
-pub fit_both : (design : DesignModel) (lists : List (List Stretch)) (a b both : Bounds) (number : ℕ) → AreOfBoth a b both → DoFit design lists a number → DoFit design lists b number → DoFit design lists both number
+pub fit_both : (design : DesignModel) (lists : List (List Stretch)) (a b both : Bounds) (number : ℕ) → AreOfBoth a b both → DoFit design lists a number
+    → DoFit design lists b number → DoFit design lists both number
 fit_both design lists a b both number of in_a in_b list at row site is =
     let of_a = in_a list at row site is in
     let of_b = in_b list at row site is in record {
@@ -159,8 +173,11 @@ fit_both design lists a b both number of in_a in_b list at row site is =
     }
 
 -- a node below one gets the narrower bounds of both
-pub rows_narrowed : (design : DesignModel) (order : List RowKey) (lists : List (List Stretch)) (nodes : List Bounds) (node child : ℕ) (own above both : Bounds) → 1 ≤ node → (child ≡ 2 * node) ⊎ (child ≡ 2 * node + 1) → slice_get nodes child ≡ Some own → slice_get nodes node ≡ Some above → AreOfBoth own above both
-    → AreRowsOf design (record { lists = lists; order = order; nodes = nodes }) → AreRowsOf design (record { lists = lists; order = order; nodes = set nodes child both })
+pub rows_narrowed : (design : DesignModel) (order : List RowKey) (lists : List (List Stretch)) (nodes : List Bounds) (node child : ℕ)
+    (own above both : Bounds) → 1 ≤ node → (child ≡ 2 * node) ⊎ (child ≡ 2 * node + 1) → slice_get nodes child ≡ Some own → slice_get nodes node ≡ Some above
+    → AreOfBoth own above both
+    → AreRowsOf design (record { lists = lists; order = order; nodes = nodes })
+    → AreRowsOf design (record { lists = lists; order = order; nodes = set nodes child both })
 rows_narrowed design order lists nodes node child own above both some side at_child at_node of rows = record {
   lists = rows.lists;
   inside = rows.inside;
@@ -176,7 +193,8 @@ rows_narrowed design order lists nodes node child own above both some side at_ch
 }
 
 -- where no node up to one has a list, none is that of it
-none_within : (most : ℕ) (lists : List (Option (List Stretch))) (node : ℕ) → ((k : ℕ) → k ≤ node → get_or lists k None ≡ None) → list_within most lists node ≡ None
+none_within : (most : ℕ) (lists : List (Option (List Stretch))) (node : ℕ) → ((k : ℕ) → k ≤ node → get_or lists k None ≡ None)
+    → list_within most lists node ≡ None
 none_within zero lists node none = refl
 none_within (suc most) lists zero none = refl
 none_within (suc most) lists (suc n) none =
@@ -185,7 +203,7 @@ none_within (suc most) lists (suc n) none =
     let own = none (suc n) (omega arith) in
     rw (above, own) refl
 
-pub none_at : (lists : List (Option (List Stretch))) (node : ℕ) → ((k : ℕ) → k ≤ node → get_or lists k None ≡ None) → list_at lists node ≡ None
+pub none_at : (lists : List (Option (List Stretch))) (node : ℕ) → ((k : ℕ) → k ≤ node → get_or lists k None ≡ None) → list_of_node lists node ≡ None
 none_at lists node none = none_within node lists node none
 
 -- Both nodes below one have the same list, which is its own now.
@@ -195,7 +213,9 @@ module _ (order : List RowKey) (node : ℕ) (some : 1 ≤ node) (inner : node < 
   lifted = three_set old (2 * node) node (2 * node + 1) None (Some is.list) None
 
   lifted_others : (k : ℕ) → IsNotBeneath node k → get_or lifted k None ≡ get_or old k None
-  lifted_others k never = three_others old (2 * node) node (2 * node + 1) None (Some is.list) None k (λ same. never 1 (inl same)) (λ same. never 0 same) (λ same. never 1 (inr same))
+  lifted_others k never =
+      three_others old (2 * node) node (2 * node + 1) None (Some is.list) None k (λ same. never 1 (inl same)) (λ same. never 0 same)
+      (λ same. never 1 (inr same))
 
   lifted_room : 2 * node + 1 < length old
   lifted_room = let count = so_far.shared.count in omega (arith, count, inner)
@@ -205,7 +225,8 @@ module _ (order : List RowKey) (node : ℕ) (some : 1 ≤ node) (inner : node < 
 
   lifted_before : (k : ℕ) → k < node → get_or lifted k None ≡ None
   lifted_before k below =
-      three_others old (2 * node) node (2 * node + 1) None (Some is.list) None k (λ same. omega (arith, below, same)) (λ same. omega (arith, below, same)) (λ same. omega (arith, below, same))
+      three_others old (2 * node) node (2 * node + 1) None (Some is.list) None k (λ same. omega (arith, below, same)) (λ same. omega (arith, below, same))
+      (λ same. omega (arith, below, same))
       ∙ so_far.none k (omega (arith, below))
 
   half_before : node / 2 < node
@@ -218,17 +239,24 @@ module _ (order : List RowKey) (node : ℕ) (some : 1 ≤ node) (inner : node < 
       alike = λ k l begin has. elim (cases_eq k node) [
         | inl same ↦ rw same is.alike
         | inr not_node ↦ elim (cases_eq k (2 * node)) [
-          | inl same ↦ absurd (none-some l (sym (first_is old (2 * node) node (2 * node + 1) None (Some is.list) None (apart_left node some) (λ same. omega (arith, same)) (omega (arith, lifted_room))) ∙ ap (λ (n : ℕ). get_or lifted n None) (sym same) ∙ has))
+          | inl same ↦
+              absurd (none-some l (sym (first_is old (2 * node) node (2 * node + 1) None (Some is.list) None (apart_left node some)
+              (λ same. omega (arith, same)) (omega (arith, lifted_room))) ∙ ap (λ (n : ℕ). get_or lifted n None) (sym same) ∙ has))
           | inr not_left ↦ elim (cases_eq k (2 * node + 1)) [
-            | inl same ↦ absurd (none-some l (sym (third_is old (2 * node) node (2 * node + 1) None (Some is.list) None lifted_room) ∙ ap (λ (n : ℕ). get_or lifted n None) (sym same) ∙ has))
-            | inr not_right ↦ so_far.shared.alike k l begin (sym (three_others old (2 * node) node (2 * node + 1) None (Some is.list) None k not_left not_node not_right) ∙ has)
+            | inl same ↦
+                absurd (none-some l (sym (third_is old (2 * node) node (2 * node + 1) None (Some is.list) None lifted_room)
+                ∙ ap (λ (n : ℕ). get_or lifted n None) (sym same) ∙ has))
+            | inr not_right ↦
+                so_far.shared.alike k l begin (sym
+                (three_others old (2 * node) node (2 * node + 1) None (Some is.list) None k not_left not_node not_right) ∙ has)
           ]
         ]
       ];
     };
     same =
         same_view order node some inner is.list old lifted lifted_others
-        (gives_both node some is.list old (none_at old (node / 2) (λ k upto. so_far.none k (omega (arith, upto, half_before)))) (so_far.none node (omega arith)) is.left is.right)
+        (gives_both node some is.list old (none_at old (node / 2) (λ k upto. so_far.none k (omega (arith, upto, half_before))))
+        (so_far.none node (omega arith)) is.left is.right)
         (gives_own node some is.list lifted (none_at lifted (node / 2) (λ k upto. lifted_before k (omega (arith, upto, half_before)))) lifted_own)
         ∙ so_far.same;
     none = lifted_before;

@@ -49,7 +49,8 @@ module _ (at long : ℤ) (some : pos 0 <ℤ long) where
       rw (low, high) (between_falling at (at +ℤ long) (omega (arith, ints, some)))
 
 -- the box of a macro that isn't turned: its own width and height from the place on
-pub upright_box : (size : ExtentModel) (at : PointModel) (orient : Orient) → HasArea size → IsTrue (is_upright orient) → placed_box size (record { at = at; orient = orient }) ≡ record { x1 = at.x; y1 = at.y; x2 = at.x +ℤ size.width; y2 = at.y +ℤ size.height }
+pub upright_box : (size : ExtentModel) (at : PointModel) (orient : Orient) → HasArea size → IsTrue (is_upright orient)
+    → placed_box size (record { at = at; orient = orient }) ≡ record { x1 = at.x; y1 = at.y; x2 = at.x +ℤ size.width; y2 = at.y +ℤ size.height }
 upright_box size at N area upright = same_box (along at.x size.width area.wide) (along at.y size.height area.high)
 upright_box size at S area upright = same_box (against at.x size.width area.wide) (against at.y size.height area.high)
 upright_box size at FN area upright = same_box (against at.x size.width area.wide) (along at.y size.height area.high)
@@ -62,7 +63,8 @@ upright_box size at FE area upright = absurd (false≢true upright)
 -- Such a macro has exactly the box of the sites on which it is put.
 module _ (row : Row) (site size : ExtentModel) (first many : ℕ) where
   -- the right edge of the macro is that of its last site
-  right_edge : HasArea site → size.width ≡ pos many *ℤ site.width → (row.at.x +ℤ pos first *ℤ site.width) +ℤ size.width ≡ row.at.x +ℤ pos (first + many) *ℤ site.width
+  right_edge : HasArea site → size.width ≡ pos many *ℤ site.width
+      → (row.at.x +ℤ pos first *ℤ site.width) +ℤ size.width ≡ row.at.x +ℤ pos (first + many) *ℤ site.width
   right_edge area wide =
       let n = unsigned_abs site.width in
       let width : site.width ≡ pos n = omega (arith, ints, area.wide) in
@@ -71,7 +73,9 @@ module _ (row : Row) (site size : ExtentModel) (first many : ℕ) where
       let end = edge_is site.width n width (first + many) in
       omega (arith, ints, wide, at, long, end, add-mul first many n)
 
-  pub macro_box : HasArea site → HasArea size → size.width ≡ pos many *ℤ site.width → size.height ≡ site.height → (place : Place) → place.at ≡ record { x = row.at.x +ℤ pos first *ℤ site.width; y = row.at.y } → IsTrue (is_upright place.orient) → placed_box size place ≡ sites_box row site first many
+  pub macro_box : HasArea site → HasArea size → size.width ≡ pos many *ℤ site.width → size.height ≡ site.height → (place : Place)
+      → place.at ≡ record { x = row.at.x +ℤ pos first *ℤ site.width; y = row.at.y } → IsTrue (is_upright place.orient)
+      → placed_box size place ≡ sites_box row site first many
   macro_box area has_area wide high place at upright =
       ap (λ (p : PointModel). placed_box size (record { at = p; orient = place.orient })) at
       ∙ upright_box size (record { x = row.at.x +ℤ pos first *ℤ site.width; y = row.at.y }) place.orient has_area upright
@@ -80,7 +84,9 @@ module _ (row : Row) (site size : ExtentModel) (first many : ℕ) where
       (λ i. record { low = row.at.y; high = row.at.y +ℤ high i })
 
   -- so it stands on sites of the row
-  pub macro_on_sites : HasArea site → HasArea size → size.width ≡ pos many *ℤ site.width → size.height ≡ site.height → pos (first + many) ≤ℤ row.count → (place : Place) → place.at ≡ record { x = row.at.x +ℤ pos first *ℤ site.width; y = row.at.y } → IsTrue (is_upright place.orient) → IsOnSites row site (placed_box size place)
+  pub macro_on_sites : HasArea site → HasArea size → size.width ≡ pos many *ℤ site.width → size.height ≡ site.height → pos (first + many) ≤ℤ row.count
+      → (place : Place) → place.at ≡ record { x = row.at.x +ℤ pos first *ℤ site.width; y = row.at.y } → IsTrue (is_upright place.orient)
+      → IsOnSites row site (placed_box size place)
   macro_on_sites area has_area wide high within place at upright =
       rw (macro_box area has_area wide high place at upright) (on_sites row site area first many within)
 
@@ -96,7 +102,8 @@ module _ (w h : ℤ) where
   level FW upright = absurd (false≢true upright)
   level FE upright = absurd (false≢true upright)
 
-  upright_from_level : (o : Orient) → (turned o w h (record { x = pos 0; y = pos 0 })).y ≡ (turned o w h (record { x = pos 1; y = pos 0 })).y → IsTrue (is_upright o)
+  upright_from_level : (o : Orient) → (turned o w h (record { x = pos 0; y = pos 0 })).y ≡ (turned o w h (record { x = pos 1; y = pos 0 })).y
+      → IsTrue (is_upright o)
   upright_from_level N same = refl
   upright_from_level S same = refl
   upright_from_level FN same = refl
@@ -111,6 +118,8 @@ pub fitting_upright : (row : Orient) (y_symmetric : Bool) (orient : Orient) → 
 fitting_upright row y_symmetric orient upright (inl same) = rw same upright
 fitting_upright row y_symmetric orient upright (inr mirror) =
     let is = mirror.1 in
-    let at : (turned orient (pos 0) (pos 0) (record { x = pos 0; y = pos 0 })).y ≡ (turned row (pos 0) (pos 0) (record { x = pos 0; y = pos 0 })).y = ap (λ (s : PointModel). s.y) (is (pos 0) (pos 0) (record { x = pos 0; y = pos 0 })) in
-    let by : (turned orient (pos 0) (pos 0) (record { x = pos 1; y = pos 0 })).y ≡ (turned row (pos 0) (pos 0) (record { x = pos 1; y = pos 0 })).y = ap (λ (s : PointModel). s.y) (is (pos 0) (pos 0) (record { x = pos 1; y = pos 0 })) in
+    let at : (turned orient (pos 0) (pos 0) (record { x = pos 0; y = pos 0 })).y ≡ (turned row (pos 0) (pos 0) (record { x = pos 0; y = pos 0 })).y =
+    ap (λ (s : PointModel). s.y) (is (pos 0) (pos 0) (record { x = pos 0; y = pos 0 })) in
+    let by : (turned orient (pos 0) (pos 0) (record { x = pos 1; y = pos 0 })).y ≡ (turned row (pos 0) (pos 0) (record { x = pos 1; y = pos 0 })).y =
+    ap (λ (s : PointModel). s.y) (is (pos 0) (pos 0) (record { x = pos 1; y = pos 0 })) in
     upright_from_level (pos 0) (pos 0) orient (at ∙ level (pos 0) (pos 0) row upright ∙ sym by)

@@ -1,5 +1,5 @@
 -- The sites of a row that a rectangle meets, and those in the die, by the edges of sites.
-use Rattle.std.proofs.Common.{◌≡◌, ◌↔◌, ◌⊎◌, ℕ, ◌+◌, ◌<◌, ◌≤◌, min, ℤ, pos, ◌+ℤ◌, ◌*ℤ◌, ◌<ℤ◌, ◌≤ℤ◌, w64, to_z, of_z, inl, inr, arith}
+use Rattle.std.proofs.Common.{◌≡◌, ◌↔◌, ◌⊎◌, ℕ, ◌+◌, ◌<◌, min, ℤ, pos, ◌+ℤ◌, ◌*ℤ◌, ◌<ℤ◌, ◌≤ℤ◌, w64, to_z, of_z, inl, inr, arith}
 use Rattle.std.proofs.lemmas.Bool.{cases_lt}
 use Rattle.std.proofs.lemmas.Int.{ints, by_lt_z, to_z-of_z, fits_signed_from_abs}
 use Rattle.leg_geom.specs.Plane.{RectModel, ShareSquare, IsCoordinate}
@@ -38,11 +38,13 @@ module _ (row : Row) (size : ExtentModel) where
 
   module _ (area : HasArea size) where
     -- met are the sites that don't end by the rectangle's left edge, but begin before its right one
-    pub met_between : (rect : RectModel) (sites : Stretch) → IsProper rect → DoEnd row size rect.x1 sites.from → DoBegin row size rect.x2 sites.end → row.at.y <ℤ rect.y2 → rect.y1 <ℤ (row.at.y +ℤ size.height) → AreSitesMet row size rect sites
+    pub met_between : (rect : RectModel) (sites : Stretch) → IsProper rect → DoEnd row size rect.x1 sites.from → DoBegin row size rect.x2 sites.end
+        → row.at.y <ℤ rect.y2 → rect.y1 <ℤ (row.at.y +ℤ size.height) → AreSitesMet row size rect sites
     met_between rect sites proper ended begun bottom top k = (
       λ among.
           shared_from_overlap rect (site_box row size k) proper (site_proper row size area k) (record {
-            left = by_lt_z rect.x1 (row.at.x +ℤ pos (k + 1) *ℤ size.width) (λ left. left) (λ right. let before = (ended k).1 right in absurd (omega (arith, before, among.above)));
+            left = by_lt_z rect.x1 (row.at.x +ℤ pos (k + 1) *ℤ size.width) (λ left. left)
+                (λ right. let before = (ended k).1 right in absurd (omega (arith, before, among.above)));
             right = (begun k).0 among.below;
             bottom = top;
             top = bottom;
@@ -68,14 +70,17 @@ module _ (row : Row) (size : ExtentModel) where
     )
 
     -- in the die are the sites that don't begin before its left edge, but end by its right one
-    pub inside_between : (die : RectModel) (from ended count : ℕ) → DoBegin row size die.x1 from → DoEnd row size die.x2 ended → ((k : ℕ) → k < count ↔ (pos k <ℤ row.count)) → die.y1 ≤ℤ row.at.y → (row.at.y +ℤ size.height) ≤ℤ die.y2 → AreSitesInside row size die (record { from = from; end = min ended count })
+    pub inside_between : (die : RectModel) (from ended count : ℕ) → DoBegin row size die.x1 from → DoEnd row size die.x2 ended
+        → ((k : ℕ) → k < count ↔ (pos k <ℤ row.count)) → die.y1 ≤ℤ row.at.y → (row.at.y +ℤ size.height) ≤ℤ die.y2
+        → AreSitesInside row size die (record { from = from; end = min ended count })
     inside_between die from ended count begun end counted bottom top k = (
       λ among.
           let in_row : k < count = omega (arith, among.below) in
           let by : k < ended = omega (arith, among.below) in (
             (counted k).0 in_row,
             all_squares_from_bounds die (site_box row size k) (record {
-              left = by_lt_z (row.at.x +ℤ pos k *ℤ size.width) die.x1 (λ before. let out = (begun k).1 before in absurd (omega (arith, out, among.above))) (λ left. left);
+              left = by_lt_z (row.at.x +ℤ pos k *ℤ size.width) die.x1 (λ before. let out = (begun k).1 before in absurd (omega (arith, out, among.above)))
+                  (λ left. left);
               right = (end k).0 by;
               bottom = bottom;
               top = top;

@@ -23,7 +23,8 @@ module _ (free : List Stretch) (many middle : ℕ) where
   }
 
 -- with no sites up to the middle, it is the first one from there on
-pub right_if_any : (away : ℕ → ℕ) (free : List Stretch) (many middle : ℕ) → IsValley away middle → IsLast (FitsUpTo free many middle) None → (right : Option ℕ) → IsFirstFit (FitsFrom free many middle) right → IsNearest away (AreFreeSites free many) right
+pub right_if_any : (away : ℕ → ℕ) (free : List Stretch) (many middle : ℕ) → IsValley away middle → IsLast (FitsUpTo free many middle) None
+    → (right : Option ℕ) → IsFirstFit (FitsFrom free many middle) right → IsNearest away (AreFreeSites free many) right
 right_if_any away free many middle valley never None none =
     λ k sites.
     elim (cases_lt middle k) [
@@ -31,4 +32,5 @@ right_if_any away free many middle valley never None none =
       | inr upto ↦ never k (record { sites = sites; upto = upto })
     ]
 right_if_any away free many middle valley never (Some right) is =
-    right_alone away middle valley (AreFreeSites free many) right (right_from_first free many middle right is) (λ k sites upto. never k (record { sites = sites; upto = upto }))
+    right_alone away middle valley (AreFreeSites free many) right (right_from_first free many middle right is)
+    (λ k sites upto. never k (record { sites = sites; upto = upto }))

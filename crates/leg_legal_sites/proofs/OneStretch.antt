@@ -5,7 +5,8 @@ use Rattle.std.proofs.lemmas.Option.{same_Some, slice_get_within, get_or_from_sl
 use Rattle.leg_legal_sites.specs.declared.stretch.Stretch.{Stretch}
 use Rattle.leg_legal_sites.specs.Steps.Stretches.{IsFreeSite, AreFreeSites, AreFreeStretches}
 
-pub apart_at : (free : List Stretch) → AreFreeStretches free → (i j : ℕ) (s t : Stretch) → slice_get free i ≡ Some s → slice_get free j ≡ Some t → i < j → s.end < t.from
+pub apart_at : (free : List Stretch) → AreFreeStretches free → (i j : ℕ) (s t : Stretch) → slice_get free i ≡ Some s → slice_get free j ≡ Some t → i < j
+    → s.end < t.from
 apart_at free are i j s t at_i at_j order =
     let e = get_or_from_slice_get free i s s at_i in
     let f = get_or_from_slice_get free j t s at_j in
@@ -41,7 +42,8 @@ pub record LieIn (free : List Stretch) (many first number : ℕ) : Type 0 where
   pub above : stretch.from ≤ first
   pub below : first + many ≤ stretch.end
 
-pub one_stretch : (free : List Stretch) (many first : ℕ) → AreFreeStretches free → 1 ≤ many → AreFreeSites free many first → (number : ℕ) × LieIn free many first number
+pub one_stretch : (free : List Stretch) (many first : ℕ) → AreFreeStretches free → 1 ≤ many → AreFreeSites free many first
+    → (number : ℕ) × LieIn free many first number
 one_stretch free many first are some sites =
     let at = sites first (omega arith) (omega arith) in
     elim (cases_lt at.stretch.end (first + many)) [

@@ -28,12 +28,15 @@ none = record { least_row = 0; least_site = 0; most_site = 0; low = pos 0; high 
 pub record AreJoinedAbove (order : List RowKey) (old : List Bounds) (above : ℕ) (new : List Bounds) : Type 0 where
   pub within : above < length order
   pub count : length new ≡ 2 * length order
-  pub rows : (design : DesignModel) (lists : List (List Stretch)) → AreRowsOf design (record { lists = lists; order = order; nodes = old }) → AreRowsOf design (record { lists = lists; order = order; nodes = new })
+  pub rows : (design : DesignModel) (lists : List (List Stretch)) → AreRowsOf design (record { lists = lists; order = order; nodes = old })
+      → AreRowsOf design (record { lists = lists; order = order; nodes = new })
 
-pub joined_first : (order : List RowKey) (nodes : List Bounds) (above : ℕ) → above < length order → length nodes ≡ 2 * length order → AreJoinedAbove order nodes above nodes
+pub joined_first : (order : List RowKey) (nodes : List Bounds) (above : ℕ) → above < length order → length nodes ≡ 2 * length order
+    → AreJoinedAbove order nodes above nodes
 joined_first order nodes above within count = record { within = within; count = count; rows = λ design lists rows. rows }
 
-pub joined_higher : (order : List RowKey) (old nodes : List Bounds) (above : ℕ) (outer : Bounds) → 1 ≤ above → DoCover outer (get_or nodes (2 * above) none) → DoCover outer (get_or nodes (2 * above + 1) none) → AreJoinedAbove order old above nodes → AreJoinedAbove order old (above / 2) (set nodes above outer)
+pub joined_higher : (order : List RowKey) (old nodes : List Bounds) (above : ℕ) (outer : Bounds) → 1 ≤ above → DoCover outer (get_or nodes (2 * above) none)
+    → DoCover outer (get_or nodes (2 * above + 1) none) → AreJoinedAbove order old above nodes → AreJoinedAbove order old (above / 2) (set nodes above outer)
 joined_higher order old nodes above outer some left right so_far =
     let within = so_far.within in
     let count = so_far.count in
@@ -41,12 +44,15 @@ joined_higher order old nodes above outer some left right so_far =
       within = omega (arith, within);
       count = length-set nodes above outer ∙ count;
       rows = λ design lists rows.
-          rows_joined design (record { x1 = pos 0; y1 = pos 0; x2 = pos 0; y2 = pos 0 }) order lists nodes above outer (get_or nodes (2 * above) none) (get_or nodes (2 * above + 1) none) some within
-          (slice_get-get_or nodes (2 * above) none (omega (arith, within, count))) (slice_get-get_or nodes (2 * above + 1) none (omega (arith, within, count))) left right (so_far.rows design lists rows);
+          rows_joined design (record { x1 = pos 0; y1 = pos 0; x2 = pos 0; y2 = pos 0 }) order lists nodes above outer (get_or nodes (2 * above) none)
+          (get_or nodes (2 * above + 1) none) some within
+          (slice_get-get_or nodes (2 * above) none (omega (arith, within, count)))
+          (slice_get-get_or nodes (2 * above + 1) none (omega (arith, within, count))) left right (so_far.rows design lists rows);
     }
 
 -- keys between two of one site are of that site
-module _ (order : List RowKey) (rising : AllPairs IsBefore order) (first last : RowKey) (at_first : slice_get order 0 ≡ Some first) (at_last : slice_get order (length order - 1) ≡ Some last) (same : first.site ≡ last.site) where
+module _ (order : List RowKey) (rising : AllPairs IsBefore order) (first last : RowKey) (at_first : slice_get order 0 ≡ Some first)
+    (at_last : slice_get order (length order - 1) ≡ Some last) (same : first.site ≡ last.site) where
   pub of_one_site : (i : ℕ) (key : RowKey) → slice_get order i ≡ Some key → key.site ≡ first.site
   of_one_site i key at =
       let below = slice_get_within order i key at in
@@ -65,7 +71,8 @@ module _ (order : List RowKey) (rising : AllPairs IsBefore order) (first last : 
         | inr level ↦ level.1
       ]
 
-  pub all_so_high : (design : DesignModel) → IsRowOrder design.rows order → (row : Row) (site : Site) → IsRowAt design first.row row site → IsCoordinate site.size.height → AreAllSoHigh design order site.size.height
+  pub all_so_high : (design : DesignModel) → IsRowOrder design.rows order → (row : Row) (site : Site) → IsRowAt design first.row row site
+      → IsCoordinate site.size.height → AreAllSoHigh design order site.size.height
   all_so_high design is_order row site at within = record {
     within = within;
     rise = rise_of_one_site;
@@ -97,13 +104,16 @@ upto_partitioned order y rise i j d upto within test =
     let below = le_from_test b.y y test in
     le_test a.y y (omega (arith, ints, rises, below))
 
-pub upto_from_point : (order : List RowKey) (y : ℤ) (place : ℕ) → IsPartitionPoint (λ key. int_le key.y y ≡ true) (λ key. int_le key.y y ≡ false) order place → (k : ℕ) (key : RowKey) → k < place → slice_get order k ≡ Some key → key.y ≤ℤ y
+pub upto_from_point : (order : List RowKey) (y : ℤ) (place : ℕ) → IsPartitionPoint (λ key. int_le key.y y ≡ true) (λ key. int_le key.y y ≡ false) order place
+    → (k : ℕ) (key : RowKey) → k < place → slice_get order k ≡ Some key → key.y ≤ℤ y
 upto_from_point order y place point k key before at =
     let test = point.0 k key (omega arith) before in
     le_from_test key.y y (rw (get_or_from_slice_get order k key key at) at test)
 
 -- the rows before a place end at the bottom or below it, and those after it begin at the top or above it
-pub only_between : (rect : RectModel) (order : List RowKey) (height bottom : ℤ) (place : ℕ) → DoRise order → (bottom +ℤ height) ≤ℤ rect.y1 → place < length order → ((k : ℕ) (key : RowKey) → k < place → slice_get order k ≡ Some key → key.y ≤ℤ bottom) → ((key : RowKey) → slice_get order (place + 1) ≡ Some key → rect.y2 ≤ℤ key.y) → IsOnlyMet rect order height place
+pub only_between : (rect : RectModel) (order : List RowKey) (height bottom : ℤ) (place : ℕ) → DoRise order → (bottom +ℤ height) ≤ℤ rect.y1
+    → place < length order → ((k : ℕ) (key : RowKey) → k < place → slice_get order k ≡ Some key → key.y ≤ℤ bottom)
+    → ((key : RowKey) → slice_get order (place + 1) ≡ Some key → rect.y2 ≤ℤ key.y) → IsOnlyMet rect order height place
 only_between rect order height bottom place rise is_bottom there lower above = record {
   there = there;
   others = λ k key differ at. elim (cases_lt k place) [
@@ -119,7 +129,9 @@ only_between rect order height bottom place rise is_bottom there lower above = r
 }
 
 -- what is taken from the only row that is met is taken from all
-pub only_taken : (design : DesignModel) (rect : RectModel) (order : List RowKey) (height : ℤ) (place : ℕ) (old new : List (List Stretch)) → IsRowOrder design.rows order → AreAllSoHigh design order height → IsOnlyMet rect order height place → AreTakenBeneath design rect order (length order + place) old new → AreTakenBeneath design rect order 1 old new
+pub only_taken : (design : DesignModel) (rect : RectModel) (order : List RowKey) (height : ℤ) (place : ℕ) (old new : List (List Stretch))
+    → IsRowOrder design.rows order → AreAllSoHigh design order height → IsOnlyMet rect order height place
+    → AreTakenBeneath design rect order (length order + place) old new → AreTakenBeneath design rect order 1 old new
 only_taken design rect order height place old new is_order high only taken = record {
   count = taken.count;
   each = taken.each;

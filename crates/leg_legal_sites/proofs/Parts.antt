@@ -19,7 +19,8 @@ site_of free s k (i, within, is) above below =
     record { number = i; stretch = s; there = slice_get_read free _ i s refl within (sym is); above = above; below = below }
 
 has_stretch : (free : List Stretch) (k : ℕ) (site : IsFreeSite free k) → Contains free site.stretch
-has_stretch free k site = (site.number, slice_get_within free site.number site.stretch site.there, get_or_from_slice_get free site.number site.stretch site.stretch site.there)
+has_stretch free k site =
+    (site.number, slice_get_within free site.number site.stretch site.there, get_or_from_slice_get free site.number site.stretch site.stretch site.there)
 
 pub free_left : (p q : List Stretch) (k : ℕ) → IsFreeSite p k → IsFreeSite (p ++ q) k
 free_left p q k site = site_of (p ++ q) site.stretch k (Contains-append_left p q site.stretch (has_stretch p k site)) site.above site.below
@@ -47,7 +48,8 @@ in_part (p ∷ ps) k site = elim (free_either p (all_of ps) k site) [
   | inr later ↦ let rest = in_part ps k later in record { number = suc rest.number; part = rest.part; there = rest.there; site = rest.site }
 ]
 
-pub from_part : (parts : List (List Stretch)) (k number : ℕ) (part : List Stretch) → slice_get parts number ≡ Some part → IsFreeSite part k → IsFreeSite (all_of parts) k
+pub from_part : (parts : List (List Stretch)) (k number : ℕ) (part : List Stretch) → slice_get parts number ≡ Some part → IsFreeSite part k
+    → IsFreeSite (all_of parts) k
 from_part [] k number part there site = absurd (none-some part there)
 from_part (p ∷ ps) k zero part there site = let one : part ≡ p = same_Some part p (sym there) in free_left p (all_of ps) k (rw one at site)
 from_part (p ∷ ps) k (suc n) part there site = free_right p (all_of ps) k (from_part ps k n part there site)
@@ -71,11 +73,13 @@ module _ (parts : List (List Stretch)) (in_row : AreInRow parts) where
         ]
       ]
 
-  all_in : (i : ℕ) (p : List Stretch) (many first : ℕ) → slice_get parts i ≡ Some p → IsFreeSite p first → AreFreeSites (all_of parts) many first → (n : ℕ) → n < many → IsFreeSite p (first + n)
+  all_in : (i : ℕ) (p : List Stretch) (many first : ℕ) → slice_get parts i ≡ Some p → IsFreeSite p first → AreFreeSites (all_of parts) many first → (n : ℕ)
+      → n < many → IsFreeSite p (first + n)
   all_in i p many first at site sites zero below = let same : first + 0 ≡ first = omega arith in rw same site
   all_in i p many first at site sites (suc n) below =
       let next : first + suc n ≡ first + n + 1 = omega arith in
-      rw next (next_in i p (first + n) at (all_in i p many first at site sites n (omega (arith, below))) (sites (first + n + 1) (omega arith) (omega (arith, below))))
+      rw next (next_in i p (first + n) at (all_in i p many first at site sites n (omega (arith, below)))
+      (sites (first + n + 1) (omega arith) (omega (arith, below))))
 
   pub one_part : (many first : ℕ) → 1 ≤ many → AreFreeSites (all_of parts) many first → AreInOnePart parts many first
   one_part many first some sites =
@@ -110,7 +114,8 @@ measured free most are each many first sites =
     ]
 
 -- the first and the last stretch have the first and the last free site
-module _ (free : List Stretch) (are : AreFreeStretches free) (first last : Stretch) (at_first : slice_get free 0 ≡ Some first) (at_last : slice_get free (length free - 1) ≡ Some last) where
+module _ (free : List Stretch) (are : AreFreeStretches free) (first last : Stretch) (at_first : slice_get free 0 ≡ Some first)
+    (at_last : slice_get free (length free - 1) ≡ Some last) where
   pub from_first : (k : ℕ) → IsFreeSite free k → first.from ≤ k
   from_first k site =
       elim (cases_eq site.number 0) [
@@ -189,7 +194,8 @@ by_number (p ∷ ps) in_row i zero q r k m order at_i at_j free_q free_r = absur
 by_number (p ∷ ps) in_row zero (suc j) q r k m order at_i at_j free_q free_r =
     let one : q ≡ p = same_Some q p (sym at_i) in
     in_row.0 k m (rw one at free_q) (from_part ps m j r at_j free_r)
-by_number (p ∷ ps) in_row (suc i) (suc j) q r k m order at_i at_j free_q free_r = by_number ps in_row.1 i j q r k m (omega (arith, order)) at_i at_j free_q free_r
+by_number (p ∷ ps) in_row (suc i) (suc j) q r k m order at_i at_j free_q free_r =
+    by_number ps in_row.1 i j q r k m (omega (arith, order)) at_i at_j free_q free_r
 
 -- one part is cut into two
 abbrev cut_at : List (List Stretch) → ℕ → List Stretch → List Stretch → List (List Stretch)
@@ -212,13 +218,16 @@ halves_apart a b are k m first second =
     let within = slice_get_within a i first.stretch first.there in
     let beyond = slice_get_within b second.number second.stretch second.there in
     let at_i : slice_get (a ++ b) i ≡ Some first.stretch =
-    slice_get_read (a ++ b) _ i first.stretch refl (omega (arith, within, length-append a b)) (sym (get_or_append_left a b first.stretch i within ∙ get_or_from_slice_get a i first.stretch first.stretch first.there)) in
+    slice_get_read (a ++ b) _ i first.stretch refl (omega (arith, within, length-append a b))
+    (sym (get_or_append_left a b first.stretch i within ∙ get_or_from_slice_get a i first.stretch first.stretch first.there)) in
     let at_j : slice_get (a ++ b) j ≡ Some second.stretch =
-    slice_get_read (a ++ b) _ j second.stretch refl (omega (arith, beyond, length-append a b)) (sym (get_or-append-add a b second.number second.stretch ∙ get_or_from_slice_get b second.number second.stretch second.stretch second.there)) in
+    slice_get_read (a ++ b) _ j second.stretch refl (omega (arith, beyond, length-append a b))
+    (sym (get_or-append-add a b second.number second.stretch ∙ get_or_from_slice_get b second.number second.stretch second.stretch second.there)) in
     let apart = apart_at (a ++ b) are i j first.stretch second.stretch at_i at_j (omega (arith, within)) in
     omega (arith, first.below, second.above, apart)
 
-in_row_cut : (ps : List (List Stretch)) (i : ℕ) (p a b : List Stretch) → slice_get ps i ≡ Some p → a ++ b ≡ p → AreFreeStretches p → InRow ps → InRow (cut_at ps i a b)
+in_row_cut : (ps : List (List Stretch)) (i : ℕ) (p a b : List Stretch) → slice_get ps i ≡ Some p → a ++ b ≡ p → AreFreeStretches p → InRow ps
+    → InRow (cut_at ps i a b)
 in_row_cut [] i p a b at both are in_row = tt
 in_row_cut (q ∷ ps) zero p a b at both are in_row =
     let one : q ≡ p = same_Some q p at in
@@ -253,7 +262,8 @@ module _ (ps : List (List Stretch)) (i : ℕ) (p a b : List Stretch) (at : slice
 -- parts that have lost sites
 module _ (from end : ℕ) (old new : List (List Stretch)) where
   -- what a part was that has lost sites
-  lost_part : (i n : ℕ) (q : List Stretch) → AreLostUpTo from end i old new → n < i → slice_get new n ≡ Some q → (p : List Stretch) × (slice_get old n ≡ Some p) × LosesSites p from end q
+  lost_part : (i n : ℕ) (q : List Stretch) → AreLostUpTo from end i old new → n < i → slice_get new n ≡ Some q
+      → (p : List Stretch) × (slice_get old n ≡ Some p) × LosesSites p from end q
   lost_part i n q lost before at =
       let within = slice_get_within new n q at in
       let p : List Stretch = get_or old n q in
@@ -283,7 +293,8 @@ module _ (from end : ℕ) (old new : List (List Stretch)) where
   )
 
 -- one more part has lost sites
-pub lost_more : (from end i : ℕ) (old mid : List (List Stretch)) (p q : List Stretch) → slice_get mid i ≡ Some p → LosesSites p from end q → AreLostUpTo from end i old mid → AreLostUpTo from end (i + 1) old (set mid i q)
+pub lost_more : (from end i : ℕ) (old mid : List (List Stretch)) (p q : List Stretch) → slice_get mid i ≡ Some p → LosesSites p from end q
+    → AreLostUpTo from end i old mid → AreLostUpTo from end (i + 1) old (set mid i q)
 lost_more from end i old mid p q at loses lost = record {
   count = length-set mid i q ∙ lost.count;
   same = λ n upto. set_kept mid i n q (λ same. omega (arith, upto, same)) ∙ lost.same n (omega (arith, upto));
@@ -299,7 +310,8 @@ lost_more from end i old mid p q at loses lost = record {
 }
 
 -- one more part lies beside what is taken
-pub lost_beside : (from end i : ℕ) (old mid : List (List Stretch)) (p : List Stretch) → slice_get mid i ≡ Some p → LosesSites p from end p → AreLostUpTo from end i old mid → AreLostUpTo from end (i + 1) old mid
+pub lost_beside : (from end i : ℕ) (old mid : List (List Stretch)) (p : List Stretch) → slice_get mid i ≡ Some p → LosesSites p from end p
+    → AreLostUpTo from end i old mid → AreLostUpTo from end (i + 1) old mid
 lost_beside from end i old mid p at loses lost = record {
   count = lost.count;
   same = λ n upto. lost.same n (omega (arith, upto));
@@ -314,7 +326,8 @@ lost_beside from end i old mid p at loses lost = record {
 
 -- the parts in which none fits
 module _ (parts : List (List Stretch)) (in_row : AreInRow parts) (many : ℕ) (some : 1 ≤ many) where
-  pub first_in_all : (least i first : ℕ) (p : List Stretch) → NoneFitsBefore parts many least i → slice_get parts i ≡ Some p → IsFirstFit (FitsFrom p many least) (Some first) → IsFirstFit (FitsFrom (all_of parts) many least) (Some first)
+  pub first_in_all : (least i first : ℕ) (p : List Stretch) → NoneFitsBefore parts many least i → slice_get parts i ≡ Some p
+      → IsFirstFit (FitsFrom p many least) (Some first) → IsFirstFit (FitsFrom (all_of parts) many least) (Some first)
   first_in_all least i first p none at is = (
     record { sites = λ k above below. from_part parts k i p at (is.0.sites k above below); above = is.0.above },
     λ k fits.
@@ -325,7 +338,9 @@ module _ (parts : List (List Stretch)) (in_row : AreInRow parts) (many : ℕ) (s
               is.1 k (record { sites = rw here at one.sites; above = fits.above })
           | inr differ ↦ elim differ [
             | inl before ↦
-                let apart = in_row i one.number p one.part first k before at one.there (is.0.sites first (omega arith) (omega (arith, some))) (one.sites k (omega arith) (omega (arith, some))) in
+                let apart =
+                in_row i one.number p one.part first k before at one.there (is.0.sites first (omega arith) (omega (arith, some)))
+                (one.sites k (omega arith) (omega (arith, some))) in
                 omega (arith, apart)
             | inr after ↦ absurd (none one.number k one.part after one.there (record { sites = one.sites; above = fits.above }))
           ]
@@ -335,9 +350,11 @@ module _ (parts : List (List Stretch)) (in_row : AreInRow parts) (many : ℕ) (s
   pub none_in_all : (least i : ℕ) → length parts ≤ i → NoneFitsBefore parts many least i → IsFirstFit (FitsFrom (all_of parts) many least) None
   none_in_all least i all none k fits =
       let one = one_part parts in_row many k some fits.sites in
-      none one.number k one.part (let within = slice_get_within parts one.number one.part one.there in omega (arith, within, all)) one.there (record { sites = one.sites; above = fits.above })
+      none one.number k one.part (let within = slice_get_within parts one.number one.part one.there in omega (arith, within, all)) one.there
+      (record { sites = one.sites; above = fits.above })
 
-  pub last_in_all : (most i last : ℕ) (p : List Stretch) → NoneFitsFrom parts many most (i + 1) → slice_get parts i ≡ Some p → IsLast (FitsUpTo p many most) (Some last) → IsLast (FitsUpTo (all_of parts) many most) (Some last)
+  pub last_in_all : (most i last : ℕ) (p : List Stretch) → NoneFitsFrom parts many most (i + 1) → slice_get parts i ≡ Some p
+      → IsLast (FitsUpTo p many most) (Some last) → IsLast (FitsUpTo (all_of parts) many most) (Some last)
   last_in_all most i last p none at is = (
     record { sites = λ k above below. from_part parts k i p at (is.0.sites k above below); upto = is.0.upto },
     λ k fits.
@@ -349,7 +366,9 @@ module _ (parts : List (List Stretch)) (in_row : AreInRow parts) (many : ℕ) (s
           | inr differ ↦ elim differ [
             | inl before ↦ absurd (none one.number k one.part (omega (arith, before)) one.there (record { sites = one.sites; upto = fits.upto }))
             | inr after ↦
-                let apart = in_row one.number i one.part p k last after one.there at (one.sites k (omega arith) (omega (arith, some))) (is.0.sites last (omega arith) (omega (arith, some))) in
+                let apart =
+                in_row one.number i one.part p k last after one.there at (one.sites k (omega arith) (omega (arith, some)))
+                (is.0.sites last (omega arith) (omega (arith, some))) in
                 omega (arith, apart)
           ]
         ],
@@ -401,7 +420,9 @@ module _ (parts : List (List Stretch)) where
     | inr some ↦ absurd (none first (sites first (omega arith) (omega (arith, some))))
   ]
 
-  longest_or : (i most : ℕ) (p : List Stretch) → slice_get parts i ≡ Some p → AreNoMoreThan most p → ((n : ℕ) (q : List Stretch) → n < i → slice_get parts n ≡ Some q → AreNoMoreThan most q) → (n : ℕ) (q : List Stretch) → n < i + 1 → slice_get parts n ≡ Some q → AreNoMoreThan most q
+  longest_or : (i most : ℕ) (p : List Stretch) → slice_get parts i ≡ Some p → AreNoMoreThan most p
+      → ((n : ℕ) (q : List Stretch) → n < i → slice_get parts n ≡ Some q → AreNoMoreThan most q) → (n : ℕ) (q : List Stretch) → n < i + 1
+      → slice_get parts n ≡ Some q → AreNoMoreThan most q
   longest_or i most p at here before n q upto there = elim (cases_lt n i) [
     | inl earlier ↦ before n q earlier there
     | inr late ↦
@@ -413,10 +434,8 @@ module _ (parts : List (List Stretch)) where
   more_longest : (least most : ℕ) (p : List Stretch) → least ≤ most → AreNoMoreThan least p → AreNoMoreThan most p
   more_longest least most p upto longest many first sites = let long = longest many first sites in omega (arith, long, upto)
 
-  pub span_none : HasSpanUpTo parts 0 None
-  span_none k has = omega (arith, has.before)
-
-  pub span_more : (i : ℕ) (p : List Stretch) → slice_get parts i ≡ Some p → (a b r : Option Ends) → HasSpanUpTo parts i a → HasSpan p b → AreJoinedEnds a b r → HasSpanUpTo parts (i + 1) r
+  pub span_more : (i : ℕ) (p : List Stretch) → slice_get parts i ≡ Some p → (a b r : Option Ends) → HasSpanUpTo parts i a → HasSpan p b → AreJoinedEnds a b r
+      → HasSpanUpTo parts (i + 1) r
   span_more i p at None None r none here is = rw is (λ k has. elim (earlier_or i k p at has) [
     | inl earlier ↦ none k earlier
     | inr site ↦ here k site
@@ -427,7 +446,9 @@ module _ (parts : List (List Stretch)) where
     some = here.some;
     above = λ k has. elim (earlier_or i k p at has) [ inl earlier ↦ absurd (none k earlier) | inr site ↦ here.above k site ];
     below = λ k has. elim (earlier_or i k p at has) [ inl earlier ↦ absurd (none k earlier) | inr site ↦ here.below k site ];
-    longest = longest_or i b.longest p at here.longest (λ n q before there. none_longest b.longest q (λ k site. none k (record { number = n; before = before; part = q; there = there; site = site })));
+    longest =
+        longest_or i b.longest p at here.longest (λ n q before there. none_longest b.longest q
+        (λ k site. none k (record { number = n; before = before; part = q; there = there; site = site })));
   })
   span_more i p at (Some a) None r so_far here is = rw is (record {
     first = later_in i a.from so_far.first;

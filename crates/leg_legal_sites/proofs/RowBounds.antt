@@ -42,7 +42,8 @@ module _ (number : ℕ) (row : Row) (size : ExtentModel) where
   }
 
   -- what is left of free sites is bounded by what bounds them all
-  pub bound_fewer : (bounds : Bounds) (free rest : List Stretch) → ((k : ℕ) → IsFreeSite rest k → IsFreeSite free k) → DoBound bounds number row size free → DoBound bounds number row size rest
+  pub bound_fewer : (bounds : Bounds) (free rest : List Stretch) → ((k : ℕ) → IsFreeSite rest k → IsFreeSite free k) → DoBound bounds number row size free
+      → DoBound bounds number row size rest
   bound_fewer bounds free rest fewer bound = record {
     sites = λ k site. bound.sites k (fewer k site);
     longest = λ many first sites. bound.longest many first (λ k from below. fewer k (sites k from below));
@@ -68,7 +69,8 @@ module _ (number : ℕ) (row : Row) (size : ExtentModel) where
   }
 
   -- a rectangle beside what is bounded meets none of it
-  pub unmet_beside : (bounds : Bounds) (rect : RectModel) (k : ℕ) → IsBeside bounds rect → DoBoundSite bounds number row size k → ¬ ShareSquare rect (site_box row size k)
+  pub unmet_beside : (bounds : Bounds) (rect : RectModel) (k : ℕ) → IsBeside bounds rect → DoBoundSite bounds number row size k
+      → ¬ ShareSquare rect (site_box row size k)
   unmet_beside bounds rect k beside site shared =
       let both = overlap_from_shared rect (site_box row size k) shared in
       elim beside [
@@ -151,7 +153,8 @@ module _ (number : ℕ) (row : Row) (size : ExtentModel) where
     }
 
   -- free sites in the die begin and end within the limit
-  pub within_die : (area : HasArea size) (die : RectModel) → IsArea die → (free : List Stretch) → ((k : ℕ) → IsFreeSite free k → HasAllSquares die (site_box row size k)) → AreWithinBounds row size free
+  pub within_die : (area : HasArea size) (die : RectModel) → IsArea die → (free : List Stretch)
+      → ((k : ℕ) → IsFreeSite free k → HasAllSquares die (site_box row size k)) → AreWithinBounds row size free
   within_die area die rect free inside = record {
     left = λ k site.
         let on = edges_rise row.at.x size.width k (k + 1) area.wide (omega arith) in

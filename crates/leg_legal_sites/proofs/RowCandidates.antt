@@ -51,7 +51,10 @@ module _ (rows : List Row) (free : List (List Stretch)) (wanted : Wanted) (numbe
       let length_none : length stretches ≡ 0 = ap length none in
       omega (arith, length_none, slice_get_within stretches site.number site.stretch site.there)
 
-  pub best_there : (c : Candidate) → c.row ≡ number → row.site ≡ wanted.site → c.distance ≡ x_away (pitch_in row wanted) c.first + apart row.at.y wanted.start.y → IsTrue c.turned ↔ IsTurned row.orient wanted.y_symmetric wanted.orient → IsLeastOf (x_away (pitch_in row wanted)) (AreFreeSites stretches wanted.many) c.first → IsBestOf (IsCandidateOf rows free wanted number) (Some c)
+  pub best_there : (c : Candidate) → c.row ≡ number → row.site ≡ wanted.site
+      → c.distance ≡ x_away (pitch_in row wanted) c.first + apart row.at.y wanted.start.y
+      → IsTrue c.turned ↔ IsTurned row.orient wanted.y_symmetric wanted.orient
+      → IsLeastOf (x_away (pitch_in row wanted)) (AreFreeSites stretches wanted.many) c.first → IsBestOf (IsCandidateOf rows free wanted number) (Some c)
   best_there c at same distance turned least = (
     record {
       candidate = record {

@@ -18,12 +18,13 @@ use Rattle.leg_legal_sites.specs.declared.row_keys.RowKey.{RowKey}
 use Rattle.leg_legal_sites.specs.Steps.RowOrder.{IsKeyOf, IsBefore, IsRowOrder}
 use Rattle.leg_legal_sites.specs.Steps.FreeLists.{IsRowAt}
 use Rattle.leg_legal_sites.specs.Steps.TreeOfRows.{IsLeafBeneath}
-use Rattle.leg_legal_sites.specs.Steps.FreeListSharing.{list_at, place_of, row_list, row_lists}
+use Rattle.leg_legal_sites.specs.Steps.FreeListSharing.{list_of_node, place_of_row, row_list, row_lists}
 use Rattle.leg_legal_sites.specs.Steps.SharedLists.{own_list, HaveAlikeLists}
 use Rattle.leg_legal_sites.proofs.RowTree.{leaf_alone}
 use Rattle.leg_legal_sites.proofs.SharedLists.{own_is, from_above, row_lists_long, row_list_there}
 
-place_is : (order : List RowKey) (number place : ℕ) (key : RowKey) → slice_get order place ≡ Some key → key.row ≡ number → ((i : ℕ) (a : RowKey) → i < place → slice_get order i ≡ Some a → a.row ≢ number) → place_of order number ≡ place
+place_is : (order : List RowKey) (number place : ℕ) (key : RowKey) → slice_get order place ≡ Some key → key.row ≡ number
+    → ((i : ℕ) (a : RowKey) → i < place → slice_get order i ≡ Some a → a.row ≢ number) → place_of_row order number ≡ place
 place_is [] number place key there same before = absurd (none-some key there)
 place_is (k ∷ ks) number zero key there same before =
     let one : k ≡ key = same_Some k key there in
@@ -66,34 +67,38 @@ module _ (rows : List Row) (order : List RowKey) (is_order : IsRowOrder rows ord
         ]
       ]
 
-  pub place_of_key : (place : ℕ) (key : RowKey) → slice_get order place ≡ Some key → place_of order key.row ≡ place
+  pub place_of_key : (place : ℕ) (key : RowKey) → slice_get order place ≡ Some key → place_of_row order key.row ≡ place
   place_of_key place key there = place_is order key.row place key there refl (λ i a below at same. other_rows i place a key below at there same)
 
   module _ (lists : List (Option (List Stretch))) where
     -- the list of the row of a key is that of its leaf
-    pub list_of_key : (place : ℕ) (key : RowKey) (list : List Stretch) → slice_get order place ≡ Some key → slice_get (row_lists order lists) key.row ≡ Some list → list ≡ unwrap_or (list_at lists (length order + place)) []
+    pub list_of_key : (place : ℕ) (key : RowKey) (list : List Stretch) → slice_get order place ≡ Some key
+        → slice_get (row_lists order lists) key.row ≡ Some list → list ≡ unwrap_or (list_of_node lists (length order + place)) []
     list_of_key place key list there at =
         let below = slice_get_within (row_lists order lists) key.row list at in
         let long = row_lists_long order lists in
         same_Some list (row_list order lists key.row) (sym at ∙ row_list_there order lists key.row (omega (arith, below, long)))
-        ∙ ap (λ (n : ℕ). unwrap_or (list_at lists (length order + n)) []) (place_of_key place key there)
+        ∙ ap (λ (n : ℕ). unwrap_or (list_of_node lists (length order + n)) []) (place_of_key place key there)
 
     -- where no node above has a list, the rows beneath a node that has one have it, and the row of a leaf has its leaf's
-    pub own_row : (node : ℕ) (key : RowKey) (list : List Stretch) → IsLeafBeneath order node key → 1 ≤ node → list_at lists (node / 2) ≡ None → (length order ≤ node) ⊎ IsSome (get_or lists node None) → slice_get (row_lists order lists) key.row ≡ Some list → list ≡ own_list lists node
+    pub own_row : (node : ℕ) (key : RowKey) (list : List Stretch) → IsLeafBeneath order node key → 1 ≤ node → list_of_node lists (node / 2) ≡ None
+        → (length order ≤ node) ⊎ IsSome (get_or lists node None) → slice_get (row_lists order lists) key.row ≡ Some list → list ≡ own_list lists node
     own_row node key list leaf some alone either at =
-        let own : list_at lists node ≡ get_or lists node None = own_is lists (node / 2) node some refl alone in
+        let own : list_of_node lists node ≡ get_or lists node None = own_is lists (node / 2) node some refl alone in
         let is = list_of_key leaf.place key list leaf.there at in
         elim either [
           | inl from ↦
               let here : length order + leaf.place ≡ node = sym (leaf_alone order node key leaf from) in
-              is ∙ ap (λ (n : ℕ). unwrap_or (list_at lists n) []) here ∙ ap (λ o. unwrap_or o []) own
+              is ∙ ap (λ (n : ℕ). unwrap_or (list_of_node lists n) []) here ∙ ap (λ o. unwrap_or o []) own
           | inr has ↦
               let l = some_is (get_or lists node None) has in
               is ∙ ap (λ o. unwrap_or o []) (from_above leaf.levels node (length order + leaf.place) lists l.0 some leaf.beneath (own ∙ l.1) ∙ sym l.1)
         ]
 
 -- rows beneath a node whose rows are alike begin at one x, and are of one site
-pub alike_rows : (design : DesignModel) (order : List RowKey) (node : ℕ) (a b : RowKey) (row other : Row) (site its : Site) → IsRowOrder design.rows order → HaveAlikeLists order node → IsLeafBeneath order node a → IsLeafBeneath order node b → IsRowAt design a.row row site → IsRowAt design b.row other its → (other.at.x ≡ row.at.x) × (its ≡ site)
+pub alike_rows : (design : DesignModel) (order : List RowKey) (node : ℕ) (a b : RowKey) (row other : Row) (site its : Site) → IsRowOrder design.rows order
+    → HaveAlikeLists order node → IsLeafBeneath order node a → IsLeafBeneath order node b → IsRowAt design a.row row site → IsRowAt design b.row other its
+    → (other.at.x ≡ row.at.x) × (its ≡ site)
 alike_rows design order node a b row other site its is_order alike leaf_a leaf_b at_a at_b =
     let same = alike b a leaf_b leaf_a in
     let of_a = key_there design.rows order is_order leaf_a.place a leaf_a.there in
@@ -119,12 +124,14 @@ one_part_is [] p one is = absurd (omega (arith, one))
 one_part_is (q ∷ []) p one is = append-nil q ∙ is
 one_part_is (q ∷ r ∷ rest) p one is = absurd (omega (arith, one))
 
-pub same_parts : (a b : List (List Stretch)) (p q : List Stretch) (r : Bool) → length a ≡ 1 → length b ≡ 1 → p ≡ get_or a 0 p → q ≡ get_or b 0 q → r ≡ pointwise stretch_eq.ghosts.eq p q → r ≡ true → all_of a ≡ all_of b
+pub same_parts : (a b : List (List Stretch)) (p q : List Stretch) (r : Bool) → length a ≡ 1 → length b ≡ 1 → p ≡ get_or a 0 p → q ≡ get_or b 0 q
+    → r ≡ pointwise stretch_eq.ghosts.eq p q → r ≡ true → all_of a ≡ all_of b
 same_parts a b p q r one_a one_b is_p is_q test is =
     one_part_is a p one_a (sym is_p) ∙ (stretches_decide p q).0 (sym test ∙ is) ∙ sym (one_part_is b q one_b (sym is_q))
 
 -- one more of some lists
-pub one_more_taken : (items some : List (List Stretch)) (i : ℕ) (copy item : List Stretch) → i < length items → some ≡ take i items → copy ≡ item → item ≡ get_or items i item → some ++ copy ∷ [] ≡ take (i + 1) items
+pub one_more_taken : (items some : List (List Stretch)) (i : ℕ) (copy item : List Stretch) → i < length items → some ≡ take i items → copy ≡ item
+    → item ≡ get_or items i item → some ++ copy ∷ [] ≡ take (i + 1) items
 one_more_taken items some i copy item within is same there =
     let next : i + 1 ≡ suc i = omega arith in
     rw next (ap (λ l. l ++ copy ∷ []) is ∙ ap (λ (x : List Stretch). take i items ++ x ∷ []) (same ∙ there) ∙ sym (take-suc items i item within))

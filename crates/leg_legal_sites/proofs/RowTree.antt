@@ -52,7 +52,9 @@ beneath_first (suc most) q upto some =
     elim (cases_eq q 1) [
       | inl first ↦ record { levels = 0; beneath = first }
       | inr later ↦
-          let above = beneath_first most h.p (elim h.is [ inl even ↦ omega (arith, even, upto, some) | inr odd ↦ omega (arith, odd, upto, some) ]) (elim h.is [ inl even ↦ omega (arith, even, some) | inr odd ↦ omega (arith, odd, later, some) ]) in
+          let above =
+          beneath_first most h.p (elim h.is [ inl even ↦ omega (arith, even, upto, some) | inr odd ↦ omega (arith, odd, upto, some) ])
+          (elim h.is [ inl even ↦ omega (arith, even, some) | inr odd ↦ omega (arith, odd, later, some) ]) in
           record { levels = suc above.levels; beneath = one_lower above.levels 1 h.p q above.beneath h.is }
     ]
 
@@ -74,9 +76,11 @@ module _ (order : List RowKey) where
         alone (suc levels) node other lower below = let more = twice levels node other lower in absurd (omega (arith, more, below))
 
   -- the leaves beneath a node lie beneath one of the two below it
-  pub beneath_either : (node : ℕ) (key : RowKey) → node < length order → IsLeafBeneath order node key → IsLeafBeneath order (2 * node) key ⊎ IsLeafBeneath order (2 * node + 1) key
+  pub beneath_either : (node : ℕ) (key : RowKey) → node < length order → IsLeafBeneath order node key
+      → IsLeafBeneath order (2 * node) key ⊎ IsLeafBeneath order (2 * node + 1) key
   beneath_either node key before leaf = either leaf.levels leaf.beneath where
-    either : (levels : ℕ) → IsLevelsBeneath levels node (length order + leaf.place) → IsLeafBeneath order (2 * node) key ⊎ IsLeafBeneath order (2 * node + 1) key
+    either : (levels : ℕ) → IsLevelsBeneath levels node (length order + leaf.place)
+        → IsLeafBeneath order (2 * node) key ⊎ IsLeafBeneath order (2 * node + 1) key
     either zero same = absurd (omega (arith, same, before))
     either (suc levels) (inl left) = inl (record { place = leaf.place; there = leaf.there; levels = levels; beneath = left })
     either (suc levels) (inr right) = inr (record { place = leaf.place; there = leaf.there; levels = levels; beneath = right })
@@ -89,7 +93,8 @@ module _ (order : List RowKey) where
 
   module _ (Fits : Bounds → ℕ → Type 0) where
     -- a node is made anew
-    pub nodes_set : (nodes : List Bounds) (node : ℕ) (bounds : Bounds) → ((key : RowKey) → IsLeafBeneath order node key → Fits bounds key.row) → AreNodes order Fits nodes → AreNodes order Fits (set nodes node bounds)
+    pub nodes_set : (nodes : List Bounds) (node : ℕ) (bounds : Bounds) → ((key : RowKey) → IsLeafBeneath order node key → Fits bounds key.row)
+        → AreNodes order Fits nodes → AreNodes order Fits (set nodes node bounds)
     nodes_set nodes node bounds fits are = record {
       count = length-set nodes node bounds ∙ are.count;
       fit = λ other its key some there leaf. elim (cases_eq other node) [
@@ -101,7 +106,8 @@ module _ (order : List RowKey) where
     }
 
     -- where the nodes fit what lies beneath them, they fit what follows from that
-    pub nodes_weaker : (Others : Bounds → ℕ → Type 0) (nodes : List Bounds) → ((bounds : Bounds) (number : ℕ) → Fits bounds number → Others bounds number) → AreNodes order Fits nodes → AreNodes order Others nodes
+    pub nodes_weaker : (Others : Bounds → ℕ → Type 0) (nodes : List Bounds) → ((bounds : Bounds) (number : ℕ) → Fits bounds number → Others bounds number)
+        → AreNodes order Fits nodes → AreNodes order Others nodes
     nodes_weaker Others nodes weaker are = record {
       count = are.count;
       fit = λ node bounds key some there leaf. weaker bounds key.row (are.fit node bounds key some there leaf);
@@ -109,7 +115,9 @@ module _ (order : List RowKey) where
 
     module _ (covered : (outer inner : Bounds) (number : ℕ) → DoCover outer inner → Fits inner number → Fits outer number) where
       -- a node that covers the two below it fits what lies beneath it
-      pub fits_joined : (nodes : List Bounds) (node : ℕ) (outer left right : Bounds) → AreNodes order Fits nodes → 1 ≤ node → node < length order → slice_get nodes (2 * node) ≡ Some left → slice_get nodes (2 * node + 1) ≡ Some right → DoCover outer left → DoCover outer right → (key : RowKey) → IsLeafBeneath order node key → Fits outer key.row
+      pub fits_joined : (nodes : List Bounds) (node : ℕ) (outer left right : Bounds) → AreNodes order Fits nodes → 1 ≤ node → node < length order
+          → slice_get nodes (2 * node) ≡ Some left → slice_get nodes (2 * node + 1) ≡ Some right → DoCover outer left → DoCover outer right → (key : RowKey)
+          → IsLeafBeneath order node key → Fits outer key.row
       fits_joined nodes node outer left right are some before at_left at_right over_left over_right key leaf =
           elim (beneath_either node key before leaf) [
             | inl lower ↦ covered outer left key.row over_left (are.fit (2 * node) left key (omega (arith, some)) at_left lower)
@@ -120,27 +128,31 @@ module _ (order : List RowKey) where
         count_new : length new ≡ 2 * length order
         count_new = omega (arith, leaves.count, joined.count)
 
-        at_leaf : (node : ℕ) (bounds : Bounds) (place : ℕ) (key : RowKey) → slice_get new node ≡ Some bounds → slice_get order place ≡ Some key → node ≡ length order + place → Fits bounds key.row
+        at_leaf : (node : ℕ) (bounds : Bounds) (place : ℕ) (key : RowKey) → slice_get new node ≡ Some bounds → slice_get order place ≡ Some key
+            → node ≡ length order + place → Fits bounds key.row
         at_leaf node bounds place key there at same =
             let within = slice_get_within order place key at in
             let here : slice_get new (length order + place) ≡ Some bounds = rw same at there in
             let was : slice_get old (length order + place) ≡ Some bounds = sym (joined.kept (length order + place) (omega arith)) ∙ here in
             leaves.fit place key bounds within at was
 
-        fit_levels : (levels node : ℕ) (bounds : Bounds) (place : ℕ) (key : RowKey) → 1 ≤ node → slice_get new node ≡ Some bounds → slice_get order place ≡ Some key → IsLevelsBeneath levels node (length order + place) → Fits bounds key.row
+        fit_levels : (levels node : ℕ) (bounds : Bounds) (place : ℕ) (key : RowKey) → 1 ≤ node → slice_get new node ≡ Some bounds
+            → slice_get order place ≡ Some key → IsLevelsBeneath levels node (length order + place) → Fits bounds key.row
         fit_levels zero node bounds place key some there at same = at_leaf node bounds place key there at (sym same)
         fit_levels (suc levels) node bounds place key some there at (inl left) =
             let within = slice_get_within order place key at in
             let more = not_before levels (2 * node) (length order + place) left in
             let inner : Bounds = get_or new (2 * node) bounds in
             let below : slice_get new (2 * node) ≡ Some inner = slice_get-get_or new (2 * node) bounds (omega (arith, more, within, count_new)) in
-            covered bounds inner key.row (joined.cover node bounds inner some (omega (arith, more, within)) there (inl below)) (fit_levels levels (2 * node) inner place key (omega (arith, some)) below at left)
+            covered bounds inner key.row (joined.cover node bounds inner some (omega (arith, more, within)) there (inl below))
+            (fit_levels levels (2 * node) inner place key (omega (arith, some)) below at left)
         fit_levels (suc levels) node bounds place key some there at (inr right) =
             let within = slice_get_within order place key at in
             let more = not_before levels (2 * node + 1) (length order + place) right in
             let inner : Bounds = get_or new (2 * node + 1) bounds in
             let below : slice_get new (2 * node + 1) ≡ Some inner = slice_get-get_or new (2 * node + 1) bounds (omega (arith, more, within, count_new)) in
-            covered bounds inner key.row (joined.cover node bounds inner some (omega (arith, more, within)) there (inr below)) (fit_levels levels (2 * node + 1) inner place key (omega arith) below at right)
+            covered bounds inner key.row (joined.cover node bounds inner some (omega (arith, more, within)) there (inr below))
+            (fit_levels levels (2 * node + 1) inner place key (omega arith) below at right)
 
         -- the leaves fit, and each other node covers those below it
         pub nodes_from_joined : AreNodes order Fits new
@@ -150,11 +162,14 @@ module _ (order : List RowKey) where
         }
 
     -- one more leaf
-    pub leaves_more : (place : ℕ) (key : RowKey) (nodes : List Bounds) (bounds : Bounds) → slice_get order place ≡ Some key → Fits bounds key.row → AreLeavesUpTo order Fits place nodes → AreLeavesUpTo order Fits (place + 1) (nodes ++ bounds ∷ [])
+    pub leaves_more : (place : ℕ) (key : RowKey) (nodes : List Bounds) (bounds : Bounds) → slice_get order place ≡ Some key → Fits bounds key.row
+        → AreLeavesUpTo order Fits place nodes → AreLeavesUpTo order Fits (place + 1) (nodes ++ bounds ∷ [])
     leaves_more place key nodes bounds at fits so_far = record {
       count = omega (arith, so_far.count, length-append nodes (bounds ∷ []));
       fit = λ other its told below there_at there. elim (in_longer nodes bounds (length order + other) told there) [
-        | inl before ↦ so_far.fit other its told (let within = slice_get_within nodes (length order + other) told before in omega (arith, within, so_far.count)) there_at before
+        | inl before ↦
+            so_far.fit other its told (let within = slice_get_within nodes (length order + other) told before in omega (arith, within, so_far.count))
+            there_at before
         | inr last ↦
             let here : other ≡ place = omega (arith, last.0, so_far.count) in
             let one : its ≡ key = same_Some its key (sym there_at ∙ ap (slice_get order) here ∙ at) in
@@ -182,7 +197,8 @@ joined_fewer leaves from later old new order joined = record {
 
 -- one more node is joined
 module _ (leaves node : ℕ) (old mid : List Bounds) (outer left right : Bounds) where
-  pub joined_more : node < leaves → 1 ≤ node → node < length mid → slice_get mid (2 * node) ≡ Some left → slice_get mid (2 * node + 1) ≡ Some right → DoCover outer left → DoCover outer right → AreJoinedFrom leaves (node + 1) old mid → AreJoinedFrom leaves node old (set mid node outer)
+  pub joined_more : node < leaves → 1 ≤ node → node < length mid → slice_get mid (2 * node) ≡ Some left → slice_get mid (2 * node + 1) ≡ Some right
+      → DoCover outer left → DoCover outer right → AreJoinedFrom leaves (node + 1) old mid → AreJoinedFrom leaves node old (set mid node outer)
   joined_more before some within at_left at_right over_left over_right so_far = record {
     count = length-set mid node outer ∙ so_far.count;
     kept = λ k from. set_kept mid node k outer (λ same. omega (arith, from, before, same)) ∙ so_far.kept k from;
@@ -190,8 +206,12 @@ module _ (leaves node : ℕ) (old mid : List Bounds) (outer left right : Bounds)
       | inl same ↦
           let is : a ≡ outer = slice_get-set_same mid node k outer a same there in
           rw is (elim at [
-            | inl lower ↦ let one : b ≡ left = same_Some b left (sym (unset (2 * k) b (omega (arith, same, some)) lower) ∙ ap (λ (n : ℕ). slice_get mid (2 * n)) same ∙ at_left) in rw one over_left
-            | inr lower ↦ let one : b ≡ right = same_Some b right (sym (unset (2 * k + 1) b (omega (arith, same, some)) lower) ∙ ap (λ (n : ℕ). slice_get mid (2 * n + 1)) same ∙ at_right) in rw one over_right
+            | inl lower ↦ let one : b ≡ left =
+                same_Some b left (sym (unset (2 * k) b (omega (arith, same, some)) lower) ∙ ap (λ (n : ℕ). slice_get mid (2 * n)) same ∙ at_left) in
+                rw one over_left
+            | inr lower ↦ let one : b ≡ right =
+                same_Some b right (sym (unset (2 * k + 1) b (omega (arith, same, some)) lower) ∙ ap (λ (n : ℕ). slice_get mid (2 * n + 1)) same ∙ at_right) in
+                rw one over_right
           ])
       | inr differ ↦
           so_far.cover k a b (omega (arith, from, differ)) below (slice_get-set_other mid node k outer a differ there) (elim at [

@@ -28,7 +28,8 @@ lower_from_test key wanted test = grind (arith, ints)
 lower_test : (key : RowKey) (wanted : Wanted) → IsLower key wanted → is_lower key wanted ≡ true
 lower_test key wanted lower = grind (arith, ints)
 
-upper_from_test : (key : RowKey) (wanted : Wanted) → is_lower key wanted ≡ false → (wanted.site < key.site) ⊎ ((key.site ≡ wanted.site) × (wanted.start.y ≤ℤ key.y))
+upper_from_test : (key : RowKey) (wanted : Wanted) → is_lower key wanted ≡ false
+    → (wanted.site < key.site) ⊎ ((key.site ≡ wanted.site) × (wanted.start.y ≤ℤ key.y))
 upper_from_test key wanted test = grind (arith, ints)
 
 -- of two keys in order the first is of a lower site, or of the same one and no higher
@@ -45,7 +46,8 @@ upto_from_before a b (inr same) = inr (
   ],
 )
 
-pub rising_at : (order : List RowKey) → AllPairs IsBefore order → (i j : ℕ) (a b : RowKey) → slice_get order i ≡ Some a → slice_get order j ≡ Some b → i ≤ j → IsUpTo a b
+pub rising_at : (order : List RowKey) → AllPairs IsBefore order → (i j : ℕ) (a b : RowKey) → slice_get order i ≡ Some a → slice_get order j ≡ Some b → i ≤ j
+    → IsUpTo a b
 rising_at order rising i j a b at_i at_j upto =
     elim (cases_eq i j) [
       | inl same ↦
@@ -74,11 +76,13 @@ lower_partitioned order wanted rising i j d upto within test =
       | inl same ↦ rw same test
       | inr differ ↦
           lower_test (get_or order i d) wanted
-          (lower_still (get_or order i d) (get_or order j d) wanted (upto_from_before (get_or order i d) (get_or order j d) (rising i j d (omega (arith, upto, differ)) within))
+          (lower_still (get_or order i d) (get_or order j d) wanted
+          (upto_from_before (get_or order i d) (get_or order j d) (rising i j d (omega (arith, upto, differ)) within))
           (lower_from_test (get_or order j d) wanted test))
     ]
 
-pub split_from_point : (order : List RowKey) (wanted : Wanted) (at : ℕ) → at ≤ length order → IsPartitionPoint (λ key. is_lower key wanted ≡ true) (λ key. is_lower key wanted ≡ false) order at → IsSplitAt order wanted at at
+pub split_from_point : (order : List RowKey) (wanted : Wanted) (at : ℕ) → at ≤ length order
+    → IsPartitionPoint (λ key. is_lower key wanted ≡ true) (λ key. is_lower key wanted ≡ false) order at → IsSplitAt order wanted at at
 split_from_point order wanted at bound point = record {
   in_order = omega arith;
   within = bound;
@@ -94,7 +98,8 @@ split_from_point order wanted at bound point = record {
 }
 
 -- the best of one kind is the best of another where what else is in it is farther away
-best_beyond : (P R : Candidate → Type 0) (best : Option Candidate) → ((d : Candidate) → P d → R d) → ((d : Candidate) → R d → P d ⊎ IsNearerThan best d.distance) → IsBestOf P best → IsBestOf R best
+best_beyond : (P R : Candidate → Type 0) (best : Option Candidate) → ((d : Candidate) → P d → R d)
+    → ((d : Candidate) → R d → P d ⊎ IsNearerThan best d.distance) → IsBestOf P best → IsBestOf R best
 best_beyond P R None from_p split none = λ d has. elim (split d has) [
   | inl p ↦ none d p
   | inr never ↦ absurd never
@@ -129,7 +134,8 @@ pub record IsCandidateSeen (rows : List Row) (order : List RowKey) (free : List 
   pub row : key.row ≡ c.row
 
 -- what is known between two looks: the rows on both sides, and the best position in those that were looked at
-pub record IsSearched (rows : List Row) (order : List RowKey) (free : List (List Stretch)) (wanted : Wanted) (low high : ℕ) (best : Option Candidate) : Type 0 where
+pub record IsSearched (rows : List Row) (order : List RowKey) (free : List (List Stretch)) (wanted : Wanted) (low high : ℕ)
+    (best : Option Candidate) : Type 0 where
   pub split : IsSplitAt order wanted low high
   pub is_best : IsBestOf (IsCandidateSeen rows order free wanted low high) best
 
@@ -159,8 +165,10 @@ module _ (rows : List Row) (order : List RowKey) (free : List (List Stretch)) (w
   key_of_seen : (low high : ℕ) (d : Candidate) (seen : Seen low high d) → (seen.key.site ≡ wanted.site) × (apart seen.key.y wanted.start.y ≤ d.distance)
   key_of_seen low high d seen =
       let within = slice_get_within order seen.place seen.key seen.there in
-      let is_key : IsKeyOf rows seen.key = (is_order.keys seen.key).0 (seen.place, within, get_or_from_slice_get order seen.place seen.key seen.key seen.there) in
-      let one : is_key.row ≡ seen.candidate.row = same_Some is_key.row seen.candidate.row (sym is_key.there ∙ ap (slice_get rows) seen.row ∙ seen.candidate.there) in
+      let is_key : IsKeyOf rows seen.key =
+      (is_order.keys seen.key).0 (seen.place, within, get_or_from_slice_get order seen.place seen.key seen.key seen.there) in
+      let one : is_key.row ≡ seen.candidate.row =
+      same_Some is_key.row seen.candidate.row (sym is_key.there ∙ ap (slice_get rows) seen.row ∙ seen.candidate.there) in
       let level : seen.key.y ≡ seen.candidate.row.at.y = is_key.bottom ∙ ap (λ (r : Row). r.at.y) one in
       let distance = seen.candidate.distance in (
         is_key.site ∙ ap (λ (r : Row). r.site) one ∙ seen.candidate.same,
@@ -168,7 +176,8 @@ module _ (rows : List Row) (order : List RowKey) (free : List (List Stretch)) (w
       )
 
   module _ (low high : ℕ) (split : IsSplitAt order wanted low high) (best : Option Candidate) where
-    beyond_below : (key : RowKey) → 1 ≤ low → slice_get order (low - 1) ≡ Some key → IsRowBeyond wanted best key → (d : Candidate) (seen : Seen 0 (length order) d) → seen.place < low → IsNearerThan best d.distance
+    beyond_below : (key : RowKey) → 1 ≤ low → slice_get order (low - 1) ≡ Some key → IsRowBeyond wanted best key
+        → (d : Candidate) (seen : Seen 0 (length order) d) → seen.place < low → IsNearerThan best d.distance
     beyond_below key some at beyond d seen before =
         let of = key_of_seen 0 (length order) d seen in
         let site = of.0 in
@@ -188,7 +197,8 @@ module _ (rows : List Row) (order : List RowKey) (free : List (List Stretch)) (w
               ]
         ]
 
-    beyond_above : (key : RowKey) → slice_get order high ≡ Some key → IsRowBeyond wanted best key → (d : Candidate) (seen : Seen 0 (length order) d) → high ≤ seen.place → IsNearerThan best d.distance
+    beyond_above : (key : RowKey) → slice_get order high ≡ Some key → IsRowBeyond wanted best key → (d : Candidate) (seen : Seen 0 (length order) d)
+        → high ≤ seen.place → IsNearerThan best d.distance
     beyond_above key at beyond d seen late =
         let of = key_of_seen 0 (length order) d seen in
         let site = of.0 in
@@ -209,7 +219,8 @@ module _ (rows : List Row) (order : List RowKey) (free : List (List Stretch)) (w
         ]
 
     -- a position is in one of the rows that were looked at, or farther away than the best one there
-    seen_or_beyond : IsNextPlace order wanted best low high None → (d : Candidate) → IsCandidate rows free wanted d → Seen low high d ⊎ IsNearerThan best d.distance
+    seen_or_beyond : IsNextPlace order wanted best low high None → (d : Candidate) → IsCandidate rows free wanted d
+        → Seen low high d ⊎ IsNearerThan best d.distance
     seen_or_beyond none d candidate =
         let seen = seen_in_all d candidate in
         elim (cases_lt seen.place low) [
@@ -222,7 +233,8 @@ module _ (rows : List Row) (order : List RowKey) (free : List (List Stretch)) (w
               inr (beyond_below key some at (none.0 key some at) d seen before)
           | inr from ↦
               elim (cases_lt seen.place high) [
-                | inl below ↦ inl (record { candidate = candidate; place = seen.place; from = from; below = below; key = seen.key; there = seen.there; row = seen.row })
+                | inl below ↦
+                    inl (record { candidate = candidate; place = seen.place; from = from; below = below; key = seen.key; there = seen.there; row = seen.row })
                 | inr late ↦
                     let end = seen.below in
                     let key : RowKey = get_or order high seen.key in
@@ -236,7 +248,9 @@ module _ (rows : List Row) (order : List RowKey) (free : List (List Stretch)) (w
     best_of_near is none = best_beyond (Seen low high) (IsCandidate rows free wanted) best (λ d seen. seen.candidate) (seen_or_beyond none) is
 
   -- one more row, next to those before
-  best_more : (low high place low' high' : ℕ) → low ≤ high → place < length order → ((place + 1 ≡ low) × (low' ≡ place) × (high' ≡ high)) ⊎ ((place ≡ high) × (low' ≡ low) × (high' ≡ place + 1)) → (a r : Option Candidate) → IsBestOf (Seen low high) a → IsBestOf (IsBestOrBeneath rows order free wanted (length order + place) a) r → IsBestOf (Seen low' high') r
+  best_more : (low high place low' high' : ℕ) → low ≤ high → place < length order
+      → ((place + 1 ≡ low) × (low' ≡ place) × (high' ≡ high)) ⊎ ((place ≡ high) × (low' ≡ low) × (high' ≡ place + 1)) → (a r : Option Candidate)
+      → IsBestOf (Seen low high) a → IsBestOf (IsBestOrBeneath rows order free wanted (length order + place) a) r → IsBestOf (Seen low' high') r
   best_more low high place low' high' in_order within side a r best more =
       best_of_same (λ d. (Seen low high d ⊎ Beneath (length order + place) d) ⊎ (None ≡ Some d)) (Seen low' high')
       (λ d either. elim either [
@@ -247,15 +261,29 @@ module _ (rows : List Row) (order : List RowKey) (free : List (List Stretch)) (w
         | inr same ↦ absurd (none-some d same)
       ])
       (λ d seen. inl (elim (cases_eq seen.place place) [
-        | inl same ↦ inr (record { candidate = seen.candidate; key = seen.key; leaf = record { place = seen.place; there = seen.there; levels = 0; beneath = ap (λ (n : ℕ). length order + n) same }; row = seen.row })
+        | inl same ↦
+            inr (record {
+              candidate = seen.candidate;
+              key = seen.key;
+              leaf = record { place = seen.place; there = seen.there; levels = 0; beneath = ap (λ (n : ℕ). length order + n) same };
+              row = seen.row;
+            })
         | inr differ ↦
             let from = seen.from in
             let below = seen.below in
             inl (record {
               candidate = seen.candidate;
               place = seen.place;
-              from = elim side [ inl left ↦ let s = left.0 in let l = left.1 in omega (arith, from, differ, s, l) | inr right ↦ let l = right.1 in omega (arith, from, l) ];
-              below = elim side [ inl left ↦ let h = left.2 in omega (arith, below, h) | inr right ↦ let s = right.0 in let h = right.2 in omega (arith, below, differ, s, h) ];
+              from = elim side [
+                | inl left ↦ let s = left.0 in let l = left.1 in omega (arith, from, differ, s, l)
+                | inr right ↦ let l = right.1 in
+                    omega (arith, from, l)
+              ];
+              below = elim side [
+                | inl left ↦ let h = left.2 in omega (arith, below, h)
+                | inr right ↦ let s = right.0 in let h = right.2 in
+                    omega (arith, below, differ, s, h)
+              ];
               key = seen.key;
               there = seen.there;
               row = seen.row;
@@ -263,14 +291,19 @@ module _ (rows : List Row) (order : List RowKey) (free : List (List Stretch)) (w
       ]))
       r
       (best_through (Seen low high) (Beneath (length order + place)) None a r
-      (best_of_same (Seen low high) (λ d. Seen low high d ⊎ (None ≡ Some d)) (λ d seen. inl seen) (λ d either. elim either [ inl seen ↦ seen | inr same ↦ absurd (none-some d same) ]) a best)
+      (best_of_same (Seen low high) (λ d. Seen low high d ⊎ (None ≡ Some d)) (λ d seen. inl seen)
+      (λ d either. elim either [ inl seen ↦ seen | inr same ↦ absurd (none-some d same) ]) a best)
       more) where
         wider : (d : Candidate) → Seen low high d → Seen low' high' d
         wider d seen = let from = seen.from in let below = seen.below in record {
           candidate = seen.candidate;
           place = seen.place;
           from = elim side [ inl left ↦ let s = left.0 in let l = left.1 in omega (arith, from, s, l) | inr right ↦ let l = right.1 in omega (arith, from, l) ];
-          below = elim side [ inl left ↦ let h = left.2 in omega (arith, below, h) | inr right ↦ let s = right.0 in let h = right.2 in omega (arith, below, s, h) ];
+          below = elim side [
+            | inl left ↦ let h = left.2 in omega (arith, below, h)
+            | inr right ↦ let s = right.0 in let h = right.2 in
+                omega (arith, below, s, h)
+          ];
           key = seen.key;
           there = seen.there;
           row = seen.row;
@@ -283,15 +316,25 @@ module _ (rows : List Row) (order : List RowKey) (free : List (List Stretch)) (w
             record {
               candidate = beneath.candidate;
               place = place;
-              from = elim side [ inl left ↦ let l = left.1 in omega (arith, l) | inr right ↦ let s = right.0 in let l = right.1 in omega (arith, s, l, in_order) ];
-              below = elim side [ inl left ↦ let s = left.0 in let h = left.2 in omega (arith, s, h, in_order) | inr right ↦ let h = right.2 in omega (arith, h) ];
+              from = elim side [
+                | inl left ↦ let l = left.1 in omega (arith, l)
+                | inr right ↦ let s = right.0 in let l = right.1 in
+                    omega (arith, s, l, in_order)
+              ];
+              below = elim side [
+                | inl left ↦ let s = left.0 in let h = left.2 in omega (arith, s, h, in_order)
+                | inr right ↦ let h = right.2 in
+                    omega (arith, h)
+              ];
               key = beneath.key;
               there = ap (slice_get order) (sym same) ∙ beneath.leaf.there;
               row = beneath.row;
             }
 
   -- one more row, below those before or above them
-  pub searched_below : (low high place : ℕ) (a r : Option Candidate) → IsSearched rows order free wanted low high a → (place + 1 ≡ low) ⊎ (place ≡ high) → place < low → place < length order → IsBestOf (IsBestOrBeneath rows order free wanted (length order + place) a) r → IsSearched rows order free wanted place high r
+  pub searched_below : (low high place : ℕ) (a r : Option Candidate) → IsSearched rows order free wanted low high a → (place + 1 ≡ low) ⊎ (place ≡ high)
+      → place < low → place < length order → IsBestOf (IsBestOrBeneath rows order free wanted (length order + place) a) r
+      → IsSearched rows order free wanted place high r
   searched_below low high place a r so_far beside before within more =
       let in_order = so_far.split.in_order in
       let below : place + 1 ≡ low = elim beside [ inl left ↦ left | inr right ↦ absurd (omega (arith, right, before, in_order)) ] in
@@ -305,7 +348,9 @@ module _ (rows : List Row) (order : List RowKey) (free : List (List Stretch)) (w
         is_best = best_more low high place place high in_order within (inl (below, refl, refl)) a r so_far.is_best more;
       }
 
-  pub searched_above : (low high place : ℕ) (a r : Option Candidate) → IsSearched rows order free wanted low high a → (place + 1 ≡ low) ⊎ (place ≡ high) → low ≤ place → place < length order → IsBestOf (IsBestOrBeneath rows order free wanted (length order + place) a) r → IsSearched rows order free wanted low (place + 1) r
+  pub searched_above : (low high place : ℕ) (a r : Option Candidate) → IsSearched rows order free wanted low high a → (place + 1 ≡ low) ⊎ (place ≡ high)
+      → low ≤ place → place < length order → IsBestOf (IsBestOrBeneath rows order free wanted (length order + place) a) r
+      → IsSearched rows order free wanted low (place + 1) r
   searched_above low high place a r so_far beside from within more =
       let above : place ≡ high = elim beside [ inl left ↦ absurd (omega (arith, left, from)) | inr right ↦ right ] in
       record {
@@ -318,12 +363,9 @@ module _ (rows : List Row) (order : List RowKey) (free : List (List Stretch)) (w
         is_best = best_more low high place low (place + 1) so_far.split.in_order within (inr (above, refl, refl)) a r so_far.is_best more;
       }
 
-  pub found_is : (low high : ℕ) (best : Option Candidate) → IsBestOf (Seen low high) best → IfSome best (IsCandidate rows free wanted)
-  found_is low high None is = tt
-  found_is low high (Some c) is = is.0.candidate
-
   -- the best of one position and of all, which the rows beneath the first node have
-  pub best_of_all_with : (best r : Option Candidate) → IfSome best (IsCandidate rows free wanted) → IsBestOf (IsBestOrBeneath rows order free wanted 1 best) r → IsBestOf (IsCandidate rows free wanted) r
+  pub best_of_all_with : (best r : Option Candidate) → IfSome best (IsCandidate rows free wanted) → IsBestOf (IsBestOrBeneath rows order free wanted 1 best) r
+      → IsBestOf (IsCandidate rows free wanted) r
   best_of_all_with best r found is =
       best_of_same (IsBestOrBeneath rows order free wanted 1 best) (IsCandidate rows free wanted)
       (λ d either. elim either [

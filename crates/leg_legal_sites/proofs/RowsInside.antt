@@ -8,7 +8,7 @@ use Rattle.leg_design_records.specs.Records.{DesignModel}
 use Rattle.leg_legal_sites.specs.declared.stretch.Stretch.{Stretch}
 use Rattle.leg_legal_sites.specs.Steps.Stretches.{IsFreeSite}
 use Rattle.leg_legal_sites.specs.Steps.RowSites.{AreSitesInside}
-use Rattle.leg_legal_sites.specs.Steps.ClearSites.{IsKnown, NoneTaken}
+use Rattle.leg_legal_sites.specs.Steps.ClearSites.{IsFreeList, NoneTaken}
 use Rattle.leg_legal_sites.specs.Steps.FreeLists.{IsRowAt, AreAllInDie}
 use Rattle.leg_legal_sites.specs.Steps.FreeRows.{AreInside}
 use Rattle.leg_legal_sites.proofs.KnownSites.{known_at_first, known_same}
@@ -18,13 +18,17 @@ no_box : (box : RectModel) → ¬ Contains [] box
 no_box box (place, below, is) = absurd (omega (arith, below))
 
 -- a row begins with its sites in the die
-pub known_of_none : (row : Row) (size : ExtentModel) (die : RectModel) (sites : Stretch) (free : List Stretch) → AreSitesInside row size die sites → ((k : ℕ) → IsFreeSite free k ↔ ((sites.from ≤ k) × (k < sites.end))) → IsKnown row size die (Contains []) free
+pub known_of_none : (row : Row) (size : ExtentModel) (die : RectModel) (sites : Stretch) (free : List Stretch) → AreSitesInside row size die sites
+    → ((k : ℕ) → IsFreeSite free k ↔ ((sites.from ≤ k) × (k < sites.end))) → IsFreeList row size die (Contains []) free
 known_of_none row size die sites free inside between =
-    known_same row size die NoneTaken (Contains []) free (λ box. (λ never. absurd never, λ has. no_box box has)) (known_at_first row size die sites free inside between)
+    known_same row size die NoneTaken (Contains []) free (λ box. (λ never. absurd never, λ has. no_box box has))
+    (known_at_first row size die sites free inside between)
 
 -- what a list is made of, for the row of this number
-pub known_of_row : {E : Type 0} (r : Result (List Stretch) E) (design : DesignModel) (number : ℕ) (row : Row) (site : Site) (sites : Stretch) → IsRowAt design number row site → AreSitesInside row site.size design.die sites → IfOk r (λ free. (k : ℕ) → IsFreeSite free k ↔ ((sites.from ≤ k) × (k < sites.end)))
-    → IfOk r (λ free. (other : Row) (its : Site) → IsRowAt design number other its → IsKnown other its.size design.die (Contains []) free)
+pub known_of_row : {E : Type 0} (r : Result (List Stretch) E) (design : DesignModel) (number : ℕ) (row : Row) (site : Site) (sites : Stretch)
+    → IsRowAt design number row site → AreSitesInside row site.size design.die sites
+    → IfOk r (λ free. (k : ℕ) → IsFreeSite free k ↔ ((sites.from ≤ k) × (k < sites.end)))
+    → IfOk r (λ free. (other : Row) (its : Site) → IsRowAt design number other its → IsFreeList other its.size design.die (Contains []) free)
 known_of_row (Ok free) design number row site sites at inside between = λ other its is.
     let same = same_row design number row other site its at is in
     rw (same.0, same.1) (known_of_none row site.size design.die sites free inside between)

@@ -7,7 +7,7 @@ use Rattle.std.proofs.lemmas.List.{get_or_default}
 use Rattle.leg_legal_sites.specs.declared.stretch.Stretch.{Stretch}
 use Rattle.leg_legal_sites.specs.declared.row_keys.RowKey.{RowKey}
 use Rattle.leg_legal_sites.specs.Steps.TreeOfRows.{IsLevelsBeneath}
-use Rattle.leg_legal_sites.specs.Steps.FreeListSharing.{list_within, list_at, place_of, row_list, lists_from, row_lists}
+use Rattle.leg_legal_sites.specs.Steps.FreeListSharing.{list_within, list_of_node, place_of_row, row_list, lists_from, row_lists}
 use Rattle.leg_legal_sites.proofs.RowTree.{not_before, one_lower, half}
 
 -- a number is twice its half, or one more
@@ -24,7 +24,8 @@ pub half_below : (n : ℕ) → suc n / 2 ≤ n
 half_below n = omega arith
 
 -- a way that is long enough may be longer
-enough : (most more : ℕ) (lists : List (Option (List Stretch))) (node : ℕ) → node ≤ most → node ≤ more → list_within most lists node ≡ list_within more lists node
+enough : (most more : ℕ) (lists : List (Option (List Stretch))) (node : ℕ) → node ≤ most → node ≤ more
+    → list_within most lists node ≡ list_within more lists node
 enough zero zero lists node short long = refl
 enough zero (suc more) lists zero short long = refl
 enough zero (suc more) lists (suc n) short long = absurd (omega (arith, short))
@@ -36,23 +37,27 @@ enough (suc most) (suc more) lists (suc n) short long =
     ap (λ o. option_or o (get_or lists (suc n) None)) (enough most more lists (suc n / 2) (omega (arith, short, below)) (omega (arith, long, below)))
 
 -- what a node has from those above it, or its own list
-pub at_step : (lists : List (Option (List Stretch))) (node : ℕ) → 1 ≤ node → list_at lists node ≡ option_or (list_at lists (node / 2)) (get_or lists node None)
+pub at_step : (lists : List (Option (List Stretch))) (node : ℕ) → 1 ≤ node
+    → list_of_node lists node ≡ option_or (list_of_node lists (node / 2)) (get_or lists node None)
 at_step lists zero some = absurd (omega (arith, some))
 at_step lists (suc n) some =
     ap (λ o. option_or o (get_or lists (suc n) None)) (enough n (suc n / 2) lists (suc n / 2) (half_below n) (omega arith))
 
-pub at_none : (lists : List (Option (List Stretch))) (node : ℕ) → node ≡ 0 → list_at lists node ≡ None
+pub at_none : (lists : List (Option (List Stretch))) (node : ℕ) → node ≡ 0 → list_of_node lists node ≡ None
 at_none lists node none = rw none refl
 
 -- below a node
-pub below_is : (lists : List (Option (List Stretch))) (node other : ℕ) → 1 ≤ other → other / 2 ≡ node → list_at lists other ≡ option_or (list_at lists node) (get_or lists other None)
-below_is lists node other some half = at_step lists other some ∙ ap (λ (n : ℕ). option_or (list_at lists n) (get_or lists other None)) half
+pub below_is : (lists : List (Option (List Stretch))) (node other : ℕ) → 1 ≤ other → other / 2 ≡ node
+    → list_of_node lists other ≡ option_or (list_of_node lists node) (get_or lists other None)
+below_is lists node other some half = at_step lists other some ∙ ap (λ (n : ℕ). option_or (list_of_node lists n) (get_or lists other None)) half
 
-below_has : (lists : List (Option (List Stretch))) (node other : ℕ) (list : List Stretch) → 1 ≤ other → other / 2 ≡ node → list_at lists node ≡ Some list → list_at lists other ≡ Some list
+below_has : (lists : List (Option (List Stretch))) (node other : ℕ) (list : List Stretch) → 1 ≤ other → other / 2 ≡ node → list_of_node lists node ≡ Some list
+    → list_of_node lists other ≡ Some list
 below_has lists node other list some half has = below_is lists node other some half ∙ ap (λ o. option_or o (get_or lists other None)) has
 
 -- where no node above has a list, a node has its own
-pub own_is : (lists : List (Option (List Stretch))) (node other : ℕ) → 1 ≤ other → other / 2 ≡ node → list_at lists node ≡ None → list_at lists other ≡ get_or lists other None
+pub own_is : (lists : List (Option (List Stretch))) (node other : ℕ) → 1 ≤ other → other / 2 ≡ node → list_of_node lists node ≡ None
+    → list_of_node lists other ≡ get_or lists other None
 own_is lists node other some half none = below_is lists node other some half ∙ ap (λ o. option_or o (get_or lists other None)) none
 
 none_of_or : (a b : Option (List Stretch)) → option_or a b ≡ None → a ≡ None
@@ -60,14 +65,19 @@ none_of_or None b none = refl
 none_of_or (Some x) b none = none
 
 -- where a node has no list, those above it have none
-pub none_above : (lists : List (Option (List Stretch))) (node other : ℕ) → 1 ≤ other → other / 2 ≡ node → list_at lists other ≡ None → list_at lists node ≡ None
-none_above lists node other some half none = none_of_or (list_at lists node) (get_or lists other None) (sym (below_is lists node other some half) ∙ none)
+pub none_above : (lists : List (Option (List Stretch))) (node other : ℕ) → 1 ≤ other → other / 2 ≡ node → list_of_node lists other ≡ None
+    → list_of_node lists node ≡ None
+none_above lists node other some half none = none_of_or (list_of_node lists node) (get_or lists other None) (sym (below_is lists node other some half) ∙ none)
 
 -- beneath a node that has a list all have it
-pub from_above : (levels node other : ℕ) (lists : List (Option (List Stretch))) (list : List Stretch) → 1 ≤ node → IsLevelsBeneath levels node other → list_at lists node ≡ Some list → list_at lists other ≡ Some list
-from_above zero node other lists list some same has = ap (list_at lists) same ∙ has
-from_above (suc levels) node other lists list some (inl left) has = from_above levels (2 * node) other lists list (omega (arith, some)) left (below_has lists node (2 * node) list (omega (arith, some)) (half_of_left node) has)
-from_above (suc levels) node other lists list some (inr right) has = from_above levels (2 * node + 1) other lists list (omega arith) right (below_has lists node (2 * node + 1) list (omega arith) (half_of_right node) has)
+pub from_above : (levels node other : ℕ) (lists : List (Option (List Stretch))) (list : List Stretch) → 1 ≤ node → IsLevelsBeneath levels node other
+    → list_of_node lists node ≡ Some list → list_of_node lists other ≡ Some list
+from_above zero node other lists list some same has = ap (list_of_node lists) same ∙ has
+from_above (suc levels) node other lists list some (inl left) has =
+    from_above levels (2 * node) other lists list (omega (arith, some)) left
+    (below_has lists node (2 * node) list (omega (arith, some)) (half_of_left node) has)
+from_above (suc levels) node other lists list some (inr right) has =
+    from_above levels (2 * node + 1) other lists list (omega arith) right (below_has lists node (2 * node + 1) list (omega arith) (half_of_right node) has)
 
 pub record IsBeneath (node other : ℕ) : Type 0 where
   pub levels : ℕ
@@ -106,21 +116,23 @@ decide_beneath (suc most) node other upto some =
 
 module _ (old new : List (Option (List Stretch))) (node : ℕ) (others : (k : ℕ) → IsNotBeneath node k → get_or new k None ≡ get_or old k None) where
   -- a list that changes beneath a node is that of no node elsewhere
-  pub same_elsewhere : (most other : ℕ) → other ≤ most → IsNotBeneath node other → list_at new other ≡ list_at old other
+  pub same_elsewhere : (most other : ℕ) → other ≤ most → IsNotBeneath node other → list_of_node new other ≡ list_of_node old other
   same_elsewhere zero other upto never = let none : other ≡ 0 = omega (arith, upto) in at_none new other none ∙ sym (at_none old other none)
   same_elsewhere (suc most) other upto never =
       elim (cases_eq other 0) [
         | inl none ↦ at_none new other none ∙ sym (at_none old other none)
         | inr some ↦
-            let above = same_elsewhere most (other / 2) (omega (arith, upto, some)) (λ levels beneath. never (suc levels) (one_lower levels node (other / 2) other beneath (halves other))) in
+            let above =
+            same_elsewhere most (other / 2) (omega (arith, upto, some))
+            (λ levels beneath. never (suc levels) (one_lower levels node (other / 2) other beneath (halves other))) in
             at_step new other (omega (arith, some))
             ∙ ap (λ o. option_or o (get_or new other None)) above
-            ∙ ap (λ o. option_or (list_at old (other / 2)) o) (others other never)
+            ∙ ap (λ o. option_or (list_of_node old (other / 2)) o) (others other never)
             ∙ sym (at_step old other (omega (arith, some)))
       ]
 
   -- the node above isn't beneath it
-  pub same_above : 1 ≤ node → list_at new (node / 2) ≡ list_at old (node / 2)
+  pub same_above : 1 ≤ node → list_of_node new (node / 2) ≡ list_of_node old (node / 2)
   same_above some =
       same_elsewhere (node / 2) (node / 2) (omega arith) (λ levels beneath. let from = not_before levels node (node / 2) beneath in omega (arith, from, some))
 
@@ -141,13 +153,15 @@ module _ (order : List RowKey) (lists : List (Option (List Stretch))) where
   row_lists_long = length_from (length order) 0
 
   pub row_list_there : (number : ℕ) → number < length order → slice_get (row_lists order lists) number ≡ Some (row_list order lists number)
-  row_list_there number below = let here : 0 + number ≡ number = omega arith in get_from (length order) 0 number below ∙ ap (λ (n : ℕ). Some (row_list order lists n)) here
+  row_list_there number below = let here : 0 + number ≡ number = omega arith in
+      get_from (length order) 0 number below ∙ ap (λ (n : ℕ). Some (row_list order lists n)) here
 
-module _ (order : List RowKey) (old new : List (Option (List Stretch))) (same : (leaf : ℕ) → length order ≤ leaf → list_at new leaf ≡ list_at old leaf) where
+module _ (order : List RowKey) (old new : List (Option (List Stretch)))
+    (same : (leaf : ℕ) → length order ≤ leaf → list_of_node new leaf ≡ list_of_node old leaf) where
   same_from : (more from : ℕ) → lists_from order new more from ≡ lists_from order old more from
   same_from zero from = refl
   same_from (suc more) from =
-      ap (λ o. unwrap_or o [] ∷ lists_from order new more (from + 1)) (same (length order + place_of order from) (omega arith))
+      ap (λ o. unwrap_or o [] ∷ lists_from order new more (from + 1)) (same (length order + place_of_row order from) (omega arith))
       ∙ ap (λ l. row_list order old from ∷ l) (same_from more (from + 1))
 
   -- rows whose leaves have the same lists have the same free sites
@@ -184,7 +198,7 @@ module _ (lists : List (Option (List Stretch))) (node : ℕ) (within : node < le
 pub record IsOwnerSoFar (lists : List (Option (List Stretch))) (node owner above : ℕ) : Type 0 where
   pub within : owner < length lists
   pub before : above < length lists
-  pub is : option_or (list_at lists above) (get_or lists owner None) ≡ list_at lists node
+  pub is : option_or (list_of_node lists above) (get_or lists owner None) ≡ list_of_node lists node
 
 pub owner_begins : (lists : List (Option (List Stretch))) (node : ℕ) → 1 ≤ node → node < length lists → IsOwnerSoFar lists node node (node / 2)
 owner_begins lists node some there = record { within = there; before = omega (arith, there); is = sym (at_step lists node some) }
@@ -200,33 +214,36 @@ or_of_none None (Some y) c is = absurd (false≢true (sym is))
 or_of_none (Some x) b c is = refl
 
 -- one more node above has a list, or none
-pub owner_higher : (lists : List (Option (List Stretch))) (node owner above : ℕ) → 1 ≤ above → is_some (get_or lists above None) ≡ true → IsOwnerSoFar lists node owner above → IsOwnerSoFar lists node above (above / 2)
+pub owner_higher : (lists : List (Option (List Stretch))) (node owner above : ℕ) → 1 ≤ above → is_some (get_or lists above None) ≡ true
+    → IsOwnerSoFar lists node owner above → IsOwnerSoFar lists node above (above / 2)
 owner_higher lists node owner above some has so_far = let before = so_far.before in record {
   within = before;
   before = omega (arith, before);
   is =
-      sym (or_of_some (list_at lists (above / 2)) (get_or lists above None) (get_or lists owner None) has)
+      sym (or_of_some (list_of_node lists (above / 2)) (get_or lists above None) (get_or lists owner None) has)
       ∙ ap (λ o. option_or o (get_or lists owner None)) (sym (at_step lists above some))
       ∙ so_far.is;
 }
 
-pub owner_stays : (lists : List (Option (List Stretch))) (node owner above : ℕ) → 1 ≤ above → is_some (get_or lists above None) ≡ false → IsOwnerSoFar lists node owner above → IsOwnerSoFar lists node owner (above / 2)
+pub owner_stays : (lists : List (Option (List Stretch))) (node owner above : ℕ) → 1 ≤ above → is_some (get_or lists above None) ≡ false
+    → IsOwnerSoFar lists node owner above → IsOwnerSoFar lists node owner (above / 2)
 owner_stays lists node owner above some none so_far = let before = so_far.before in record {
   within = so_far.within;
   before = omega (arith, before);
   is =
-      sym (or_of_none (list_at lists (above / 2)) (get_or lists above None) (get_or lists owner None) none)
+      sym (or_of_none (list_of_node lists (above / 2)) (get_or lists above None) (get_or lists owner None) none)
       ∙ ap (λ o. option_or o (get_or lists owner None)) (sym (at_step lists above some))
       ∙ so_far.is;
 }
 
-pub owner_found : (lists : List (Option (List Stretch))) (node owner above : ℕ) → above ≡ 0 → IsOwnerSoFar lists node owner above → get_or lists owner None ≡ list_at lists node
+pub owner_found : (lists : List (Option (List Stretch))) (node owner above : ℕ) → above ≡ 0 → IsOwnerSoFar lists node owner above
+    → get_or lists owner None ≡ list_of_node lists node
 owner_found lists node owner above none so_far = ap (λ o. option_or o (get_or lists owner None)) (sym (at_none lists above none)) ∙ so_far.is
 
 -- where a node has no list of those above it, another one has none
 pub record IsAloneUpTo (lists : List (Option (List Stretch))) (node above : ℕ) : Type 0 where
   pub before : above < length lists
-  pub alone : list_at lists above ≡ None → list_at lists (node / 2) ≡ None
+  pub alone : list_of_node lists above ≡ None → list_of_node lists (node / 2) ≡ None
 
 pub alone_begins : (lists : List (Option (List Stretch))) (node : ℕ) → node < length lists → IsAloneUpTo lists node (node / 2)
 alone_begins lists node there = record { before = omega (arith, there); alone = λ none. none }
@@ -236,11 +253,12 @@ or_of_nones None None is none = refl
 or_of_nones None (Some y) is none = absurd (false≢true (sym is))
 or_of_nones (Some x) b is none = none
 
-pub alone_higher : (lists : List (Option (List Stretch))) (node above : ℕ) → 1 ≤ above → is_some (get_or lists above None) ≡ false → IsAloneUpTo lists node above → IsAloneUpTo lists node (above / 2)
+pub alone_higher : (lists : List (Option (List Stretch))) (node above : ℕ) → 1 ≤ above → is_some (get_or lists above None) ≡ false
+    → IsAloneUpTo lists node above → IsAloneUpTo lists node (above / 2)
 alone_higher lists node above some none so_far = let before = so_far.before in record {
   before = omega (arith, before);
-  alone = λ higher. so_far.alone (at_step lists above some ∙ or_of_nones (list_at lists (above / 2)) (get_or lists above None) none higher);
+  alone = λ higher. so_far.alone (at_step lists above some ∙ or_of_nones (list_of_node lists (above / 2)) (get_or lists above None) none higher);
 }
 
-pub alone_found : (lists : List (Option (List Stretch))) (node above : ℕ) → above ≡ 0 → IsAloneUpTo lists node above → list_at lists (node / 2) ≡ None
+pub alone_found : (lists : List (Option (List Stretch))) (node above : ℕ) → above ≡ 0 → IsAloneUpTo lists node above → list_of_node lists (node / 2) ≡ None
 alone_found lists node above none so_far = so_far.alone (at_none lists above none)

@@ -68,4 +68,7 @@ module _ (left x width : ℤ) (d n : ℕ) (is : width ≡ pos n) (some : 0 < n) 
 
   -- so many end at x or to the left of it
   pub sites_end : IsBeyond left x d → (k : ℕ) → k < d / n ↔ ((left +ℤ pos (k + 1) *ℤ width) ≤ℤ x)
-  sites_end far k = (λ below. (ends_within k far).0 ((le-div_iff_mul-le some).0 (omega (arith, below))), λ by. let last : k + 1 ≤ d / n = (le-div_iff_mul-le some).1 ((ends_within k far).1 by) in omega (arith, last))
+  sites_end far k = (
+    λ below. (ends_within k far).0 ((le-div_iff_mul-le some).0 (omega (arith, below))),
+    λ by. let last : k + 1 ≤ d / n = (le-div_iff_mul-le some).1 ((ends_within k far).1 by) in omega (arith, last),
+  )

@@ -10,7 +10,8 @@ use Rattle.leg_legal_sites.specs.Steps.TakeSites.{IsCutAt, if_any, with_rests}
 use Rattle.leg_legal_sites.proofs.OneStretch.{apart_at}
 use Rattle.leg_legal_sites.proofs.JoinedStretches.{pairs_append, FreeIn, from_free_in, to_free_in, free_append_cases, free_append_left, free_append_right, at_from_take, take_has, at_from_drop, drop_has, all_take, all_drop, pairs_take, pairs_drop, all_if_any, pairs_if_any, free_in_any, any_has}
 
-pub without_unmet : (free : List Stretch) (from end first last : ℕ) → AreFreeStretches free → IsCutAt free from end first last → last ≤ first → IsWithout free from end free
+pub without_unmet : (free : List Stretch) (from end first last : ℕ) → AreFreeStretches free → IsCutAt free from end first last → last ≤ first
+    → IsWithout free from end free
 without_unmet free from end first last are cut unmet = record {
   are = are;
   sites = λ k. (
@@ -32,7 +33,8 @@ without_unmet free from end first last are cut unmet = record {
 }
 
 -- a stretch with two rests is replaced by both
-pub both_rests : (first last : ℕ) (left right : Stretch) (free : List Stretch) → first + 1 ≡ last → nat_lt left.from left.end ≡ true → nat_lt right.from right.end ≡ true → take first free ++ (left ∷ right ∷ []) ++ drop (first + 1) free ≡ with_rests first last left right free
+pub both_rests : (first last : ℕ) (left right : Stretch) (free : List Stretch) → first + 1 ≡ last → nat_lt left.from left.end ≡ true
+    → nat_lt right.from right.end ≡ true → take first free ++ (left ∷ right ∷ []) ++ drop (first + 1) free ≡ with_rests first last left right free
 both_rests first last left right free one l r =
     rw (l, r, one) refl
 
@@ -58,7 +60,8 @@ module _ (free : List Stretch) (from end first last : ℕ) (are : AreFreeStretch
   rest_long =
       All-append (λ s. s.from < s.end) (take first free ++ middle) (drop last free)
       (All-append (λ s. s.from < s.end) (take first free) middle (All-take (λ s. s.from < s.end) first free are.long)
-      (All-append (λ s. s.from < s.end) (if_any left) (if_any right) (all_if_any (λ s. s.from < s.end) left (λ some. some)) (all_if_any (λ s. s.from < s.end) right (λ some. some))))
+      (All-append (λ s. s.from < s.end) (if_any left) (if_any right) (all_if_any (λ s. s.from < s.end) left (λ some. some))
+      (all_if_any (λ s. s.from < s.end) right (λ some. some))))
       (All-drop (λ s. s.from < s.end) last free are.long)
 
   abbrev Apart : Stretch → Stretch → Type 0
@@ -135,7 +138,12 @@ module _ (free : List Stretch) (from end first last : ℕ) (are : AreFreeStretch
               | inl before ↦
                   free_append_left (take first free ++ middle) (drop last free) k
                   (free_append_left (take first free) middle k
-                  (record { stretch = site.stretch; has = take_has first free site.number site.stretch before site.there; above = site.above; below = site.below }))
+                  (record {
+                    stretch = site.stretch;
+                    has = take_has first free site.number site.stretch before site.there;
+                    above = site.above;
+                    below = site.below;
+                  }))
               | inr after ↦
                   let apart = apart_at free are first site.number a site.stretch at_a site.there after in
                   let beyond = cut.beyond first a (omega arith) at_a in
@@ -161,7 +169,12 @@ module _ (free : List Stretch) (from end first last : ℕ) (are : AreFreeStretch
                   absurd (omega arith)
               | inr after ↦
                   free_append_right (take first free ++ middle) (drop last free) k
-                  (record { stretch = site.stretch; has = drop_has last free site.number site.stretch (omega arith) site.there; above = site.above; below = site.below })
+                  (record {
+                    stretch = site.stretch;
+                    has = drop_has last free site.number site.stretch (omega arith) site.there;
+                    above = site.above;
+                    below = site.below;
+                  })
             ]
       ]
 
@@ -179,6 +192,7 @@ module _ (free : List Stretch) (from end first last : ℕ) (are : AreFreeStretch
   }
 
   -- where one stretch is met, and there are two rests
-  pub without_both : first + 1 ≡ last → nat_lt a.from from ≡ true → nat_lt end b.end ≡ true → (new : List Stretch) → new ≡ take first free ++ (left ∷ right ∷ []) ++ drop (first + 1) free → IsWithout free from end new
+  pub without_both : first + 1 ≡ last → nat_lt a.from from ≡ true → nat_lt end b.end ≡ true → (new : List Stretch)
+      → new ≡ take first free ++ (left ∷ right ∷ []) ++ drop (first + 1) free → IsWithout free from end new
   without_both one l r new is =
       rw (is ∙ both_rests first last left right free one l r) without_met

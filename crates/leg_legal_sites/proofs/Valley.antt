@@ -1,5 +1,5 @@
 -- How far the sites of a row are from a point: the distance falls up to one site, and rises from it on.
-use Rattle.std.proofs.Common.{◌≡◌, ℕ, ◌+◌, ◌-◌, ◌*◌, ◌/◌, ◌%◌, ◌<◌, ◌≤◌, pos, ◌+ℤ◌, ◌*ℤ◌, ◌≤ℤ◌, unsigned_abs, inl, inr, ap, ◌∙◌, arith}
+use Rattle.std.proofs.Common.{◌≡◌, ℕ, ◌+◌, ◌-◌, ◌*◌, ◌/◌, ◌%◌, ◌<◌, ◌≤◌, pos, ◌+ℤ◌, ◌*ℤ◌, inl, inr, ap, ◌∙◌, arith}
 use Rattle.std.proofs.Math.IntN.{pos-*ℤ-pos}
 use Rattle.std.proofs.lemmas.Bool.{cases_eq}
 use Rattle.std.proofs.lemmas.Int.{ints}
@@ -18,7 +18,8 @@ abbrev pub between_ℕ : ℕ → ℕ → ℕ
 between_ℕ m n = (m - n) + (n - m)
 
 -- what a site's distance is, for a start that lies so far to the right of the row's left edge
-pub x_away_is : (pitch : Pitch) (width offset : ℕ) → pitch.width ≡ pos width → pitch.start ≡ pitch.left +ℤ pos offset → (k : ℕ) → x_away pitch k ≡ between_ℕ (k * width) offset
+pub x_away_is : (pitch : Pitch) (width offset : ℕ) → pitch.width ≡ pos width → pitch.start ≡ pitch.left +ℤ pos offset → (k : ℕ)
+    → x_away pitch k ≡ between_ℕ (k * width) offset
 x_away_is pitch width offset wide start k =
     let product : pos k *ℤ pitch.width ≡ pos (k * width) = ap (λ z. pos k *ℤ z) wide ∙ pos-*ℤ-pos k width in
     omega (arith, ints, product, start)
@@ -74,7 +75,8 @@ module _ (width offset below rest : ℕ) (some : 1 ≤ width) (sum : below * wid
       }
 
 -- the same of the distances of sites
-pub valley_same : (pitch : Pitch) (width offset lowest : ℕ) → pitch.width ≡ pos width → pitch.start ≡ pitch.left +ℤ pos offset → IsValley (λ k. between_ℕ (k * width) offset) lowest → IsValley (x_away pitch) lowest
+pub valley_same : (pitch : Pitch) (width offset lowest : ℕ) → pitch.width ≡ pos width → pitch.start ≡ pitch.left +ℤ pos offset
+    → IsValley (λ k. between_ℕ (k * width) offset) lowest → IsValley (x_away pitch) lowest
 valley_same pitch width offset lowest wide start valley = record {
   falls = λ j k order upto. rw (x_away_is pitch width offset wide start j, x_away_is pitch width offset wide start k) (valley.falls j k order upto);
   rises = λ j k from order. rw (x_away_is pitch width offset wide start j, x_away_is pitch width offset wide start k) (valley.rises j k from order);

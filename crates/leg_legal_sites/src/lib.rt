@@ -23,7 +23,7 @@
 //! below, one of which gets a copy, and makes the nodes anew on its way back. Nodes beneath one with a list keep the bounds
 //! that they had, so a search takes there the narrower ones of a node and of those above it.
 //!
-//! What a list means in the plane is `IsKnown`: a site is in it if and only if the row has the site and the site's box is
+//! What a list means in the plane is `IsFreeList`: a site is in it if and only if the row has the site and the site's box is
 //! clear, that is in the die and sharing no unit square with a box that is in the way.
 #![tactic(auto)]
 

@@ -8,7 +8,7 @@ ghost use Rattle.leg_legal_sites.specs.declared.stretch.Stretch.{Stretch};
 ghost use Rattle.leg_legal_sites.specs.declared.row_keys.RowKey.{RowKey};
 ghost use Rattle.leg_legal_sites.specs.Steps.FreeLists.{AreRowsOf};
 ghost use Rattle.leg_legal_sites.specs.Steps.RowOrder.{IsRowOrder};
-ghost use Rattle.leg_legal_sites.specs.Steps.FreeListSharing.{list_at, row_lists};
+ghost use Rattle.leg_legal_sites.specs.Steps.FreeListSharing.{list_of_node, row_lists};
 ghost use Rattle.leg_legal_sites.specs.Steps.FreeRows.{AreTakenBeneath};
 ghost use Rattle.leg_legal_sites.specs.Steps.OnlyRow.{DoRise, AreAllSoHigh, IsOnlyMet};
 ghost use Rattle.leg_legal_sites.specs.Steps.SharedLists.{AreShared};

@@ -9,7 +9,7 @@ ghost use Rattle.leg_legal_sites.specs.declared.stretch.Stretch.{Stretch};
 ghost use Rattle.leg_legal_sites.specs.Steps.BestPosition.{AreReady, IsBestOf};
 ghost use Rattle.leg_legal_sites.specs.Steps.FreeLists.{AreRowsOf, IsOfItsSite};
 ghost use Rattle.leg_legal_sites.specs.Steps.RowOrder.{IsRowOrder};
-ghost use Rattle.leg_legal_sites.specs.Steps.FreeListSharing.{list_at, row_lists};
+ghost use Rattle.leg_legal_sites.specs.Steps.FreeListSharing.{list_of_node, row_lists};
 ghost use Rattle.leg_legal_sites.specs.Steps.Nearest.{BeginWithin};
 ghost use Rattle.leg_legal_sites.specs.Steps.RowPositions.{IsCandidateOf, IsBestOrBeneath};
 ghost use Rattle.leg_legal_sites.specs.Steps.Branches.{IsBranch};
@@ -98,7 +98,7 @@ fn best_at_leaf<A: Allocator + Copy>(
     requires sized { IsOfItsSite design.now wanted.now }
     requires there { place < length order.now }
     requires within { owner < length lists.now }
-    requires owner { get_or lists.now owner None ≡ list_at lists.now (length order.now + place) }
+    requires owner { get_or lists.now owner None ≡ list_of_node lists.now (length order.now + place) }
     ensures { IsBestOf (IsBestOrBeneath design.now.rows order.now (row_lists order.now lists.now) wanted.now (length order.now + place) best) result }
 {
     let number = order[place].row;

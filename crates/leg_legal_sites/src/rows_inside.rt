@@ -4,7 +4,7 @@ ghost use Rattle.std.specs.Prelude.{◌<◌, [], length, IfOk, Contains};
 ghost use Rattle.leg_lib_records.specs.declared.records.Site.{Site};
 ghost use Rattle.leg_design_records.specs.declared.records.Row.{Row};
 ghost use Rattle.leg_legal_sites.specs.Steps.RowOrder.{IsRowOrder};
-ghost use Rattle.leg_legal_sites.specs.Steps.ClearSites.{IsKnown};
+ghost use Rattle.leg_legal_sites.specs.Steps.ClearSites.{IsFreeList};
 ghost use Rattle.leg_legal_sites.specs.Steps.FreeLists.{IsRowAt};
 ghost use Rattle.leg_legal_sites.specs.Steps.SharedLists.{HaveNone, AreLeafLists};
 
@@ -52,7 +52,7 @@ fn row_inside<A: Allocator + Copy>(
     number: usize,
 ) -> Result<RowParts<A>, AllocError>
     requires { number < length design.now.rows }
-    ensures { IfOk result (λ list. (row : Row) (site : Site) → IsRowAt design.now number row site → IsKnown row site.size design.now.die (Contains []) list) }
+    ensures { IfOk result (λ list. (row : Row) (site : Site) → IsRowAt design.now number row site → IsFreeList row site.size design.now.die (Contains []) list) }
 {
     let row = &design.rows()[number];
     let size = &design.library().sites()[row.site].size;

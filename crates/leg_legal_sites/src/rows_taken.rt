@@ -6,7 +6,7 @@ ghost use Rattle.leg_lib_records.specs.Measure.{HasArea};
 ghost use Rattle.leg_legal_sites.specs.declared.row_keys.RowKey.{RowKey};
 ghost use Rattle.leg_legal_sites.specs.Steps.RowOrder.{IsRowOrder};
 ghost use Rattle.leg_legal_sites.specs.Steps.TreeOfRows.{IsLeafBeneath};
-ghost use Rattle.leg_legal_sites.specs.Steps.FreeListSharing.{list_at, row_lists};
+ghost use Rattle.leg_legal_sites.specs.Steps.FreeListSharing.{list_of_node, row_lists};
 ghost use Rattle.leg_legal_sites.specs.Steps.Bounds.{AreWithinBounds, DoBoundAlike, IsBeside};
 ghost use Rattle.leg_legal_sites.specs.Steps.FreeRows.{AreTakenBeneath};
 ghost use Rattle.leg_legal_sites.specs.Steps.SharedLists.{AreShared, IsMetThroughout, LosesShared};
@@ -35,11 +35,11 @@ pub(crate) fn take_beneath<A: Allocator + Copy>(
     requires shared { AreShared order.now lists.old }
     requires first { 1 ≤ node }
     requires there { node < length nodes.old }
-    requires alone { list_at lists.old (node / 2) ≡ None }
+    requires alone { list_of_node lists.old (node / 2) ≡ None }
     ensures shared { AreShared order.now lists.new }
     ensures rows { OnOk result (AreRowsOf design.now (record { lists = row_lists order.now lists.new; order = order.now; nodes = nodes.new })) }
     ensures taken { OnOk result (AreTakenBeneath design.now rect.now order.now node (row_lists order.now lists.old) (row_lists order.now lists.new)) }
-    ensures alone { OnOk result (list_at lists.new (node / 2) ≡ None) }
+    ensures alone { OnOk result (list_of_node lists.new (node / 2) ≡ None) }
 {
     if is_beside(&nodes[node], rect) {
         return Ok(());
@@ -119,12 +119,12 @@ pub(crate) fn take_at<A: Allocator + Copy>(
     requires first { 1 ≤ node }
     requires there { node < length nodes.old }
     requires list { node < length lists.old }
-    requires alone { list_at lists.old (node / 2) ≡ None }
+    requires alone { list_of_node lists.old (node / 2) ≡ None }
     requires met { IsMetThroughout design.now rect.now order.now lists.old nodes.old node }
     ensures shared { AreShared order.now lists.new }
     ensures rows { OnOk result (AreRowsOf design.now (record { lists = row_lists order.now lists.new; order = order.now; nodes = nodes.new })) }
     ensures taken { OnOk result (AreTakenBeneath design.now rect.now order.now node (row_lists order.now lists.old) (row_lists order.now lists.new)) }
-    ensures alone { OnOk result (list_at lists.new (node / 2) ≡ None) }
+    ensures alone { OnOk result (list_of_node lists.new (node / 2) ≡ None) }
 {
     let row = &design.rows()[row_beneath(design, order, node)];
     let size = &design.library().sites()[row.site].size;

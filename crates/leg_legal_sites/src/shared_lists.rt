@@ -5,7 +5,7 @@ ghost use Rattle.std.specs.Prelude.{◌≡◌, ◌+◌, ◌*◌, ◌/◌, ◌<�
 ghost use Rattle.leg_design_records.specs.Records.{DesignModel};
 ghost use Rattle.leg_legal_sites.specs.Steps.FreeLists.{AreRowsOf};
 ghost use Rattle.leg_legal_sites.specs.Steps.TreeOfRows.{IsLeafBeneath};
-ghost use Rattle.leg_legal_sites.specs.Steps.FreeListSharing.{list_at, row_lists};
+ghost use Rattle.leg_legal_sites.specs.Steps.FreeListSharing.{list_of_node, row_lists};
 ghost use Rattle.leg_legal_sites.specs.Steps.SharedLists.{AreShared, HaveNoneAbove, IsShareable};
 
 use crate::bounds::Bounds;
@@ -31,7 +31,7 @@ pub(crate) fn owner_of<A: Allocator + Copy>(lists: &[Option<RowParts<A>>], node:
     requires first { 1 ≤ node }
     requires there { node < length lists.now }
     ensures within { result < length lists.now }
-    ensures owner { get_or lists.now result None ≡ list_at lists.now node }
+    ensures owner { get_or lists.now result None ≡ list_of_node lists.now node }
 {
     let mut owner = node;
     let mut above = node / 2;
@@ -47,7 +47,7 @@ pub(crate) fn owner_of<A: Allocator + Copy>(lists: &[Option<RowParts<A>>], node:
 /// Whether no node above this one has a list.
 pub(crate) fn is_alone<A: Allocator + Copy>(lists: &[Option<RowParts<A>>], node: usize) -> bool
     requires { node < length lists.now }
-    ensures { IsTrue result → list_at lists.now (node / 2) ≡ None }
+    ensures { IsTrue result → list_of_node lists.now (node / 2) ≡ None }
 {
     let mut above = node / 2;
     while above > 0 {
@@ -121,11 +121,11 @@ pub(crate) fn hand_down<A: Allocator + Copy>(
     requires left { 2 * node < length lists.old }
     requires right { 2 * node + 1 < length lists.old }
     requires nodes { length nodes.old ≡ 2 * length order.now }
-    requires alone { list_at lists.old (node / 2) ≡ None }
+    requires alone { list_of_node lists.old (node / 2) ≡ None }
     ensures shared { AreShared order.now lists.new }
     ensures same { row_lists order.now lists.new ≡ row_lists order.now lists.old }
     ensures rows { (design : DesignModel) → AreRowsOf design (record { lists = row_lists order.now lists.old; order = order.now; nodes = nodes.old }) → AreRowsOf design (record { lists = row_lists order.now lists.old; order = order.now; nodes = nodes.new }) }
-    ensures none { OnOk result (list_at lists.new node ≡ None) }
+    ensures none { OnOk result (list_of_node lists.new node ≡ None) }
 {
     let Some(list) = &lists[node] else {
         return Ok(());

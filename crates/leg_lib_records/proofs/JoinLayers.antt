@@ -26,7 +26,10 @@ lt_is a b = (λ is. grind (arith, ints), λ less. grind (arith, ints))
 
 pub holds_is : (r : RectModel) → Decides (holds_origin r) (HoldsOrigin r)
 holds_is r =
-    let all = Decides-and (int_lt r.x1 (pos 0) && int_lt (pos 0) r.x2 && int_lt r.y1 (pos 0)) (int_lt (pos 0) r.y2) (Decides-and (int_lt r.x1 (pos 0) && int_lt (pos 0) r.x2) (int_lt r.y1 (pos 0)) (Decides-and (int_lt r.x1 (pos 0)) (int_lt (pos 0) r.x2) (lt_is r.x1 (pos 0)) (lt_is (pos 0) r.x2)) (lt_is r.y1 (pos 0))) (lt_is (pos 0) r.y2) in (
+    let all =
+    Decides-and (int_lt r.x1 (pos 0) && int_lt (pos 0) r.x2 && int_lt r.y1 (pos 0)) (int_lt (pos 0) r.y2)
+    (Decides-and (int_lt r.x1 (pos 0) && int_lt (pos 0) r.x2) (int_lt r.y1 (pos 0))
+    (Decides-and (int_lt r.x1 (pos 0)) (int_lt (pos 0) r.x2) (lt_is r.x1 (pos 0)) (lt_is (pos 0) r.x2)) (lt_is r.y1 (pos 0))) (lt_is (pos 0) r.y2) in (
       λ is.
           let facts = all.0 is in
           record { left = facts.0.0.0; right = facts.0.0.1; bottom = facts.0.1; top = facts.1 },
@@ -51,7 +54,8 @@ abbrev between : List LayerUse → ℕ → ℕ → Bool
 between layers low high = list_any has_wires (slice_range layers (low + 1) high)
 
 -- a routing layer is one of the layers
-routing_layer : (layers : List LayerUse) (k : ℕ) → is_routing layers k ≡ true → (layer : LayerUse) × (slice_get layers k ≡ Some layer) × (has_wires layer ≡ true)
+routing_layer : (layers : List LayerUse) (k : ℕ) → is_routing layers k ≡ true
+    → (layer : LayerUse) × (slice_get layers k ≡ Some layer) × (has_wires layer ≡ true)
 routing_layer layers k routes = by (slice_get layers k) refl where
   by : (o : Option LayerUse) → slice_get layers k ≡ o → (layer : LayerUse) × (slice_get layers k ≡ Some layer) × (has_wires layer ≡ true)
   by None is = absurd (let e : ⊥ = cc (rw is at routes) in e)
@@ -66,8 +70,10 @@ none_routes layers low high k none above below routes =
     let front = get_or-take (high - (low + 1)) (drop (low + 1) layers) i found.0 (omega arith) in
     let back = get_or-drop (low + 1) layers i found.0 in
     let place : low + 1 + i ≡ k = omega arith in
-    let there : get_or (slice_range layers (low + 1) high) i found.0 ≡ found.0 = front ∙ back ∙ rw place (get_or_from_slice_get layers k found.0 found.0 found.1) in
-    let long : length (slice_range layers (low + 1) high) ≡ min (high - (low + 1)) (length layers - (low + 1)) = length-take (high - (low + 1)) (drop (low + 1) layers) ∙ rw (length-drop (low + 1) layers) refl in
+    let there : get_or (slice_range layers (low + 1) high) i found.0 ≡ found.0 =
+    front ∙ back ∙ rw place (get_or_from_slice_get layers k found.0 found.0 found.1) in
+    let long : length (slice_range layers (low + 1) high) ≡ min (high - (low + 1)) (length layers - (low + 1)) =
+    length-take (high - (low + 1)) (drop (low + 1) layers) ∙ rw (length-drop (low + 1) layers) refl in
     let some = list_any_at has_wires (slice_range layers (low + 1) high) i found.0 (omega arith) (rw there found.2) in
     true≢false (sym some ∙ none)
 
@@ -75,7 +81,8 @@ none_routes layers low high k none above below routes =
 between_none : (layers : List LayerUse) (low high : ℕ) → ((k : ℕ) → low < k → k < high → is_routing layers k ≡ false) → between layers low high ≡ false
 between_none layers low high none =
     list_any_none has_wires (slice_range layers (low + 1) high) (λ i d less.
-    let long : length (slice_range layers (low + 1) high) ≡ min (high - (low + 1)) (length layers - (low + 1)) = length-take (high - (low + 1)) (drop (low + 1) layers) ∙ rw (length-drop (low + 1) layers) refl in
+    let long : length (slice_range layers (low + 1) high) ≡ min (high - (low + 1)) (length layers - (low + 1)) =
+    length-take (high - (low + 1)) (drop (low + 1) layers) ∙ rw (length-drop (low + 1) layers) refl in
     let front = get_or-take (high - (low + 1)) (drop (low + 1) layers) i d (omega arith) in
     let back = get_or-drop (low + 1) layers i d in
     let there = slice_get-get_or layers (low + 1 + i) d (omega arith) in
@@ -137,7 +144,8 @@ used shapes p some =
     (s.1.layer, (s.0, s.1, s.2, s.3, refl), s.4)
 
 -- the three layers of a good via
-three : (layers : List LayerUse) (shapes : List ViaPart) → join_layers layers shapes ≡ true → (low : ℕ) × (cut : ℕ) × (high : ℕ) × Joins layers shapes low cut high
+three : (layers : List LayerUse) (shapes : List ViaPart) → join_layers layers shapes ≡ true
+    → (low : ℕ) × (cut : ℕ) × (high : ℕ) × Joins layers shapes low cut high
 three layers shapes joined =
     let a = used shapes (λ low. list_any (λ b. list_any (λ c. join layers low b.layer c.layer shapes) shapes) shapes) joined in
     let b = used shapes (λ cut. list_any (λ c. join layers a.0 cut c.layer shapes) shapes) a.2 in
@@ -165,7 +173,8 @@ some_on shapes n p is_used holds =
     list_any-from_Any (λ s. p s.layer) shapes (is_used.0, is_used.1, is_used.2, is_used.3, rw is_used.4 holds)
 
 -- a test that holds at the layers of three of the shapes
-joined_by : (layers : List LayerUse) (shapes : List ViaPart) (low cut high : ℕ) → IsUsed shapes low → IsUsed shapes cut → IsUsed shapes high → join layers low cut high shapes ≡ true → join_layers layers shapes ≡ true
+joined_by : (layers : List LayerUse) (shapes : List ViaPart) (low cut high : ℕ) → IsUsed shapes low → IsUsed shapes cut → IsUsed shapes high
+    → join layers low cut high shapes ≡ true → join_layers layers shapes ≡ true
 joined_by layers shapes low cut high a b c joined =
     some_on shapes low (λ a. list_any (λ b. list_any (λ c. join layers a b.layer c.layer shapes) shapes) shapes) a
     (some_on shapes cut (λ b. list_any (λ c. join layers low b c.layer shapes) shapes) b
@@ -183,7 +192,8 @@ joins_is layers shapes low cut high joins = (join_is layers low cut high shapes)
 })
 
 -- each shape of a good via lies on one of its three layers
-one_of_three : (layers : List LayerUse) (shapes : List ViaPart) (low cut high n : ℕ) → Joins layers shapes low cut high → IsUsed shapes n → (n ≡ cut) ⊎ ((n ≡ low) ⊎ (n ≡ high))
+one_of_three : (layers : List LayerUse) (shapes : List ViaPart) (low cut high n : ℕ) → Joins layers shapes low cut high → IsUsed shapes n
+    → (n ≡ cut) ⊎ ((n ≡ low) ⊎ (n ≡ high))
 one_of_three layers shapes low cut high n joins is_used =
     let at = both_at (IsPart low cut high) (λ s. s.layer ≡ n) shapes joins.each is_used in
     ⊎_elim (λ on. inl (sym at.2 ∙ on)) (λ on. inr (⊎_elim (λ is. inl (sym at.2 ∙ is)) (λ is. inr (sym at.2 ∙ is)) on.0)) at.1
@@ -204,39 +214,48 @@ outer_is_low layers shapes a b c low high joins outer =
     let least = is_least shapes low high a outer joins.low_used in
     let up = joins.above in
     let over = joins.below in
-    ⊎_elim (λ (is : low ≡ b). omega arith) (λ (on : (low ≡ a) ⊎ (low ≡ c)). ⊎_elim (λ (is : low ≡ a). sym is) (λ (is : low ≡ c). omega arith) on) (one_of_three layers shapes a b c low joins outer.low_used)
+    ⊎_elim (λ (is : low ≡ b). omega arith) (λ (on : (low ≡ a) ⊎ (low ≡ c)). ⊎_elim (λ (is : low ≡ a). sym is) (λ (is : low ≡ c). omega arith) on)
+    (one_of_three layers shapes a b c low joins outer.low_used)
 
 outer_is_high : (layers : List LayerUse) (shapes : List ViaPart) (a b c low high : ℕ) → Joins layers shapes a b c → AreOuter shapes low high → c ≡ high
 outer_is_high layers shapes a b c low high joins outer =
     let most = is_most shapes low high c outer joins.high_used in
     let up = joins.above in
     let over = joins.below in
-    ⊎_elim (λ (is : high ≡ b). omega arith) (λ (on : (high ≡ a) ⊎ (high ≡ c)). ⊎_elim (λ (is : high ≡ a). omega arith) (λ (is : high ≡ c). sym is) on) (one_of_three layers shapes a b c high joins outer.high_used)
+    ⊎_elim (λ (is : high ≡ b). omega arith) (λ (on : (high ≡ a) ⊎ (high ≡ c)). ⊎_elim (λ (is : high ≡ a). omega arith) (λ (is : high ≡ c). sym is) on)
+    (one_of_three layers shapes a b c high joins outer.high_used)
 
-third_is_cut : (layers : List LayerUse) (shapes : List ViaPart) (a b c low high cut : ℕ) → Joins layers shapes a b c → AreOuter shapes low high → IsThird shapes low high cut → b ≡ cut
+third_is_cut : (layers : List LayerUse) (shapes : List ViaPart) (a b c low high cut : ℕ) → Joins layers shapes a b c → AreOuter shapes low high
+    → IsThird shapes low high cut → b ≡ cut
 third_is_cut layers shapes a b c low high cut joins outer third =
     let at_low = outer_is_low layers shapes a b c low high joins outer in
     let at_high = outer_is_high layers shapes a b c low high joins outer in
-    ⊎_elim (λ (is : cut ≡ b). sym is) (λ (on : (cut ≡ a) ⊎ (cut ≡ c)). ⊎_elim (λ (is : cut ≡ a). absurd (third.not_low (is ∙ at_low))) (λ (is : cut ≡ c). absurd (third.not_high (is ∙ at_high))) on) (one_of_three layers shapes a b c cut joins third.used)
+    ⊎_elim (λ (is : cut ≡ b). sym is) (λ (on : (cut ≡ a) ⊎ (cut ≡ c)). ⊎_elim (λ (is : cut ≡ a). absurd (third.not_low (is ∙ at_low)))
+    (λ (is : cut ≡ c). absurd (third.not_high (is ∙ at_high))) on) (one_of_three layers shapes a b c cut joins third.used)
 
-joins_these : (layers : List LayerUse) (shapes : List ViaPart) (low cut high : ℕ) → AreOuter shapes low high → IsThird shapes low high cut → join_layers layers shapes ≡ true → join layers low cut high shapes ≡ true
+joins_these : (layers : List LayerUse) (shapes : List ViaPart) (low cut high : ℕ) → AreOuter shapes low high → IsThird shapes low high cut
+    → join_layers layers shapes ≡ true → join layers low cut high shapes ≡ true
 joins_these layers shapes low cut high outer third joined =
     let t = three layers shapes joined in
     let at_low = outer_is_low layers shapes t.0 t.1 t.2 low high t.3 outer in
     let at_cut = third_is_cut layers shapes t.0 t.1 t.2 low high cut t.3 outer third in
     let at_high = outer_is_high layers shapes t.0 t.1 t.2 low high t.3 outer in
     let is = joins_is layers shapes t.0 t.1 t.2 t.3 in
-    subst (λ (n : ℕ). join layers low cut n shapes ≡ true) at_high (subst (λ (n : ℕ). join layers low n t.2 shapes ≡ true) at_cut (subst (λ (n : ℕ). join layers n t.1 t.2 shapes ≡ true) at_low is))
+    subst (λ (n : ℕ). join layers low cut n shapes ≡ true) at_high
+    (subst (λ (n : ℕ). join layers low n t.2 shapes ≡ true) at_cut (subst (λ (n : ℕ). join layers n t.1 t.2 shapes ≡ true) at_low is))
 
 -- The one test of the lowest, the highest and another layer is the test of all.
-pub tested_once : (layers : List LayerUse) (shapes : List ViaPart) (low cut high : ℕ) → AreOuter shapes low high → IsThird shapes low high cut → join layers low cut high shapes ≡ join_layers layers shapes
+pub tested_once : (layers : List LayerUse) (shapes : List ViaPart) (low cut high : ℕ) → AreOuter shapes low high → IsThird shapes low high cut
+    → join layers low cut high shapes ≡ join_layers layers shapes
 tested_once layers shapes low cut high outer third = by (join layers low cut high shapes) refl where
   by : (b : Bool) → join layers low cut high shapes ≡ b → join layers low cut high shapes ≡ join_layers layers shapes
   by true is = is ∙ sym (joined_by layers shapes low cut high outer.low_used third.used outer.high_used is)
-  by false is = is ∙ sym (false_from_ne_true (join_layers layers shapes) (λ joined. true≢false (sym (joins_these layers shapes low cut high outer third joined) ∙ is)))
+  by false is =
+      is ∙ sym (false_from_ne_true (join_layers layers shapes) (λ joined. true≢false (sym (joins_these layers shapes low cut high outer third joined) ∙ is)))
 
 -- Shapes on two layers join none.
-pub two_join_none : (layers : List LayerUse) (shapes : List ViaPart) (low high : ℕ) → AreOuter shapes low high → OnTwo shapes low high → join_layers layers shapes ≡ false
+pub two_join_none : (layers : List LayerUse) (shapes : List ViaPart) (low high : ℕ) → AreOuter shapes low high → OnTwo shapes low high
+    → join_layers layers shapes ≡ false
 two_join_none layers shapes low high outer two = false_from_ne_true (join_layers layers shapes) (λ joined.
     let t = three layers shapes joined in
     let at_low = outer_is_low layers shapes t.0 t.1 t.2 low high t.3 outer in
@@ -244,7 +263,8 @@ two_join_none layers shapes low high outer two = false_from_ne_true (join_layers
     let on = both_at (λ s. (s.layer ≡ low) ⊎ (s.layer ≡ high)) (λ s. s.layer ≡ t.1) shapes two t.3.cut_used in
     let up = t.3.above in
     let over = t.3.below in
-    ⊎_elim (λ (is : on.0.layer ≡ low). let at = on.2 in let e : ⊥ = omega arith in e) (λ (is : on.0.layer ≡ high). let at = on.2 in let e : ⊥ = omega arith in e) on.1)
+    ⊎_elim (λ (is : on.0.layer ≡ low). let at = on.2 in let e : ⊥ = omega arith in e)
+    (λ (is : on.0.layer ≡ high). let at = on.2 in let e : ⊥ = omega arith in e) on.1)
 
 -- the lowest and the highest layer of the first i shapes
 pub record OuterSoFar (shapes : List ViaPart) (i low high : ℕ) : Type 0 where
@@ -262,15 +282,21 @@ outer_start shapes x some is = record {
 }
 
 -- one more shape
-outer_next : (shapes : List ViaPart) (i low high : ℕ) (x : ViaPart) → i < length shapes → x ≡ get_or shapes i x → OuterSoFar shapes i low high → OuterSoFar shapes (i + 1) (min low x.layer) (max high x.layer)
+outer_next : (shapes : List ViaPart) (i low high : ℕ) (x : ViaPart) → i < length shapes → x ≡ get_or shapes i x → OuterSoFar shapes i low high
+    → OuterSoFar shapes (i + 1) (min low x.layer) (max high x.layer)
 outer_next shapes i low high x less is before = record {
-  low_used = ⊎_elim (λ (lower : low < x.layer). let e : min low x.layer ≡ low = omega arith in rw e before.low_used) (λ (lower : x.layer ≤ low). let e : min low x.layer ≡ x.layer = omega arith in rw e (i, x, less, sym is, refl)) (cases_lt low x.layer);
-  high_used = ⊎_elim (λ (lower : high < x.layer). let e : max high x.layer ≡ x.layer = omega arith in rw e (i, x, less, sym is, refl)) (λ (lower : x.layer ≤ high). let e : max high x.layer ≡ high = omega arith in rw e before.high_used) (cases_lt high x.layer);
+  low_used =
+      ⊎_elim (λ (lower : low < x.layer). let e : min low x.layer ≡ low = omega arith in rw e before.low_used)
+      (λ (lower : x.layer ≤ low). let e : min low x.layer ≡ x.layer = omega arith in rw e (i, x, less, sym is, refl)) (cases_lt low x.layer);
+  high_used =
+      ⊎_elim (λ (lower : high < x.layer). let e : max high x.layer ≡ x.layer = omega arith in rw e (i, x, less, sym is, refl))
+      (λ (lower : x.layer ≤ high). let e : max high x.layer ≡ high = omega arith in rw e before.high_used) (cases_lt high x.layer);
   above = All-more (λ shape. min low x.layer ≤ shape.layer) shapes i x less (λ k d l. let known = before.above k d l in omega arith) (rw (← is) (omega arith));
   below = All-more (λ shape. shape.layer ≤ max high x.layer) shapes i x less (λ k d l. let known = before.below k d l in omega arith) (rw (← is) (omega arith));
 }
 
-pub outer_more : (shapes : List ViaPart) (i low high : ℕ) (d : ViaPart) → i < length shapes → OuterSoFar shapes i low high → OuterSoFar shapes (i + 1) (min low (get_or shapes i d).layer) (max high (get_or shapes i d).layer)
+pub outer_more : (shapes : List ViaPart) (i low high : ℕ) (d : ViaPart) → i < length shapes → OuterSoFar shapes i low high
+    → OuterSoFar shapes (i + 1) (min low (get_or shapes i d).layer) (max high (get_or shapes i d).layer)
 outer_more shapes i low high d less before =
     outer_next shapes i low high (get_or shapes i d) less (get_or_default shapes i d (get_or shapes i d) less) before
 
@@ -290,12 +316,14 @@ pub record TwoSoFar (shapes : List ViaPart) (i low high : ℕ) : Type 0 where
 pub two_start : (shapes : List ViaPart) (low high : ℕ) → TwoSoFar shapes 0 low high
 two_start shapes low high = record { two = All-nil (λ shape. (shape.layer ≡ low) ⊎ (shape.layer ≡ high)) }
 
-pub low_more : (shapes : List ViaPart) (i low high : ℕ) (x : ViaPart) → i < length shapes → x ≡ get_or shapes i x → x.layer ≡ low → TwoSoFar shapes i low high → TwoSoFar shapes (i + 1) low high
+pub low_more : (shapes : List ViaPart) (i low high : ℕ) (x : ViaPart) → i < length shapes → x ≡ get_or shapes i x → x.layer ≡ low → TwoSoFar shapes i low high
+    → TwoSoFar shapes (i + 1) low high
 low_more shapes i low high x less is on before = record {
   two = All-more (λ shape. (shape.layer ≡ low) ⊎ (shape.layer ≡ high)) shapes i x less before.two (rw (← is) (inl on));
 }
 
-pub high_more : (shapes : List ViaPart) (i low high : ℕ) (x : ViaPart) → i < length shapes → x ≡ get_or shapes i x → x.layer ≡ high → TwoSoFar shapes i low high → TwoSoFar shapes (i + 1) low high
+pub high_more : (shapes : List ViaPart) (i low high : ℕ) (x : ViaPart) → i < length shapes → x ≡ get_or shapes i x → x.layer ≡ high
+    → TwoSoFar shapes i low high → TwoSoFar shapes (i + 1) low high
 high_more shapes i low high x less is on before = record {
   two = All-more (λ shape. (shape.layer ≡ low) ⊎ (shape.layer ≡ high)) shapes i x less before.two (rw (← is) (inr on));
 }
@@ -305,7 +333,8 @@ two_all shapes i low high past before =
     subst (λ (xs : List ViaPart). OnTwo xs low high) (take_all i shapes past) before.two
 
 -- a shape on neither of them
-pub third_there : (shapes : List ViaPart) (i low high : ℕ) (x : ViaPart) → i < length shapes → x ≡ get_or shapes i x → x.layer ≢ low → x.layer ≢ high → IsThird shapes low high x.layer
+pub third_there : (shapes : List ViaPart) (i low high : ℕ) (x : ViaPart) → i < length shapes → x ≡ get_or shapes i x → x.layer ≢ low → x.layer ≢ high
+    → IsThird shapes low high x.layer
 third_there shapes i low high x less is not_low not_high = record {
   used = (i, x, less, sym is, refl);
   not_low = not_low;
@@ -313,12 +342,17 @@ third_there shapes i low high x less is not_low not_high = record {
 }
 
 -- what the parts of a good via join, both ways
-pub good_vias_join : (layers : List LayerUse) (shapes : List ViaPart) → IsTrue (join_layers layers shapes) ↔ ((low : ℕ) × (cut : ℕ) × (high : ℕ) × Joins layers shapes low cut high)
-good_vias_join layers shapes =
-    (three layers shapes, λ found. joined_by layers shapes found.0 found.1 found.2 found.3.low_used found.3.cut_used found.3.high_used (joins_is layers shapes found.0 found.1 found.2 found.3))
+pub good_vias_join : (layers : List LayerUse) (shapes : List ViaPart)
+    → IsTrue (join_layers layers shapes) ↔ ((low : ℕ) × (cut : ℕ) × (high : ℕ) × Joins layers shapes low cut high)
+good_vias_join layers shapes = (
+  three layers shapes,
+  λ found. joined_by layers shapes found.0 found.1 found.2 found.3.low_used found.3.cut_used found.3.high_used
+      (joins_is layers shapes found.0 found.1 found.2 found.3),
+)
 
 -- whether one of some layers has wires, asked of the layers themselves
-list_any-map : {X : Type 0} (use_of : X → LayerUse) (layers : List X) → list_any has_wires (map use_of layers) ≡ list_any (λ layer. has_wires (use_of layer)) layers
+list_any-map : {X : Type 0} (use_of : X → LayerUse) (layers : List X)
+    → list_any has_wires (map use_of layers) ≡ list_any (λ layer. has_wires (use_of layer)) layers
 list_any-map use_of [] = refl
 list_any-map use_of (layer ∷ layers) = rw (list_any-map use_of layers) refl
 

@@ -23,16 +23,23 @@ front_get d xs more k less =
     let longer : k < length (xs ++ more) = omega (arith, length-append xs more) in
     slice_get-get_or (xs ++ more) k d longer ∙ rw (get_or_append_left xs more d k less) (sym (slice_get-get_or xs k d less))
 
-front_range : {X : Type 0} (xs more : List X) (low high : ℕ) → low < length xs → high < length xs → slice_range (xs ++ more) (low + 1) high ≡ slice_range xs (low + 1) high
+front_range : {X : Type 0} (xs more : List X) (low high : ℕ) → low < length xs → high < length xs
+    → slice_range (xs ++ more) (low + 1) high ≡ slice_range xs (low + 1) high
 front_range xs more low high below within =
     let cut : drop (low + 1) (xs ++ more) ≡ drop (low + 1) xs ++ more = drop-append-le (low + 1) xs more (omega arith) in
     let few : high - (low + 1) ≤ length (drop (low + 1) xs) = omega (arith, length-drop (low + 1) xs) in
     rw (cut, take-append-le (high - (low + 1)) (drop (low + 1) xs) more few) refl
 
 module _ (layers more : List LayerUse) (parts : List ViaPart) where
-  join_more : (low cut high : ℕ) → low < length layers → cut < length layers → high < length layers → join (layers ++ more) low cut high parts ≡ join layers low cut high parts
+  join_more : (low cut high : ℕ) → low < length layers → cut < length layers → high < length layers
+      → join (layers ++ more) low cut high parts ≡ join layers low cut high parts
   join_more low cut high a b c =
-      rw (front_get Neither layers more low a, front_get Neither layers more cut b, front_get Neither layers more high c, front_range layers more low high a c) refl
+      rw (
+        front_get Neither layers more low a,
+        front_get Neither layers more cut b,
+        front_get Neither layers more high c,
+        front_range layers more low high a c,
+      ) refl
 
   -- what parts on these layers join is the same with more layers
   join_layers_more : All (λ part. part.layer < length layers) parts → join_layers (layers ++ more) parts ≡ join_layers layers parts
@@ -52,7 +59,8 @@ parts_on : (layers : ℕ) (shapes : List RawShape) → AreRawShapesOn layers sha
 parts_on layers shapes on = All-map (λ part. part.layer < layers) (λ shape. record { layer = shape.layer; holds_origin = holds_origin shape.rect }) shapes on
 
 -- A via that is good stays so with more layers, and so does one that isn't.
-pub good_with_more : (layers more : List RawLayer) (name : List ℕ) (shapes : List RawShape) → AreRawShapesOn (length layers) shapes → is_raw_good_via (layers ++ more) name shapes ≡ is_raw_good_via layers name shapes
+pub good_with_more : (layers more : List RawLayer) (name : List ℕ) (shapes : List RawShape) → AreRawShapesOn (length layers) shapes
+    → is_raw_good_via (layers ++ more) name shapes ≡ is_raw_good_via layers name shapes
 unfolding is_raw_good_via
 good_with_more layers more name shapes on =
     let long : length (raw_uses layers) ≡ length layers = length-map layers (λ layer. raw_use layer.kind) in

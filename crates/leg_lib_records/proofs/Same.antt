@@ -47,7 +47,8 @@ kind_decides Other Other = (λ _. refl, λ _. refl)
 
 pub layer_decides : (a b : Layer) → Decides (layer_eq.ghosts.eq a b) (a ≡ b)
 layer_decides a b =
-    Decides-like _ (λ p. λ i. record { name = p.0 i; kind = p.1.0 i; spacing = p.1.1 i }) (λ e. (ap (λ (l : Layer). l.name) e, (ap (λ (l : Layer). l.kind) e, ap (λ (l : Layer). l.spacing) e)))
+    Decides-like _ (λ p. λ i. record { name = p.0 i; kind = p.1.0 i; spacing = p.1.1 i })
+    (λ e. (ap (λ (l : Layer). l.name) e, (ap (λ (l : Layer). l.kind) e, ap (λ (l : Layer). l.spacing) e)))
     (Decides-and _ _ (bytes_eq-Decides a.name b.name) (Decides-and _ _ (kind_decides a.kind b.kind) (Decides-int_eq a.spacing b.spacing)))
 
 pub site_decides : (a b : Site) → Decides (site_eq.ghosts.eq a b) (a ≡ b)
@@ -61,7 +62,13 @@ shape_decides : (a b : Shape) → Decides (shape_eq.ghosts.eq a b) (a ≡ b)
 shape_decides a b =
     Decides-like _
     (λ p. λ i. record { layer = p.0 i; rect = record { x1 = p.1.0.0 i; y1 = p.1.1.0 i; x2 = p.1.0.1 i; y2 = p.1.1.1 i } })
-    (λ e. (ap (λ (s : Shape). s.layer) e, ((ap (λ (s : Shape). s.rect.x1) e, ap (λ (s : Shape). s.rect.x2) e), (ap (λ (s : Shape). s.rect.y1) e, ap (λ (s : Shape). s.rect.y2) e))))
+    (λ e. (
+      ap (λ (s : Shape). s.layer) e,
+      (
+        (ap (λ (s : Shape). s.rect.x1) e, ap (λ (s : Shape). s.rect.x2) e),
+        (ap (λ (s : Shape). s.rect.y1) e, ap (λ (s : Shape). s.rect.y2) e),
+      ),
+    ))
     (Decides-and _ _ (Decides-eqb a.layer b.layer)
     (Decides-and _ _
     (Decides-and _ _ (Decides-int_eq a.rect.x1 b.rect.x1) (Decides-int_eq a.rect.x2 b.rect.x2))
@@ -132,8 +139,27 @@ same_master a b =
 pub master_decides : (a b : MasterModel) → Decides (same_master a b) (a ≡ b)
 master_decides a b =
     Decides-like _
-    (λ p. λ i. record { name = p.0 i; size = record { width = p.1.0.0 i; height = p.1.0.1 i }; y_symmetric = p.1.1.0 i; site = p.1.1.1.0 i; pins = p.1.1.1.1.0 i; obstructions = p.1.1.1.1.1 i })
-    (λ e. (ap (λ (m : MasterModel). m.name) e, ((ap (λ (m : MasterModel). m.size.width) e, ap (λ (m : MasterModel). m.size.height) e), (ap (λ (m : MasterModel). m.y_symmetric) e, (ap (λ (m : MasterModel). m.site) e, (ap (λ (m : MasterModel). m.pins) e, ap (λ (m : MasterModel). m.obstructions) e))))))
+    (λ p. λ i. record {
+      name = p.0 i;
+      size = record { width = p.1.0.0 i; height = p.1.0.1 i };
+      y_symmetric = p.1.1.0 i;
+      site = p.1.1.1.0 i;
+      pins = p.1.1.1.1.0 i;
+      obstructions = p.1.1.1.1.1 i;
+    })
+    (λ e. (
+      ap (λ (m : MasterModel). m.name) e,
+      (
+        (ap (λ (m : MasterModel). m.size.width) e, ap (λ (m : MasterModel). m.size.height) e),
+        (
+          ap (λ (m : MasterModel). m.y_symmetric) e,
+          (
+            ap (λ (m : MasterModel). m.site) e,
+            (ap (λ (m : MasterModel). m.pins) e, ap (λ (m : MasterModel). m.obstructions) e),
+          ),
+        ),
+      ),
+    ))
     (Decides-and _ _ (bytes_eq-Decides a.name b.name)
     (Decides-and _ _ (Decides-and _ _ (Decides-int_eq a.size.width b.size.width) (Decides-int_eq a.size.height b.size.height))
     (Decides-and _ _ (booleans_Decides a.y_symmetric b.y_symmetric)

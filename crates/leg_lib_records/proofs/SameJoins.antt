@@ -79,10 +79,19 @@ parts_at n [] (shape ∷ shapes) some at = absurd at
 parts_at n (r ∷ raw) [] some at = absurd at
 parts_at n (r ∷ raw) (shape ∷ shapes) some at =
     let rect = at.0.rect in
-    rw (at.0.layer, below_at n r.rect.x1 shape.rect.x1 some rect.x1, above_at n r.rect.x2 shape.rect.x2 some rect.x2, below_at n r.rect.y1 shape.rect.y1 some rect.y1, above_at n r.rect.y2 shape.rect.y2 some rect.y2, parts_at n raw shapes some at.1) refl
+    rw (
+      at.0.layer,
+      below_at n r.rect.x1 shape.rect.x1 some rect.x1,
+      above_at n r.rect.x2 shape.rect.x2 some rect.x2,
+      below_at n r.rect.y1 shape.rect.y1 some rect.y1,
+      above_at n r.rect.y2 shape.rect.y2 some rect.y2,
+      parts_at n raw shapes some at.1,
+    ) refl
 
 -- A via is good in database units just where it is in millionths of a micron.
-pub good_at : (n : ℕ) (raw : List RawLayer) (library : LibraryModel) (name : List ℕ) (raw_shapes : List RawShape) (shapes : List Shape) → 1 ≤ n → OneForOne (IsLayerAt n) raw library.layers → OneForOne (IsShapeAt n no_shift) raw_shapes shapes → is_good_via library name shapes ≡ is_raw_good_via raw name raw_shapes
+pub good_at : (n : ℕ) (raw : List RawLayer) (library : LibraryModel) (name : List ℕ) (raw_shapes : List RawShape) (shapes : List Shape) → 1 ≤ n
+    → OneForOne (IsLayerAt n) raw library.layers → OneForOne (IsShapeAt n no_shift) raw_shapes shapes
+    → is_good_via library name shapes ≡ is_raw_good_via raw name raw_shapes
 unfolding is_raw_good_via is_good_via
 good_at n raw library name raw_shapes shapes some layers at =
     rw (uses_at n raw library.layers layers, parts_at n raw_shapes shapes some at) refl

@@ -27,7 +27,8 @@ module _ {X Y : Type 0} (R : X → Y → Type 0) where
   push_pair (w ∷ xs) (z ∷ ys) x y before same = (before.0, push_pair xs ys x y before.1 same)
 
   -- one more element
-  pub pair_more : (xs : List X) (ys : List Y) (i : ℕ) (x : X) (y : Y) → i < length xs → x ≡ get_or xs i x → OneForOne R (take i xs) ys → R x y → OneForOne R (take (i + 1) xs) (ys ++ y ∷ [])
+  pub pair_more : (xs : List X) (ys : List Y) (i : ℕ) (x : X) (y : Y) → i < length xs → x ≡ get_or xs i x → OneForOne R (take i xs) ys → R x y
+      → OneForOne R (take (i + 1) xs) (ys ++ y ∷ [])
   pair_more xs ys i x y less is before same =
       let more : take (i + 1) xs ≡ take i xs ++ x ∷ [] = take_more xs i x less ∙ ap (λ z. take i xs ++ z ∷ []) (sym is) in
       rw more (push_pair (take i xs) ys x y before same)
@@ -101,7 +102,9 @@ module _ (n : ℕ) (raw : RawMasterModel) (shift : PointModel) (at : IsSpotAt n 
   no_pins none m = λ is. none m.pins (subst (λ s. OneForOne (IsPinAt n s) raw.pins m.pins) (one_spot n raw.origin is.shift shift is.origin at) is.pins)
 
   pub no_obstructions : ((shapes : List Shape) → ¬ OneForOne (IsShapeAt n shift) raw.obstructions shapes) → (m : MasterModel) → ¬ IsMasterAt n raw m
-  no_obstructions none m = λ is. none m.obstructions (subst (λ s. OneForOne (IsShapeAt n s) raw.obstructions m.obstructions) (one_spot n raw.origin is.shift shift is.origin at) is.obstructions)
+  no_obstructions none m =
+      λ is. none m.obstructions (subst (λ s. OneForOne (IsShapeAt n s) raw.obstructions m.obstructions)
+      (one_spot n raw.origin is.shift shift is.origin at) is.obstructions)
 
 -- what stands for records has their names
 pub layers_named : (n : ℕ) (raw : List RawLayer) (layers : List Layer) → OneForOne (IsLayerAt n) raw layers → map (λ x. x.name) layers ≡ map (λ x. x.name) raw
@@ -122,7 +125,8 @@ vias_named n [] (x ∷ vias) all = absurd all
 vias_named n (r ∷ raw) [] all = absurd all
 vias_named n (r ∷ raw) (x ∷ vias) all = rw (all.0.name, vias_named n raw vias all.1) refl
 
-pub masters_named : (n : ℕ) (raw : List RawMasterModel) (masters : List MasterModel) → OneForOne (IsMasterAt n) raw masters → map (λ x. x.name) masters ≡ map (λ x. x.name) raw
+pub masters_named : (n : ℕ) (raw : List RawMasterModel) (masters : List MasterModel) → OneForOne (IsMasterAt n) raw masters
+    → map (λ x. x.name) masters ≡ map (λ x. x.name) raw
 masters_named n [] [] all = refl
 masters_named n [] (x ∷ masters) all = absurd all
 masters_named n (r ∷ raw) [] all = absurd all
@@ -185,7 +189,8 @@ one_site n raw a b p q =
 
 one_via : (n : ℕ) (raw : RawViaModel) (a b : ViaModel) → IsViaAt n raw a → IsViaAt n raw b → a ≡ b
 one_via n raw a b p q =
-    let at : List ℕ → Bool → Bool → List Shape → ViaModel = λ name default_via good shapes. record { name = name; default_via = default_via; good = good; shapes = shapes } in
+    let at : List ℕ → Bool → Bool → List Shape → ViaModel =
+    λ name default_via good shapes. record { name = name; default_via = default_via; good = good; shapes = shapes } in
     ap (λ v. at v a.default_via a.good a.shapes) (p.name ∙ sym q.name)
     ∙ ap (λ v. at b.name v a.good a.shapes) (p.default_via ∙ sym q.default_via)
     ∙ ap (λ v. at b.name b.default_via v a.shapes) (p.good ∙ sym q.good)
@@ -201,18 +206,24 @@ one_pin n shift raw a b p q =
 one_master : (n : ℕ) (raw : RawMasterModel) (a b : MasterModel) → IsMasterAt n raw a → IsMasterAt n raw b → a ≡ b
 one_master n raw a b p q =
     let same : q.shift ≡ p.shift = one_spot n raw.origin q.shift p.shift q.origin p.origin in
-    let at : List ℕ → ExtentModel → Bool → Option ℕ → List MasterPinModel → List Shape → MasterModel = λ name size y_symmetric site pins obstructions. record { name = name; size = size; y_symmetric = y_symmetric; site = site; pins = pins; obstructions = obstructions } in
+    let at : List ℕ → ExtentModel → Bool → Option ℕ → List MasterPinModel → List Shape → MasterModel =
+    λ name size y_symmetric site pins obstructions.
+    record { name = name; size = size; y_symmetric = y_symmetric; site = site; pins = pins; obstructions = obstructions } in
     ap (λ v. at v a.size a.y_symmetric a.site a.pins a.obstructions) (p.name ∙ sym q.name)
     ∙ ap (λ v. at b.name v a.y_symmetric a.site a.pins a.obstructions) (one_size n raw.size a.size b.size p.size q.size)
     ∙ ap (λ v. at b.name b.size v a.site a.pins a.obstructions) (p.y_symmetric ∙ sym q.y_symmetric)
     ∙ ap (λ v. at b.name b.size b.y_symmetric v a.pins a.obstructions) (p.site ∙ sym q.site)
-    ∙ ap (λ v. at b.name b.size b.y_symmetric b.site v a.obstructions) (pair_one (IsPinAt n p.shift) (one_pin n p.shift) raw.pins a.pins b.pins p.pins (subst (λ s. OneForOne (IsPinAt n s) raw.pins b.pins) same q.pins))
-    ∙ ap (λ v. at b.name b.size b.y_symmetric b.site b.pins v) (pair_one (IsShapeAt n p.shift) (one_shape n p.shift) raw.obstructions a.obstructions b.obstructions p.obstructions (subst (λ s. OneForOne (IsShapeAt n s) raw.obstructions b.obstructions) same q.obstructions))
+    ∙ ap (λ v. at b.name b.size b.y_symmetric b.site v a.obstructions)
+    (pair_one (IsPinAt n p.shift) (one_pin n p.shift) raw.pins a.pins b.pins p.pins (subst (λ s. OneForOne (IsPinAt n s) raw.pins b.pins) same q.pins))
+    ∙ ap (λ v. at b.name b.size b.y_symmetric b.site b.pins v)
+    (pair_one (IsShapeAt n p.shift) (one_shape n p.shift) raw.obstructions a.obstructions b.obstructions p.obstructions
+    (subst (λ s. OneForOne (IsShapeAt n s) raw.obstructions b.obstructions) same q.obstructions))
 
 -- what is read is one library in database units at most
 pub one_library : (n : ℕ) (raw : RawLibraryModel) (a b : LibraryModel) → IsLibraryAt n raw a → IsLibraryAt n raw b → a ≡ b
 one_library n raw a b p q =
-    let at : ℕ → List Layer → List Site → List ViaModel → List MasterModel → LibraryModel = λ units layers sites vias masters. record { units = units; layers = layers; sites = sites; vias = vias; masters = masters } in
+    let at : ℕ → List Layer → List Site → List ViaModel → List MasterModel → LibraryModel =
+    λ units layers sites vias masters. record { units = units; layers = layers; sites = sites; vias = vias; masters = masters } in
     ap (λ v. at v a.layers a.sites a.vias a.masters) (p.units ∙ sym q.units)
     ∙ ap (λ v. at b.units v a.sites a.vias a.masters) (pair_one (IsLayerAt n) (one_layer n) raw.layers a.layers b.layers p.layers q.layers)
     ∙ ap (λ v. at b.units b.layers v a.vias a.masters) (pair_one (IsSiteAt n) (one_site n) raw.sites a.sites b.sites p.sites q.sites)

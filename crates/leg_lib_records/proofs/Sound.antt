@@ -84,7 +84,8 @@ via_at n r via at =
       y2 = unmoved_near n shape.rect.y2 scaled.rect.y2 is.rect.y2;
     }) r.shapes via.shapes at.shapes
 
-shapes_at : (n : ℕ) (origin shift : PointModel) (raw : List RawShape) (shapes : List Shape) → IsSpotAt n origin shift → OneForOne (IsShapeAt n shift) raw shapes → AreShapesWithin (2 * NUMBER_LIMIT) shapes
+shapes_at : (n : ℕ) (origin shift : PointModel) (raw : List RawShape) (shapes : List Shape) → IsSpotAt n origin shift
+    → OneForOne (IsShapeAt n shift) raw shapes → AreShapesWithin (2 * NUMBER_LIMIT) shapes
 shapes_at n origin shift raw shapes moved at =
     all_at (IsShapeAt n shift) (λ shape. AreWithin (2 * NUMBER_LIMIT) shape.rect) (λ shape scaled is. record {
       x1 = near n shape.rect.x1 scaled.rect.x1 shift.x moved.x.within is.rect.x1;
@@ -95,7 +96,8 @@ shapes_at n origin shift raw shapes moved at =
 
 master_at : (n : ℕ) (r : RawMasterModel) (master : MasterModel) → IsMasterAt n r master → IsSoundMaster master
 master_at n r master at = record {
-  pins = all_at (IsPinAt n at.shift) (λ pin. AreShapesWithin (2 * NUMBER_LIMIT) pin.shapes) (λ pin scaled is. shapes_at n r.origin at.shift pin.shapes scaled.shapes at.origin is.shapes) r.pins master.pins at.pins;
+  pins = all_at (IsPinAt n at.shift) (λ pin. AreShapesWithin (2 * NUMBER_LIMIT) pin.shapes)
+      (λ pin scaled is. shapes_at n r.origin at.shift pin.shapes scaled.shapes at.origin is.shapes) r.pins master.pins at.pins;
   obstructions = shapes_at n r.origin at.shift r.obstructions master.obstructions at.origin at.obstructions;
 }
 
@@ -109,13 +111,15 @@ extent_at n raw size some area at = record {
   };
 }
 
-sites_at : (n : ℕ) (raw : List RawSite) (sites : List Site) → 1 ≤ n → All (λ site. HasArea site.size) raw → OneForOne (IsSiteAt n) raw sites → All (λ site. IsExtent site.size) sites
+sites_at : (n : ℕ) (raw : List RawSite) (sites : List Site) → 1 ≤ n → All (λ site. HasArea site.size) raw → OneForOne (IsSiteAt n) raw sites
+    → All (λ site. IsExtent site.size) sites
 sites_at n [] [] some sound at = All-nil (λ site. IsExtent site.size)
 sites_at n [] (site ∷ sites) some sound at = absurd at
 sites_at n (r ∷ raw) [] some sound at = absurd at
 sites_at n (r ∷ raw) (site ∷ sites) some sound at =
     let first : HasArea r.size = All-head (λ s. HasArea s.size) r raw sound in
-    All-cons (λ s. IsExtent s.size) site sites (extent_at n r.size site.size some first at.0.size) (sites_at n raw sites some (All-tail (λ s. HasArea s.size) r raw sound) at.1)
+    All-cons (λ s. IsExtent s.size) site sites (extent_at n r.size site.size some first at.0.size)
+    (sites_at n raw sites some (All-tail (λ s. HasArea s.size) r raw sound) at.1)
 
 -- A sound library is sound in database units.
 pub sound_at : (n : ℕ) (raw : RawLibraryModel) (library : LibraryModel) → 1 ≤ n → n ≤ UNITS_LIMIT → IsSoundRaw raw → IsLibraryAt n raw library → IsSound library

@@ -20,7 +20,8 @@ empty_sound = record {
   references = record { vias = All-nil (IsRawViaOf []); masters = All-nil (IsRawMasterOf [] []) };
 }
 
-pub sound_with_layer : (library : RawLibraryModel) (layer : RawLayer) → IsSoundRaw library → IsSoundRawLayer layer → IsTrue (is_name layer.name) → place_of layer.name (raw_layer_names library) ≡ None → IsSoundRaw (record library { layers = library.layers ++ layer ∷ [] })
+pub sound_with_layer : (library : RawLibraryModel) (layer : RawLayer) → IsSoundRaw library → IsSoundRawLayer layer → IsTrue (is_name layer.name)
+    → place_of layer.name (raw_layer_names library) ≡ None → IsSoundRaw (record library { layers = library.layers ++ layer ∷ [] })
 sound_with_layer library layer sound proper named new = record {
   layers = All-push IsSoundRawLayer library.layers layer sound.layers proper;
   sites = sound.sites;
@@ -33,7 +34,8 @@ sound_with_layer library layer sound proper named new = record {
   references = refers_with_layer library layer sound.references;
 }
 
-pub sound_with_site : (library : RawLibraryModel) (site : RawSite) → IsSoundRaw library → HasArea site.size → IsTrue (is_name site.name) → place_of site.name (raw_site_names library) ≡ None → IsSoundRaw (record library { sites = library.sites ++ site ∷ [] })
+pub sound_with_site : (library : RawLibraryModel) (site : RawSite) → IsSoundRaw library → HasArea site.size → IsTrue (is_name site.name)
+    → place_of site.name (raw_site_names library) ≡ None → IsSoundRaw (record library { sites = library.sites ++ site ∷ [] })
 sound_with_site library site sound proper named new = record {
   layers = sound.layers;
   sites = All-push (λ s. HasArea s.size) library.sites site sound.sites proper;
@@ -46,7 +48,8 @@ sound_with_site library site sound proper named new = record {
   references = refers_with_site library site sound.references;
 }
 
-pub sound_with_via : (library : RawLibraryModel) (via : RawViaModel) → IsSoundRaw library → IsRawViaOf library.layers via → IsTrue (is_name via.name) → place_of via.name (raw_via_names library) ≡ None → IsSoundRaw (record library { vias = library.vias ++ via ∷ [] })
+pub sound_with_via : (library : RawLibraryModel) (via : RawViaModel) → IsSoundRaw library → IsRawViaOf library.layers via → IsTrue (is_name via.name)
+    → place_of via.name (raw_via_names library) ≡ None → IsSoundRaw (record library { vias = library.vias ++ via ∷ [] })
 sound_with_via library via sound refers named new = record {
   layers = sound.layers;
   sites = sound.sites;
@@ -59,7 +62,9 @@ sound_with_via library via sound refers named new = record {
   references = record { vias = All-push (IsRawViaOf library.layers) library.vias via sound.references.vias refers; masters = sound.references.masters };
 }
 
-pub sound_with_master : (library : RawLibraryModel) (master : RawMasterModel) → IsSoundRaw library → IsRawMasterOf library.layers library.sites master → IsTrue (is_name master.name) → place_of master.name (raw_master_names library) ≡ None → IsSoundRaw (record library { masters = library.masters ++ master ∷ [] })
+pub sound_with_master : (library : RawLibraryModel) (master : RawMasterModel) → IsSoundRaw library → IsRawMasterOf library.layers library.sites master
+    → IsTrue (is_name master.name) → place_of master.name (raw_master_names library) ≡ None
+    → IsSoundRaw (record library { masters = library.masters ++ master ∷ [] })
 sound_with_master library master sound refers named new = record {
   layers = sound.layers;
   sites = sound.sites;
@@ -69,5 +74,10 @@ sound_with_master library master sound refers named new = record {
     vias = sound.names.vias;
     masters = names_push (λ m. m.name) library.masters master sound.names.masters named new;
   };
-  references = record { vias = sound.references.vias; masters = All-push (IsRawMasterOf library.layers library.sites) library.masters master sound.references.masters refers };
+  references =
+      record {
+        vias = sound.references.vias;
+        masters = All-push
+            (IsRawMasterOf library.layers library.sites) library.masters master sound.references.masters refers;
+      };
 }

@@ -7,7 +7,6 @@ use Rattle.std.proofs.lemmas.Option.{same_Some, none-some}
 use Rattle.leg_geom.specs.Plane.{RectModel, IsRect, HasAllPoints}
 use Rattle.leg_design_records.specs.declared.records.Component.{Component}
 use Rattle.leg_place.specs.declared.placed_box.PlacedBox.{PlacedBox}
-use Rattle.leg_lib_records.specs.Records.{LibraryModel}
 use Rattle.leg_design_records.specs.Records.{DesignModel}
 use Rattle.leg_rules.specs.Placement.Box.{box_of, HasBox}
 use Rattle.leg_rules.specs.Placement.Violations.{IsOutside}
@@ -15,27 +14,35 @@ use Rattle.leg_place.specs.Among.{IsMarked}
 use Rattle.leg_place.specs.Steps.ListPrefix.{AreBoxesBelow, HasLowerNumber, IsMarkedBox}
 use Rattle.leg_place.proofs.Squares.{HasSquare-points, SquareOutside-points}
 
-module _ (library : LibraryModel) (design : DesignModel) where
+module _ (design : DesignModel) where
   -- the box of the component at a number is the one in which it stands
-  pub HasBox-is : (c : ℕ) (component : Component) (rect : RectModel) → slice_get design.components c ≡ Some component → HasBox library design c rect → box_of library component ≡ Some rect
+  pub HasBox-is : (c : ℕ) (component : Component) (rect : RectModel) → slice_get design.components c ≡ Some component → HasBox design c rect
+      → box_of design.library component ≡ Some rect
   HasBox-is c component rect at stands =
       let same : stands.component ≡ component = same_Some stands.component component (sym stands.there ∙ at) in
       rw same at stands.placed
 
   module _ (c : ℕ) (component : Component) (at : slice_get design.components c ≡ Some component) where
     -- a component is outside the die just where the die lacks a point of its box
-    IsOutside-points : (rect : RectModel) → box_of library component ≡ Some rect → IsRect rect → (HasAllPoints design.die rect → ⊥) ↔ IsOutside library design c
+    IsOutside-points : (rect : RectModel) → box_of design.library component ≡ Some rect → IsRect rect → (HasAllPoints design.die rect → ⊥) ↔ IsOutside design c
     IsOutside-points rect is proper = (
       λ missed.
           let lost = SquareOutside-points design.die rect proper missed in
-          record { box = rect; stands = record { component = component; there = at; placed = is }; square = lost.square; inside = lost.inside; outside = lost.outside },
+          record {
+            box = rect;
+            stands = record { component = component; there = at; placed = is };
+            square = lost.square;
+            inside = lost.inside;
+            outside = lost.outside;
+          },
       λ out points.
           let same : out.box ≡ rect = same_Some out.box rect (sym (HasBox-is c component out.box at out.stands) ∙ is) in
           out.outside (HasSquare-points design.die rect points out.square (rw same at out.inside)),
     )
 
     -- the same by a test whether the die has them all
-    pub IsOutside-test : (rect : RectModel) (b : Bool) → Some rect ≡ box_of library component → IsRect rect → IsTrue b ↔ HasAllPoints design.die rect → IsTrue (not b) ↔ IsOutside library design c
+    pub IsOutside-test : (rect : RectModel) (b : Bool) → Some rect ≡ box_of design.library component → IsRect rect → IsTrue b ↔ HasAllPoints design.die rect
+        → IsTrue (not b) ↔ IsOutside design c
     IsOutside-test rect true is proper test = (
       λ t. absurd (false≢true t),
       λ out. absurd ((IsOutside-points rect (sym is) proper).1 out (test.0 refl)),
@@ -46,20 +53,21 @@ module _ (library : LibraryModel) (design : DesignModel) where
     )
 
     -- nor is one without a place
-    pub IsOutside-unplaced : None ≡ box_of library component → IsOutside library design c → ⊥
+    pub IsOutside-unplaced : None ≡ box_of design.library component → IsOutside design c → ⊥
     IsOutside-unplaced is out = none-some out.box (is ∙ HasBox-is c component out.box at out.stands)
 
   module _ (marks : List Bool) (c : ℕ) where
     -- the component at a number stands in no other box
-    HasBox-same : (rect other : RectModel) → HasBox library design c rect → HasBox library design c other → other ≡ rect
+    HasBox-same : (rect other : RectModel) → HasBox design c rect → HasBox design c other → other ≡ rect
     HasBox-same rect other stands also = same_Some other rect (sym (HasBox-is c stands.component other stands.there also) ∙ stands.placed)
 
     -- one more box
-    pub boxes_more : (rect : RectModel) (boxes : List PlacedBox) → IsMarkedBox library design marks c (Some rect) → AreBoxesBelow library design marks c boxes → AreBoxesBelow library design marks (c + 1) (boxes ++ record { component = c; rect = rect } ∷ [])
+    pub boxes_more : (rect : RectModel) (boxes : List PlacedBox) → IsMarkedBox design marks c (Some rect) → AreBoxesBelow design marks c boxes
+        → AreBoxesBelow design marks (c + 1) (boxes ++ record { component = c; rect = rect } ∷ [])
     boxes_more rect boxes is done = record {
       increasing = all_pairs_push HasLowerNumber boxes (record { component = c; rect = rect }) done.increasing done.below;
       each =
-          All-push (λ box. HasBox library design box.component box.rect) boxes (record { component = c; rect = rect })
+          All-push (λ box. HasBox design box.component box.rect) boxes (record { component = c; rect = rect })
           done.each is.1;
       marked = All-push (λ box. IsMarked marks box.component) boxes (record { component = c; rect = rect }) done.marked is.0;
       below =
@@ -75,7 +83,7 @@ module _ (library : LibraryModel) (design : DesignModel) where
     }
 
     -- a component that isn't marked or has no place has none
-    pub boxes_skip : (boxes : List PlacedBox) → IsMarkedBox library design marks c None → AreBoxesBelow library design marks c boxes → AreBoxesBelow library design marks (c + 1) boxes
+    pub boxes_skip : (boxes : List PlacedBox) → IsMarkedBox design marks c None → AreBoxesBelow design marks c boxes → AreBoxesBelow design marks (c + 1) boxes
     boxes_skip boxes is done = record {
       increasing = done.increasing;
       each = done.each;

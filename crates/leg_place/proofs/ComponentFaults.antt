@@ -1,7 +1,6 @@
 -- The violations that are asked of one component by itself, and those that are not.
 use Rattle.std.proofs.Common.{◌≡◌, ◌≢◌, ◌↔◌, ℕ, Bool, List, ◌⊎◌, inl, inr, refl, arith}
 use Rattle.std.proofs.lemmas.Bool.{cases_eq}
-use Rattle.leg_lib_records.specs.Records.{LibraryModel}
 use Rattle.leg_design_records.specs.Records.{DesignModel}
 use Rattle.leg_design_records.specs.declared.fault.Fault.{Fault}
 use Rattle.leg_design_records.specs.declared.fault.Fault.TheVariants as faults
@@ -56,13 +55,13 @@ tells_marked OffSite marks c = (λ h. h, λ h. h)
 tells_marked Blocked marks c = (λ h. h, λ h. h)
 
 -- a violation of placement is asked of one component, or is an overlap
-pub component_or_overlap : (library : LibraryModel) (design : DesignModel) (v : Fault) → IsPlacementViolation library design v
+pub component_or_overlap : (design : DesignModel) (v : Fault) → IsPlacementViolation design v
     → ((kind : ComponentFault) × (kind_number v ≡ number_of_kind kind)) ⊎ (kind_number v ≡ overlap_kind)
-component_or_overlap library design v (unplaced h) = inl (Unplaced, refl)
-component_or_overlap library design v (outside h) = inl (Outside, refl)
-component_or_overlap library design v (off_site h) = inl (OffSite, refl)
-component_or_overlap library design v (overlap h) = inr refl
-component_or_overlap library design v (blocked h) = inl (Blocked, refl)
+component_or_overlap design v (unplaced h) = inl (Unplaced, refl)
+component_or_overlap design v (outside h) = inl (Outside, refl)
+component_or_overlap design v (off_site h) = inl (OffSite, refl)
+component_or_overlap design v (overlap h) = inr refl
+component_or_overlap design v (blocked h) = inl (Blocked, refl)
 
 -- a number is that of such a kind, or of none of them
 pub kind_or_none : (number : ℕ) → ((kind : ComponentFault) × (number ≡ number_of_kind kind)) ⊎ ((kind : ComponentFault) → number ≢ number_of_kind kind)

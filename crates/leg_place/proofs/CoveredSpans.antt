@@ -18,10 +18,12 @@ module _ (spans : List SiteSpan) (wanted : SiteSpan) (in_order : AllPairs Preced
       ]
 
   -- those that begin by a span stand first
-  pub begins_partitioned : (i j : ℕ) (d : SiteSpan) → i ≤ j → j < length spans → begins_by (get_or spans j d) wanted ≡ true → begins_by (get_or spans i d) wanted ≡ true
+  pub begins_partitioned : (i j : ℕ) (d : SiteSpan) → i ≤ j → j < length spans → begins_by (get_or spans j d) wanted ≡ true
+      → begins_by (get_or spans i d) wanted ≡ true
   begins_partitioned i j d order within begins = begins_by-trans (get_or spans i d) (get_or spans j d) wanted (precedes_upto i j d order within).begins begins
 
-  module _ (end : ℕ) (point : IsPartitionPoint (λ span. begins_by span wanted ≡ true) (λ span. begins_by span wanted ≡ false) spans end) (bound : end ≤ length spans) where
+  module _ (end : ℕ) (point : IsPartitionPoint (λ span. begins_by span wanted ≡ true) (λ span. begins_by span wanted ≡ false) spans end)
+      (bound : end ≤ length spans) where
     -- what covers the span begins by it
     covering_early : (c : IsCovered spans wanted) → c.has.0 < end
     covering_early c =
@@ -37,7 +39,8 @@ module _ (spans : List SiteSpan) (wanted : SiteSpan) (in_order : AllPairs Preced
     pub some_begin : IsCovered spans wanted → 0 < end
     some_begin c = omega (arith, covering_early c)
 
-    precedes_last : (c : IsCovered spans wanted) (last : SiteSpan) → c.has.0 < end → end - 1 < length spans → last ≡ get_or spans (end - 1) last → Precedes c.span last
+    precedes_last : (c : IsCovered spans wanted) (last : SiteSpan) → c.has.0 < end → end - 1 < length spans → last ≡ get_or spans (end - 1) last
+        → Precedes c.span last
     precedes_last c last early within is =
         let first : get_or spans c.has.0 last ≡ c.span = get_or_default spans c.has.0 last c.span c.has.1 ∙ c.has.2 in
         rw (first, ← is) at (precedes_upto c.has.0 (end - 1) last (omega (arith, early)) within)

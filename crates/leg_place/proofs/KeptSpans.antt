@@ -39,7 +39,8 @@ covered_by : (kept : List SiteSpan) (span wanted : SiteSpan) → Contains kept s
 covered_by kept span wanted has all = record { span = span; has = has; has_all = all }
 
 -- the next span goes, or it is the last one kept from now on
-kept_step : (last next : SiteSpan) (behind without with_next : List SiteSpan) (b : Bool) → covers last next ≡ b → IsTrue (begins_by last next) → AreKept last behind without → AreKept next behind with_next → AreKept last (next ∷ behind) (cond b without (last ∷ with_next))
+kept_step : (last next : SiteSpan) (behind without with_next : List SiteSpan) (b : Bool) → covers last next ≡ b → IsTrue (begins_by last next)
+    → AreKept last behind without → AreKept next behind with_next → AreKept last (next ∷ behind) (cond b without (last ∷ with_next))
 kept_step last next behind without with_next true covered begins here there = record {
   first = here.first;
   from = here.from;
@@ -50,7 +51,8 @@ kept_step last next behind without with_next true covered begins here there = re
   ];
 }
 kept_step last next behind without with_next false covered begins here there =
-    let later : All (Precedes last) with_next = All-weaker (Precedes next) (Precedes last) (λ span after. precedes_through last next span begins covered after) with_next there.from in
+    let later : All (Precedes last) with_next =
+    All-weaker (Precedes next) (Precedes last) (λ span after. precedes_through last next span begins covered after) with_next there.from in
     record {
       first = Contains-here last with_next;
       from = All-cons (Precedes last) last with_next (Precedes-itself last) later;
@@ -61,7 +63,8 @@ kept_step last next behind without with_next false covered begins here there =
       ];
     }
 
-kept_from : (last : SiteSpan) (behind : List SiteSpan) → All (BeginsBy last) behind → AllPairs BeginsBy behind → AreKept last behind (dedup_from goes last behind)
+kept_from : (last : SiteSpan) (behind : List SiteSpan) → All (BeginsBy last) behind → AllPairs BeginsBy behind
+    → AreKept last behind (dedup_from goes last behind)
 kept_from last [] begins pairs = record {
   first = Contains-here last [];
   from = All-cons (Precedes last) last [] (Precedes-itself last) (All-nil (Precedes last));
@@ -107,11 +110,9 @@ contained_at : (rows : List Row) (i : ℕ) (row : Row) → slice_get rows i ≡ 
 contained_at rows i row at = (i, slice_get_within rows i row at, get_or_from_slice_get rows i row row at)
 
 module _ (library : LibraryModel) (rows : List Row) where
-  pub spans_none : AreSpansBelow library rows 0 []
-  spans_none = record { each = All-nil (IsOfSomeRow library rows); all = λ number row span below there is. absurd (omega (arith, below)) }
-
   -- the sites of one more row
-  pub spans_more : (spans : List SiteSpan) (i : ℕ) (row : Row) (span : SiteSpan) → slice_get rows i ≡ Some row → pos 1 ≤ℤ row.count → IsRowSpan library row span → AreSpansBelow library rows i spans → AreSpansBelow library rows (i + 1) (spans ++ span ∷ [])
+  pub spans_more : (spans : List SiteSpan) (i : ℕ) (row : Row) (span : SiteSpan) → slice_get rows i ≡ Some row → pos 1 ≤ℤ row.count
+      → IsRowSpan library row span → AreSpansBelow library rows i spans → AreSpansBelow library rows (i + 1) (spans ++ span ∷ [])
   spans_more spans i row span at some is done = record {
     each = All-push (IsOfSomeRow library rows) spans span done.each (record { row = row; has = contained_at rows i row at; some = some; is = is });
     all = λ number other told below there told_is. elim (cases_lt number i) [
@@ -125,7 +126,8 @@ module _ (library : LibraryModel) (rows : List Row) where
   }
 
   -- the sites of all rows once they are sorted and those that others cover are left out
-  pub spans_kept : (spans sorted kept : List SiteSpan) → AreSpansBelow library rows (length rows) spans → IsPermutation spans sorted → IsSorted span_cmp sorted → kept ≡ dedup goes sorted → AreRowSpans library rows kept
+  pub spans_kept : (spans sorted kept : List SiteSpan) → AreSpansBelow library rows (length rows) spans → IsPermutation spans sorted
+      → IsSorted span_cmp sorted → kept ≡ dedup goes sorted → AreRowSpans library rows kept
   spans_kept spans sorted kept are moved up is =
       let serve = kept_all sorted (begins_sorted sorted up) in
       rw is (record {

@@ -3,24 +3,23 @@ use Rattle.std.proofs.Common.{◌≡◌, ℕ, Bool, ◌+◌, List, [], ◌∷◌
 use Rattle.std.proofs.lemmas.Bool.{cases_lt, cases_eq}
 use Rattle.std.proofs.lemmas.List.Elements.{All-push, All-weaker, Contains-append_left, Contains-push}
 use Rattle.std.proofs.lemmas.List.Quantifiers.{all_pairs_push}
-use Rattle.leg_lib_records.specs.Records.{LibraryModel}
 use Rattle.leg_design_records.specs.Records.{DesignModel}
 use Rattle.leg_design_records.specs.declared.fault.Fault.{Fault}
 use Rattle.leg_design_records.specs.declared.fault.Fault.TheVariants.{Short}
 use Rattle.leg_design_records.specs.Violation.{kind_number, numbers_of, ComesBefore, IsListOf}
 use Rattle.leg_place.specs.declared.component_fault.ComponentFault.{ComponentFault}
-use Rattle.leg_place.specs.Among.{HoldsAmong}
+use Rattle.leg_place.specs.Among.{IsViolationAmong}
 use Rattle.leg_place.specs.Steps.ComponentFault.{fault_of}
-use Rattle.leg_place.specs.Steps.ListPrefix.{HoldsBefore, IsListBefore}
+use Rattle.leg_place.specs.Steps.ListPrefix.{IsViolationBefore, IsListBefore}
 use Rattle.leg_place.proofs.PlaceFaults.{kind_below, component_below, same_list}
 use Rattle.leg_place.proofs.ComponentFaults.{number_of_kind, of_component, is_of_component}
 
-module _ (library : LibraryModel) (design : DesignModel) (marks : List Bool) where
+module _ (design : DesignModel) (marks : List Bool) where
   -- behind the last component the next kind begins
   pub listing_end : (kind c : ℕ) → c ≡ length design.components → (found : List Fault)
-      → IsListBefore library design marks kind c found → IsListBefore library design marks (kind + 1) 0 found
+      → IsListBefore design marks kind c found → IsListBefore design marks (kind + 1) 0 found
   listing_end kind c last found done =
-      same_list (HoldsBefore library design marks kind c) (HoldsBefore library design marks (kind + 1) 0)
+      same_list (IsViolationBefore design marks kind c) (IsViolationBefore design marks (kind + 1) 0)
       (λ v held. record { holds = held.holds; upto = omega (arith, held.upto); below = λ same. absurd (omega (arith, held.upto, same)) })
       (λ v held. record {
         holds = held.holds;
@@ -28,25 +27,25 @@ module _ (library : LibraryModel) (design : DesignModel) (marks : List Bool) whe
           | inl same ↦ absurd (let first = held.below same in omega (arith, first))
           | inr apart ↦ omega (arith, held.upto, apart)
         ];
-        below = λ same. (let within = component_below library design v held.holds.holds in omega (arith, within, last));
+        below = λ same. (let within = component_below design v held.holds.holds in omega (arith, within, last));
       })
       found done
 
   -- before the first kind that is none of placement the list is whole
-  pub listing_whole : (found : List Fault) → IsListBefore library design marks (kind_number (Short 0 0)) 0 found
-      → IsListOf (HoldsAmong library design marks) found
+  pub listing_whole : (found : List Fault) → IsListBefore design marks (kind_number (Short 0 0)) 0 found
+      → IsListOf (IsViolationAmong design marks) found
   listing_whole found done =
-      same_list (HoldsBefore library design marks (kind_number (Short 0 0)) 0) (HoldsAmong library design marks)
+      same_list (IsViolationBefore design marks (kind_number (Short 0 0)) 0) (IsViolationAmong design marks)
       (λ v held. held.holds)
       (λ v holds.
-      let below = kind_below library design v holds.holds in
+      let below = kind_below design v holds.holds in
       record { holds = holds; upto = omega (arith, below); below = λ same. absurd (omega (arith, below, same)) })
       found done
 
   module _ (kind : ComponentFault) (c : ℕ) where
     -- what comes before the violation of the next component is that of this one, or comes before it
-    this_or_before : (v : Fault) → HoldsBefore library design marks (number_of_kind kind) (c + 1) v
-        → HoldsBefore library design marks (number_of_kind kind) c v ⊎ (v ≡ fault_of kind c)
+    this_or_before : (v : Fault) → IsViolationBefore design marks (number_of_kind kind) (c + 1) v
+        → IsViolationBefore design marks (number_of_kind kind) c v ⊎ (v ≡ fault_of kind c)
     this_or_before v held =
         elim (cases_eq (kind_number v) (number_of_kind kind)) [
           | inr apart ↦ inl (record { holds = held.holds; upto = held.upto; below = λ same. absurd (apart same) })
@@ -60,7 +59,7 @@ module _ (library : LibraryModel) (design : DesignModel) (marks : List Bool) whe
         ]
 
     -- the violation of one component comes behind those before it
-    behind : (v : Fault) → HoldsBefore library design marks (number_of_kind kind) c v → ComesBefore v (fault_of kind c)
+    behind : (v : Fault) → IsViolationBefore design marks (number_of_kind kind) c v → ComesBefore v (fault_of kind c)
     behind v held =
         let this = of_component kind c in
         record {
@@ -69,18 +68,18 @@ module _ (library : LibraryModel) (design : DesignModel) (marks : List Bool) whe
           second = λ same equal. absurd (let lower = held.below (omega (arith, same, this.0)) in omega (arith, lower, this.1, equal));
         }
 
-    onward : (v : Fault) → HoldsBefore library design marks (number_of_kind kind) c v → HoldsBefore library design marks (number_of_kind kind) (c + 1) v
+    onward : (v : Fault) → IsViolationBefore design marks (number_of_kind kind) c v → IsViolationBefore design marks (number_of_kind kind) (c + 1) v
     onward v held = record { holds = held.holds; upto = held.upto; below = λ same. (let lower = held.below same in omega (arith, lower)) }
 
     -- one more violation that holds
-    pub listing_more : (found : List Fault) → HoldsAmong library design marks (fault_of kind c)
-        → IsListBefore library design marks (number_of_kind kind) c found
-        → IsListBefore library design marks (number_of_kind kind) (c + 1) (found ++ fault_of kind c ∷ [])
+    pub listing_more : (found : List Fault) → IsViolationAmong design marks (fault_of kind c)
+        → IsListBefore design marks (number_of_kind kind) c found
+        → IsListBefore design marks (number_of_kind kind) (c + 1) (found ++ fault_of kind c ∷ [])
     listing_more found holds done =
         let v = fault_of kind c in
         let this = of_component kind c in
-        let before = HoldsBefore library design marks (number_of_kind kind) c in
-        let after = HoldsBefore library design marks (number_of_kind kind) (c + 1) in
+        let before = IsViolationBefore design marks (number_of_kind kind) c in
+        let after = IsViolationBefore design marks (number_of_kind kind) (c + 1) in
         record {
           increasing = all_pairs_push ComesBefore found v done.increasing (All-weaker before (λ w. ComesBefore w v) behind found done.each);
           each =
@@ -93,10 +92,10 @@ module _ (library : LibraryModel) (design : DesignModel) (marks : List Bool) whe
         }
 
     -- it doesn't hold
-    pub listing_skip : (found : List Fault) → (HoldsAmong library design marks (fault_of kind c) → ⊥)
-        → IsListBefore library design marks (number_of_kind kind) c found
-        → IsListBefore library design marks (number_of_kind kind) (c + 1) found
+    pub listing_skip : (found : List Fault) → (IsViolationAmong design marks (fault_of kind c) → ⊥)
+        → IsListBefore design marks (number_of_kind kind) c found
+        → IsListBefore design marks (number_of_kind kind) (c + 1) found
     listing_skip found never done =
-        same_list (HoldsBefore library design marks (number_of_kind kind) c) (HoldsBefore library design marks (number_of_kind kind) (c + 1)) onward
+        same_list (IsViolationBefore design marks (number_of_kind kind) c) (IsViolationBefore design marks (number_of_kind kind) (c + 1)) onward
         (λ v held. elim (this_or_before v held) [ inl earlier ↦ earlier | inr same ↦ absurd (never (rw same at held.holds)) ])
         found done

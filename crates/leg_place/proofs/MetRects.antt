@@ -13,7 +13,8 @@ abbrev pub IsClearAt : List RectModel → RectModel → ℕ → Type 0
 IsClearAt rects box number = (rect : RectModel) → slice_get rects number ≡ Some rect → ¬ ShareSquare box rect
 
 -- where none of the near ones does, none does
-pub none_met : (rects : List RectModel) (box : RectModel) (numbers : List ℕ) → AreNear rects box 0 numbers → All (IsClearAt rects box) numbers → IsMet rects box → ⊥
+pub none_met : (rects : List RectModel) (box : RectModel) (numbers : List ℕ) → AreNear rects box 0 numbers → All (IsClearAt rects box) numbers
+    → IsMet rects box → ⊥
 none_met rects box numbers near clear met =
     let number = met.has.0 in
     let at : slice_get rects number ≡ Some met.rect = slice_get_read rects (length rects) number met.rect refl met.has.1 (sym met.has.2) in

@@ -42,15 +42,19 @@ same_spot p q x y = λ i. record { x = x i; y = y i }
 -- what is mirrored twice is as it was
 mirrored_back : (o m : Orient) → IsMirrored o m → IsMirrored m o
 mirrored_back o m is w h p =
-    let low : (turned m w h (record { x = pos 0; y = pos 0 })).x ≡ both_edges o w h -ℤ (turned o w h (record { x = pos 0; y = pos 0 })).x = ap (λ s. s.x) (is w h (record { x = pos 0; y = pos 0 })) in
-    let high : (turned m w h (record { x = w; y = h })).x ≡ both_edges o w h -ℤ (turned o w h (record { x = w; y = h })).x = ap (λ s. s.x) (is w h (record { x = w; y = h })) in
+    let low : (turned m w h (record { x = pos 0; y = pos 0 })).x ≡ both_edges o w h -ℤ (turned o w h (record { x = pos 0; y = pos 0 })).x =
+    ap (λ s. s.x) (is w h (record { x = pos 0; y = pos 0 })) in
+    let high : (turned m w h (record { x = w; y = h })).x ≡ both_edges o w h -ℤ (turned o w h (record { x = w; y = h })).x =
+    ap (λ s. s.x) (is w h (record { x = w; y = h })) in
     let here : (turned m w h p).x ≡ both_edges o w h -ℤ (turned o w h p).x = ap (λ s. s.x) (is w h p) in
-    same_spot (turned o w h p) (record { x = both_edges m w h -ℤ (turned m w h p).x; y = (turned m w h p).y }) (omega (arith, ints, low, high, here)) (sym (ap (λ s. s.y) (is w h p)))
+    same_spot (turned o w h p) (record { x = both_edges m w h -ℤ (turned m w h p).x; y = (turned m w h p).y }) (omega (arith, ints, low, high, here))
+    (sym (ap (λ s. s.y) (is w h p)))
 
 -- the orientation of a rank
 abbrev orient_ranked : ℕ → Orient
 orient_ranked n =
-    if n == 0 then N else (if n == 1 then S else (if n == 2 then W else (if n == 3 then E else (if n == 4 then FN else (if n == 5 then FS else (if n == 6 then FW else FE))))))
+    if n == 0 then N else (if n == 1 then S else (if n == 2 then W
+    else (if n == 3 then E else (if n == 4 then FN else (if n == 5 then FS else (if n == 6 then FW else FE))))))
 
 ranked_back : (o : Orient) → orient_ranked (orient_rank o) ≡ o
 ranked_back N = refl

@@ -22,12 +22,15 @@ use Rattle.leg_place.proofs.RowSites.{whole_on_sites, covers_on_sites, orient_of
 use Rattle.leg_place.proofs.SpanOrder.{covers-trans, reaches_from_covers}
 
 -- what is covered by a row's sites is of its site
-site_of_span : (row : Row) (size : ExtentModel) (number : ℕ) (orient : Orient) (box : RectModel) (other : ExtentModel) → IsTrue (covers (span_of row.site size row.orient (row_box row size)) (span_of number other orient box)) → row.site ≡ number
-site_of_span row size number orient box other all = ap (λ l. l.site) (reaches_from_covers (span_of row.site size row.orient (row_box row size)) (span_of number other orient box) all).line
+site_of_span : (row : Row) (size : ExtentModel) (number : ℕ) (orient : Orient) (box : RectModel) (other : ExtentModel)
+    → IsTrue (covers (span_of row.site size row.orient (row_box row size)) (span_of number other orient box)) → row.site ≡ number
+site_of_span row size number orient box other all =
+    ap (λ l. l.site) (reaches_from_covers (span_of row.site size row.orient (row_box row size)) (span_of number other orient box) all).line
 
 -- what has all sites of a span has those of what that one covers
 covered_through : (spans : List SiteSpan) (span wanted : SiteSpan) → IsCovered spans span → IsTrue (covers span wanted) → IsCovered spans wanted
-covered_through spans span wanted covered all = record { span = covered.span; has = covered.has; has_all = covers-trans covered.span span wanted covered.has_all all }
+covered_through spans span wanted covered all =
+    record { span = covered.span; has = covered.has; has_all = covers-trans covered.span span wanted covered.has_all all }
 
 -- a macro of the site of this number, at a place; the sites of the rows are given
 module _ (design : DesignModel) (master : MasterModel) (number : ℕ) (place : Place) (site : Site) (there : slice_get design.library.sites number ≡ Some site)
@@ -54,7 +57,8 @@ module _ (design : DesignModel) (master : MasterModel) (number : ℕ) (place : P
       record { row_orient = some.row.orient; fits = on.fits; covered = rw on.same at covered }
 
   -- and the other way round
-  pub on_row_of_sites : IsWhole site.size (placed_box master.size place) → HasSites spans number site.size (placed_box master.size place) place.orient master.y_symmetric → IsOnSomeRow design master number place
+  pub on_row_of_sites : IsWhole site.size (placed_box master.size place)
+      → HasSites spans number site.size (placed_box master.size place) place.orient master.y_symmetric → IsOnSomeRow design master number place
   on_row_of_sites whole sites =
       let covered = sites.covered in
       let of_row = All-contains (IsOfSomeRow design.library design.rows) spans covered.span spans_are.each covered.has in
@@ -65,7 +69,8 @@ module _ (design : DesignModel) (master : MasterModel) (number : ℕ) (place : P
       let number_is : row.site ≡ number = site_of_span row told.site.size number sites.row_orient (placed_box master.size place) site.size all in
       let same : told.site ≡ site = same_Some told.site site (sym told.there ∙ ap (slice_get design.library.sites) number_is ∙ there) in
       let all_here : IsTrue (covers (span_of row.site site.size row.orient (row_box row site.size)) wanted) = rw same at all in
-      let orient_is : row.orient ≡ sites.row_orient = orient_of_covering row site.size (placed_box master.size place) area proper number sites.row_orient all_here in
+      let orient_is : row.orient ≡ sites.row_orient =
+      orient_of_covering row site.size (placed_box master.size place) area proper number sites.row_orient all_here in
       record {
         row = row;
         has = of_row.has;
@@ -79,11 +84,12 @@ module _ (design : DesignModel) (master : MasterModel) (number : ℕ) (place : P
       }
 
 -- nor does a macro stand on a row whose site the library doesn't have
-pub on_no_row : (design : DesignModel) (master : MasterModel) (number : ℕ) (place : Place) → length design.library.sites ≤ number → IsOnSomeRow design master number place → ⊥
+pub on_no_row : (design : DesignModel) (master : MasterModel) (number : ℕ) (place : Place) → length design.library.sites ≤ number
+    → IsOnSomeRow design master number place → ⊥
 on_no_row design master number place beyond some = omega (arith, beyond, slice_get_within design.library.sites number some.on.site some.on.there)
 
 module _ (design : DesignModel) (c : ℕ) (component : Component) (there : slice_get design.components c ≡ Some component) where
-  placed_of : (off : IsOffSite design.library design c) → component.place ≡ Some off.place
+  placed_of : (off : IsOffSite design c) → component.place ≡ Some off.place
   placed_of off =
       let same : off.component ≡ component = same_Some off.component component (sym off.there ∙ there) in
       rw same at off.placed
@@ -91,13 +97,14 @@ module _ (design : DesignModel) (c : ℕ) (component : Component) (there : slice
 -- whether a component is off its sites, by its macro
 module _ (design : DesignModel) (c : ℕ) (component : Component) (there : slice_get design.components c ≡ Some component)
     (master : MasterModel) (is_master : slice_get design.library.masters component.master ≡ Some master) where
-  master_of : (off : IsOffSite design.library design c) → off.master ≡ master
+  master_of : (off : IsOffSite design c) → off.master ≡ master
   master_of off =
       let same : off.component ≡ component = same_Some off.component component (sym off.there ∙ there) in
       same_Some off.master master (sym (rw same at off.is_master) ∙ is_master)
 
   -- where the macro has a site, by a test of the rows
-  pub off_site_test : (place : Place) (number : ℕ) (b : Bool) → component.place ≡ Some place → master.site ≡ Some number → IsTrue b ↔ IsOnSomeRow design master number place → IsTrue (not b) ↔ IsOffSite design.library design c
+  pub off_site_test : (place : Place) (number : ℕ) (b : Bool) → component.place ≡ Some place → master.site ≡ Some number
+      → IsTrue b ↔ IsOnSomeRow design master number place → IsTrue (not b) ↔ IsOffSite design c
   off_site_test place number true placed site test = (
     λ t. absurd (false≢true t),
     λ off.
@@ -123,5 +130,5 @@ module _ (design : DesignModel) (c : ℕ) (component : Component) (there : slice
   )
 
   -- a component of a macro without a site isn't
-  pub on_no_site : master.site ≡ None → IsOffSite design.library design c → ⊥
+  pub on_no_site : master.site ≡ None → IsOffSite design c → ⊥
   on_no_site none off = none-some off.number (sym none ∙ (rw (master_of off) at off.site))

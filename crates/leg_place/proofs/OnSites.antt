@@ -97,7 +97,8 @@ module _ (row : Row) (size : ExtentModel) (box : RectModel) (n : ℕ) (width : s
         }
 
   -- edges of sites bound a rectangle that stands on them
-  pub sites_between : (f l : ℕ) → box.x1 ≡ row.at.x +ℤ pos (f * n) → box.x2 ≡ row.at.x +ℤ pos (l * n) → box.y1 ≡ row.at.y → box.y2 ≡ row.at.y +ℤ size.height → f < l → pos l ≤ℤ row.count → IsOnSites row size box
+  pub sites_between : (f l : ℕ) → box.x1 ≡ row.at.x +ℤ pos (f * n) → box.x2 ≡ row.at.x +ℤ pos (l * n) → box.y1 ≡ row.at.y → box.y2 ≡ row.at.y +ℤ size.height
+      → f < l → pos l ≤ℤ row.count → IsOnSites row size box
   sites_between f l left right bottom top order within = record {
     first = f;
     many = l - f;
@@ -140,7 +141,8 @@ module _ (row : Row) (size : ExtentModel) (box : RectModel) (n : ℕ) (width : s
           };
         })
 
-    last_square : (l : ℕ) → on.first + on.many ≡ l + 1 → HasSquare box (record { x = row.at.x +ℤ pos (l * n) +ℤ pos n -ℤ pos 1; y = row.at.y +ℤ size.height -ℤ pos 1 })
+    last_square : (l : ℕ) → on.first + on.many ≡ l + 1
+        → HasSquare box (record { x = row.at.x +ℤ pos (l * n) +ℤ pos n -ℤ pos 1; y = row.at.y +ℤ size.height -ℤ pos 1 })
     last_square l is =
         let s = in_sites in
         (on.squares (record { x = row.at.x +ℤ pos (l * n) +ℤ pos n -ℤ pos 1; y = row.at.y +ℤ size.height -ℤ pos 1 })).1 (record {
@@ -229,7 +231,10 @@ module _ (row : Row) (size : ExtentModel) (box : RectModel) (area : HasArea size
   pub level_from_on_sites : IsOnSites row size box → IsLevel row size box
   level_from_on_sites on =
       let n = unsigned_abs size.width in
-      record { bottom = bottom_is row size box proper on; top = top_is row size box n (omega (arith, ints, area.wide)) (omega (arith, ints, area.wide)) proper on }
+      record {
+        bottom = bottom_is row size box proper on;
+        top = top_is row size box n (omega (arith, ints, area.wide)) (omega (arith, ints, area.wide)) proper on;
+      }
 
   pub left_from_on_sites : IsOnSites row size box → IsEdge row size box.x1
   left_from_on_sites on =

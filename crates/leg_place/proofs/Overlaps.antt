@@ -9,7 +9,6 @@ use Rattle.leg_sweep.specs.Pairs.{Before, ArePairs, TakesAll, TookPairs}
 use Rattle.leg_geom.specs.Pairs.{IsPair}
 use Rattle.leg_sweep.specs.Pairs.TakesAll.{none, more}
 use Rattle.leg_sweep.proofs.Lists.{AllPairs-append_by, AllPairs-map_where, Contains-map, Contains-nil}
-use Rattle.leg_lib_records.specs.Records.{LibraryModel}
 use Rattle.leg_design_records.specs.Records.{DesignModel}
 use Rattle.leg_design_records.specs.declared.fault.Fault.{Fault}
 use Rattle.leg_design_records.specs.declared.fault.Fault.TheVariants.{Overlap}
@@ -17,9 +16,9 @@ use Rattle.leg_design_records.specs.Violation.{ComesBefore, kind_number, numbers
 use Rattle.leg_place.specs.declared.placed_box.PlacedBox.{PlacedBox}
 use Rattle.leg_rules.specs.Placement.Box.{HasBox}
 use Rattle.leg_rules.specs.Placement.Violations.{DoOverlap}
-use Rattle.leg_place.specs.Among.{IsMarked, HoldsAmong}
+use Rattle.leg_place.specs.Among.{IsMarked, IsViolationAmong}
 use Rattle.leg_rules.specs.Placement.Violations.IsPlacementViolation.{overlap}
-use Rattle.leg_place.specs.Steps.ListPrefix.{HoldsBefore, IsListBefore, AreBoxesBelow, HasLowerNumber, DoSomeOverlap, HasPair}
+use Rattle.leg_place.specs.Steps.ListPrefix.{IsViolationBefore, IsListBefore, AreBoxesBelow, HasLowerNumber, DoSomeOverlap, HasPair}
 use Rattle.leg_place.proofs.PlaceFaults.{overlap_there, marked_by_all}
 use Rattle.leg_place.proofs.ComponentFaults.{overlap_kind, is_overlap}
 use Rattle.leg_place.proofs.Places.{place_of_contained, All-at, AllPairs-at, lower_first, same_place}
@@ -54,17 +53,17 @@ took_none : {Sink : Type 0} (found : List (ℕ × ℕ)) (before after : Sink) �
 took_none found before after (none) p has = Contains-nil p has
 took_none found before after (more rest never) p has = absurd never
 
-module _ (library : LibraryModel) (design : DesignModel) (marks : List Bool) (n : ℕ) (boxes : List PlacedBox) (are : AreBoxesBelow library design marks n boxes) where
+module _ (design : DesignModel) (marks : List Bool) (n : ℕ) (boxes : List PlacedBox) (are : AreBoxesBelow design marks n boxes) where
   -- the violation of a pair of boxes holds
-  Holds-overlap_of : (p : ℕ × ℕ) → IsPair Share boxes p → HoldsAmong library design marks (overlap_of boxes p)
+  Holds-overlap_of : (p : ℕ × ℕ) → IsPair Share boxes p → IsViolationAmong design marks (overlap_of boxes p)
   Holds-overlap_of p pair =
       rw (pair.a_at, pair.b_at) (record {
         holds = overlap (record {
           in_order = AllPairs-at HasLowerNumber boxes p.0 p.1 pair.a pair.b are.increasing pair.a_at pair.b_at pair.in_order;
           box_a = pair.a.rect;
           box_b = pair.b.rect;
-          stands_a = All-at (λ box. HasBox library design box.component box.rect) boxes p.0 pair.a are.each pair.a_at;
-          stands_b = All-at (λ box. HasBox library design box.component box.rect) boxes p.1 pair.b are.each pair.b_at;
+          stands_a = All-at (λ box. HasBox design box.component box.rect) boxes p.0 pair.a are.each pair.a_at;
+          stands_b = All-at (λ box. HasBox design box.component box.rect) boxes p.1 pair.b are.each pair.b_at;
           shared = pair.holds;
         });
         marked = (
@@ -91,7 +90,8 @@ module _ (library : LibraryModel) (design : DesignModel) (marks : List Bool) (n 
       })
 
   -- each overlap is that of a pair
-  overlap_from_pair : (found : List (ℕ × ℕ)) → ArePairs Share boxes found → (a b : ℕ) → (holds : DoOverlap library design a b) → a < n → b < n → IsMarked marks a → IsMarked marks b → Contains (map (overlap_of boxes) found) (Overlap a b)
+  overlap_from_pair : (found : List (ℕ × ℕ)) → ArePairs Share boxes found → (a b : ℕ) → (holds : DoOverlap design a b) → a < n → b < n → IsMarked marks a
+      → IsMarked marks b → Contains (map (overlap_of boxes) found) (Overlap a b)
   overlap_from_pair found pairs a b holds a_below b_below a_marked b_marked =
       let first = place_of_contained boxes (record { component = a; rect = holds.box_a }) (are.all a holds.box_a a_below a_marked holds.stands_a) in
       let second = place_of_contained boxes (record { component = b; rect = holds.box_b }) (are.all b holds.box_b b_below b_marked holds.stands_b) in
@@ -107,21 +107,24 @@ module _ (library : LibraryModel) (design : DesignModel) (marks : List Bool) (n 
       rw (first.1, second.1) at has
 
 -- overlaps behind the violations of the kinds before
-module _ (library : LibraryModel) (design : DesignModel) (marks : List Bool) (found : List Fault) (before : IsListBefore library design marks overlap_kind 0 found) (boxes : List PlacedBox) (are : AreBoxesBelow library design marks (length design.components) boxes) where
+module _ (design : DesignModel) (marks : List Bool) (found : List Fault) (before : IsListBefore design marks overlap_kind 0 found) (boxes : List PlacedBox)
+    (are : AreBoxesBelow design marks (length design.components) boxes) where
   pub listing_Overlap_end : (pairs : List (ℕ × ℕ)) → ArePairs Share boxes pairs
-      → IsListBefore library design marks (overlap_kind + 1) 0 (found ++ map (overlap_of boxes) pairs)
+      → IsListBefore design marks (overlap_kind + 1) 0 (found ++ map (overlap_of boxes) pairs)
   listing_Overlap_end pairs are_pairs = record {
     increasing =
-        AllPairs-append_by ComesBefore (HoldsBefore library design marks overlap_kind 0) (λ w. kind_number w ≡ overlap_kind) kinds_rise found (map (overlap_of boxes) pairs)
+        AllPairs-append_by ComesBefore (IsViolationBefore design marks overlap_kind 0) (λ w. kind_number w ≡ overlap_kind) kinds_rise found
+        (map (overlap_of boxes) pairs)
         before.each (All-map (λ w. kind_number w ≡ overlap_kind) (overlap_of boxes) pairs (λ k d within. refl)) before.increasing
-        (AllPairs-map_where Before ComesBefore (overlap_of boxes) (IsPair Share boxes) (ComesBefore-overlap_of library design marks (length design.components) boxes are) pairs are_pairs.each are_pairs.increasing);
+        (AllPairs-map_where Before ComesBefore (overlap_of boxes) (IsPair Share boxes)
+        (ComesBefore-overlap_of design marks (length design.components) boxes are) pairs are_pairs.each are_pairs.increasing);
     each =
         All-append after found (map (overlap_of boxes) pairs)
-        (All-weaker (HoldsBefore library design marks overlap_kind 0) after (λ v held. upto v held.holds held.upto) found before.each)
+        (All-weaker (IsViolationBefore design marks overlap_kind 0) after (λ v held. upto v held.holds held.upto) found before.each)
         (All-map after (overlap_of boxes) pairs
         (All-weaker (IsPair Share boxes) (λ p. after (overlap_of boxes p))
         (λ p pair.
-        upto (overlap_of boxes p) (Holds-overlap_of library design marks (length design.components) boxes are p pair) (omega arith))
+        upto (overlap_of boxes p) (Holds-overlap_of design marks (length design.components) boxes are p pair) (omega arith))
         pairs are_pairs.each));
     all = λ v held. elim (cases_eq (kind_number v) overlap_kind) [
       | inl same ↦
@@ -134,18 +137,18 @@ module _ (library : LibraryModel) (design : DesignModel) (marks : List Bool) (fo
   }
     where
       after : Fault → Type 0
-      after = HoldsBefore library design marks (overlap_kind + 1) 0
+      after = IsViolationBefore design marks (overlap_kind + 1) 0
 
-      upto : (v : Fault) → HoldsAmong library design marks v → kind_number v ≤ overlap_kind → HoldsBefore library design marks (overlap_kind + 1) 0 v
+      upto : (v : Fault) → IsViolationAmong design marks v → kind_number v ≤ overlap_kind → IsViolationBefore design marks (overlap_kind + 1) 0 v
       upto v holds kind = record { holds = holds; upto = omega (arith, kind); below = λ same. absurd (omega (arith, kind, same)) }
 
-      below_next : (v : Fault) → HoldsBefore library design marks (overlap_kind + 1) 0 v → kind_number v ≤ overlap_kind
+      below_next : (v : Fault) → IsViolationBefore design marks (overlap_kind + 1) 0 v → kind_number v ≤ overlap_kind
       below_next v held = elim (cases_eq (kind_number v) (overlap_kind + 1)) [
         | inl same ↦ absurd (let first = held.below same in omega (arith, first))
         | inr apart ↦ omega (arith, held.upto, apart)
       ]
 
-      kinds_rise : (v w : Fault) → HoldsBefore library design marks overlap_kind 0 v → kind_number w ≡ overlap_kind → ComesBefore v w
+      kinds_rise : (v w : Fault) → IsViolationBefore design marks overlap_kind 0 v → kind_number w ≡ overlap_kind → ComesBefore v w
       kinds_rise v w held kind =
           let earlier : kind_number v ≡ overlap_kind → ⊥ = λ same. (let first = held.below same in omega (arith, first)) in
           record {
@@ -154,16 +157,17 @@ module _ (library : LibraryModel) (design : DesignModel) (marks : List Bool) (fo
             second = λ same. absurd (earlier (same ∙ kind));
           }
 
-      overlap_in : (a b : ℕ) → HoldsAmong library design marks (Overlap a b) → Contains (found ++ map (overlap_of boxes) pairs) (Overlap a b)
+      overlap_in : (a b : ℕ) → IsViolationAmong design marks (Overlap a b) → Contains (found ++ map (overlap_of boxes) pairs) (Overlap a b)
       overlap_in a b held =
-          let h = overlap_there library design a b held.holds in
+          let h = overlap_there design a b held.holds in
           Contains-append_right found (map (overlap_of boxes) pairs) (Overlap a b)
-          (overlap_from_pair library design marks (length design.components) boxes are pairs are_pairs a b h
+          (overlap_from_pair design marks (length design.components) boxes are pairs are_pairs a b h
           (slice_get_within design.components a h.stands_a.component h.stands_a.there)
           (slice_get_within design.components b h.stands_b.component h.stands_b.there) held.marked.0 held.marked.1)
 
 -- two boxes at places in order that share a unit square
-pub pair_at : (boxes : List PlacedBox) (a b : ℕ) (first second : PlacedBox) → a < b → b < length boxes → ShareSquare (get_or boxes a first).rect (get_or boxes b second).rect → HasPair boxes
+pub pair_at : (boxes : List PlacedBox) (a b : ℕ) (first second : PlacedBox) → a < b → b < length boxes
+    → ShareSquare (get_or boxes a first).rect (get_or boxes b second).rect → HasPair boxes
 pair_at boxes a b first second lower within shared =
     record {
       numbers = (a, b);
@@ -178,25 +182,30 @@ pair_at boxes a b first second lower within shared =
     }
 
 -- overlaps of components that are all marked
-module _ (library : LibraryModel) (design : DesignModel) (boxes : List PlacedBox) (are : AreBoxesBelow library design (replicate (length design.components) true) (length design.components) boxes) where
+module _ (design : DesignModel) (boxes : List PlacedBox)
+    (are : AreBoxesBelow design (replicate (length design.components) true) (length design.components) boxes) where
   -- of a pair
-  pub overlap_of_pair : HasPair boxes → DoSomeOverlap library design
+  pub overlap_of_pair : HasPair boxes → DoSomeOverlap design
   overlap_of_pair has =
-      let held = Holds-overlap_of library design (replicate (length design.components) true) (length design.components) boxes are has.numbers has.pair in
+      let held = Holds-overlap_of design (replicate (length design.components) true) (length design.components) boxes are has.numbers has.pair in
       record {
         a = number_of (slice_get boxes has.numbers.0);
         b = number_of (slice_get boxes has.numbers.1);
-        overlap = overlap_there library design _ _ held.holds;
+        overlap = overlap_there design _ _ held.holds;
       }
 
   -- a sink that takes no pair has taken all just where there are none
-  pub overlap_from_took : {Sink : Type 0} {tests : ℕ} (before after : Sink) → TookPairs (λ s p t. ⊥) Share boxes tests before after → DoSomeOverlap library design → ⊥
+  pub overlap_from_took : {Sink : Type 0} {tests : ℕ} (before after : Sink) → TookPairs (λ s p t. ⊥) Share boxes tests before after → DoSomeOverlap design → ⊥
   overlap_from_took before after took some =
       let h = some.overlap in
       let a_below = slice_get_within design.components some.a h.stands_a.component h.stands_a.there in
       let b_below = slice_get_within design.components some.b h.stands_b.component h.stands_b.there in
-      let first = place_of_contained boxes (record { component = some.a; rect = h.box_a }) (are.all some.a h.box_a a_below (marked_by_all library design some.a a_below) h.stands_a) in
-      let second = place_of_contained boxes (record { component = some.b; rect = h.box_b }) (are.all some.b h.box_b b_below (marked_by_all library design some.b b_below) h.stands_b) in
+      let first =
+      place_of_contained boxes (record { component = some.a; rect = h.box_a })
+      (are.all some.a h.box_a a_below (marked_by_all design some.a a_below) h.stands_a) in
+      let second =
+      place_of_contained boxes (record { component = some.b; rect = h.box_b })
+      (are.all some.b h.box_b b_below (marked_by_all design some.b b_below) h.stands_b) in
       let pair : IsPair Share boxes (first.0, second.0) = record {
         a = record { component = some.a; rect = h.box_a };
         b = record { component = some.b; rect = h.box_b };

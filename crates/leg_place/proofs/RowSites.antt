@@ -20,7 +20,8 @@ use Rattle.leg_place.proofs.Shift.{product_sum, same_shift, steps_between}
 use Rattle.leg_place.proofs.SpanOrder.{Reaches, same_parts, reaches_from_covers, covers_from_reaches}
 
 -- a box as high as a site is whole just where no part of a site remains of its width
-pub whole_test : (size : ExtentModel) (box : RectModel) (d n : ℕ) → HasArea size → IsWide box → d ≡ unsigned_abs (box.x2 -ℤ box.x1) → n ≡ unsigned_abs size.width → box.y2 ≡ box.y1 +ℤ size.height → (d % n ≡ 0) ↔ IsWhole size box
+pub whole_test : (size : ExtentModel) (box : RectModel) (d n : ℕ) → HasArea size → IsWide box → d ≡ unsigned_abs (box.x2 -ℤ box.x1)
+    → n ≡ unsigned_abs size.width → box.y2 ≡ box.y1 +ℤ size.height → (d % n ≡ 0) ↔ IsWhole size box
 whole_test size box d n area proper apart is_width high =
     let width : size.width ≡ pos n = omega (arith, ints, is_width, area.wide) in
     let long : (k : ℕ) → pos k *ℤ size.width ≡ pos (k * n) = λ k. ap (λ w. pos k *ℤ w) width ∙ pos-*ℤ-pos k n in (
@@ -46,7 +47,8 @@ pub sum_fits : (x y : ℤ) → IsNumber x → IsNumber y → FitsSigned w64 (x +
 sum_fits x y one other = fits_signed_from_abs w64 (x +ℤ y) (omega (arith, ints, one, other))
 
 -- the box of all sites of a row is a rectangle
-pub row_box_proper : (row : Row) (size : ExtentModel) → IsPosition row.at → pos 1 ≤ℤ row.count → IsNumber (row.at.x +ℤ row.count *ℤ size.width) → IsExtent size → IsRect (row_box row size)
+pub row_box_proper : (row : Row) (size : ExtentModel) → IsPosition row.at → pos 1 ≤ℤ row.count → IsNumber (row.at.x +ℤ row.count *ℤ size.width)
+    → IsExtent size → IsRect (row_box row size)
 row_box_proper row size at some end extent =
     let m = unsigned_abs row.count in
     let n = unsigned_abs size.width in
@@ -109,7 +111,8 @@ module _ (row : Row) (size : ExtentModel) (box : RectModel) (n : ℕ) (width : s
         })
 
   -- and the other way round: the row has the sites over which a whole box reaches
-  module _ (number : ℕ) (orient : Orient) (there : IsTrue (covers (span_of row.site size row.orient (row_box row size)) (span_of number size orient box))) (some_sites : pos 1 ≤ℤ row.count) (whole : IsWhole size box) where
+  module _ (number : ℕ) (orient : Orient) (there : IsTrue (covers (span_of row.site size row.orient (row_box row size)) (span_of number size orient box)))
+      (some_sites : pos 1 ≤ℤ row.count) (whole : IsWhole size box) where
     reach : Reaches (span_of row.site size row.orient (row_box row size)) (span_of number size orient box)
     reach = reaches_from_covers (span_of row.site size row.orient (row_box row size)) (span_of number size orient box) there
 
@@ -171,7 +174,9 @@ module _ (row : Row) (size : ExtentModel) (box : RectModel) (area : HasArea size
 
   module _ (number : ℕ) (orient : Orient) (there : IsTrue (covers (span_of row.site size row.orient (row_box row size)) (span_of number size orient box))) where
     pub orient_of_covering : row.orient ≡ orient
-    orient_of_covering = same_rank row.orient orient (ap (λ l. l.orient) (reaches_from_covers (span_of row.site size row.orient (row_box row size)) (span_of number size orient box) there).line)
+    orient_of_covering =
+        same_rank row.orient orient (ap (λ l. l.orient)
+        (reaches_from_covers (span_of row.site size row.orient (row_box row size)) (span_of number size orient box) there).line)
 
     pub on_covering : pos 1 ≤ℤ row.count → IsWhole size box → IsOnSites row size box
     on_covering some whole =

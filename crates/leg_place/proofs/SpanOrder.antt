@@ -15,7 +15,8 @@ use Rattle.leg_place.specs.Steps.RowSpans.{Precedes}
 pub line_total : IsTotalOrder line_cmp
 line_total =
     then_total (on_total (λ (l : SiteLine). l.site) nat_cmp_total)
-    (then_total (on_total (λ (l : SiteLine). l.orient) nat_cmp_total) (then_total (on_total (λ (l : SiteLine). l.bottom) int_cmp_total) (on_total (λ (l : SiteLine). l.shift) int_cmp_total)))
+    (then_total (on_total (λ (l : SiteLine). l.orient) nat_cmp_total)
+    (then_total (on_total (λ (l : SiteLine). l.bottom) int_cmp_total) (on_total (λ (l : SiteLine). l.shift) int_cmp_total)))
 
 abbrev pub begin_cmp : SiteSpan → SiteSpan → Ordering
 begin_cmp a b = ordering_then (line_cmp a.line b.line) (int_cmp a.left b.left)
@@ -114,7 +115,8 @@ same_line a b test =
     let site = and_parts _ _ test in
     let orient = and_parts _ _ site.1 in
     let rest = and_parts _ _ orient.1 in
-    same_parts a b (eqb-true a.site b.site site.0) (eqb-true a.orient b.orient orient.0) (int_eq-true a.bottom b.bottom rest.0) (int_eq-true a.shift b.shift rest.1)
+    same_parts a b (eqb-true a.site b.site site.0) (eqb-true a.orient b.orient orient.0) (int_eq-true a.bottom b.bottom rest.0)
+    (int_eq-true a.shift b.shift rest.1)
 
 same_line_test : (a b : SiteLine) → a ≡ b → is_same_line a b ≡ true
 same_line_test a b same =

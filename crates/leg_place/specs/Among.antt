@@ -1,7 +1,6 @@
 -- Violations that name only some of the components of a design (lefdef's own rules). These are marked: there is a flag for
 -- each component, by number.
 use Rattle.std.specs.Prelude.{◌≡◌, ℕ, Bool, true, List, Some, slice_get}
-use Rattle.leg_lib_records.specs.Records.{LibraryModel}
 use Rattle.leg_design_records.specs.Records.{DesignModel}
 use Rattle.leg_design_records.specs.declared.fault.Fault.{Fault}
 use Rattle.leg_design_records.specs.declared.fault.Fault.TheVariants.{Unplaced, Outside, OffSite, Overlap, Blocked, Short, TooNear, OpenNet}
@@ -23,6 +22,6 @@ NamesOnlyMarked marks (TooNear a b) = ⊥
 NamesOnlyMarked marks (OpenNet n k) = ⊥
 
 -- a violation of placement holds, and names only marked ones
-pub record HoldsAmong (library : LibraryModel) (design : DesignModel) (marks : List Bool) (fault : Fault) : Type 0 where
-  pub holds : IsPlacementViolation library design fault
+pub record IsViolationAmong (design : DesignModel) (marks : List Bool) (fault : Fault) : Type 0 where
+  pub holds : IsPlacementViolation design fault
   pub marked : NamesOnlyMarked marks fault

@@ -44,7 +44,7 @@ impl ComponentFault {
     ) -> bool
         requires there { component < length design.now.components }
         requires floorplan { IsFloorplan design.now floorplan.now }
-        ensures { IsTrue result ↔ IsPlacementViolation design.now.library design.now (fault_of self component) }
+        ensures { IsTrue result ↔ IsPlacementViolation design.now (fault_of self component) }
     {
         match self {
             ComponentFault::Unplaced => is_unplaced(design, component),
@@ -66,7 +66,7 @@ fn is_unplaced<A: Allocator + Copy>(design: &Design<'_, A>, number: usize) -> bo
 /// Whether a unit square of the component lies outside the die.
 fn is_outside<A: Allocator + Copy>(design: &Design<'_, A>, number: usize) -> bool
     requires { number < length design.now.components }
-    ensures { IsTrue result ↔ IsOutside design.now.library design.now number }
+    ensures { IsTrue result ↔ IsOutside design.now number }
 {
     match box_of(design.library(), &design.components()[number]) {
         Some(rect) => !design.die().contains(&rect),

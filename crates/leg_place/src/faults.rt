@@ -3,7 +3,7 @@
 ghost use Rattle.std.specs.Prelude.{◌≡◌, ◌+◌, IfOk, OnOk};
 ghost use Rattle.leg_design_records.specs.Violation.{kind_number, IsListOf};
 ghost use Rattle.leg_rules.specs.Placement.Violations.{IsPlacementViolation};
-ghost use Rattle.leg_place.specs.Among.{HoldsAmong};
+ghost use Rattle.leg_place.specs.Among.{IsViolationAmong};
 ghost use Rattle.leg_place.specs.Steps.ComponentFault.{fault_of};
 ghost use Rattle.leg_place.specs.Steps.Floorplan.{IsFloorplan};
 ghost use Rattle.leg_place.specs.Steps.ListPrefix.{IsListBefore};
@@ -26,7 +26,7 @@ pub fn place_faults<A: Allocator + Copy>(
     design: &Design<'_, A>,
 ) -> Result<Vec<Fault, A>, AllocError>
     requires { library.now ≡ design.now.library }
-    ensures { IfOk result (λ found. IsListOf (IsPlacementViolation library.now design.now) found.items) }
+    ensures { IfOk result (λ found. IsListOf (IsPlacementViolation design.now) found.items) }
 {
     let marks = all_marked(alloc, design)?;
     let faults = place_faults_among(alloc, library, design, &marks)?;
@@ -44,7 +44,7 @@ pub fn place_faults_among<A: Allocator + Copy>(
     marks: &[bool],
 ) -> Result<Vec<Fault, A>, AllocError>
     requires { library.now ≡ design.now.library }
-    ensures { IfOk result (λ found. IsListOf (HoldsAmong library.now design.now marks.now) found.items) }
+    ensures { IfOk result (λ found. IsListOf (IsViolationAmong design.now marks.now) found.items) }
 {
     let plan = Floorplan::of_design(alloc, design)?;
     let mut found = Vec::new(alloc);
@@ -66,8 +66,8 @@ fn push_each<A: Allocator + Copy>(
     found: &mut Vec<Fault, A>,
 ) -> Result<(), AllocError>
     requires floorplan { IsFloorplan design.now floorplan.now }
-    requires before { IsListBefore design.now.library design.now marks.now (kind_number (fault_of kind 0)) 0 found.old.items }
-    ensures { OnOk result (IsListBefore design.now.library design.now marks.now (kind_number (fault_of kind 0) + 1) 0 found.new.items) }
+    requires before { IsListBefore design.now marks.now (kind_number (fault_of kind 0)) 0 found.old.items }
+    ensures { OnOk result (IsListBefore design.now marks.now (kind_number (fault_of kind 0) + 1) 0 found.new.items) }
 {
     for i in 0..design.components().len() {
         if is_marked(marks, i) && kind.holds(design, floorplan, i) {

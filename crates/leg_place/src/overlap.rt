@@ -106,8 +106,8 @@ pub(crate) fn push_overlaps<A: Allocator + Copy>(
     marks: &[bool],
     found: &mut Vec<Fault, A>,
 ) -> Result<(), AllocError>
-    requires { IsListBefore design.now.library design.now marks.now (kind_number (Fault.Overlap 0 0)) 0 found.old.items }
-    ensures { OnOk result (IsListBefore design.now.library design.now marks.now (kind_number (Fault.Overlap 0 0) + 1) 0 found.new.items) }
+    requires { IsListBefore design.now marks.now (kind_number (Fault.Overlap 0 0)) 0 found.old.items }
+    ensures { OnOk result (IsListBefore design.now marks.now (kind_number (Fault.Overlap 0 0) + 1) 0 found.new.items) }
 {
     let boxes = placed_boxes(alloc, design, marks)?;
     let mut rule = OnOneAnother { tests: 0, looks: 0 };
@@ -142,7 +142,7 @@ pub(crate) fn do_some_overlap<A: Allocator + Copy>(
     alloc: A,
     design: &Design<'_, A>,
 ) -> Result<bool, AllocError>
-    ensures { IfOk result (λ overlap. IsTrue overlap ↔ DoSomeOverlap design.now.library design.now) }
+    ensures { IfOk result (λ overlap. IsTrue overlap ↔ DoSomeOverlap design.now) }
 {
     let marks = all_marked(alloc, design)?;
     let boxes = placed_boxes(alloc, design, &marks)?;

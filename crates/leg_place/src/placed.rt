@@ -36,7 +36,7 @@ pub fn is_placed<A: Allocator + Copy>(
 /// placement blockage. The floorplan is that of the design.
 fn is_one_misplaced<A: Allocator + Copy>(design: &Design<'_, A>, floorplan: &Floorplan<A>) -> bool
     requires { IsFloorplan design.now floorplan.now }
-    ensures { IsTrue result ↔ IsOneMisplaced design.now.library design.now (length design.now.components) }
+    ensures { IsTrue result ↔ IsOneMisplaced design.now (length design.now.components) }
 {
     for i in 0..design.components().len() {
         if is_misplaced(design, floorplan, i) {
@@ -54,7 +54,7 @@ fn is_misplaced<A: Allocator + Copy>(
 ) -> bool
     requires there { number < length design.now.components }
     requires floorplan { IsFloorplan design.now floorplan.now }
-    ensures { IsTrue result ↔ IsMisplaced design.now.library design.now number }
+    ensures { IsTrue result ↔ IsMisplaced design.now number }
 {
     ComponentFault::Unplaced.holds(design, floorplan, number)
         || ComponentFault::Outside.holds(design, floorplan, number)

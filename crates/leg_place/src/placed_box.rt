@@ -52,7 +52,7 @@ fn marked_box<A: Allocator + Copy>(
     number: usize,
 ) -> Option<Rect>
     requires { number < length design.now.components }
-    ensures { IsMarkedBox design.now.library design.now marks.now number result }
+    ensures { IsMarkedBox design.now marks.now number result }
 {
     if !is_marked(marks, number) {
         return None;
@@ -66,7 +66,7 @@ pub(crate) fn placed_boxes<A: Allocator + Copy>(
     design: &Design<'_, A>,
     marks: &[bool],
 ) -> Result<Vec<PlacedBox, A>, AllocError>
-    ensures boxes { IfOk result (λ boxes. AreBoxesBelow design.now.library design.now marks.now (length design.now.components) boxes.items) }
+    ensures boxes { IfOk result (λ boxes. AreBoxesBelow design.now marks.now (length design.now.components) boxes.items) }
     ensures few { IfOk result (λ boxes. length boxes.items ≤ ENTRY_LIMIT) }
 {
     let mut boxes = Vec::new(alloc);

@@ -91,7 +91,7 @@ pub(crate) fn is_blocked<A: Allocator + Copy>(
 ) -> bool
     requires there { number < length design.now.components }
     requires blockages { blockages.now ≡ placement_rects design.now.blockages }
-    ensures { IsTrue result ↔ IsBlocked design.now.library design.now number }
+    ensures { IsTrue result ↔ IsBlocked design.now number }
 {
     if blockages.is_empty() || !design.is_movable(number) {
         return false;

@@ -24,7 +24,7 @@ pub(crate) fn is_off_site<A: Allocator + Copy>(
 ) -> bool
     requires there { number < length design.now.components }
     requires rows { AreRowSpans design.now.library design.now.rows rows.now }
-    ensures { IsTrue result ↔ IsOffSite design.now.library design.now number }
+    ensures { IsTrue result ↔ IsOffSite design.now number }
 {
     let component = &design.components()[number];
     let Some(place) = component.place else {

@@ -17,17 +17,20 @@ three_parts start one two all a b c first second third =
     two_parts start two all (a ++ b) c (two_parts start one two a b first second) third
 
 -- the same of runs of words
-pub three_runs : (start one two all : List ℕ) (u v w : Words) → one ≡ start ++ spaced u → two ≡ one ++ spaced v → all ≡ two ++ spaced w → all ≡ start ++ spaced (u ++ v ++ w)
+pub three_runs : (start one two all : List ℕ) (u v w : Words) → one ≡ start ++ spaced u → two ≡ one ++ spaced v → all ≡ two ++ spaced w
+    → all ≡ start ++ spaced (u ++ v ++ w)
 three_runs start one two all u v w first second third =
     push_more start two all (u ++ v) w (push_more start one two u v first second) third
 
 -- a run of words behind what a line begins with
-pub start_pushed : (start head all word : List ℕ) (u v : Words) → head ≡ start ++ (word ++ spaced u) → all ≡ head ++ spaced v → all ≡ start ++ (word ++ spaced (u ++ v))
+pub start_pushed : (start head all word : List ℕ) (u v : Words) → head ≡ start ++ (word ++ spaced u) → all ≡ head ++ spaced v
+    → all ≡ start ++ (word ++ spaced (u ++ v))
 start_pushed start head all word u v first second =
     push_more (start ++ word) head all u v (first ∙ sym (append_assoc start word (spaced u))) second ∙ append_assoc start word (spaced (u ++ v))
 
 -- and the end of a statement
-pub entry_pushed : (start head front all word : List ℕ) (u v : Words) → head ≡ start ++ (word ++ spaced u) → front ≡ head ++ spaced v → all ≡ front ++ codes " ;\n" → all ≡ start ++ line (word ∷ (u ++ v ++ codes ";" ∷ []))
+pub entry_pushed : (start head front all word : List ℕ) (u v : Words) → head ≡ start ++ (word ++ spaced u) → front ≡ head ++ spaced v
+    → all ≡ front ++ codes " ;\n" → all ≡ start ++ line (word ∷ (u ++ v ++ codes ";" ∷ []))
 entry_pushed start head front all word u v first more end =
     line_pushed start (start ++ word) head front all word u v refl (first ∙ sym (append_assoc start word (spaced u))) more end
 
@@ -54,7 +57,8 @@ next_run words xs i d start front all some before next =
     ∙ ap (λ l. flat_map words l) (sym (take_more xs i d some)))
 
 -- clauses behind clauses are one list of clauses
-pub clauses_pushed : (start one all : List ℕ) (a b : List Words) → one ≡ start ++ spaced (clause_words a) → all ≡ one ++ spaced (clause_words b) → all ≡ start ++ spaced (clause_words (a ++ b))
+pub clauses_pushed : (start one all : List ℕ) (a b : List Words) → one ≡ start ++ spaced (clause_words a) → all ≡ one ++ spaced (clause_words b)
+    → all ≡ start ++ spaced (clause_words (a ++ b))
 clauses_pushed start one all a b first second =
     push_more start one all (clause_words a) (clause_words b) first second
     ∙ ap (λ words. start ++ spaced words) (sym (flat_map-append (λ clause. codes "+" ∷ clause) a b))

@@ -76,6 +76,7 @@ module _ (p : PointModel) where
   ]
 
 -- the box of a port's shapes, once it has a place
-pub port_least : (port : PortModel) (place : Place) (box : Option RectModel) → port.place ≡ Some place → IsLeastBoxIfAny (IsOfSome Shape (IsOfShape place no_size) port.shapes) box → IsLeastBoxIfAny (IsOfPort port) box
+pub port_least : (port : PortModel) (place : Place) (box : Option RectModel) → port.place ≡ Some place
+    → IsLeastBoxIfAny (IsOfSome Shape (IsOfShape place no_size) port.shapes) box → IsLeastBoxIfAny (IsOfPort port) box
 port_least port place box is least =
     rw is (least_same _ _ (λ p. shapes_drawn place no_size p port.shapes) (λ p. drawn_shapes place no_size p port.shapes) box least)

@@ -5,10 +5,6 @@ use Rattle.leg_geom.specs.Plane.{PointModel, RectModel, HasPoint, HasAllPoints}
 use Rattle.leg_rules.specs.Wirelength.{IsLeastBox, IsLeastBoxIfAny}
 use Rattle.leg_print.specs.Steps.Wirelength.{joined, joined_if_any}
 
--- a box whose corners stand in order
-abbrev pub IsOrdered : RectModel → Type 0
-IsOrdered box = (box.x1 ≤ℤ box.x2) × (box.y1 ≤ℤ box.y2)
-
 -- one box lies within another
 record IsWithin (outer inner : RectModel) : Type 0 where
   pub x1 : outer.x1 ≤ℤ inner.x1
@@ -128,7 +124,8 @@ one_least_if_any H (Some a) None first second = absurd (none_least H a second fi
 one_least_if_any H (Some a) (Some b) first second = ap Some (one_least H a b first second)
 
 -- boxes that there may be join to one round the points of both
-pub least_joined_if_any : (H K : PointModel → Type 0) (a b : Option RectModel) → IsLeastBoxIfAny H a → IsLeastBoxIfAny K b → IsLeastBoxIfAny (λ p. H p ⊎ K p) (joined_if_any a b)
+pub least_joined_if_any : (H K : PointModel → Type 0) (a b : Option RectModel) → IsLeastBoxIfAny H a → IsLeastBoxIfAny K b
+    → IsLeastBoxIfAny (λ p. H p ⊎ K p) (joined_if_any a b)
 least_joined_if_any H K None None none nor = λ p has. elim has [ inl h ↦ none p h | inr k ↦ nor p k ]
 least_joined_if_any H K None (Some b) none second =
     least_same K (λ p. H p ⊎ K p) (λ p k. inr k) (λ p has. elim has [ inl h ↦ absurd (none p h) | inr k ↦ k ]) (Some b) second

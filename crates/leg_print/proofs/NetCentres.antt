@@ -64,18 +64,22 @@ in_both_lists xs ys t (inr second) = by (is_among t xs) refl where
       (kept_by_filter (λ u. not (is_among u xs)) ys t (ap not is) second)
 
 module _ (design : DesignModel) where
-  both_centres : (xs ys : List Terminal) (p : PointModel) → (IsCentreAmong design xs p ⊎ IsCentreAmong design ys p) → IsCentreAmong design (xs ++ filter (λ u. not (is_among u xs)) ys) p
+  both_centres : (xs ys : List Terminal) (p : PointModel) → (IsCentreAmong design xs p ⊎ IsCentreAmong design ys p)
+      → IsCentreAmong design (xs ++ filter (λ u. not (is_among u xs)) ys) p
   both_centres xs ys p (inl has) = record { terminal = has.terminal; listed = in_both_lists xs ys has.terminal (inl has.listed); centre = has.centre }
   both_centres xs ys p (inr has) = record { terminal = has.terminal; listed = in_both_lists xs ys has.terminal (inr has.listed); centre = has.centre }
 
-  centre_of_either : (xs ys : List Terminal) (p : PointModel) → IsCentreAmong design (xs ++ filter (λ u. not (is_among u xs)) ys) p → (IsCentreAmong design xs p ⊎ IsCentreAmong design ys p)
+  centre_of_either : (xs ys : List Terminal) (p : PointModel) → IsCentreAmong design (xs ++ filter (λ u. not (is_among u xs)) ys) p
+      → (IsCentreAmong design xs p ⊎ IsCentreAmong design ys p)
   centre_of_either xs ys p has = elim (both_lists xs ys has.terminal has.listed) [
     | inl first ↦ inl (record { terminal = has.terminal; listed = first; centre = has.centre })
     | inr second ↦ inr (record { terminal = has.terminal; listed = second; centre = has.centre })
   ]
 
   -- the box of a net of NETS joins that of its own terminals to that of the terminals of its special entry
-  pub net_least : (n : ℕ) (net : NetModel) (a b : Option RectModel) → slice_get design.nets n ≡ Some net → IsLeastBoxIfAny (IsCentreAmong design net.terminals) a → IsLeastBoxIfAny (IsCentreAmong design (entry_terminals (special_named design net.name))) b → IsLeastBoxIfAny (IsCentreAmong design (terminals_of design n)) (joined_if_any a b)
+  pub net_least : (n : ℕ) (net : NetModel) (a b : Option RectModel) → slice_get design.nets n ≡ Some net
+      → IsLeastBoxIfAny (IsCentreAmong design net.terminals) a → IsLeastBoxIfAny (IsCentreAmong design (entry_terminals (special_named design net.name))) b
+      → IsLeastBoxIfAny (IsCentreAmong design (terminals_of design n)) (joined_if_any a b)
   unfolding terminals_of
   net_least n net a b there regular special =
       let xs = net.terminals in
@@ -84,14 +88,18 @@ module _ (design : DesignModel) where
       (least_same _ _ (both_centres xs ys) (centre_of_either xs ys) (joined_if_any a b)
       (least_joined_if_any (IsCentreAmong design xs) (IsCentreAmong design ys) a b regular special))
 
-  pub same_box : (n : ℕ) (a b : Option RectModel) → a ≡ b → IsLeastBoxIfAny (IsCentreAmong design (terminals_of design n)) a → IsLeastBoxIfAny (IsCentreAmong design (terminals_of design n)) b
+  pub same_box : (n : ℕ) (a b : Option RectModel) → a ≡ b → IsLeastBoxIfAny (IsCentreAmong design (terminals_of design n)) a
+      → IsLeastBoxIfAny (IsCentreAmong design (terminals_of design n)) b
   same_box n a b same least = subst (λ (box : Option RectModel). IsLeastBoxIfAny (IsCentreAmong design (terminals_of design n)) box) same least
 
 -- one more of a range
 range_more : (a n : ℕ) → range_with_len a (n + 1) ≡ range_with_len a n ++ (a + n) ∷ []
-range_more a n = sym (map-id (range_with_len a (n + 1))) ∙ map-range_with_len_more (λ (k : ℕ). k) a n (a + n) refl ∙ ap (λ ks. ks ++ (a + n) ∷ []) (map-id (range_with_len a n))
+range_more a n =
+    sym (map-id (range_with_len a (n + 1))) ∙ map-range_with_len_more (λ (k : ℕ). k) a n (a + n) refl
+    ∙ ap (λ ks. ks ++ (a + n) ∷ []) (map-id (range_with_len a n))
 
-push_pair : {X Y : Type 0} (R : X → Y → Type 0) (xs : List X) (ys : List Y) (x : X) (y : Y) → OneForOne R xs ys → R x y → OneForOne R (xs ++ x ∷ []) (ys ++ y ∷ [])
+push_pair : {X Y : Type 0} (R : X → Y → Type 0) (xs : List X) (ys : List Y) (x : X) (y : Y) → OneForOne R xs ys → R x y
+    → OneForOne R (xs ++ x ∷ []) (ys ++ y ∷ [])
 push_pair R [] [] x y before is = (is, tt)
 push_pair R [] (z ∷ ys) x y before is = absurd before
 push_pair R (w ∷ xs) [] x y before is = absurd before
@@ -106,11 +114,13 @@ pub record AreLengths (design : DesignModel) (count total : ℕ) : Type 0 where
 sum_push : (xs : List ℕ) (x : ℕ) → sum (xs ++ x ∷ []) ≡ sum xs + x
 sum_push xs x = sum_by-append (λ (n : ℕ). n) xs (x ∷ []) ∙ ap (λ n. sum xs + n) (zero-add x)
 
-pub one_more_length : (design : DesignModel) (count total length : ℕ) → AreLengths design count total → IsNetLength design count length → AreLengths design (count + 1) (total + length)
+pub one_more_length : (design : DesignModel) (count total length : ℕ) → AreLengths design count total → IsNetLength design count length
+    → AreLengths design (count + 1) (total + length)
 one_more_length design count total length before one = record {
   lengths = before.lengths ++ length ∷ [];
   each =
-      let more : range_with_len 0 (count + 1) ≡ range_with_len 0 count ++ count ∷ [] = range_more 0 count ∙ ap (λ n. range_with_len 0 count ++ n ∷ []) (zero-add count) in
+      let more : range_with_len 0 (count + 1) ≡ range_with_len 0 count ++ count ∷ [] =
+      range_more 0 count ∙ ap (λ n. range_with_len 0 count ++ n ∷ []) (zero-add count) in
       rw more (push_pair (IsNetLength design) (range_with_len 0 count) before.lengths count length before.each one);
   is = ap (λ t. t + length) before.is ∙ sym (sum_push before.lengths length);
 }

@@ -10,7 +10,8 @@ module _ (design : DesignModel) where
   -- a net has one length
   one_length : (n a b : ℕ) → IsNetLength design n a → IsNetLength design n b → a ≡ b
   one_length n a b first second =
-      first.is ∙ ap half_perimeter (one_least_if_any (IsCentreAmong design (terminals_of design n)) first.box second.box first.least second.least) ∙ sym second.is
+      first.is ∙ ap half_perimeter (one_least_if_any (IsCentreAmong design (terminals_of design n)) first.box second.box first.least second.least)
+      ∙ sym second.is
 
   -- so lists of the lengths of the same nets are the same
   one_list : (nets ls bs : List ℕ) → OneForOne (IsNetLength design) nets ls → OneForOne (IsNetLength design) nets bs → ls ≡ bs

@@ -14,7 +14,8 @@ no_section keyword entry [] is = refl
 no_section keyword entry (x ∷ xs) is = absurd (grind (arith, nat_tests))
 
 -- with entries it is its first line, the entries, and its last line
-some_section : {X : Type 0} (keyword : List ℕ) (entry : X → List ℕ) (xs : List X) → (length xs == 0) ≡ false → section_text keyword entry xs ≡ line (section_start_words keyword (length xs)) ++ flat_map entry xs ++ line (end_words keyword)
+some_section : {X : Type 0} (keyword : List ℕ) (entry : X → List ℕ) (xs : List X) → (length xs == 0) ≡ false
+    → section_text keyword entry xs ≡ line (section_start_words keyword (length xs)) ++ flat_map entry xs ++ line (end_words keyword)
 some_section keyword entry [] is = absurd (grind (arith, nat_tests))
 some_section keyword entry (x ∷ xs) is = refl
 

@@ -10,11 +10,13 @@ pub read_at : {X : Type 0} (items xs : List X) (i : ℕ) (x : X) → items ≡ x
 read_at items xs i x same less is = rw (← same) (slice_get_read items (length items) i x refl less is)
 
 -- those of the entry that is found
-pub terminals_found : (design : DesignModel) (name : List ℕ) (i : ℕ) (net : NetModel) → place_of name (net_names design.special) ≡ Some i → slice_get design.special i ≡ Some net → entry_terminals (special_named design name) ≡ net.terminals
+pub terminals_found : (design : DesignModel) (name : List ℕ) (i : ℕ) (net : NetModel) → place_of name (net_names design.special) ≡ Some i
+    → slice_get design.special i ≡ Some net → entry_terminals (special_named design name) ≡ net.terminals
 terminals_found design name i net found there = rw (found, there) refl
 
 -- and where there is none
-pub nothing_there : (design : DesignModel) (name : List ℕ) (i : ℕ) → place_of name (net_names design.special) ≡ Some i → slice_get design.special i ≡ None → entry_terminals (special_named design name) ≡ []
+pub nothing_there : (design : DesignModel) (name : List ℕ) (i : ℕ) → place_of name (net_names design.special) ≡ Some i → slice_get design.special i ≡ None
+    → entry_terminals (special_named design name) ≡ []
 nothing_there design name i found there = rw (found, there) refl
 
 pub nothing_named : (design : DesignModel) (name : List ℕ) → place_of name (net_names design.special) ≡ None → entry_terminals (special_named design name) ≡ []

@@ -25,7 +25,8 @@ none_some o x none some = cc
 
 -- a pin of the design
 module _ (design : DesignModel) (p : ℕ) where
-  pub design_pin_least : (pin : PinModel) (box : Option RectModel) → slice_get design.pins p ≡ Some pin → IsLeastBoxIfAny (IsOfSome PortModel IsOfPort pin.ports) box → IsLeastBoxIfAny (HasTerminalPoint design (Pin p)) box
+  pub design_pin_least : (pin : PinModel) (box : Option RectModel) → slice_get design.pins p ≡ Some pin
+      → IsLeastBoxIfAny (IsOfSome PortModel IsOfPort pin.ports) box → IsLeastBoxIfAny (HasTerminalPoint design (Pin p)) box
   design_pin_least pin box there = least_same _ _ to back box where
     to : (q : PointModel) → IsOfSome PortModel IsOfPort pin.ports q → HasTerminalPoint design (Pin p) q
     to q has =
@@ -40,22 +41,9 @@ module _ (design : DesignModel) (p : ℕ) where
 
 -- a pin of a component
 module _ (design : DesignModel) (c k : ℕ) where
-  pub no_component : slice_get design.components c ≡ None → IsLeastBoxIfAny (HasTerminalPoint design (Comp c k)) None
-  no_component none q has = none_some _ has.draws.component none has.draws.has_component
-
   module _ (component : Component) (there : slice_get design.components c ≡ Some component) where
     same_component : (metal : OnLayer) (of : IsOfComponentPin design c k metal) → of.component ≡ component
     same_component metal of = some_same _ of.component component of.has_component there
-
-    pub no_place : component.place ≡ None → IsLeastBoxIfAny (HasTerminalPoint design (Comp c k)) None
-    no_place none q has =
-        let same = same_component has.metal has.draws in
-        none_some _ has.draws.place none (rw same at has.draws.has_place)
-
-    pub no_master : slice_get design.library.masters component.master ≡ None → IsLeastBoxIfAny (HasTerminalPoint design (Comp c k)) None
-    no_master none q has =
-        let same = same_component has.metal has.draws in
-        none_some _ has.draws.master none (rw same at has.draws.has_master)
 
     module _ (master : MasterModel) (made : slice_get design.library.masters component.master ≡ Some master) where
       same_master : (metal : OnLayer) (of : IsOfComponentPin design c k metal) → of.master ≡ master
@@ -68,14 +56,26 @@ module _ (design : DesignModel) (c k : ℕ) where
           let same = same_master has.metal has.draws in
           none_some _ has.draws.pin none (rw same at has.draws.has_pin)
 
-      pub component_pin_least : (place : Place) (pin : MasterPinModel) (box : Option RectModel) → component.place ≡ Some place → slice_get master.pins k ≡ Some pin → IsLeastBoxIfAny (IsOfSome Shape (IsOfShape place master.size) pin.shapes) box → IsLeastBoxIfAny (HasTerminalPoint design (Comp c k)) box
+      pub component_pin_least : (place : Place) (pin : MasterPinModel) (box : Option RectModel) → component.place ≡ Some place
+          → slice_get master.pins k ≡ Some pin → IsLeastBoxIfAny (IsOfSome Shape (IsOfShape place master.size) pin.shapes) box
+          → IsLeastBoxIfAny (HasTerminalPoint design (Comp c k)) box
       component_pin_least place pin box stands drawn_ = least_same _ _ to back box where
         to : (q : PointModel) → IsOfSome Shape (IsOfShape place master.size) pin.shapes q → HasTerminalPoint design (Comp c k) q
         to q has =
             let of = shapes_drawn place master.size q pin.shapes has in
             record {
               metal = of.one;
-              draws = record { component = component; place = place; master = master; pin = pin; has_component = there; has_place = stands; has_master = made; has_pin = drawn_; draws = of.there };
+              draws = record {
+                component = component;
+                place = place;
+                master = master;
+                pin = pin;
+                has_component = there;
+                has_place = stands;
+                has_master = made;
+                has_pin = drawn_;
+                draws = of.there;
+              };
               in_metal = of.has;
             }
 
@@ -107,7 +107,8 @@ module _ (design : DesignModel) (terminal : Terminal) where
   in_point : (other : RectModel) (p q : PointModel) → HasPoint other p → HasPoint (point_box p) q → HasPoint other q
   in_point other p q has at = record { left = omega (arith, ints); right = omega (arith, ints); bottom = omega (arith, ints); top = omega (arith, ints) }
 
-  pub centre_least : (box centre : RectModel) → IsLeastBox (HasTerminalPoint design terminal) box → ((p : PointModel) × (centre ≡ point_box p) × IsCentre box p) → IsLeastBox (IsTerminalCentre design terminal) centre
+  pub centre_least : (box centre : RectModel) → IsLeastBox (HasTerminalPoint design terminal) box
+      → ((p : PointModel) × (centre ≡ point_box p) × IsCentre box p) → IsLeastBox (IsTerminalCentre design terminal) centre
   centre_least box centre least is =
       rw is.1
       (record {
@@ -120,14 +121,17 @@ module _ (design : DesignModel) (terminal : Terminal) where
       })
 
 -- the centres of some terminals
-pub centres_among : (design : DesignModel) (terminals : List Terminal) (box : Option RectModel) → IsLeastBoxIfAny (IsOfSome Terminal (IsTerminalCentre design) terminals) box → IsLeastBoxIfAny (IsCentreAmong design terminals) box
+pub centres_among : (design : DesignModel) (terminals : List Terminal) (box : Option RectModel)
+    → IsLeastBoxIfAny (IsOfSome Terminal (IsTerminalCentre design) terminals) box → IsLeastBoxIfAny (IsCentreAmong design terminals) box
 centres_among design terminals =
     least_same _ _
     (λ q has. record { terminal = has.one; listed = has.there; centre = has.has })
     (λ q has. record { one = has.terminal; there = has.listed; has = has.centre })
 
 -- the box of shapes, by the width and the height of what they are of
-pub sized_least : (place : Place) (width height : ℤ) (size : ExtentModel) (read shapes : List Shape) (box : Option RectModel) → width ≡ size.width → height ≡ size.height → read ≡ shapes → IsLeastBoxIfAny (IsOfSome Shape (IsOfShape place (record { width = width; height = height })) read) box → IsLeastBoxIfAny (IsOfSome Shape (IsOfShape place size) shapes) box
+pub sized_least : (place : Place) (width height : ℤ) (size : ExtentModel) (read shapes : List Shape) (box : Option RectModel) → width ≡ size.width
+    → height ≡ size.height → read ≡ shapes → IsLeastBoxIfAny (IsOfSome Shape (IsOfShape place (record { width = width; height = height })) read) box
+    → IsLeastBoxIfAny (IsOfSome Shape (IsOfShape place size) shapes) box
 sized_least place width height size read shapes box w h same least =
     let sized = subst (λ (z : ℤ). IsLeastBoxIfAny (IsOfSome Shape (IsOfShape place (record { width = z; height = height })) read) box) w least in
     let both = subst (λ (z : ℤ). IsLeastBoxIfAny (IsOfSome Shape (IsOfShape place (record { width = size.width; height = z })) read) box) h sized in

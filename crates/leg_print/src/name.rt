@@ -2,7 +2,7 @@
 
 ghost use Rattle.std.specs.Prelude.{◌≡◌, ◌++◌, ◌∷◌, [], OnOk, option_map, codes};
 ghost use Rattle.leg_output.specs.Names.{layer_name, site_name, master_name, net_name, component_pin_name, terminal_text, owner_text, piece_text};
-ghost use Rattle.leg_rules.specs.Names.{via_numbered, via_name, component_name, design_pin_name};
+ghost use Rattle.leg_rules.specs.Names.{design_via, via_name, component_name, design_pin_name};
 ghost use Rattle.leg_output.specs.Text.Nets.{terminal_words};
 
 use crate::words::push_parts;
@@ -54,7 +54,7 @@ pub(crate) fn via_numbered<'d, 'a, A: Allocator + Copy>(
     design: &'d Design<'a, A>,
     number: usize,
 ) -> Option<&'d Via<'a, A>>
-    ensures { option_map (λ via. via.now) result ≡ via_numbered design.now number }
+    ensures { option_map (λ via. via.now) result ≡ design_via design.now number }
 {
     let of_library = design.library().vias();
     let of_design = design.vias();

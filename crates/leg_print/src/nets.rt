@@ -4,7 +4,7 @@ ghost use Rattle.std.specs.Prelude.{◌≡◌, ◌++◌, OnOk, map};
 ghost use Rattle.std.specs.List.{flat_map};
 ghost use Rattle.leg_output.specs.Words.{spaced};
 ghost use Rattle.leg_output.specs.Text.Wires.{wire_words};
-ghost use Rattle.leg_output.specs.Text.Nets.{terminal_words, wiring_words, wire_line, net_text};
+ghost use Rattle.leg_output.specs.Text.Nets.{terminal_words, wiring_lines, wire_line, net_text};
 ghost use Rattle.leg_output.specs.Text.Whole.{net_section, nets_text};
 
 use crate::clauses::push_kept;
@@ -52,7 +52,7 @@ fn push_wires<A: Allocator + Copy>(
     special: bool,
     wires: &[Wire],
 ) -> Result<(), AllocError>
-    ensures { OnOk result (text.new.items ≡ text.old.items ++ flat_map wire_line (wiring_words design.now special wires.now)) }
+    ensures { OnOk result (text.new.items ≡ text.old.items ++ flat_map wire_line (wiring_lines design.now special wires.now)) }
 {
     let Some((first, others)) = wires.split_first() else {
         return Ok(());

@@ -7,7 +7,7 @@ ghost use Rattle.leg_output.specs.Words.{spaced};
 ghost use Rattle.leg_design_records.specs.Wires.{default_extension};
 ghost use Rattle.leg_design_records.specs.WellFormedNets.{written};
 ghost use Rattle.leg_output.specs.Names.{layer_name};
-ghost use Rattle.leg_output.specs.Text.Wires.{number_words, width_words, point_words, given_extension, lowest_layer, layer_of_via, via_wire_words, patch_words, wire_words};
+ghost use Rattle.leg_output.specs.Text.Wires.{number_words, width_words, point_words, given_extension, lowest_layer, lower_layer_of_via, via_wire_words, patch_words, wire_words};
 
 use crate::name::{layer_name, via_name, via_numbered};
 use crate::points::push_spot;
@@ -104,7 +104,7 @@ fn lowest_layer(shapes: &[Shape]) -> usize
 
 /// The lower routing layer of the via of this number.
 fn layer_of_via<A: Allocator + Copy>(design: &Design<'_, A>, via: usize) -> usize
-    ensures { result ≡ layer_of_via design.now via }
+    ensures { result ≡ lower_layer_of_via design.now via }
 {
     match via_numbered(design, via) {
         Some(via) => lowest_layer(via.shapes.as_slice()),

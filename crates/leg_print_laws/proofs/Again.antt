@@ -48,7 +48,8 @@ clauses_again head (clause ∷ clauses) none each =
     (All-tail (λ clause. list_any is_plus clause ≡ false) clause clauses each))
 
 -- one clause alone
-pub clause_again : (head clause : Words) → list_any is_plus head ≡ false → list_any is_plus clause ≡ false → clauses_of (head ++ (codes "+" ∷ clause)) ≡ head ∷ clause ∷ []
+pub clause_again : (head clause : Words) → list_any is_plus head ≡ false → list_any is_plus clause ≡ false
+    → clauses_of (head ++ (codes "+" ∷ clause)) ≡ head ∷ clause ∷ []
 clause_again head clause none one = split_more head clause none ∙ ap (λ parts. head ∷ parts) (split_last clause one)
 
 -- Forms one after the other: each is read behind those before it, whatever stands after it.
@@ -74,11 +75,13 @@ module _ {S X : Type 0} (stop : Words → Bool) (form : S → Words → Option (
 some_same : {S : Type 0} (a b : S) → Some a ≡ Some b → a ≡ b
 some_same a b is = cc
 
-pub over_append : {S X : Type 0} (step : S → X → Option S) (xs ys : List X) (made next : S) → over step made xs ≡ Some next → over step made (xs ++ ys) ≡ over step next ys
+pub over_append : {S X : Type 0} (step : S → X → Option S) (xs ys : List X) (made next : S) → over step made xs ≡ Some next
+    → over step made (xs ++ ys) ≡ over step next ys
 unfolding over
 over_append step [] ys made next is = ap (λ m. over step m ys) (some_same made next is)
 over_append {S} step (x ∷ xs) ys made next is = by (step made x) refl (λ more. over_append step xs ys more next) where
-  by : (said : Option S) → step made x ≡ said → ((more : S) → over step more xs ≡ Some next → over step more (xs ++ ys) ≡ over step next ys) → over step made ((x ∷ xs) ++ ys) ≡ over step next ys
+  by : (said : Option S) → step made x ≡ said → ((more : S) → over step more xs ≡ Some next → over step more (xs ++ ys) ≡ over step next ys)
+      → over step made ((x ∷ xs) ++ ys) ≡ over step next ys
   by None none later = absurd (let e : ⊥ = cc (rw none at is) in e)
   by (Some more) some later = rw some (later more (rw some at is))
 
@@ -94,7 +97,8 @@ module _ {S X : Type 0} (stop : Words → Bool) (form : S → Words → Option (
       let one : IsRead stop form words made last front x xs = each front x xs refl in
       let e : (front ++ x ∷ []) ++ xs ≡ front ++ (x ∷ xs) = append_assoc front (x ∷ []) xs in
       ap (λ all. steps stop form (suc n) (made front) all) (append_assoc (words x) (flat_map words xs) last)
-      ∙ rw (one.goes, one.read) (steps_again n (front ++ x ∷ []) xs stops (omega arith) (λ before y after is. each before y after (sym e ∙ is)) ∙ ap (λ all. Some (made all, last)) e)
+      ∙ rw (one.goes, one.read) (steps_again n (front ++ x ∷ []) xs stops (omega arith) (λ before y after is. each before y after (sym e ∙ is))
+      ∙ ap (λ all. Some (made all, last)) e)
 
   no_fewer : (xs : List X) → ((x : X) → 0 < length (words x)) → length xs ≤ length (flat_map words xs ++ last)
   no_fewer [] some = omega arith

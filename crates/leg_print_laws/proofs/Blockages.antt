@@ -138,7 +138,7 @@ module _ (design : DesignModel) (sound : IsSound design.library) where
         rw (blockage_at_again rest, stays_kept design.library blockage.layer is.layer, room blockage front few few_rects) refl
 
     module _ (one : StayOne (blockage_entry_names design blockage)) where
-      blockage_inside : AreInside (printed.blockage_entry design blockage)
+      blockage_inside : AreInside (printed.blockage_parts design blockage)
       blockage_inside =
           (free_append (free_cons (free_literal (codes "-") refl refl refl) (blocked_free blockage.layer is.layer one))
           (free_each rect_words blockage.rects (All-weaker IsArea (λ rect. AreFree (rect_words rect)) rect_free blockage.rects is.rects))).inside
@@ -149,7 +149,8 @@ module _ (design : DesignModel) (sound : IsSound design.library) where
       pub blockage_line : (front : List BlockageModel) → length front < ENTRY_LIMIT → rect_count front + length blockage.rects ≤ PART_LIMIT
           → DenotesForm (blockage_entry design.library front) (line (blockage_words design blockage)) (front ++ blockage ∷ [])
       blockage_line front few few_rects =
-          line_says (blockage_entry design.library front) (blockage_words design blockage) (front ++ blockage ∷ []) blockage_printable (blockage_again front few few_rects)
+          line_says (blockage_entry design.library front) (blockage_words design blockage) (front ++ blockage ∷ []) blockage_printable
+          (blockage_again front few few_rects)
 
 -- all of them
 blockage_goes : (design : DesignModel) (blockage : BlockageModel) (rest : Words) → at_end (blockage_words design blockage ++ rest) ≡ false
@@ -160,7 +161,8 @@ pub blockages_again : (design : DesignModel) (blockage : BlockageModel) (blockag
     → blockages_at design.library (section_words (codes "BLOCKAGES") (blockage_words design) (blockage ∷ blockages) ++ rest) ≡ Some (blockage ∷ blockages, rest)
 unfolding blockages_at
 blockages_again design blockage blockages sound are rest =
-    section_again (codes "BLOCKAGES") (blockage_entry design.library) (blockage_words design) (λ entries. entries) refl (entry_shortens design.library) blockage blockages few
+    section_again (codes "BLOCKAGES") (blockage_entry design.library) (blockage_words design) (λ entries. entries) refl
+    (entry_shortens design.library) blockage blockages few
     (record {
       goes = blockage_goes design;
       read = λ before x after is.
@@ -170,14 +172,17 @@ blockages_again design blockage blockages sound are rest =
       few : length (blockage ∷ blockages) ≤ NUMBER_LIMIT
       few = omega (arith, are.few)
 
-      less : (before : List BlockageModel) (x : BlockageModel) (after : List BlockageModel) → blockage ∷ blockages ≡ before ++ (x ∷ after) → length before < ENTRY_LIMIT
+      less : (before : List BlockageModel) (x : BlockageModel) (after : List BlockageModel) → blockage ∷ blockages ≡ before ++ (x ∷ after)
+          → length before < ENTRY_LIMIT
       less before x after is = omega (arith, fewer_before (blockage ∷ blockages) before x after is, are.few)
 
 -- the lines of the section have its words
 pub blockages_lines : (design : DesignModel) (blockages : List BlockageModel) → IsSound design.library → AreBlockages design.library blockages
-    → StayOne (flat_map (blockage_entry_names design) blockages) → Lines (blockages_text design blockages) (section_words (codes "BLOCKAGES") (blockage_words design) blockages)
+    → StayOne (flat_map (blockage_entry_names design) blockages)
+    → Lines (blockages_text design blockages) (section_words (codes "BLOCKAGES") (blockage_words design) blockages)
 blockages_lines design blockages sound are one =
-    section_lines (codes "BLOCKAGES") (λ blockage. line (blockage_words design blockage)) (blockage_words design) blockages (free_literal (codes "BLOCKAGES") refl refl refl)
+    section_lines (codes "BLOCKAGES") (λ blockage. line (blockage_words design blockage)) (blockage_words design) blockages
+    (free_literal (codes "BLOCKAGES") refl refl refl)
     (omega (arith, are.few))
     (λ k d less. lines_of_words (blockage_words design (get_or blockages k d)) (blockage_printable design sound (get_or blockages k d) (are.each k d less)
     (each_passes stays_one (blockage_entry_names design) blockages one k d less)))

@@ -34,7 +34,8 @@ pub no_pluses : (clauses : List Words) → All AreFree clauses → All (λ claus
 no_pluses clauses each = All-weaker AreFree (λ clause. list_any is_plus clause ≡ false) (λ clause free. free.plus) clauses each
 
 -- a layer with metal is there
-metal_there : (library : LibraryModel) (layer : ℕ) (found : Option Layer) → slice_get library.layers layer ≡ found → is_metal found ≡ true → layer < length library.layers
+metal_there : (library : LibraryModel) (layer : ℕ) (found : Option Layer) → slice_get library.layers layer ≡ found → is_metal found ≡ true
+    → layer < length library.layers
 metal_there library layer None is metal = absurd (false≢true metal)
 metal_there library layer (Some l) is metal = slice_get_within library.layers layer l is
 
@@ -45,18 +46,23 @@ module _ (design : DesignModel) (sound : IsSound design.library) where
   pub metal_named : (shape : Shape) → IsMetalShape design.library shape → IsLayerName design.library shape.layer (layer_name design shape.layer)
   metal_named shape is = with_metal_named shape.layer is.metal
 
-  pub layer_again : (layer : ℕ) (rest : Words) → IsLayerName design.library layer (layer_name design layer) → layer_named_at design.library (layer_name design layer ∷ rest) ≡ Some (layer, rest)
+  pub layer_again : (layer : ℕ) (rest : Words) → IsLayerName design.library layer (layer_name design layer)
+      → layer_named_at design.library (layer_name design layer ∷ rest) ≡ Some (layer, rest)
   unfolding layer_named_at name_at next_at
   layer_again layer rest is = rw (is.is_one, is.there) refl
 
-  pub shape_free : (keyword : List ℕ) (shape : Shape) → IsFree keyword → IsMetalShape design.library shape → stays_one (layer_name design shape.layer) ≡ true → AreFree (shape_clause keyword design shape)
+  pub shape_free : (keyword : List ℕ) (shape : Shape) → IsFree keyword → IsMetalShape design.library shape → stays_one (layer_name design shape.layer) ≡ true
+      → AreFree (shape_clause keyword design shape)
   shape_free keyword shape key is one =
       free_cons key (free_cons (free_name (layer_name design shape.layer) (metal_named shape is).is_one one) (corners_free shape.rect is.rect))
 
-  pub shapes_free : (keyword : List ℕ) (shapes : List Shape) → IsFree keyword → All (IsMetalShape design.library) shapes → list_all stays_one (names_of_layers design shapes) ≡ true
+  pub shapes_free : (keyword : List ℕ) (shapes : List Shape) → IsFree keyword → All (IsMetalShape design.library) shapes
+      → list_all stays_one (names_of_layers design shapes) ≡ true
       → All AreFree (map (shape_clause keyword design) shapes)
   shapes_free keyword [] key each one = All-nil AreFree
   shapes_free keyword (shape ∷ shapes) key each one =
       All-cons AreFree (shape_clause keyword design shape) (map (shape_clause keyword design) shapes)
-      (shape_free keyword shape key (All-head (IsMetalShape design.library) shape shapes each) (first_passes stays_one (layer_name design shape.layer) (names_of_layers design shapes) one))
-      (shapes_free keyword shapes key (All-tail (IsMetalShape design.library) shape shapes each) (others_pass stays_one (layer_name design shape.layer) (names_of_layers design shapes) one))
+      (shape_free keyword shape key (All-head (IsMetalShape design.library) shape shapes each)
+      (first_passes stays_one (layer_name design shape.layer) (names_of_layers design shapes) one))
+      (shapes_free keyword shapes key (All-tail (IsMetalShape design.library) shape shapes each)
+      (others_pass stays_one (layer_name design shape.layer) (names_of_layers design shapes) one))

@@ -31,7 +31,8 @@ use Rattle.leg_print_laws.proofs.Placements.{placement_again, placement_free}
 use Rattle.leg_print_laws.proofs.PrintableWords.{said_printable, line_says}
 
 module _ (design : DesignModel) (sound : IsSound design.library) (component : Component) (is : IsComponent design.library component) where
-  master : (m : MasterModel) × (IsTrue (is_name (master_name design component.master))) × (place_of (master_name design component.master) (master_names design.library) ≡ Some component.master)
+  master : (m : MasterModel) × (IsTrue (is_name (master_name design component.master)))
+      × (place_of (master_name design component.master) (master_names design.library) ≡ Some component.master)
   master =
       let there = element design.library.masters component.master is.master in (
         there.0,
@@ -40,7 +41,8 @@ module _ (design : DesignModel) (sound : IsSound design.library) (component : Co
       )
 
   component_in_again : (names : List (List ℕ)) → place_of component.name names ≡ None
-      → component_in design.library names ((codes "-" ∷ component.name ∷ master_name design component.master ∷ []) ∷ placement_clause component.status component.place ∷ []) ≡ Some component
+      → component_in design.library names ((codes "-" ∷ component.name ∷ master_name design component.master ∷ []) ∷ placement_clause component.status
+      component.place ∷ []) ≡ Some component
   unfolding component_in component_head new_name_at master_at mark_at name_at nothing_at next_at
   component_in_again names new =
       rw (is.name, is.no_pin, new, master.1, master.2, placement_again component.status component.place is.placed) refl
@@ -51,7 +53,8 @@ module _ (design : DesignModel) (sound : IsSound design.library) (component : Co
         free_cons (free_literal (codes "-") refl refl refl)
         (free_cons (free_name component.name is.name (first_passes stays_one component.name (master_name design component.master ∷ []) one))
         (free_cons (free_name (master_name design component.master) master.1
-        (first_passes stays_one (master_name design component.master) [] (others_pass stays_one component.name (master_name design component.master ∷ []) one))) free_nil))
+        (first_passes stays_one (master_name design component.master) []
+        (others_pass stays_one component.name (master_name design component.master ∷ []) one))) free_nil))
 
     clause_free : AreFree (placement_clause component.status component.place)
     clause_free = placement_free component.status component.place is.placed
@@ -66,7 +69,8 @@ module _ (design : DesignModel) (sound : IsSound design.library) (component : Co
         rw (
           room_is (length front) ENTRY_LIMIT few,
           said_again (component_said design component) rest component_inside,
-          clause_again (codes "-" ∷ component.name ∷ master_name design component.master ∷ []) (placement_clause component.status component.place) head_free.plus clause_free.plus,
+          clause_again (codes "-" ∷ component.name ∷ master_name design component.master ∷ [])
+              (placement_clause component.status component.place) head_free.plus clause_free.plus,
           component_in_again (component_names front) new,
         ) refl
 
@@ -76,18 +80,22 @@ module _ (design : DesignModel) (sound : IsSound design.library) (component : Co
     pub component_line : (front : List Component) → length front < ENTRY_LIMIT → place_of component.name (component_names front) ≡ None
         → DenotesForm (component_entry design.library front) (line (component_words design component)) (front ++ component ∷ [])
     component_line front few new =
-        line_says (component_entry design.library front) (component_words design component) (front ++ component ∷ []) component_printable (component_again front few new)
+        line_says (component_entry design.library front) (component_words design component) (front ++ component ∷ []) component_printable
+        (component_again front few new)
 
 -- all of them
 pub component_goes : (design : DesignModel) (component : Component) (rest : Words) → at_end (component_words design component ++ rest) ≡ false
 component_goes design component rest = refl
 
-pub components_again : (design : DesignModel) (component : Component) (components : List Component) → IsSound design.library → AreComponents design.library (component ∷ components)
+pub components_again : (design : DesignModel) (component : Component) (components : List Component) → IsSound design.library
+    → AreComponents design.library (component ∷ components)
     → StayOne (flat_map (component_entry_names design) (component ∷ components)) → (rest : Words)
-    → components_at design.library (section_words (codes "COMPONENTS") (component_words design) (component ∷ components) ++ rest) ≡ Some (component ∷ components, rest)
+    → components_at design.library (section_words (codes "COMPONENTS") (component_words design) (component ∷ components) ++ rest) ≡ Some
+    (component ∷ components, rest)
 unfolding components_at
 components_again design component components sound are one rest =
-    section_again (codes "COMPONENTS") (component_entry design.library) (component_words design) (λ entries. entries) refl (entry_shortens design.library) component components few
+    section_again (codes "COMPONENTS") (component_entry design.library) (component_words design) (λ entries. entries) refl
+    (entry_shortens design.library) component components few
     (record {
       goes = component_goes design;
       read = λ before x after is.
@@ -104,9 +112,11 @@ components_again design component components sound are one rest =
 
 -- the lines of the section have its words
 pub components_lines : (design : DesignModel) (components : List Component) → IsSound design.library → AreComponents design.library components
-    → StayOne (flat_map (component_entry_names design) components) → Lines (components_text design components) (section_words (codes "COMPONENTS") (component_words design) components)
+    → StayOne (flat_map (component_entry_names design) components)
+    → Lines (components_text design components) (section_words (codes "COMPONENTS") (component_words design) components)
 components_lines design components sound are one =
-    section_lines (codes "COMPONENTS") (λ component. line (component_words design component)) (component_words design) components (free_literal (codes "COMPONENTS") refl refl refl)
+    section_lines (codes "COMPONENTS") (λ component. line (component_words design component)) (component_words design) components
+    (free_literal (codes "COMPONENTS") refl refl refl)
     (omega (arith, are.few))
     (λ k d less. lines_of_words (component_words design (get_or components k d)) (component_printable design sound (get_or components k d) (are.each k d less)
     (each_passes stays_one (component_entry_names design) components one k d less)))

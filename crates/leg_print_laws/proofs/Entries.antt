@@ -36,7 +36,8 @@ module _ (design : DesignModel) (sound : IsSound design.library) (well : IsWellF
       via_line design sound via (middle (IsDesignVia design.library) design.vias before via after is well.vias.each) one before
       (not_before (λ (v : ViaModel). v.name) before via after (subst (λ vs. AreApart (design_via_names vs)) is well.vias.apart))
 
-  pub component_said : (before after : List Component) (component : Component) → design.components ≡ before ++ (component ∷ after) → StayOne (component_entry_names design component)
+  pub component_said : (before after : List Component) (component : Component) → design.components ≡ before ++ (component ∷ after)
+      → StayOne (component_entry_names design component)
       → DenotesForm (component_entry design.library before) (line (component_words design component)) (before ++ component ∷ [])
   component_said before after component is one =
       component_line design sound component (middle (IsComponent design.library) design.components before component after is well.components.each) one before
@@ -50,7 +51,8 @@ module _ (design : DesignModel) (sound : IsSound design.library) (well : IsWellF
       (omega (arith, fewer_before design.pins before pin after is, well.pins.few))
       (not_before (λ (p : PinModel). p.name) before pin after (subst (λ ps. AreApart (pin_names ps)) is well.pins.apart))
 
-  pub blockage_entry_said : (before after : List BlockageModel) (blockage : BlockageModel) → design.blockages ≡ before ++ (blockage ∷ after) → StayOne (blockage_entry_names design blockage)
+  pub blockage_entry_said : (before after : List BlockageModel) (blockage : BlockageModel) → design.blockages ≡ before ++ (blockage ∷ after)
+      → StayOne (blockage_entry_names design blockage)
       → DenotesForm (blockage_entry design.library before) (line (blockage_words design blockage)) (before ++ blockage ∷ [])
   blockage_entry_said before after blockage is one =
       blockage_line design sound blockage (middle (IsBlockage design.library) design.blockages before blockage after is well.blockages.each) one before

@@ -67,32 +67,42 @@ module _ (library : LibraryModel) where
     read rest = rw (word_again (codes "BUSBITCHARS") word rest refl is) refl
 
   module _ (divider bus : Option (List ℕ)) where
-    name_leads : (name : List ℕ) → is_name name ≡ true → Leads (kept divider bus) (word_words (codes "DESIGN") name) (header_parts library true false false divider bus name no_die)
+    name_leads : (name : List ℕ) → is_name name ≡ true
+        → Leads (kept divider bus) (word_words (codes "DESIGN") name) (header_parts library true false false divider bus name no_die)
     unfolding def_form_at header_form name_form
     name_leads name is = leads_form (kept divider bus) (word_words (codes "DESIGN") name) _ (omega arith) (λ rest. refl) read where
-      read : (rest : Words) → def_form_at (kept divider bus) (word_words (codes "DESIGN") name ++ rest) ≡ Some (header_parts library true false false divider bus name no_die, rest)
+      read : (rest : Words) → def_form_at (kept divider bus) (word_words (codes "DESIGN") name ++ rest) ≡ Some
+          (header_parts library true false false divider bus name no_die, rest)
       read rest = rw (name_again name rest is) refl
 
-    units_leads : (name : List ℕ) → 1 ≤ library.units → library.units ≤ UNITS_LIMIT → Leads (header_parts library true false false divider bus name no_die) (units_words library.units) (header_parts library true true false divider bus name no_die)
+    units_leads : (name : List ℕ) → 1 ≤ library.units → library.units ≤ UNITS_LIMIT
+        → Leads (header_parts library true false false divider bus name no_die) (units_words library.units)
+        (header_parts library true true false divider bus name no_die)
     unfolding def_form_at header_form units_form
-    units_leads name some most = leads_form (header_parts library true false false divider bus name no_die) (units_words library.units) _ (omega arith) (λ rest. refl) read where
-      read : (rest : Words) → def_form_at (header_parts library true false false divider bus name no_die) (units_words library.units ++ rest) ≡ Some (header_parts library true true false divider bus name no_die, rest)
-      read rest = rw (units_again library.units rest some most, number_itself library.units) refl
+    units_leads name some most =
+        leads_form (header_parts library true false false divider bus name no_die) (units_words library.units) _ (omega arith) (λ rest. refl) read where
+          read : (rest : Words) → def_form_at (header_parts library true false false divider bus name no_die) (units_words library.units ++ rest) ≡ Some
+              (header_parts library true true false divider bus name no_die, rest)
+          read rest = rw (units_again library.units rest some most, number_itself library.units) refl
 
-    die_leads : (name : List ℕ) (die : RectModel) → IsArea die → Leads (header_parts library true true false divider bus name no_die) (die_words die) (header_parts library true true true divider bus name die)
+    die_leads : (name : List ℕ) (die : RectModel) → IsArea die
+        → Leads (header_parts library true true false divider bus name no_die) (die_words die) (header_parts library true true true divider bus name die)
     unfolding def_form_at header_form die_form
     die_leads name die is = leads_form (header_parts library true true false divider bus name no_die) (die_words die) _ (omega arith) (λ rest. refl) read where
-      read : (rest : Words) → def_form_at (header_parts library true true false divider bus name no_die) (die_words die ++ rest) ≡ Some (header_parts library true true true divider bus name die, rest)
+      read : (rest : Words) → def_form_at (header_parts library true true false divider bus name no_die) (die_words die ++ rest) ≡ Some
+          (header_parts library true true true divider bus name die, rest)
       read rest = rw (die_again die rest is) refl
 
-pub header_leads : (design : DesignModel) → IsSound design.library → IsTrue (is_name design.name) → IsKept design.divider → IsKept design.bus → IsArea design.die
+pub header_leads : (design : DesignModel) → IsSound design.library → IsTrue (is_name design.name) → IsKept design.divider → IsKept design.bus
+    → IsArea design.die
     → Leads (no_parts design.library)
     ((version_words ++ kept_line_words (codes "DIVIDERCHAR") design.divider ++ kept_line_words (codes "BUSBITCHARS") design.bus)
     ++ (word_words (codes "DESIGN") design.name ++ units_words design.library.units ++ die_words design.die))
     (header_parts design.library true true true design.divider design.bus design.name design.die)
 header_leads design sound name divider bus die =
     leads_append
-    (leads_append (leads_append (version_leads design.library) (divider_leads design.library design.divider divider)) (bus_leads design.library design.divider design.bus bus))
+    (leads_append (leads_append (version_leads design.library) (divider_leads design.library design.divider divider))
+    (bus_leads design.library design.divider design.bus bus))
     (leads_append (leads_append (name_leads design.library design.divider design.bus design.name name)
     (units_leads design.library design.divider design.bus design.name sound.least_units sound.most_units))
     (die_leads design.library design.divider design.bus design.name design.die die))
@@ -104,26 +114,37 @@ module _ (design : DesignModel) (sound : IsSound design.library) where
       let header = header_parts design.library true true true design.divider design.bus design.name design.die in
       record header { design = record (header.design) { rows = rows; tracks = tracks } }
 
-  pub rows_lead : (front rows : List Row) → All (IsRow design.library) rows → StayOne (flat_map (row_names design) rows) → Leads (framed front []) (flat_map (row_words design) rows) (framed (front ++ rows) [])
+  pub rows_lead : (front rows : List Row) → All (IsRow design.library) rows → StayOne (flat_map (row_names design) rows)
+      → Leads (framed front []) (flat_map (row_words design) rows) (framed (front ++ rows) [])
   unfolding def_form_at header_form row_form
   rows_lead front [] each one = subst (λ all. Leads (framed front []) [] (framed all [])) (sym (append-nil front)) (leads_nil (framed front []))
   rows_lead front (row ∷ rows) each one =
       leads_append (leads_form (framed front []) (row_words design row) (framed (front ++ row ∷ []) []) (omega arith) (λ rest. refl) read)
       (subst (λ all. Leads (framed (front ++ row ∷ []) []) (flat_map (row_words design) rows) (framed all [])) (append_assoc front (row ∷ []) rows)
-      (rows_lead (front ++ row ∷ []) rows (All-tail (IsRow design.library) row rows each) (next_run_passes stays_one (row_names design row) (flat_map (row_names design) rows) one))) where
+      (rows_lead (front ++ row ∷ []) rows (All-tail (IsRow design.library) row rows each)
+      (next_run_passes stays_one (row_names design row) (flat_map (row_names design) rows) one))) where
         read : (rest : Words) → def_form_at (framed front []) (row_words design row ++ rest) ≡ Some (framed (front ++ row ∷ []) [], rest)
-        read rest = rw (row_again design row sound (All-head (IsRow design.library) row rows each) (first_run_passes stays_one (row_names design row) (flat_map (row_names design) rows) one) rest) refl
+        read rest =
+            rw (row_again design row sound (All-head (IsRow design.library) row rows each)
+            (first_run_passes stays_one (row_names design row) (flat_map (row_names design) rows) one) rest) refl
 
   pub tracks_lead : (front tracks : List TrackModel) → All (IsTrack design.library) tracks → StayOne (flat_map (track_names design) tracks)
       → Leads (framed design.rows front) (flat_map (track_words design) tracks) (framed design.rows (front ++ tracks))
   unfolding def_form_at header_form track_form
-  tracks_lead front [] each one = subst (λ all. Leads (framed design.rows front) [] (framed design.rows all)) (sym (append-nil front)) (leads_nil (framed design.rows front))
+  tracks_lead front [] each one =
+      subst (λ all. Leads (framed design.rows front) [] (framed design.rows all)) (sym (append-nil front)) (leads_nil (framed design.rows front))
   tracks_lead front (track ∷ tracks) each one =
-      leads_append (leads_form (framed design.rows front) (track_words design track) (framed design.rows (front ++ track ∷ [])) (omega arith) (λ rest. refl) read)
-      (subst (λ all. Leads (framed design.rows (front ++ track ∷ [])) (flat_map (track_words design) tracks) (framed design.rows all)) (append_assoc front (track ∷ []) tracks)
-      (tracks_lead (front ++ track ∷ []) tracks (All-tail (IsTrack design.library) track tracks each) (next_run_passes stays_one (track_names design track) (flat_map (track_names design) tracks) one))) where
-        read : (rest : Words) → def_form_at (framed design.rows front) (track_words design track ++ rest) ≡ Some (framed design.rows (front ++ track ∷ []), rest)
-        read rest = rw (track_again design sound track (All-head (IsTrack design.library) track tracks each) (first_run_passes stays_one (track_names design track) (flat_map (track_names design) tracks) one) rest) refl
+      leads_append (leads_form (framed design.rows front) (track_words design track) (framed design.rows (front ++ track ∷ [])) (omega arith)
+      (λ rest. refl) read)
+      (subst (λ all. Leads (framed design.rows (front ++ track ∷ [])) (flat_map (track_words design) tracks) (framed design.rows all))
+      (append_assoc front (track ∷ []) tracks)
+      (tracks_lead (front ++ track ∷ []) tracks (All-tail (IsTrack design.library) track tracks each)
+      (next_run_passes stays_one (track_names design track) (flat_map (track_names design) tracks) one))) where
+        read : (rest : Words) → def_form_at (framed design.rows front) (track_words design track ++ rest) ≡ Some
+            (framed design.rows (front ++ track ∷ []), rest)
+        read rest =
+            rw (track_again design sound track (All-head (IsTrack design.library) track tracks each)
+            (first_run_passes stays_one (track_names design track) (flat_map (track_names design) tracks) one) rest) refl
 
 -- VERSION is read past, whatever was said before
 pub version_line : (parts : DesignParts) → DenotesForm (def_form_at parts) (line version_words) parts

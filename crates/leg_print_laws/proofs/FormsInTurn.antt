@@ -58,8 +58,10 @@ pub leads_all : (parts next : DesignParts) (words : Words) (last : Words) → Le
     → until at_end def_form_at parts (words ++ last) ≡ Some (next, last)
 unfolding steps
 leads_all parts next words last leads ends =
-    let fuel : suc (length (words ++ last)) ≡ leads.count + suc (length (words ++ last) - leads.count) = enough leads.count (length words) (length last) (length (words ++ last)) leads.few (length-append words last) in
-    ap (λ m. steps at_end def_form_at m parts (words ++ last)) fuel ∙ leads.read (suc (length (words ++ last) - leads.count)) last ∙ stop (length (words ++ last) - leads.count) where
+    let fuel : suc (length (words ++ last)) ≡ leads.count + suc (length (words ++ last) - leads.count) =
+    enough leads.count (length words) (length last) (length (words ++ last)) leads.few (length-append words last) in
+    ap (λ m. steps at_end def_form_at m parts (words ++ last)) fuel ∙ leads.read (suc (length (words ++ last) - leads.count)) last
+    ∙ stop (length (words ++ last) - leads.count) where
       enough : (count a b whole : ℕ) → count ≤ a → whole ≡ a + b → suc whole ≡ count + suc (whole - count)
       enough count a b whole le is = omega arith
 

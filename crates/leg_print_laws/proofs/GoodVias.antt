@@ -79,19 +79,27 @@ less_from a b is = grind (arith, nat_tests)
 
 -- the facts that a test of three layers says
 module _ (library : LibraryModel) (shapes : List Shape) where
-  layers_join : (a b c : Shape) → join (uses_of library.layers) a.layer b.layer c.layer (parts_of shapes) ≡ true → Contains shapes a → Contains shapes c → JoinsTwo library shapes a.layer c.layer
+  layers_join : (a b c : Shape) → join (uses_of library.layers) a.layer b.layer c.layer (parts_of shapes) ≡ true → Contains shapes a → Contains shapes c
+      → JoinsTwo library shapes a.layer c.layer
   layers_join a b c joined there here =
       let uses = uses_of library.layers in
-      let last = both (joins.is_routing uses a.layer && is_cut uses b.layer && joins.is_routing uses c.layer && nat_lt a.layer b.layer && nat_lt b.layer c.layer && not (list_any has_wires (slice_range uses (a.layer + 1) c.layer)))
+      let last =
+      both (joins.is_routing uses a.layer && is_cut uses b.layer && joins.is_routing uses c.layer && nat_lt a.layer b.layer && nat_lt b.layer c.layer && not
+      (list_any has_wires (slice_range uses (a.layer + 1) c.layer)))
       (list_all (is_part a.layer b.layer c.layer) (parts_of shapes)) joined in
-      let five = both (joins.is_routing uses a.layer && is_cut uses b.layer && joins.is_routing uses c.layer && nat_lt a.layer b.layer && nat_lt b.layer c.layer) (not (list_any has_wires (slice_range uses (a.layer + 1) c.layer))) last.0 in
-      let four = both (joins.is_routing uses a.layer && is_cut uses b.layer && joins.is_routing uses c.layer && nat_lt a.layer b.layer) (nat_lt b.layer c.layer) five.0 in
+      let five =
+      both (joins.is_routing uses a.layer && is_cut uses b.layer && joins.is_routing uses c.layer && nat_lt a.layer b.layer && nat_lt b.layer c.layer)
+      (not (list_any has_wires (slice_range uses (a.layer + 1) c.layer))) last.0 in
+      let four =
+      both (joins.is_routing uses a.layer && is_cut uses b.layer && joins.is_routing uses c.layer && nat_lt a.layer b.layer) (nat_lt b.layer c.layer) five.0 in
       let three = both (joins.is_routing uses a.layer && is_cut uses b.layer && joins.is_routing uses c.layer) (nat_lt a.layer b.layer) four.0 in
       let two = both (joins.is_routing uses a.layer && is_cut uses b.layer) (joins.is_routing uses c.layer) three.0 in
       let one = both (joins.is_routing uses a.layer) (is_cut uses b.layer) two.0 in
       let below = less_from a.layer b.layer three.1 in
       let above = less_from b.layer c.layer four.1 in
-      let parts = all_pass (λ shape. is_part a.layer b.layer c.layer (part_of shape)) shapes (sym (all_map (is_part a.layer b.layer c.layer) part_of shapes) ∙ last.1) in record {
+      let parts =
+      all_pass (λ shape. is_part a.layer b.layer c.layer (part_of shape)) shapes
+      (sym (all_map (is_part a.layer b.layer c.layer) part_of shapes) ∙ last.1) in record {
         cut = b.layer;
         below = below;
         above = above;
@@ -119,17 +127,20 @@ module _ (library : LibraryModel) (shapes : List Shape) where
   pub good_joins : (name : List ℕ) → is_good_via library name shapes ≡ true → (low : ℕ) × (high : ℕ) × JoinsTwo library shapes low high
   unfolding is_good_via
   good_joins name good =
-      let joined : join_layers (uses_of library.layers) (parts_of shapes) ≡ true = (both (not (is_wiring_word name)) (join_layers (uses_of library.layers) (parts_of shapes)) good).1 in
+      let joined : join_layers (uses_of library.layers) (parts_of shapes) ≡ true =
+      (both (not (is_wiring_word name)) (join_layers (uses_of library.layers) (parts_of shapes)) good).1 in
       let a = passing first joined in
       let b = passing (second a.it.layer) a.passes in
       let c = passing (third a.it.layer b.it.layer) b.passes in
       (a.it.layer, c.it.layer, layers_join a.it b.it c.it c.passes a.in_list c.in_list)
 
 -- the lowest layer
-stays_above : (low start : ℕ) (shapes : List Shape) → low ≤ start → All (λ shape. low ≤ shape.layer) shapes → low ≤ fold (λ lowest other. min lowest other.layer) start shapes
+stays_above : (low start : ℕ) (shapes : List Shape) → low ≤ start → All (λ shape. low ≤ shape.layer) shapes
+    → low ≤ fold (λ lowest other. min lowest other.layer) start shapes
 stays_above low start [] le each = le
 stays_above low start (shape ∷ shapes) le each =
-    stays_above low (min start shape.layer) shapes (above le (All-head (λ s. low ≤ s.layer) shape shapes each)) (All-tail (λ s. low ≤ s.layer) shape shapes each) where
+    stays_above low (min start shape.layer) shapes (above le (All-head (λ s. low ≤ s.layer) shape shapes each))
+    (All-tail (λ s. low ≤ s.layer) shape shapes each) where
       above : low ≤ start → low ≤ shape.layer → low ≤ min start shape.layer
       above a b = omega arith
 
@@ -137,10 +148,12 @@ falls_to : (low start : ℕ) (shapes : List Shape) → start ≤ low → fold (�
 falls_to low start [] le = le
 falls_to low start (shape ∷ shapes) le = falls_to low (min start shape.layer) shapes (omega arith)
 
-reaches : (low start : ℕ) (shapes : List Shape) → list_any (λ shape. shape.layer == low) shapes ≡ true → fold (λ lowest other. min lowest other.layer) start shapes ≤ low
+reaches : (low start : ℕ) (shapes : List Shape) → list_any (λ shape. shape.layer == low) shapes ≡ true
+    → fold (λ lowest other. min lowest other.layer) start shapes ≤ low
 reaches low start [] some = absurd (false≢true some)
 reaches low start (shape ∷ shapes) some = by (shape.layer == low) refl (reaches low (min start shape.layer) shapes) where
-  by : (here : Bool) → (shape.layer == low) ≡ here → (list_any (λ s. s.layer == low) shapes ≡ true → fold (λ lowest other. min lowest other.layer) (min start shape.layer) shapes ≤ low)
+  by : (here : Bool) → (shape.layer == low) ≡ here
+      → (list_any (λ s. s.layer == low) shapes ≡ true → fold (λ lowest other. min lowest other.layer) (min start shape.layer) shapes ≤ low)
       → fold (λ lowest other. min lowest other.layer) (min start shape.layer) shapes ≤ low
   by true is later = falls_to low (min start shape.layer) shapes (least (equal is)) where
     equal : (shape.layer == low) ≡ true → shape.layer ≡ low
@@ -150,7 +163,8 @@ reaches low start (shape ∷ shapes) some = by (shape.layer == low) refl (reache
     least same = omega arith
   by false is later = later (rw is at some)
 
-pub lowest_is : (low : ℕ) (shapes : List Shape) → list_any (λ shape. shape.layer == low) shapes ≡ true → All (λ shape. low ≤ shape.layer) shapes → lowest_layer shapes ≡ low
+pub lowest_is : (low : ℕ) (shapes : List Shape) → list_any (λ shape. shape.layer == low) shapes ≡ true → All (λ shape. low ≤ shape.layer) shapes
+    → lowest_layer shapes ≡ low
 lowest_is low [] some each = absurd (false≢true some)
 lowest_is low (shape ∷ shapes) some each = omega (arith, up, down) where
   up : low ≤ fold (λ lowest other. min lowest other.layer) shape.layer shapes
@@ -163,7 +177,8 @@ lowest_is low (shape ∷ shapes) some each = omega (arith, up, down) where
     by false is = reaches low shape.layer shapes (rw is at some)
 
 -- A good via leads from its lower routing layer to the other.
-pub across_good : (known : KnownModel) (number : ℕ) (via : ViaModel) (low high : ℕ) → via_numbered known number ≡ Some via → via.good ≡ true → JoinsTwo known.library via.shapes low high → (other : ℕ) × (across known number low ≡ Some other)
+pub across_good : (known : KnownModel) (number : ℕ) (via : ViaModel) (low high : ℕ) → via_numbered known number ≡ Some via → via.good ≡ true
+    → JoinsTwo known.library via.shapes low high → (other : ℕ) × (across known number low ≡ Some other)
 unfolding across
 across_good known number via low high is good joined =
     let other = found_first (λ shape. is_routing known.library shape.layer && not (shape.layer == low)) via.shapes some in

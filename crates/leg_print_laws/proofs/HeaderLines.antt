@@ -19,11 +19,13 @@ use Rattle.leg_print_laws.proofs.Points.{number_again, spot_again, between_again
 use Rattle.leg_print_laws.proofs.PrintableWords.{said_printable, line_says}
 
 -- KEYWORD word ;
-pub word_again : (keyword word : List ℕ) (rest : Words) → is_keyword keyword keyword ≡ true → is_word word ≡ true → word_after keyword (word_words keyword word ++ rest) ≡ Some (word, rest)
+pub word_again : (keyword word : List ℕ) (rest : Words) → is_keyword keyword keyword ≡ true → is_word word ≡ true
+    → word_after keyword (word_words keyword word ++ rest) ≡ Some (word, rest)
 unfolding word_after keyword_at word_at mark_at next_at
 word_again keyword word rest same is = rw (same, is) refl
 
-pub word_line : (keyword word : List ℕ) → is_keyword keyword keyword ≡ true → IsFree keyword → is_word word ≡ true → stays_one word ≡ true → DenotesForm (word_after keyword) (line (word_words keyword word)) word
+pub word_line : (keyword word : List ℕ) → is_keyword keyword keyword ≡ true → IsFree keyword → is_word word ≡ true → stays_one word ≡ true
+    → DenotesForm (word_after keyword) (line (word_words keyword word)) word
 word_line keyword word same key is one =
     line_says (word_after keyword) (word_words keyword word) word
     (said_printable (free_cons key (free_cons (free_word word is one) free_nil)).inside) (λ rest. word_again keyword word rest same is)

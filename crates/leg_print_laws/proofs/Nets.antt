@@ -24,7 +24,7 @@ use Rattle.leg_grammar.specs.Def.Terminal.{at_no_terminal}
 use Rattle.leg_grammar.specs.Def.Net.{NetParts, no_net_parts, use_clause, wiring_clause, clause_at, net_clause, net_name_at, net_in, are_too_many, net_entry, nets_at}
 use Rattle.leg_design_nets.proofs.NetEntries.{net_entry_shortens}
 use Rattle.leg_output.specs.Text.Clauses.{clause_words, kept_clause}
-use Rattle.leg_output.specs.Text.Nets.{terminal_words, net_head, wiring_words, net_said, net_words, net_text, wire_line}
+use Rattle.leg_output.specs.Text.Nets.{terminal_words, net_head, wiring_lines, net_said, net_words, net_text, wire_line}
 use Rattle.leg_output.specs.Text.Whole.{net_section, nets_text}
 use Rattle.leg_print_laws.proofs.Tests.{room_is, not_above}
 use Rattle.leg_print_laws.specs.PrintedNames.{StayOne, kept_words, terminal_names, wire_names, net_entry_names}
@@ -51,7 +51,7 @@ parts_of usage wires = record { usage = usage; wires = wires }
 module _ (design : DesignModel) (has : HasParts design) (special : Bool) where
   -- what stands behind the terminals: USE and the wires
   abbrev clauses : Option (List ℕ) → List Wire → Words
-  clauses usage wires = clause_words (kept_clause (codes "USE") usage) ++ words_in_lines (wiring_words design special wires)
+  clauses usage wires = clause_words (kept_clause (codes "USE") usage) ++ words_in_lines (wiring_lines design special wires)
 
   no_more_terminals : (usage : Option (List ℕ)) (wires : List Wire) → at_no_terminal (clauses usage wires) ≡ true
   no_more_terminals None [] = refl
@@ -74,19 +74,22 @@ module _ (design : DesignModel) (has : HasParts design) (special : Bool) where
     net_in_again nets others new own =
         let terminals = flat_map (terminal_words design) net.terminals in
         let usage = clause_words (kept_clause (codes "USE") net.usage) in
-        let wires = words_in_lines (wiring_words design special net.wires) in
+        let wires = words_in_lines (wiring_lines design special net.wires) in
         rw (
           is.name,
           is.no_must_join,
           new,
           append_assoc terminals usage wires,
-          terminals_again design has.sound has.components has.pins special net.name (nets ++ others) net.terminals (clauses net.usage net.wires) is.terminals is.once own (no_more_terminals net.usage net.wires),
+          terminals_again design has.sound has.components has.pins special net.name (nets ++ others) net.terminals
+              (clauses net.usage net.wires) is.terminals is.once own (no_more_terminals net.usage net.wires),
           clauses_again net.usage net.wires is.usage is.wires,
         ) refl
 
     module _ (one : StayOne (net_entry_names design net)) where
       front_one : list_all stays_one (net.name ∷ kept_words net.usage ++ flat_map (terminal_names design) net.terminals) ≡ true
-      front_one = first_run_passes stays_one (net.name ∷ kept_words net.usage ++ flat_map (terminal_names design) net.terminals) (flat_map (wire_names design) net.wires) one
+      front_one =
+          first_run_passes stays_one (net.name ∷ kept_words net.usage ++ flat_map (terminal_names design) net.terminals)
+          (flat_map (wire_names design) net.wires) one
 
       more_one : list_all stays_one (kept_words net.usage ++ flat_map (terminal_names design) net.terminals) ≡ true
       more_one = others_pass stays_one net.name (kept_words net.usage ++ flat_map (terminal_names design) net.terminals) front_one
@@ -95,9 +98,11 @@ module _ (design : DesignModel) (has : HasParts design) (special : Bool) where
       terminals_inside =
           inside_each (terminal_words design) net.terminals (λ k d less.
           (terminal_free design has.sound has.components has.pins (get_or net.terminals k d) (is.terminals k d less)
-          (each_passes stays_one (terminal_names design) net.terminals (next_run_passes stays_one (kept_words net.usage) (flat_map (terminal_names design) net.terminals) more_one) k d less)).inside)
+          (each_passes stays_one (terminal_names design) net.terminals
+          (next_run_passes stays_one (kept_words net.usage) (flat_map (terminal_names design) net.terminals) more_one) k d less)).inside)
 
-      usage_inside : (usage : Option (List ℕ)) → IsKept usage → list_all stays_one (kept_words usage) ≡ true → AreInside (clause_words (kept_clause (codes "USE") usage))
+      usage_inside : (usage : Option (List ℕ)) → IsKept usage → list_all stays_one (kept_words usage) ≡ true
+          → AreInside (clause_words (kept_clause (codes "USE") usage))
       usage_inside None kept stays = inside_nil
       usage_inside (Some word) kept stays =
           inside_cons (record { printable = refl; semicolon = refl }) (inside_cons (record { printable = refl; semicolon = refl })
@@ -105,31 +110,41 @@ module _ (design : DesignModel) (has : HasParts design) (special : Bool) where
 
       head_inside : AreInside (net_head design net)
       head_inside =
-          inside_append (inside_cons (free_name net.name is.name (first_passes stays_one net.name (kept_words net.usage ++ flat_map (terminal_names design) net.terminals) front_one)).inside terminals_inside)
+          inside_append (inside_cons (free_name net.name is.name
+          (first_passes stays_one net.name (kept_words net.usage ++ flat_map (terminal_names design) net.terminals) front_one)).inside terminals_inside)
           (usage_inside net.usage is.usage (first_run_passes stays_one (kept_words net.usage) (flat_map (terminal_names design) net.terminals) more_one))
 
-      wiring_inside : AreInside (words_in_lines (wiring_words design special net.wires))
+      wiring_inside : AreInside (words_in_lines (wiring_lines design special net.wires))
       wiring_inside =
           wires_inside design has.sound has.vias special net.wires is.wires
-          (next_run_passes stays_one (net.name ∷ kept_words net.usage ++ flat_map (terminal_names design) net.terminals) (flat_map (wire_names design) net.wires) one)
+          (next_run_passes stays_one (net.name ∷ kept_words net.usage ++ flat_map (terminal_names design) net.terminals)
+          (flat_map (wire_names design) net.wires) one)
 
       net_inside : AreInside (net_said design special net)
       net_inside = inside_append (inside_cons (record { printable = refl; semicolon = refl }) head_inside) wiring_inside
 
       pub net_again : (nets others : List NetModel) → length nets + length others < ENTRY_LIMIT → place_of net.name (net_names nets) ≡ None
-          → ((other : NetModel) (t : Terminal) → Contains (nets ++ others) other → Contains other.terminals t → Contains net.terminals t → other.name ≡ net.name)
+          → ((other : NetModel) (t : Terminal) → Contains (nets ++ others) other → Contains other.terminals t → Contains net.terminals t
+          → other.name ≡ net.name)
           → are_too_many others (nets ++ net ∷ []) ≡ false
           → (rest : Words) → net_entry (known_of design) special others nets (net_words design special net ++ rest) ≡ Some (nets ++ net ∷ [], rest)
       unfolding net_entry
       net_again nets others few new own fits rest =
-          rw (room_is (length nets + length others) ENTRY_LIMIT few, said_again (net_said design special net) rest net_inside, net_in_again nets others new own, fits) refl
+          rw (
+            room_is (length nets + length others) ENTRY_LIMIT few,
+            said_again (net_said design special net) rest net_inside,
+            net_in_again nets others new own,
+            fits,
+          ) refl
 
       -- the lines of the entry have its words
       pub net_lines : Lines (net_text design special net) (net_words design special net)
       net_lines =
           let head : Behind (spaced (net_head design net)) (net_head design net) = behind_spaced (net_head design net) head_inside.printable in
-          let wires : Behind (flat_map wire_line (wiring_words design special net.wires)) (words_in_lines (wiring_words design special net.wires)) = further_lines (wiring_words design special net.wires) wiring_inside.printable in
-          let whole : Lines (codes "-" ++ (spaced (net_head design net) ++ flat_map wire_line (wiring_words design special net.wires)) ++ codes " ;\n") (net_words design special net) =
+          let wires : Behind (flat_map wire_line (wiring_lines design special net.wires)) (words_in_lines (wiring_lines design special net.wires)) =
+          further_lines (wiring_lines design special net.wires) wiring_inside.printable in
+          let whole : Lines (codes "-" ++ (spaced (net_head design net) ++ flat_map wire_line (wiring_lines design special net.wires)) ++ codes " ;\n")
+          (net_words design special net) =
           lines_statement (codes "-") (printable_is_one (codes "-") refl) (behind_append head wires) in
           whole
 
@@ -152,14 +167,19 @@ pub record AreEntries (design : DesignModel) (special : Bool) (nets others : Lis
 
 module _ (design : DesignModel) (has : HasParts design) (special : Bool) (nets others : List NetModel) (entries : AreEntries design special nets others) where
   -- the entries up to one of them have no more than all
-  up_to_one : (before : List NetModel) (net : NetModel) (after : List NetModel) → nets ≡ before ++ (net ∷ after) → are_too_many others (before ++ net ∷ []) ≡ false
+  up_to_one : (before : List NetModel) (net : NetModel) (after : List NetModel) → nets ≡ before ++ (net ∷ after)
+      → are_too_many others (before ++ net ∷ []) ≡ false
   up_to_one before net after is =
       let whole : nets ≡ (before ++ net ∷ []) ++ after = is ∙ sym (append_assoc before (net ∷ []) after) in
-      let terminals : terminal_count nets ≡ terminal_count (before ++ net ∷ []) + terminal_count after = ap terminal_count whole ∙ terminals_of_both (before ++ net ∷ []) after in
+      let terminals : terminal_count nets ≡ terminal_count (before ++ net ∷ []) + terminal_count after =
+      ap terminal_count whole ∙ terminals_of_both (before ++ net ∷ []) after in
       let wires : wire_count nets ≡ wire_count (before ++ net ∷ []) + wire_count after = ap wire_count whole ∙ wires_of_both (before ++ net ∷ []) after in
       let t_limit : terminal_count (before ++ net ∷ []) + terminal_count others ≤ PART_LIMIT = omega (arith, terminals, entries.few_terminals) in
       let w_limit : wire_count (before ++ net ∷ []) + wire_count others ≤ PART_LIMIT = omega (arith, wires, entries.few_wires) in
-      rw (not_above (terminal_count (before ++ net ∷ []) + terminal_count others) PART_LIMIT t_limit, not_above (wire_count (before ++ net ∷ []) + wire_count others) PART_LIMIT w_limit) refl
+      rw (
+        not_above (terminal_count (before ++ net ∷ []) + terminal_count others) PART_LIMIT t_limit,
+        not_above (wire_count (before ++ net ∷ []) + wire_count others) PART_LIMIT w_limit,
+      ) refl
 
   own_name : (before : List NetModel) (net : NetModel) (after : List NetModel) → nets ≡ before ++ (net ∷ after)
       → (other : NetModel) (t : Terminal) → Contains (before ++ others) other → Contains other.terminals t → Contains net.terminals t → other.name ≡ net.name
@@ -183,7 +203,8 @@ module _ (design : DesignModel) (has : HasParts design) (special : Bool) (nets o
       (net_lines design has special net (middle (IsNet design special) nets before net after is entries.are.each) stays)
       (net_again design has special net (middle (IsNet design special) nets before net after is entries.are.each) stays before others
       (omega (arith, fewer_before nets before net after is, entries.few))
-      (not_before (λ (n : NetModel). n.name) before net after (subst (λ ns. AreApart (net_names ns)) is entries.are.apart)) (own_name before net after is) (up_to_one before net after is))
+      (not_before (λ (n : NetModel). n.name) before net after (subst (λ ns. AreApart (net_names ns)) is entries.are.apart)) (own_name before net after is)
+      (up_to_one before net after is))
 
   module _ (one : StayOne (flat_map (net_entry_names design) nets)) where
     entry_again : (before : List NetModel) (net : NetModel) (after : List NetModel) → nets ≡ before ++ (net ∷ after) → (rest : Words)
@@ -192,13 +213,15 @@ module _ (design : DesignModel) (has : HasParts design) (special : Bool) (nets o
         net_again design has special net (middle (IsNet design special) nets before net after is entries.are.each)
         (middle (λ n. StayOne (net_entry_names design n)) nets before net after is (each_passes stays_one (net_entry_names design) nets one)) before others
         (omega (arith, fewer_before nets before net after is, entries.few))
-        (not_before (λ (n : NetModel). n.name) before net after (subst (λ ns. AreApart (net_names ns)) is entries.are.apart)) (own_name before net after is) (up_to_one before net after is)
+        (not_before (λ (n : NetModel). n.name) before net after (subst (λ ns. AreApart (net_names ns)) is entries.are.apart)) (own_name before net after is)
+        (up_to_one before net after is)
 
     -- the lines of the section have its words
     pub nets_lines : Lines (nets_text design special nets) (section_words (net_section special) (net_words design special) nets)
     nets_lines =
         section_lines (net_section special) (net_text design special) (net_words design special) nets (keyword_free special) few_nets
-        (λ k d less. net_lines design has special (get_or nets k d) (entries.are.each k d less) (each_passes stays_one (net_entry_names design) nets one k d less)) where
+        (λ k d less. net_lines design has special (get_or nets k d) (entries.are.each k d less)
+        (each_passes stays_one (net_entry_names design) nets one k d less)) where
           keyword_free : (special : Bool) → IsFree (net_section special)
           keyword_free false = free_literal (codes "NETS") refl refl refl
           keyword_free true = free_literal (codes "SPECIALNETS") refl refl refl
@@ -206,15 +229,18 @@ module _ (design : DesignModel) (has : HasParts design) (special : Bool) (nets o
 net_goes : (design : DesignModel) (special : Bool) (net : NetModel) (rest : Words) → at_end (net_words design special net ++ rest) ≡ false
 net_goes design special net rest = refl
 
-pub nets_again : (design : DesignModel) → HasParts design → (special : Bool) (net : NetModel) (nets others : List NetModel) → AreEntries design special (net ∷ nets) others
+pub nets_again : (design : DesignModel) → HasParts design → (special : Bool) (net : NetModel) (nets others : List NetModel)
+    → AreEntries design special (net ∷ nets) others
     → StayOne (flat_map (net_entry_names design) (net ∷ nets)) → (rest : Words)
     → nets_at (known_of design) special others (section_words (net_section special) (net_words design special) (net ∷ nets) ++ rest) ≡ Some (net ∷ nets, rest)
 unfolding nets_at
 nets_again design has false net nets others entries one rest =
-    section_again (codes "NETS") (net_entry (known_of design) false others) (net_words design false) (λ entries. entries) refl (net_entry_shortens (known_of design) false others) net nets
+    section_again (codes "NETS") (net_entry (known_of design) false others) (net_words design false) (λ entries. entries) refl
+    (net_entry_shortens (known_of design) false others) net nets
     (few_nets design has false (net ∷ nets) others entries)
     (record { goes = net_goes design false; read = entry_again design has false (net ∷ nets) others entries one }) rest
 nets_again design has true net nets others entries one rest =
-    section_again (codes "SPECIALNETS") (net_entry (known_of design) true others) (net_words design true) (λ entries. entries) refl (net_entry_shortens (known_of design) true others) net nets
+    section_again (codes "SPECIALNETS") (net_entry (known_of design) true others) (net_words design true) (λ entries. entries) refl
+    (net_entry_shortens (known_of design) true others) net nets
     (few_nets design has true (net ∷ nets) others entries)
     (record { goes = net_goes design true; read = entry_again design has true (net ∷ nets) others entries one }) rest

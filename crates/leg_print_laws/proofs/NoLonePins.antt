@@ -22,7 +22,8 @@ in_neither name (first ∷ a) b none = by (bytes_eq name first) refl (place_of n
   by false is None at later = let parts = later at in (rw (is, parts.0) refl, parts.1)
   by false is (Some k) at later = absurd (let e : ⊥ = cc (rw (is, at) at none) in e)
 
-listed : (nets special : List NetModel) (p : ℕ) (net : NetModel) → Contains (nets ++ special) net → Contains net.terminals (Pin p) → (is_listed (Pin p) nets || is_listed (Pin p) special) ≡ true
+listed : (nets special : List NetModel) (p : ℕ) (net : NetModel) → Contains (nets ++ special) net → Contains net.terminals (Pin p)
+    → (is_listed (Pin p) nets || is_listed (Pin p) special) ≡ true
 listed nets special p net there lists = by (Contains-append_cases nets special net there) where
   or_true : (a b : Bool) → b ≡ true → (a || b) ≡ true
   or_true true b is = refl
@@ -35,15 +36,19 @@ listed nets special p net there lists = by (Contains-append_cases nets special n
   by (inl first) = rw (lists_it nets first) refl
   by (inr later) = or_true (is_listed (Pin p) nets) (is_listed (Pin p) special) (lists_it special later)
 
-named_nowhere : (lists : NetLists) (p : ℕ) (name : List ℕ) → place_of name (net_names (lists.nets ++ lists.special)) ≡ None → to_named lists p (Some name) ≡ lists
+named_nowhere : (lists : NetLists) (p : ℕ) (name : List ℕ) → place_of name (net_names (lists.nets ++ lists.special)) ≡ None
+    → to_named lists p (Some name) ≡ lists
 named_nowhere lists p name none =
-    let parts = in_neither name (net_names lists.nets) (net_names lists.special) (ap (place_of name) (sym (map-append (λ (n : NetModel). n.name) lists.nets lists.special)) ∙ none) in
+    let parts =
+    in_neither name (net_names lists.nets) (net_names lists.special)
+    (ap (place_of name) (sym (map-append (λ (n : NetModel). n.name) lists.nets lists.special)) ∙ none) in
     rw (parts.0, parts.1) refl
 
 one_stays : (lists : NetLists) (p : ℕ) (pin : PinModel) → IsInSomeNet (lists.nets ++ lists.special) p pin.net_name → with_lone_pin lists p pin ≡ lists
 unfolding with_lone_pin
 one_stays lists p pin is = by (is_listed (Pin p) lists.nets || is_listed (Pin p) lists.special) refl where
-  named : (name : Option (List ℕ)) → IsInSomeNet (lists.nets ++ lists.special) p name → (is_listed (Pin p) lists.nets || is_listed (Pin p) lists.special) ≡ false → to_named lists p name ≡ lists
+  named : (name : Option (List ℕ)) → IsInSomeNet (lists.nets ++ lists.special) p name
+      → (is_listed (Pin p) lists.nets || is_listed (Pin p) lists.special) ≡ false → to_named lists p name ≡ lists
   named None is none = refl
   named (Some name) is none = place (place_of name (net_names (lists.nets ++ lists.special))) refl where
     place : (found : Option ℕ) → place_of name (net_names (lists.nets ++ lists.special)) ≡ found → to_named lists p (Some name) ≡ lists
@@ -59,11 +64,15 @@ one_stays lists p pin is = by (is_listed (Pin p) lists.nets || is_listed (Pin p)
 next_number : (p k : ℕ) → p + suc k ≡ suc p + k
 next_number p k = omega arith
 
-pub no_lone_pins : (lists : NetLists) (p : ℕ) (pins : List PinModel) → ((k : ℕ) (pin : PinModel) → slice_get pins k ≡ Some pin → IsInSomeNet (lists.nets ++ lists.special) (p + k) pin.net_name) → with_lone_pins lists p pins ≡ lists
+pub no_lone_pins : (lists : NetLists) (p : ℕ) (pins : List PinModel)
+    → ((k : ℕ) (pin : PinModel) → slice_get pins k ≡ Some pin → IsInSomeNet (lists.nets ++ lists.special) (p + k) pin.net_name)
+    → with_lone_pins lists p pins ≡ lists
 unfolding with_lone_pins
 no_lone_pins lists p [] each = refl
 no_lone_pins lists p (pin ∷ pins) each =
-    ap (λ now. with_lone_pins now (suc p) pins) (one_stays lists p pin (subst (λ n. IsInSomeNet (lists.nets ++ lists.special) n pin.net_name) (last p) (each 0 pin refl)))
-    ∙ no_lone_pins lists (suc p) pins (λ k one is. subst (λ n. IsInSomeNet (lists.nets ++ lists.special) n one.net_name) (next_number p k) (each (suc k) one is)) where
+    ap (λ now. with_lone_pins now (suc p) pins) (one_stays lists p pin
+    (subst (λ n. IsInSomeNet (lists.nets ++ lists.special) n pin.net_name) (last p) (each 0 pin refl)))
+    ∙ no_lone_pins lists (suc p) pins (λ k one is. subst (λ n. IsInSomeNet (lists.nets ++ lists.special) n one.net_name) (next_number p k)
+    (each (suc k) one is)) where
       last : (p : ℕ) → p + 0 ≡ p
       last p = omega arith

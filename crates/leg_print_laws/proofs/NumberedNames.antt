@@ -43,7 +43,9 @@ module _ {X : Type 0} (name_of : X → List ℕ) where
   pub not_before : (front : List X) (x : X) (back : List X) → AreApart (map name_of (front ++ (x ∷ back))) → place_of (name_of x) (map name_of front) ≡ None
   not_before front x back apart =
       let e : map name_of (front ++ (x ∷ back)) ≡ map name_of front ++ (name_of x ∷ map name_of back) = map-append name_of front (x ∷ back) in
-      let free = not_yet_there (map name_of front ++ (name_of x ∷ map name_of back)) (length (map name_of front)) [] (subst AreApart e apart) (within (map name_of front) (name_of x) (map name_of back)) in
+      let free =
+      not_yet_there (map name_of front ++ (name_of x ∷ map name_of back)) (length (map name_of front)) [] (subst AreApart e apart)
+      (within (map name_of front) (name_of x) (map name_of back)) in
       rw (get_or-append_seam (map name_of front) (name_of x) (map name_of back) [], take-append_seam (map name_of front) (name_of x ∷ map name_of back)) at free
 
 -- what holds of each element holds of one in the middle
@@ -66,7 +68,8 @@ first_run_passes p v w all = (both_are (list_all p v) (list_all p w) (sym (list_
 pub next_run_passes : (p : List ℕ → Bool) (v w : Words) → list_all p (v ++ w) ≡ true → list_all p w ≡ true
 next_run_passes p v w all = (both_are (list_all p v) (list_all p w) (sym (list_all-append p v w) ∙ all)).1
 
-pub each_passes : {X : Type 0} (p : List ℕ → Bool) (words : X → Words) (xs : List X) → list_all p (flat_map words xs) ≡ true → All (λ x. list_all p (words x) ≡ true) xs
+pub each_passes : {X : Type 0} (p : List ℕ → Bool) (words : X → Words) (xs : List X) → list_all p (flat_map words xs) ≡ true
+    → All (λ x. list_all p (words x) ≡ true) xs
 each_passes p words [] all = All-nil (λ x. list_all p (words x) ≡ true)
 each_passes p words (x ∷ xs) all =
     All-cons (λ y. list_all p (words y) ≡ true) x xs (first_run_passes p (words x) (flat_map words xs) all)

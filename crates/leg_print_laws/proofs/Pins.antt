@@ -27,7 +27,7 @@ use Rattle.leg_grammar.specs.Def.Pin.{pin_head, pin_in, pin_entry, pins_at}
 use Rattle.leg_design_floorplan.proofs.Pins.{entry_shortens}
 use Rattle.leg_output.specs.Text.Points.{corner_words}
 use Rattle.leg_output.specs.Text.Clauses.{shape_clause, kept_clause, placement_clause}
-use Rattle.leg_output.specs.Text.Pins.{port_place, port_clauses, kept_clauses, pin_clauses, pin_said, pin_words}
+use Rattle.leg_output.specs.Text.Pins.{port_place_lines, port_clauses, kept_clauses, pin_clauses, pin_said, pin_words}
 use Rattle.leg_output.specs.Text.Whole.{pins_text}
 use Rattle.leg_print_laws.proofs.Tests.{room_is}
 use Rattle.leg_print_laws.specs.PrintedNames.{StayOne, kept_words, pin_entry_names, names_of_layers}
@@ -55,10 +55,15 @@ module _ (design : DesignModel) (sound : IsSound design.library) (net direction 
       ≡ Some (parts_of net direction usage done (Some (port_of (front ++ shape ∷ []) Unplaced None)))
   unfolding pin_clause port_rect layer_rect past_rules past_number keyword_at nothing_at next_at
   shape_again front shape is =
-      rw (layer_again design sound shape.layer (corner_words shape.rect) (metal_named design sound shape is), corners_again shape.rect [] is.rect, is.metal) refl
+      rw (
+        layer_again design sound shape.layer (corner_words shape.rect) (metal_named design sound shape is),
+        corners_again shape.rect [] is.rect,
+        is.metal,
+      ) refl
 
   shapes_again : (front shapes : List Shape) → All (IsMetalShape design.library) shapes
-      → over (pin_clause design.library) (parts_of net direction usage done (Some (port_of front Unplaced None))) (map (shape_clause (codes "LAYER") design) shapes)
+      → over (pin_clause design.library) (parts_of net direction usage done (Some (port_of front Unplaced None)))
+      (map (shape_clause (codes "LAYER") design) shapes)
       ≡ Some (parts_of net direction usage done (Some (port_of (front ++ shapes) Unplaced None)))
   unfolding over
   shapes_again front [] each = rw (append-nil front) refl
@@ -84,7 +89,7 @@ module _ (design : DesignModel) (sound : IsSound design.library) (net direction 
   unplaced Cover is = absurd is
 
   place_clauses_again : (shapes : List Shape) (status : Status) (place : Option Place) → IsPlaced status place
-      → over (pin_clause design.library) (parts_of net direction usage done (Some (port_of shapes Unplaced None))) (port_place status place)
+      → over (pin_clause design.library) (parts_of net direction usage done (Some (port_of shapes Unplaced None))) (port_place_lines status place)
       ≡ Some (parts_of net direction usage done (Some (port_of shapes status place)))
   unfolding over
   place_clauses_again shapes status None is = rw (unplaced status is) refl
@@ -92,10 +97,11 @@ module _ (design : DesignModel) (sound : IsSound design.library) (net direction 
 
   -- the clauses behind PORT
   port_said : (port : PortModel) → IsPort design.library port
-      → over (pin_clause design.library) (parts_of net direction usage done (Some (port_of [] Unplaced None))) (map (shape_clause (codes "LAYER") design) port.shapes ++ port_place port.status port.place)
+      → over (pin_clause design.library) (parts_of net direction usage done (Some (port_of [] Unplaced None)))
+      (map (shape_clause (codes "LAYER") design) port.shapes ++ port_place_lines port.status port.place)
       ≡ Some (parts_of net direction usage done (Some port))
   port_said port is =
-      over_append (pin_clause design.library) (map (shape_clause (codes "LAYER") design) port.shapes) (port_place port.status port.place)
+      over_append (pin_clause design.library) (map (shape_clause (codes "LAYER") design) port.shapes) (port_place_lines port.status port.place)
       (parts_of net direction usage done (Some (port_of [] Unplaced None))) (parts_of net direction usage done (Some (port_of port.shapes Unplaced None)))
       (shapes_again [] port.shapes is.shapes)
       ∙ place_clauses_again port.shapes port.status port.place is.placed
@@ -115,87 +121,114 @@ module _ (design : DesignModel) (sound : IsSound design.library) (net direction 
     pub are : parts ≡ parts_of net direction usage done last
     pub ports_are : all_ports (parts_of net direction usage done last) ≡ ports
 
-  ports_again : (done : List PortModel) (last : Option PortModel) (front ports : List PortModel) → all_ports (parts_of net direction usage done last) ≡ front → All (IsPort design.library) ports
-      → (next : PinClauses) × (over (pin_clause design.library) (parts_of net direction usage done last) (flat_map (port_clauses design) ports) ≡ Some next) × HavePorts next (front ++ ports)
+  ports_again : (done : List PortModel) (last : Option PortModel) (front ports : List PortModel) → all_ports (parts_of net direction usage done last) ≡ front
+      → All (IsPort design.library) ports
+      → (next : PinClauses) × (over (pin_clause design.library) (parts_of net direction usage done last) (flat_map (port_clauses design) ports) ≡ Some next)
+      × HavePorts next (front ++ ports)
   unfolding over
   ports_again done last front [] is each =
       (parts_of net direction usage done last, refl, record { done = done; last = last; are = refl; ports_are = is ∙ sym (append-nil front) })
   ports_again done last front (port ∷ ports) is each =
-      let later = ports_again (all_ports (parts_of net direction usage done last)) (Some port) (front ++ port ∷ []) ports (ap (λ all. all ++ port ∷ []) is) (All-tail (IsPort design.library) port ports each) in (
+      let later =
+      ports_again (all_ports (parts_of net direction usage done last)) (Some port) (front ++ port ∷ []) ports (ap (λ all. all ++ port ∷ []) is)
+      (All-tail (IsPort design.library) port ports each) in (
         later.0,
         over_append (pin_clause design.library) (port_clauses design port) (flat_map (port_clauses design) ports) (parts_of net direction usage done last)
-            (parts_of net direction usage (all_ports (parts_of net direction usage done last)) (Some port)) (port_again done last port (All-head (IsPort design.library) port ports each)) ∙ later.1,
+            (parts_of net direction usage (all_ports (parts_of net direction usage done last)) (Some port))
+            (port_again done last port (All-head (IsPort design.library) port ports each)) ∙ later.1,
         subst (HavePorts later.0) (append_assoc front (port ∷ []) ports) later.2,
       )
 
 -- the words that are kept
 module _ (library : LibraryModel) where
-  net_kept : (net : Option (List ℕ)) → IsNameIfAny net → over (pin_clause library) no_pin_clauses (kept_clause (codes "NET") net) ≡ Some (parts_of net None None [] None)
+  net_kept : (net : Option (List ℕ)) → IsNameIfAny net
+      → over (pin_clause library) no_pin_clauses (kept_clause (codes "NET") net) ≡ Some (parts_of net None None [] None)
   unfolding over pin_clause pin_net_clause net_of_pin keyword_at name_at nothing_at next_at
   net_kept None is = refl
   net_kept (Some name) is = rw is refl
 
-  direction_kept : (net direction : Option (List ℕ)) → IsKept direction → over (pin_clause library) (parts_of net None None [] None) (kept_clause (codes "DIRECTION") direction) ≡ Some (parts_of net direction None [] None)
+  direction_kept : (net direction : Option (List ℕ)) → IsKept direction
+      → over (pin_clause library) (parts_of net None None [] None) (kept_clause (codes "DIRECTION") direction) ≡ Some (parts_of net direction None [] None)
   unfolding over pin_clause direction_clause word_in keyword_at word_at nothing_at next_at
   direction_kept net None is = refl
   direction_kept net (Some word) is = rw is refl
 
-  usage_kept : (net direction usage : Option (List ℕ)) → IsKept usage → over (pin_clause library) (parts_of net direction None [] None) (kept_clause (codes "USE") usage) ≡ Some (parts_of net direction usage [] None)
+  usage_kept : (net direction usage : Option (List ℕ)) → IsKept usage
+      → over (pin_clause library) (parts_of net direction None [] None) (kept_clause (codes "USE") usage) ≡ Some (parts_of net direction usage [] None)
   unfolding over pin_clause pin_use_clause word_in keyword_at word_at nothing_at next_at
   usage_kept net direction None is = refl
   usage_kept net direction (Some word) is = rw is refl
 
-  kept_again : (pin : PinModel) → IsPin library pin → over (pin_clause library) no_pin_clauses (kept_clauses pin) ≡ Some (parts_of pin.net_name pin.direction pin.usage [] None)
+  kept_again : (pin : PinModel) → IsPin library pin
+      → over (pin_clause library) no_pin_clauses (kept_clauses pin) ≡ Some (parts_of pin.net_name pin.direction pin.usage [] None)
   kept_again pin is =
-      over_append (pin_clause library) (kept_clause (codes "NET") pin.net_name ++ kept_clause (codes "DIRECTION") pin.direction) (kept_clause (codes "USE") pin.usage) no_pin_clauses (parts_of pin.net_name pin.direction None [] None)
-      (over_append (pin_clause library) (kept_clause (codes "NET") pin.net_name) (kept_clause (codes "DIRECTION") pin.direction) no_pin_clauses (parts_of pin.net_name None None [] None) (net_kept pin.net_name is.net_name)
+      over_append (pin_clause library) (kept_clause (codes "NET") pin.net_name ++ kept_clause (codes "DIRECTION") pin.direction)
+      (kept_clause (codes "USE") pin.usage) no_pin_clauses (parts_of pin.net_name pin.direction None [] None)
+      (over_append (pin_clause library) (kept_clause (codes "NET") pin.net_name) (kept_clause (codes "DIRECTION") pin.direction) no_pin_clauses
+      (parts_of pin.net_name None None [] None) (net_kept pin.net_name is.net_name)
       ∙ direction_kept pin.net_name pin.direction is.direction)
       ∙ usage_kept pin.net_name pin.direction pin.usage is.usage
 
 -- a kept word as a clause
-kept_free : (keyword : List ℕ) (word : Option (List ℕ)) → IsFree keyword → IsKept word → list_all stays_one (kept_words word) ≡ true → All AreFree (kept_clause keyword word)
+kept_free : (keyword : List ℕ) (word : Option (List ℕ)) → IsFree keyword → IsKept word → list_all stays_one (kept_words word) ≡ true
+    → All AreFree (kept_clause keyword word)
 kept_free keyword None key is one = All-nil AreFree
 kept_free keyword (Some word) key is one =
     All-cons AreFree (keyword ∷ word ∷ []) [] (free_cons key (free_cons (free_word word is (first_passes stays_one word [] one)) free_nil)) (All-nil AreFree)
 
-name_free : (keyword : List ℕ) (word : Option (List ℕ)) → IsFree keyword → IsNameIfAny word → list_all stays_one (kept_words word) ≡ true → All AreFree (kept_clause keyword word)
+name_free : (keyword : List ℕ) (word : Option (List ℕ)) → IsFree keyword → IsNameIfAny word → list_all stays_one (kept_words word) ≡ true
+    → All AreFree (kept_clause keyword word)
 name_free keyword None key is one = All-nil AreFree
 name_free keyword (Some word) key is one =
     All-cons AreFree (keyword ∷ word ∷ []) [] (free_cons key (free_cons (free_name word is (first_passes stays_one word [] one)) free_nil)) (All-nil AreFree)
 
-place_clauses_free : (status : Status) (place : Option Place) → IsPlaced status place → All AreFree (port_place status place)
+place_clauses_free : (status : Status) (place : Option Place) → IsPlaced status place → All AreFree (port_place_lines status place)
 place_clauses_free status None is = All-nil AreFree
 place_clauses_free status (Some place) is = All-cons AreFree (placement_clause status (Some place)) [] (placement_free status (Some place) is) (All-nil AreFree)
 
 module _ (design : DesignModel) (sound : IsSound design.library) where
-  port_free : (port : PortModel) → IsPort design.library port → list_all stays_one (names_of_layers design port.shapes) ≡ true → All AreFree (port_clauses design port)
+  port_free : (port : PortModel) → IsPort design.library port → list_all stays_one (names_of_layers design port.shapes) ≡ true
+      → All AreFree (port_clauses design port)
   port_free port is one =
-      All-cons AreFree (codes "PORT" ∷ []) (map (shape_clause (codes "LAYER") design) port.shapes ++ port_place port.status port.place) (free_cons (free_literal (codes "PORT") refl refl refl) free_nil)
-      (All-append AreFree (map (shape_clause (codes "LAYER") design) port.shapes) (port_place port.status port.place)
-      (shapes_free design sound (codes "LAYER") port.shapes (free_literal (codes "LAYER") refl refl refl) is.shapes one) (place_clauses_free port.status port.place is.placed))
+      All-cons AreFree (codes "PORT" ∷ []) (map (shape_clause (codes "LAYER") design) port.shapes ++ port_place_lines port.status port.place)
+      (free_cons (free_literal (codes "PORT") refl refl refl) free_nil)
+      (All-append AreFree (map (shape_clause (codes "LAYER") design) port.shapes) (port_place_lines port.status port.place)
+      (shapes_free design sound (codes "LAYER") port.shapes (free_literal (codes "LAYER") refl refl refl) is.shapes one)
+      (place_clauses_free port.status port.place is.placed))
 
-  ports_free : (ports : List PortModel) → All (IsPort design.library) ports → list_all stays_one (flat_map (λ (port : PortModel). names_of_layers design port.shapes) ports) ≡ true → All AreFree (flat_map (port_clauses design) ports)
+  ports_free : (ports : List PortModel) → All (IsPort design.library) ports
+      → list_all stays_one (flat_map (λ (port : PortModel). names_of_layers design port.shapes) ports) ≡ true
+      → All AreFree (flat_map (port_clauses design) ports)
   ports_free [] each one = All-nil AreFree
   ports_free (port ∷ ports) each one =
       All-append AreFree (port_clauses design port) (flat_map (port_clauses design) ports)
-      (port_free port (All-head (IsPort design.library) port ports each) (first_run_passes stays_one (names_of_layers design port.shapes) (flat_map (λ (p : PortModel). names_of_layers design p.shapes) ports) one))
-      (ports_free ports (All-tail (IsPort design.library) port ports each) (next_run_passes stays_one (names_of_layers design port.shapes) (flat_map (λ (p : PortModel). names_of_layers design p.shapes) ports) one))
+      (port_free port (All-head (IsPort design.library) port ports each)
+      (first_run_passes stays_one (names_of_layers design port.shapes) (flat_map (λ (p : PortModel). names_of_layers design p.shapes) ports) one))
+      (ports_free ports (All-tail (IsPort design.library) port ports each)
+      (next_run_passes stays_one (names_of_layers design port.shapes) (flat_map (λ (p : PortModel). names_of_layers design p.shapes) ports) one))
 
   module _ (pin : PinModel) (is : IsPin design.library pin) where
-    pin_in_again : (names : List (List ℕ)) → place_of pin.name names ≡ None → pin_in design.library names ((codes "-" ∷ pin.name ∷ []) ∷ pin_clauses design pin) ≡ Some pin
+    pin_in_again : (names : List (List ℕ)) → place_of pin.name names ≡ None
+        → pin_in design.library names ((codes "-" ∷ pin.name ∷ []) ∷ pin_clauses design pin) ≡ Some pin
     unfolding pin_in pin_head mark_at name_at nothing_at next_at
     pin_in_again names new =
         let ports = ports_again design sound pin.net_name pin.direction pin.usage [] None [] pin.ports refl is.ports in
-        let whole = over_append (pin_clause design.library) (kept_clauses pin) (flat_map (port_clauses design) pin.ports) no_pin_clauses (parts_of pin.net_name pin.direction pin.usage [] None) (kept_again design.library pin is) ∙ ports.1 in
+        let whole =
+        over_append (pin_clause design.library) (kept_clauses pin) (flat_map (port_clauses design) pin.ports) no_pin_clauses
+        (parts_of pin.net_name pin.direction pin.usage [] None) (kept_again design.library pin is) ∙ ports.1 in
         rw (is.name, new, whole, ports.2.are, ports.2.ports_are) refl
 
     module _ (one : StayOne (pin_entry_names design pin)) where
       -- the runs of names, each of which stays one
       ports_one : list_all stays_one (flat_map (λ (port : PortModel). names_of_layers design port.shapes) pin.ports) ≡ true
-      ports_one = next_run_passes stays_one (pin.name ∷ kept_words pin.net_name ++ kept_words pin.direction ++ kept_words pin.usage) (flat_map (λ (port : PortModel). names_of_layers design port.shapes) pin.ports) one
+      ports_one =
+          next_run_passes stays_one (pin.name ∷ kept_words pin.net_name ++ kept_words pin.direction ++ kept_words pin.usage)
+          (flat_map (λ (port : PortModel). names_of_layers design port.shapes) pin.ports) one
 
       kept_one : list_all stays_one (pin.name ∷ kept_words pin.net_name ++ kept_words pin.direction ++ kept_words pin.usage) ≡ true
-      kept_one = first_run_passes stays_one (pin.name ∷ kept_words pin.net_name ++ kept_words pin.direction ++ kept_words pin.usage) (flat_map (λ (port : PortModel). names_of_layers design port.shapes) pin.ports) one
+      kept_one =
+          first_run_passes stays_one (pin.name ∷ kept_words pin.net_name ++ kept_words pin.direction ++ kept_words pin.usage)
+          (flat_map (λ (port : PortModel). names_of_layers design port.shapes) pin.ports) one
 
       words_one : list_all stays_one (kept_words pin.net_name ++ kept_words pin.direction ++ kept_words pin.usage) ≡ true
       words_one = others_pass stays_one pin.name (kept_words pin.net_name ++ kept_words pin.direction ++ kept_words pin.usage) kept_one
@@ -208,15 +241,19 @@ module _ (design : DesignModel) (sound : IsSound design.library) where
           All-append AreFree (kept_clauses pin) (flat_map (port_clauses design) pin.ports)
           (All-append AreFree (kept_clause (codes "NET") pin.net_name ++ kept_clause (codes "DIRECTION") pin.direction) (kept_clause (codes "USE") pin.usage)
           (All-append AreFree (kept_clause (codes "NET") pin.net_name) (kept_clause (codes "DIRECTION") pin.direction)
-          (name_free (codes "NET") pin.net_name (free_literal (codes "NET") refl refl refl) is.net_name (first_run_passes stays_one (kept_words pin.net_name) (kept_words pin.direction) two_one))
-          (kept_free (codes "DIRECTION") pin.direction (free_literal (codes "DIRECTION") refl refl refl) is.direction (next_run_passes stays_one (kept_words pin.net_name) (kept_words pin.direction) two_one)))
-          (kept_free (codes "USE") pin.usage (free_literal (codes "USE") refl refl refl) is.usage (next_run_passes stays_one (kept_words pin.net_name ++ kept_words pin.direction) (kept_words pin.usage) words_one)))
+          (name_free (codes "NET") pin.net_name (free_literal (codes "NET") refl refl refl) is.net_name
+          (first_run_passes stays_one (kept_words pin.net_name) (kept_words pin.direction) two_one))
+          (kept_free (codes "DIRECTION") pin.direction (free_literal (codes "DIRECTION") refl refl refl) is.direction
+          (next_run_passes stays_one (kept_words pin.net_name) (kept_words pin.direction) two_one)))
+          (kept_free (codes "USE") pin.usage (free_literal (codes "USE") refl refl refl) is.usage
+          (next_run_passes stays_one (kept_words pin.net_name ++ kept_words pin.direction) (kept_words pin.usage) words_one)))
           (ports_free pin.ports is.ports ports_one)
 
       head_free : AreFree (codes "-" ∷ pin.name ∷ [])
       head_free =
           free_cons (free_literal (codes "-") refl refl refl)
-          (free_cons (free_name pin.name is.name (first_passes stays_one pin.name (kept_words pin.net_name ++ kept_words pin.direction ++ kept_words pin.usage) kept_one)) free_nil)
+          (free_cons (free_name pin.name is.name (first_passes stays_one pin.name
+          (kept_words pin.net_name ++ kept_words pin.direction ++ kept_words pin.usage) kept_one)) free_nil)
 
       pin_inside : AreInside (pin_said design pin)
       pin_inside = inside_append head_free.inside (clauses_inside (pin_clauses design pin) clauses_free)
@@ -266,6 +303,7 @@ pins_again design pin pins sound are one rest =
 pub pins_lines : (design : DesignModel) (pins : List PinModel) → IsSound design.library → ArePins design.library pins
     → StayOne (flat_map (pin_entry_names design) pins) → Lines (pins_text design pins) (section_words (codes "PINS") (pin_words design) pins)
 pins_lines design pins sound are one =
-    section_lines (codes "PINS") (λ pin. line (pin_words design pin)) (pin_words design) pins (free_literal (codes "PINS") refl refl refl) (omega (arith, are.few))
+    section_lines (codes "PINS") (λ pin. line (pin_words design pin)) (pin_words design) pins (free_literal (codes "PINS") refl refl refl)
+    (omega (arith, are.few))
     (λ k d less. lines_of_words (pin_words design (get_or pins k d)) (pin_printable design sound (get_or pins k d) (are.each k d less)
     (each_passes stays_one (pin_entry_names design) pins one k d less)))

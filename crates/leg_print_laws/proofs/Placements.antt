@@ -22,7 +22,8 @@ placed_again Placed place is = rw (place_alone place is) refl
 placed_again Fixed place is = rw (place_alone place is) refl
 placed_again Cover place is = rw (place_alone place is) refl
 
-pub placement_again : (status : Status) (place : Option Place) → IsPlaced status place → placement_of (placement_clause status place ∷ []) ≡ Some (status, place)
+pub placement_again : (status : Status) (place : Option Place) → IsPlaced status place
+    → placement_of (placement_clause status place ∷ []) ≡ Some (status, place)
 unfolding placement_of placement_in unplaced_in placed_in place_as keyword_at next_at nothing_at
 placement_again Unplaced None is = refl
 placement_again Unplaced (Some place) is = absurd is

@@ -52,12 +52,23 @@ most a b less = rw (not_less a b less) refl
 pub between_again : (r : RectModel) → IsProper r → rect_between (record { x = r.x1; y = r.y1 }) (record { x = r.x2; y = r.y2 }) ≡ Some r
 unfolding rect_between
 between_again r is =
-    rw (least r.x1 r.x2 is.wide, least r.y1 r.y2 is.high, most r.x1 r.x2 is.wide, most r.y1 r.y2 is.high, less_is r.x1 r.x2 is.wide, less_is r.y1 r.y2 is.high) refl
+    rw (
+      least r.x1 r.x2 is.wide,
+      least r.y1 r.y2 is.high,
+      most r.x1 r.x2 is.wide,
+      most r.y1 r.y2 is.high,
+      less_is r.x1 r.x2 is.wide,
+      less_is r.y1 r.y2 is.high,
+    ) refl
 
 pub corners_again : (r : RectModel) (rest : Words) → IsArea r → rect_at (corner_words r ++ rest) ≡ Some (r, rest)
 unfolding rect_at
 corners_again r rest is =
-    rw (spot_again (record { x = r.x1; y = r.y1 }) _ (lower_is r is), spot_again (record { x = r.x2; y = r.y2 }) rest (upper_is r is), between_again r is.proper) refl
+    rw (
+      spot_again (record { x = r.x1; y = r.y1 }) _ (lower_is r is),
+      spot_again (record { x = r.x2; y = r.y2 }) rest (upper_is r is),
+      between_again r is.proper,
+    ) refl
 
 pub corners_free : (r : RectModel) → IsArea r → AreFree (corner_words r)
 corners_free r is = free_append (spot_free (record { x = r.x1; y = r.y1 }) (lower_is r is)) (spot_free (record { x = r.x2; y = r.y2 }) (upper_is r is))

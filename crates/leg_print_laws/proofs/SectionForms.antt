@@ -49,7 +49,8 @@ appearances vias components pins blockages special nets = record {
 }
 
 -- what the sections gave so far
-abbrev pub said_parts : DesignModel → Appearances → List ViaModel → List Component → List PinModel → List BlockageModel → List NetModel → List NetModel → DesignParts
+abbrev pub said_parts : DesignModel → Appearances → List ViaModel → List Component → List PinModel → List BlockageModel → List NetModel → List NetModel
+    → DesignParts
 said_parts design forms vias components pins blockages special nets = record {
   has = forms;
   design = record design { vias = vias; components = components; pins = pins; blockages = blockages; nets = nets; special = special };
@@ -65,8 +66,10 @@ module _ (design : DesignModel) (has : HasParts design) where
       leads_form _ (section_words (codes "VIAS") (via_words design) (via ∷ vias)) _ (omega arith) (λ rest. refl)
       (λ rest. rw (vias_again design via vias has.sound are few one rest) refl)
 
-  pub components_lead : (v : Bool) (vias : List ViaModel) (components : List Component) → AreComponents design.library components → StayOne (flat_map (component_entry_names design) components)
-      → Leads (said_parts design (appearances v false false false false false) vias [] [] [] [] []) (section_words (codes "COMPONENTS") (component_words design) components)
+  pub components_lead : (v : Bool) (vias : List ViaModel) (components : List Component) → AreComponents design.library components
+      → StayOne (flat_map (component_entry_names design) components)
+      → Leads (said_parts design (appearances v false false false false false) vias [] [] [] [] [])
+      (section_words (codes "COMPONENTS") (component_words design) components)
       (said_parts design (appearances v (has_some components) false false false false) vias components [] [] [] [])
   unfolding def_form_at components_form
   components_lead v vias [] are one = leads_nil (said_parts design (appearances v false false false false false) vias [] [] [] [] [])
@@ -74,7 +77,8 @@ module _ (design : DesignModel) (has : HasParts design) where
       leads_form _ (section_words (codes "COMPONENTS") (component_words design) (component ∷ components)) _ (omega arith) (λ rest. refl)
       (λ rest. rw (components_again design component components has.sound are one rest) refl)
 
-  pub pins_lead : (v c : Bool) (vias : List ViaModel) (components : List Component) (pins : List PinModel) → ArePins design.library pins → StayOne (flat_map (pin_entry_names design) pins)
+  pub pins_lead : (v c : Bool) (vias : List ViaModel) (components : List Component) (pins : List PinModel) → ArePins design.library pins
+      → StayOne (flat_map (pin_entry_names design) pins)
       → Leads (said_parts design (appearances v c false false false false) vias components [] [] [] []) (section_words (codes "PINS") (pin_words design) pins)
       (said_parts design (appearances v c (has_some pins) false false false) vias components pins [] [] [])
   unfolding def_form_at pins_form
@@ -83,8 +87,10 @@ module _ (design : DesignModel) (has : HasParts design) where
       leads_form _ (section_words (codes "PINS") (pin_words design) (pin ∷ pins)) _ (omega arith) (λ rest. refl)
       (λ rest. rw (pins_again design pin pins has.sound are one rest) refl)
 
-  pub blockages_lead : (v c p : Bool) (vias : List ViaModel) (components : List Component) (pins : List PinModel) (blockages : List BlockageModel) → AreBlockages design.library blockages
-      → Leads (said_parts design (appearances v c p false false false) vias components pins [] [] []) (section_words (codes "BLOCKAGES") (blockage_words design) blockages)
+  pub blockages_lead : (v c p : Bool) (vias : List ViaModel) (components : List Component) (pins : List PinModel) (blockages : List BlockageModel)
+      → AreBlockages design.library blockages
+      → Leads (said_parts design (appearances v c p false false false) vias components pins [] [] [])
+      (section_words (codes "BLOCKAGES") (blockage_words design) blockages)
       (said_parts design (appearances v c p (has_some blockages) false false) vias components pins blockages [] [])
   unfolding def_form_at blockages_form
   blockages_lead v c p vias components pins [] are = leads_nil (said_parts design (appearances v c p false false false) vias components pins [] [] [])
@@ -93,19 +99,23 @@ module _ (design : DesignModel) (has : HasParts design) where
       (λ rest. rw (blockages_again design blockage blockages has.sound are rest) refl)
 
   pub special_lead : (v c p b : Bool) (special : List NetModel) → AreEntries design true special [] → StayOne (flat_map (net_entry_names design) special)
-      → Leads (said_parts design (appearances v c p b false false) design.vias design.components design.pins design.blockages [] []) (section_words (net_section true) (net_words design true) special)
+      → Leads (said_parts design (appearances v c p b false false) design.vias design.components design.pins design.blockages [] [])
+      (section_words (net_section true) (net_words design true) special)
       (said_parts design (appearances v c p b (has_some special) false) design.vias design.components design.pins design.blockages special [])
   unfolding def_form_at special_form
-  special_lead v c p b [] are one = leads_nil (said_parts design (appearances v c p b false false) design.vias design.components design.pins design.blockages [] [])
+  special_lead v c p b [] are one =
+      leads_nil (said_parts design (appearances v c p b false false) design.vias design.components design.pins design.blockages [] [])
   special_lead v c p b (net ∷ nets) are one =
       leads_form _ (section_words (net_section true) (net_words design true) (net ∷ nets)) _ (omega arith) (λ rest. refl)
       (λ rest. rw (nets_again design has true net nets [] are one rest) refl)
 
   pub nets_lead : (v c p b s : Bool) (special nets : List NetModel) → AreEntries design false nets special → StayOne (flat_map (net_entry_names design) nets)
-      → Leads (said_parts design (appearances v c p b s false) design.vias design.components design.pins design.blockages special []) (section_words (net_section false) (net_words design false) nets)
+      → Leads (said_parts design (appearances v c p b s false) design.vias design.components design.pins design.blockages special [])
+      (section_words (net_section false) (net_words design false) nets)
       (said_parts design (appearances v c p b s (has_some nets)) design.vias design.components design.pins design.blockages special nets)
   unfolding def_form_at nets_form
-  nets_lead v c p b s special [] are one = leads_nil (said_parts design (appearances v c p b s false) design.vias design.components design.pins design.blockages special [])
+  nets_lead v c p b s special [] are one =
+      leads_nil (said_parts design (appearances v c p b s false) design.vias design.components design.pins design.blockages special [])
   nets_lead v c p b s special (net ∷ nets) are one =
       leads_form _ (section_words (net_section false) (net_words design false) (net ∷ nets)) _ (omega arith) (λ rest. refl)
       (λ rest. rw (nets_again design has false net nets special are one rest) refl)
@@ -130,7 +140,8 @@ from_zero : (k : ℕ) → k ≡ 0 + k
 from_zero k = omega arith
 
 pub design_said : (design : DesignModel) (v c p b s n : Bool) → HasNets design
-    → design_of (said_parts design (appearances v c p b s n) design.vias design.components design.pins design.blockages design.special design.nets) ≡ Some design
+    → design_of (said_parts design (appearances v c p b s n) design.vias design.components design.pins design.blockages design.special
+    design.nets) ≡ Some design
 unfolding design_of
 design_said design v c p b s n nets =
     rw (

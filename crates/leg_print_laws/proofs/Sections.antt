@@ -25,7 +25,8 @@ section_words keyword words [] = []
 section_words keyword words (x ∷ xs) =
     section_start_words keyword (length (x ∷ xs)) ++ flat_map words (x ∷ xs) ++ end_words keyword
 
-start_again : (keyword : List ℕ) (count : ℕ) (rest : Words) → is_keyword keyword keyword ≡ true → count ≤ NUMBER_LIMIT → section_start keyword (section_start_words keyword count ++ rest) ≡ Some (tt, rest)
+start_again : (keyword : List ℕ) (count : ℕ) (rest : Words) → is_keyword keyword keyword ≡ true → count ≤ NUMBER_LIMIT
+    → section_start keyword (section_start_words keyword count ++ rest) ≡ Some (tt, rest)
 unfolding section_start keyword_at mark_at next_at
 start_again keyword count rest same few = rw (same, number_again (pos count) _ few) refl
 
@@ -37,9 +38,11 @@ module _ {S X : Type 0} (keyword : List ℕ) (entry : S → Words → Option (S 
   -- each entry is read behind those before it, and isn't the end of the section
   pub record AreRead (xs : List X) : Type 0 where
     pub goes : (x : X) (rest : Words) → at_end (words x ++ rest) ≡ false
-    pub read : (before : List X) (x : X) (after : List X) → xs ≡ before ++ (x ∷ after) → (rest : Words) → entry (made before) (words x ++ rest) ≡ Some (made (before ++ x ∷ []), rest)
+    pub read : (before : List X) (x : X) (after : List X) → xs ≡ before ++ (x ∷ after) → (rest : Words)
+        → entry (made before) (words x ++ rest) ≡ Some (made (before ++ x ∷ []), rest)
 
-  entries_again : Shortens entry → (xs : List X) (rest : Words) → AreRead xs → until at_end entry (made []) (flat_map words xs ++ (end_words keyword ++ rest)) ≡ Some (made xs, end_words keyword ++ rest)
+  entries_again : Shortens entry → (xs : List X) (rest : Words) → AreRead xs
+      → until at_end entry (made []) (flat_map words xs ++ (end_words keyword ++ rest)) ≡ Some (made xs, end_words keyword ++ rest)
   entries_again shortens xs rest are =
       all_again at_end entry words made (end_words keyword ++ rest) shortens refl [] xs (λ before x after is. record {
         goes = are.goes x _;
@@ -47,12 +50,14 @@ module _ {S X : Type 0} (keyword : List ℕ) (entry : S → Words → Option (S 
       })
 
   some_again : is_keyword keyword keyword ≡ true → Shortens entry → (xs : List X) → length xs ≤ NUMBER_LIMIT → AreRead xs → (rest : Words)
-      → section_at keyword entry (made []) (section_start_words keyword (length xs) ++ (flat_map words xs ++ (end_words keyword ++ rest))) ≡ Some (made xs, rest)
+      → section_at keyword entry (made []) (section_start_words keyword (length xs) ++ (flat_map words xs ++ (end_words keyword ++ rest))) ≡ Some
+      (made xs, rest)
   unfolding section_at
   some_again same shortens xs few are rest =
       rw (start_again keyword (length xs) _ same few, entries_again shortens xs rest are, end_again keyword rest same) refl
 
-  pub section_again : is_keyword keyword keyword ≡ true → Shortens entry → (x : X) (xs : List X) → length (x ∷ xs) ≤ NUMBER_LIMIT → AreRead (x ∷ xs) → (rest : Words)
+  pub section_again : is_keyword keyword keyword ≡ true → Shortens entry → (x : X) (xs : List X) → length (x ∷ xs) ≤ NUMBER_LIMIT → AreRead (x ∷ xs)
+      → (rest : Words)
       → section_at keyword entry (made []) (section_words keyword words (x ∷ xs) ++ rest) ≡ Some (made (x ∷ xs), rest)
   section_again same shortens x xs few are rest =
       ap (λ all. section_at keyword entry (made []) all)
@@ -66,7 +71,8 @@ pub section_lines : {X : Type 0} (keyword : List ℕ) (entry_text : X → List �
 section_lines keyword entry_text words [] free few each = lines_nil
 section_lines keyword entry_text words (x ∷ xs) free few each =
     lines_append (lines_append
-    (lines_of_words (section_start_words keyword (length (x ∷ xs))) (said_printable (free_cons free (free_cons (free_number (pos (length (x ∷ xs))) few) free_nil)).inside))
+    (lines_of_words (section_start_words keyword (length (x ∷ xs)))
+    (said_printable (free_cons free (free_cons (free_number (pos (length (x ∷ xs))) few) free_nil)).inside))
     (lines_each entry_text words (x ∷ xs) each))
     (lines_of_words (end_words keyword) (rw (free.inside.printable) refl))
 

@@ -58,12 +58,16 @@ pin_names_are design c k is =
       pin_there = pin.1;
     }
 
-module _ (design : DesignModel) (sound : IsSound design.library) (components : AreComponents design.library design.components) (pins : ArePins design.library design.pins) where
-  comp_again : (special : Bool) (c k : ℕ) (rest : Words) → ArePinNames design c k → terminals_at (known_of design) special (terminal_words design (Comp c k) ++ rest) ≡ Some (Comp c k ∷ [], rest)
+module _ (design : DesignModel) (sound : IsSound design.library) (components : AreComponents design.library design.components)
+    (pins : ArePins design.library design.pins) where
+  comp_again : (special : Bool) (c k : ℕ) (rest : Words) → ArePinNames design c k
+      → terminals_at (known_of design) special (terminal_words design (Comp c k) ++ rest) ≡ Some (Comp c k ∷ [], rest)
   unfolding terminals_at one_terminal_at past_synthesized mark_at name_at next_at
   comp_again special c k rest are =
-      let one : IsComponent design.library are.component = holds_of (IsComponent design.library) design.components c are.component are.component_there components.each in
-      let macro : IsMasterOf design.library are.master = holds_of (IsMasterOf design.library) design.library.masters are.component.master are.master are.master_there sound.references.masters in
+      let one : IsComponent design.library are.component =
+      holds_of (IsComponent design.library) design.components c are.component are.component_there components.each in
+      let macro : IsMasterOf design.library are.master =
+      holds_of (IsMasterOf design.library) design.library.masters are.component.master are.master are.master_there sound.references.masters in
       rw (
         are.component_there,
         are.master_there,
@@ -78,7 +82,8 @@ module _ (design : DesignModel) (sound : IsSound design.library) (components : A
         found (λ (p : MasterPinModel). p.name) are.master.pins k are.pin are.pin_there macro.pin_names.apart,
       ) refl
 
-  pin_again : (special : Bool) (p : ℕ) (pin : PinModel) (rest : Words) → slice_get design.pins p ≡ Some pin → terminals_at (known_of design) special (terminal_words design (Pin p) ++ rest) ≡ Some (Pin p ∷ [], rest)
+  pin_again : (special : Bool) (p : ℕ) (pin : PinModel) (rest : Words) → slice_get design.pins p ≡ Some pin
+      → terminals_at (known_of design) special (terminal_words design (Pin p) ++ rest) ≡ Some (Pin p ∷ [], rest)
   unfolding terminals_at one_terminal_at past_synthesized mark_at name_at next_at
   pin_again special p pin rest is =
       rw (
@@ -88,7 +93,8 @@ module _ (design : DesignModel) (sound : IsSound design.library) (components : A
         found (λ (x : PinModel). x.name) design.pins p pin is pins.apart,
       ) refl
 
-  pub terminal_again : (special : Bool) (terminal : Terminal) (rest : Words) → IsTerminal design terminal → terminals_at (known_of design) special (terminal_words design terminal ++ rest) ≡ Some (terminal ∷ [], rest)
+  pub terminal_again : (special : Bool) (terminal : Terminal) (rest : Words) → IsTerminal design terminal
+      → terminals_at (known_of design) special (terminal_words design terminal ++ rest) ≡ Some (terminal ∷ [], rest)
   terminal_again special (Comp c k) rest is = comp_again special c k rest (pin_names_are design c k is)
   terminal_again special (Pin p) rest is = let pin = element design.pins p is in pin_again special p pin.0 rest pin.1
 
@@ -96,13 +102,18 @@ module _ (design : DesignModel) (sound : IsSound design.library) (components : A
   pub terminal_free : (terminal : Terminal) → IsTerminal design terminal → StayOne (terminal_names design terminal) → AreFree (terminal_words design terminal)
   terminal_free (Comp c k) is one =
       let are = pin_names_are design c k is in
-      let component : IsComponent design.library are.component = holds_of (IsComponent design.library) design.components c are.component are.component_there components.each in
-      let macro : IsMasterOf design.library are.master = holds_of (IsMasterOf design.library) design.library.masters are.component.master are.master are.master_there sound.references.masters in
+      let component : IsComponent design.library are.component =
+      holds_of (IsComponent design.library) design.components c are.component are.component_there components.each in
+      let macro : IsMasterOf design.library are.master =
+      holds_of (IsMasterOf design.library) design.library.masters are.component.master are.master are.master_there sound.references.masters in
       let first : is_name (component_name design c) ≡ true = rw are.component_there component.name in
-      let next : is_name (component_pin_name design c k) ≡ true = rw (are.component_there, are.master_there, are.pin_there) (name_is (λ (p : MasterPinModel). p.name) are.master.pins k are.pin are.pin_there macro.pin_names.each) in
+      let next : is_name (component_pin_name design c k) ≡ true =
+      rw (are.component_there, are.master_there, are.pin_there)
+      (name_is (λ (p : MasterPinModel). p.name) are.master.pins k are.pin are.pin_there macro.pin_names.each) in
       free_cons (free_literal (codes "(") refl refl refl)
       (free_cons (free_name (component_name design c) first (first_passes stays_one (component_name design c) (component_pin_name design c k ∷ []) one))
-      (free_cons (free_name (component_pin_name design c k) next (first_passes stays_one (component_pin_name design c k) [] (others_pass stays_one (component_name design c) (component_pin_name design c k ∷ []) one)))
+      (free_cons (free_name (component_pin_name design c k) next
+      (first_passes stays_one (component_pin_name design c k) [] (others_pass stays_one (component_name design c) (component_pin_name design c k ∷ []) one)))
       (free_cons (free_literal (codes ")") refl refl refl) free_nil)))
   terminal_free (Pin p) is one =
       let pin = element design.pins p is in
@@ -122,7 +133,8 @@ once_before before t after once = by (is_among t before) refl where
       (get_or_append_left before (t ∷ after) t there.0 there.1 ∙ there.2 ∙ sym (get_or-append_seam before t after t)))
 
 -- entries that list it have this name
-no_other_net : (name : List ℕ) (t : Terminal) (nets : List NetModel) → ((net : NetModel) → Contains nets net → Contains net.terminals t → net.name ≡ name) → is_of_other_net name t nets ≡ false
+no_other_net : (name : List ℕ) (t : Terminal) (nets : List NetModel) → ((net : NetModel) → Contains nets net → Contains net.terminals t → net.name ≡ name)
+    → is_of_other_net name t nets ≡ false
 no_other_net name t nets same = by (is_of_other_net name t nets) refl where
   by : (other : Bool) → is_of_other_net name t nets ≡ other → is_of_other_net name t nets ≡ false
   by false is = is
@@ -133,7 +145,8 @@ no_other_net name t nets same = by (is_of_other_net name t nets) refl where
       let equal : bytes_eq it.it.name name ≡ true = rw named (name_itself name) in
       absurd (false≢true (rw equal at (facts.0)))
 
-module _ (design : DesignModel) (sound : IsSound design.library) (components : AreComponents design.library design.components) (pins : ArePins design.library design.pins)
+module _ (design : DesignModel) (sound : IsSound design.library) (components : AreComponents design.library design.components)
+    (pins : ArePins design.library design.pins)
     (special : Bool) (name : List ℕ) (nets : List NetModel) where
   form_again : (before : List Terminal) (t : Terminal) (rest : Words) → IsTerminal design t → is_among t before ≡ false → is_of_other_net name t nets ≡ false
       → terminal_form (known_of design) special name nets before (terminal_words design t ++ rest) ≡ Some (before ++ t ∷ [], rest)
@@ -146,11 +159,15 @@ module _ (design : DesignModel) (sound : IsSound design.library) (components : A
 
   pub terminals_again : (terminals : List Terminal) (last : Words) → All (IsTerminal design) terminals → AllPairs (λ t u. t ≢ u) terminals
       → ((net : NetModel) (t : Terminal) → Contains nets net → Contains net.terminals t → Contains terminals t → net.name ≡ name) → at_no_terminal last ≡ true
-      → until at_no_terminal (terminal_form (known_of design) special name nets) [] (flat_map (terminal_words design) terminals ++ last) ≡ Some (terminals, last)
+      → until at_no_terminal (terminal_form (known_of design) special name nets) [] (flat_map (terminal_words design) terminals ++ last) ≡ Some
+      (terminals, last)
   terminals_again terminals last each once own ends =
-      all_again at_no_terminal (terminal_form (known_of design) special name nets) (terminal_words design) (λ ts. ts) last (terminal_form_shortens (known_of design) special name nets) ends [] terminals
+      all_again at_no_terminal (terminal_form (known_of design) special name nets) (terminal_words design) (λ ts. ts) last
+      (terminal_form_shortens (known_of design) special name nets) ends [] terminals
       (λ before t after is. record {
         goes = goes_on t _;
-        read = form_again before t _ (middle (IsTerminal design) terminals before t after is each) (once_before before t after (subst (AllPairs (λ t u. t ≢ u)) is once))
-            (no_other_net name t nets (λ net there lists. own net t there lists (rw is (length before, within before t after, get_or-append_seam before t after t))));
+        read = form_again before t _ (middle (IsTerminal design) terminals before t after is each)
+            (once_before before t after (subst (AllPairs (λ t u. t ≢ u)) is once))
+            (no_other_net name t nets (λ net there lists. own net t there lists
+            (rw is (length before, within before t after, get_or-append_seam before t after t))));
       })

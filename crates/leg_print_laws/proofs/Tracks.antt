@@ -35,7 +35,8 @@ pub record IsLayerName (library : LibraryModel) (layer : ℕ) (name : List ℕ) 
   pub is_one : is_name name ≡ true
   pub there : place_of name (layer_names library) ≡ Some layer
 
-pub layer_named : (design : DesignModel) (layer : ℕ) → IsSound design.library → layer < length design.library.layers → IsLayerName design.library layer (layer_name design layer)
+pub layer_named : (design : DesignModel) (layer : ℕ) → IsSound design.library → layer < length design.library.layers
+    → IsLayerName design.library layer (layer_name design layer)
 layer_named design layer sound less =
     let found_one = element design.library.layers layer less in
     rw (found_one.1) (record {
@@ -53,20 +54,24 @@ axis_free X = free_literal (codes "X") refl refl refl
 axis_free Y = free_literal (codes "Y") refl refl refl
 
 module _ (design : DesignModel) (sound : IsSound design.library) where
-  one_again : (numbers : List ℕ) (layer : ℕ) (rest : Words) → layer < length design.library.layers → one_layer design.library numbers (layer_name design layer ∷ rest) ≡ Some (numbers ++ layer ∷ [], rest)
+  one_again : (numbers : List ℕ) (layer : ℕ) (rest : Words) → layer < length design.library.layers
+      → one_layer design.library numbers (layer_name design layer ∷ rest) ≡ Some (numbers ++ layer ∷ [], rest)
   unfolding one_layer name_at next_at
   one_again numbers layer rest less =
       let known = layer_named design layer sound less in rw (known.is_one, known.there) refl
 
-  more_again : (numbers layers : List ℕ) → All (λ layer. layer < length design.library.layers) layers → until is_over (one_layer design.library) numbers (map (layer_name design) layers) ≡ Some (numbers ++ layers, [])
+  more_again : (numbers layers : List ℕ) → All (λ layer. layer < length design.library.layers) layers
+      → until is_over (one_layer design.library) numbers (map (layer_name design) layers) ≡ Some (numbers ++ layers, [])
   more_again numbers [] each = ends is_over (one_layer design.library) numbers [] refl ∙ rw (append-nil numbers) refl
   more_again numbers (layer ∷ layers) each =
-      goes_on is_over (one_layer design.library) (one_layer_shortens design.library) numbers (numbers ++ layer ∷ []) (layer_name design layer ∷ map (layer_name design) layers) (map (layer_name design) layers) refl
+      goes_on is_over (one_layer design.library) (one_layer_shortens design.library) numbers (numbers ++ layer ∷ [])
+      (layer_name design layer ∷ map (layer_name design) layers) (map (layer_name design) layers) refl
       (one_again numbers layer (map (layer_name design) layers) (All-head (λ l. l < length design.library.layers) layer layers each))
       ∙ more_again (numbers ++ layer ∷ []) layers (All-tail (λ l. l < length design.library.layers) layer layers each)
       ∙ ap (λ all. Some (all, [])) (append_assoc numbers (layer ∷ []) layers)
 
-  pub layers_again : (layers : List ℕ) → All (λ layer. layer < length design.library.layers) layers → layers_in design.library (layer_words design layers) ≡ Some layers
+  pub layers_again : (layers : List ℕ) → All (λ layer. layer < length design.library.layers) layers
+      → layers_in design.library (layer_words design layers) ≡ Some layers
   unfolding layers_in keyword_at next_at
   layers_again [] each = refl
   layers_again (layer ∷ layers) each =
@@ -75,14 +80,17 @@ module _ (design : DesignModel) (sound : IsSound design.library) where
         more_again (layer ∷ []) layers (All-tail (λ l. l < length design.library.layers) layer layers each),
       ) refl
 
-  names_free : (layers : List ℕ) → All (λ layer. layer < length design.library.layers) layers → list_all stays_one (map (layer_name design) layers) ≡ true → AreFree (map (layer_name design) layers)
+  names_free : (layers : List ℕ) → All (λ layer. layer < length design.library.layers) layers → list_all stays_one (map (layer_name design) layers) ≡ true
+      → AreFree (map (layer_name design) layers)
   names_free [] each one = free_nil
   names_free (layer ∷ layers) each one =
       let known = layer_named design layer sound (All-head (λ l. l < length design.library.layers) layer layers each) in
       free_cons (free_name (layer_name design layer) known.is_one (first_passes stays_one (layer_name design layer) (map (layer_name design) layers) one))
-      (names_free layers (All-tail (λ l. l < length design.library.layers) layer layers each) (others_pass stays_one (layer_name design layer) (map (layer_name design) layers) one))
+      (names_free layers (All-tail (λ l. l < length design.library.layers) layer layers each)
+      (others_pass stays_one (layer_name design layer) (map (layer_name design) layers) one))
 
-  layers_free : (layers : List ℕ) → All (λ layer. layer < length design.library.layers) layers → list_all stays_one (map (layer_name design) layers) ≡ true → AreFree (layer_words design layers)
+  layers_free : (layers : List ℕ) → All (λ layer. layer < length design.library.layers) layers → list_all stays_one (map (layer_name design) layers) ≡ true
+      → AreFree (layer_words design layers)
   layers_free [] each one = free_nil
   layers_free (layer ∷ layers) each one = free_cons (free_literal (codes "LAYER") refl refl refl) (names_free (layer ∷ layers) each one)
 

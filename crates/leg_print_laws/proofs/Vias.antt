@@ -33,12 +33,18 @@ use Rattle.leg_print_laws.proofs.Sections.{section_words, section_again, section
 use Rattle.leg_print_laws.proofs.PrintableWords.{said_printable, line_says}
 
 module _ (design : DesignModel) (sound : IsSound design.library) where
-  rect_again : (front : List Shape) (shape : Shape) → IsMetalShape design.library shape → via_clause design.library front (shape_clause (codes "RECT") design shape) ≡ Some (front ++ shape ∷ [])
+  rect_again : (front : List Shape) (shape : Shape) → IsMetalShape design.library shape
+      → via_clause design.library front (shape_clause (codes "RECT") design shape) ≡ Some (front ++ shape ∷ [])
   unfolding via_clause via_rect keyword_at nothing_at next_at
   rect_again front shape is =
-      rw (layer_again design sound shape.layer (corner_words shape.rect) (metal_named design sound shape is), corners_again shape.rect [] is.rect, is.metal) refl
+      rw (
+        layer_again design sound shape.layer (corner_words shape.rect) (metal_named design sound shape is),
+        corners_again shape.rect [] is.rect,
+        is.metal,
+      ) refl
 
-  rects_again : (front shapes : List Shape) → All (IsMetalShape design.library) shapes → over (via_clause design.library) front (map (shape_clause (codes "RECT") design) shapes) ≡ Some (front ++ shapes)
+  rects_again : (front shapes : List Shape) → All (IsMetalShape design.library) shapes
+      → over (via_clause design.library) front (map (shape_clause (codes "RECT") design) shapes) ≡ Some (front ++ shapes)
   unfolding over
   rects_again front [] each = rw (append-nil front) refl
   rects_again front (shape ∷ shapes) each =
@@ -72,21 +78,24 @@ module _ (design : DesignModel) (sound : IsSound design.library) where
       via_again front new rest =
           rw (
             said_again (via_said design via) rest via_inside,
-            clauses_again (codes "-" ∷ via.name ∷ []) (map (shape_clause (codes "RECT") design) via.shapes) head_free.plus (no_pluses (map (shape_clause (codes "RECT") design) via.shapes) clauses_free),
+            clauses_again (codes "-" ∷ via.name ∷ []) (map (shape_clause (codes "RECT") design) via.shapes) head_free.plus
+                (no_pluses (map (shape_clause (codes "RECT") design) via.shapes) clauses_free),
             via_in_again front new,
           ) refl
 
       pub via_printable : list_all is_printable (via_words design via) ≡ true
       via_printable = said_printable via_inside
 
-      pub via_line : (front : List ViaModel) → place_of via.name (design_via_names front) ≡ None → DenotesForm (via_entry design.library front) (line (via_words design via)) (front ++ via ∷ [])
+      pub via_line : (front : List ViaModel) → place_of via.name (design_via_names front) ≡ None
+          → DenotesForm (via_entry design.library front) (line (via_words design via)) (front ++ via ∷ [])
       via_line front new = line_says (via_entry design.library front) (via_words design via) (front ++ via ∷ []) via_printable (via_again front new)
 
 -- all of them
 via_goes : (design : DesignModel) (via : ViaModel) (rest : Words) → at_end (via_words design via ++ rest) ≡ false
 via_goes design via rest = refl
 
-pub vias_again : (design : DesignModel) (via : ViaModel) (vias : List ViaModel) → IsSound design.library → AreVias design.library (via ∷ vias) → length (via ∷ vias) ≤ NUMBER_LIMIT
+pub vias_again : (design : DesignModel) (via : ViaModel) (vias : List ViaModel) → IsSound design.library → AreVias design.library (via ∷ vias)
+    → length (via ∷ vias) ≤ NUMBER_LIMIT
     → StayOne (flat_map (via_entry_names design) (via ∷ vias)) → (rest : Words)
     → vias_at design.library (section_words (codes "VIAS") (via_words design) (via ∷ vias) ++ rest) ≡ Some (via ∷ vias, rest)
 unfolding vias_at

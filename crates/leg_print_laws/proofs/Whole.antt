@@ -119,7 +119,8 @@ count_lines text (x ∷ xs) some =
     let later = count_lines text xs some in
     rw (length-append (text x) (flat_map text xs)) (omega arith)
 
-in_section : {X : Type 0} (keyword : List ℕ) (text : X → List ℕ) (xs : List X) → ((x : X) → 1 < length (text x)) → length xs + length xs ≤ length (section_text keyword text xs)
+in_section : {X : Type 0} (keyword : List ℕ) (text : X → List ℕ) (xs : List X) → ((x : X) → 1 < length (text x))
+    → length xs + length xs ≤ length (section_text keyword text xs)
 in_section keyword text [] some = omega arith
 in_section keyword text (x ∷ xs) some = fits _ (flat_map text (x ∷ xs)) (line (end_words keyword)) (count_lines text (x ∷ xs) some) where
   fits : (start middle end : List ℕ) → length (x ∷ xs) + length (x ∷ xs) ≤ length middle → length (x ∷ xs) + length (x ∷ xs) ≤ length (start ++ middle ++ end)
@@ -127,31 +128,46 @@ in_section keyword text (x ∷ xs) some = fits _ (flat_map text (x ∷ xs)) (lin
 
 inner : (a v b c d e f g : List ℕ) → length v ≤ length (a ++ v ++ b ++ c ++ d ++ e ++ f ++ g)
 inner a v b c d e f g =
-    rw (length-append (a ++ v ++ b ++ c ++ d ++ e ++ f) g, length-append (a ++ v ++ b ++ c ++ d ++ e) f, length-append (a ++ v ++ b ++ c ++ d) e, length-append (a ++ v ++ b ++ c) d, length-append (a ++ v ++ b) c, length-append (a ++ v) b, length-append a v) (omega arith)
+    rw (
+      length-append (a ++ v ++ b ++ c ++ d ++ e ++ f) g,
+      length-append (a ++ v ++ b ++ c ++ d ++ e) f,
+      length-append (a ++ v ++ b ++ c ++ d) e,
+      length-append (a ++ v ++ b ++ c) d,
+      length-append (a ++ v ++ b) c,
+      length-append (a ++ v) b,
+      length-append a v,
+    ) (omega arith)
 
 few_vias : (design : DesignModel) → length (design_text design) ≤ TEXT_LIMIT → length design.vias ≤ NUMBER_LIMIT
 unfolding design_text
 few_vias design fits =
     let some : (via : ViaModel) → 1 < length (line (via_words design via)) = λ via. omega arith in
     let inside = in_section (codes "VIAS") (λ via. line (via_words design via)) design.vias some in
-    let whole = inner (header_text design ++ rows_text design design.rows ++ tracks_text design design.tracks) (vias_text design design.vias) (components_text design design.components)
-    (pins_text design design.pins) (blockages_text design design.blockages) (nets_text design true design.special) (nets_text design false design.nets) (line (end_words (codes "DESIGN"))) in
+    let whole =
+    inner (header_text design ++ rows_text design design.rows ++ tracks_text design design.tracks) (vias_text design design.vias)
+    (components_text design design.components)
+    (pins_text design design.pins) (blockages_text design design.blockages) (nets_text design true design.special) (nets_text design false design.nets)
+    (line (end_words (codes "DESIGN"))) in
     omega (arith, fits, inside, whole)
 
 -- lines of the header
-kept_lines : (keyword : List ℕ) (word : Option (List ℕ)) → IsFree keyword → IsKept word → StayOne (kept_words word) → Lines (kept_line keyword word) (kept_line_words keyword word)
+kept_lines : (keyword : List ℕ) (word : Option (List ℕ)) → IsFree keyword → IsKept word → StayOne (kept_words word)
+    → Lines (kept_line keyword word) (kept_line_words keyword word)
 kept_lines keyword None key kept one = lines_nil
 kept_lines keyword (Some word) key kept one =
-    lines_of_words (word_words keyword word) (said_printable (free_cons key (free_cons (free_word word kept (first_passes stays_one word [] one)) free_nil)).inside)
+    lines_of_words (word_words keyword word) (said_printable
+    (free_cons key (free_cons (free_word word kept (first_passes stays_one word [] one)) free_nil)).inside)
 
-module _ (design : DesignModel) (sound : IsSound design.library) (well : IsWellFormed design) (one : AllStayOne design) (few : length design.vias ≤ NUMBER_LIMIT) where
+module _ (design : DesignModel) (sound : IsSound design.library) (well : IsWellFormed design) (one : AllStayOne design)
+    (few : length design.vias ≤ NUMBER_LIMIT) where
   has : HasParts design
   has = record { sound = sound; vias = well.vias; components = well.components; pins = well.pins }
 
   header_lines : Lines (header_text design) (naming_words design ++ frame_words design)
   header_lines =
       lines_append
-      (lines_append (lines_append (lines_of_words version_words refl) (kept_lines (codes "DIVIDERCHAR") design.divider (free_literal (codes "DIVIDERCHAR") refl refl refl) well.divider one.divider))
+      (lines_append (lines_append (lines_of_words version_words refl)
+      (kept_lines (codes "DIVIDERCHAR") design.divider (free_literal (codes "DIVIDERCHAR") refl refl refl) well.divider one.divider))
       (kept_lines (codes "BUSBITCHARS") design.bus (free_literal (codes "BUSBITCHARS") refl refl refl) well.bus one.bus))
       (lines_append (lines_append (lines_of_words (word_words (codes "DESIGN") design.name) (name_printable design.name well.name one.name))
       (lines_of_words (units_words design.library.units) (units_printable design.library.units sound.most_units)))
@@ -160,17 +176,21 @@ module _ (design : DesignModel) (sound : IsSound design.library) (well : IsWellF
   rows_lines : Lines (rows_text design design.rows) (flat_map (row_words design) design.rows)
   rows_lines =
       lines_each (λ row. line (row_words design row)) (row_words design) design.rows (λ k d less.
-      lines_of_words (row_words design (get_or design.rows k d)) (row_printable design (get_or design.rows k d) sound (well.rows k d less) (each_passes stays_one (row_names design) design.rows one.rows k d less)))
+      lines_of_words (row_words design (get_or design.rows k d))
+      (row_printable design (get_or design.rows k d) sound (well.rows k d less) (each_passes stays_one (row_names design) design.rows one.rows k d less)))
 
   tracks_lines : Lines (tracks_text design design.tracks) (flat_map (track_words design) design.tracks)
   tracks_lines =
       lines_each (λ track. line (track_words design track)) (track_words design) design.tracks (λ k d less.
-      lines_of_words (track_words design (get_or design.tracks k d)) (track_printable design sound (get_or design.tracks k d) (well.tracks k d less) (each_passes stays_one (track_names design) design.tracks one.tracks k d less)))
+      lines_of_words (track_words design (get_or design.tracks k d))
+      (track_printable design sound (get_or design.tracks k d) (well.tracks k d less)
+      (each_passes stays_one (track_names design) design.tracks one.tracks k d less)))
 
   whole_lines : Lines (design_text design) (whole_words design)
   unfolding design_text
   whole_lines =
-      lines_append (lines_append (lines_append (lines_append (lines_append (lines_append (lines_append (lines_append (lines_append header_lines rows_lines) tracks_lines)
+      lines_append (lines_append (lines_append (lines_append
+      (lines_append (lines_append (lines_append (lines_append (lines_append header_lines rows_lines) tracks_lines)
       (vias_lines design design.vias sound well.vias few one.vias)) (components_lines design design.components sound well.components one.components))
       (pins_lines design design.pins sound well.pins one.pins))
       (blockages_lines design design.blockages sound well.blockages one.blockages))
@@ -179,7 +199,8 @@ module _ (design : DesignModel) (sound : IsSound design.library) (well : IsWellF
       (lines_of_words (end_words (codes "DESIGN")) refl)
 
   forms_lead : Leads (no_parts design.library) (forms_words design)
-      (said_parts design (appearances (has_some design.vias) (has_some design.components) (has_some design.pins) (has_some design.blockages) (has_some design.special) (has_some design.nets))
+      (said_parts design (appearances (has_some design.vias) (has_some design.components) (has_some design.pins) (has_some design.blockages)
+      (has_some design.special) (has_some design.nets))
       design.vias design.components design.pins design.blockages design.special design.nets)
   forms_lead =
       leads_append (leads_append (leads_append (leads_append (leads_append (leads_append (leads_append (leads_append
@@ -189,20 +210,25 @@ module _ (design : DesignModel) (sound : IsSound design.library) (well : IsWellF
       (vias_lead design has design.vias well.vias few one.vias))
       (components_lead design has (has_some design.vias) design.vias design.components well.components one.components))
       (pins_lead design has (has_some design.vias) (has_some design.components) design.vias design.components design.pins well.pins one.pins))
-      (blockages_lead design has (has_some design.vias) (has_some design.components) (has_some design.pins) design.vias design.components design.pins design.blockages well.blockages))
-      (special_lead design has (has_some design.vias) (has_some design.components) (has_some design.pins) (has_some design.blockages) design.special (special_are design has well.nets) one.special))
-      (nets_lead design has (has_some design.vias) (has_some design.components) (has_some design.pins) (has_some design.blockages) (has_some design.special) design.special design.nets (nets_are design has well.nets) one.nets)
+      (blockages_lead design has (has_some design.vias) (has_some design.components)
+      (has_some design.pins) design.vias design.components design.pins design.blockages well.blockages))
+      (special_lead design has (has_some design.vias) (has_some design.components) (has_some design.pins) (has_some design.blockages) design.special
+      (special_are design has well.nets) one.special))
+      (nets_lead design has (has_some design.vias) (has_some design.components) (has_some design.pins) (has_some design.blockages)
+      (has_some design.special) design.special design.nets (nets_are design has well.nets) one.nets)
 
   whole_again : design_in design.library (whole_words design) ≡ Some design
   unfolding design_in end_at keyword_at nothing_at next_at
   whole_again =
       rw (
         leads_all (no_parts design.library) _ (forms_words design) (end_words (codes "DESIGN")) forms_lead refl,
-        design_said design (has_some design.vias) (has_some design.components) (has_some design.pins) (has_some design.blockages) (has_some design.special) (has_some design.nets) well.nets,
+        design_said design (has_some design.vias) (has_some design.components) (has_some design.pins) (has_some design.blockages) (has_some design.special)
+            (has_some design.nets) well.nets,
       ) refl
 
 -- The text says the design.
-pub text_says : (design : DesignModel) → IsSound design.library → IsWellFormed design → StayOne (printed_names design) → length (design_text design) ≤ TEXT_LIMIT
+pub text_says : (design : DesignModel) → IsSound design.library → IsWellFormed design → StayOne (printed_names design)
+    → length (design_text design) ≤ TEXT_LIMIT
     → Denotes (design_in design.library) (design_text design) design
 text_says design sound well one fits =
     let each = all_stay_one design one in
@@ -233,11 +259,13 @@ ends_first word rest = by (is_keyword (codes "UNITS") word) refl where
   by true is = rw is refl
   by false is = rw is refl
 
-past_word : (keyword word : List ℕ) (rest : Words) → is_keyword (codes "UNITS") keyword ≡ false → past microns_at (word_words keyword word ++ rest) ≡ past microns_at rest
+past_word : (keyword word : List ℕ) (rest : Words) → is_keyword (codes "UNITS") keyword ≡ false
+    → past microns_at (word_words keyword word ++ rest) ≡ past microns_at rest
 unfolding past microns_at keyword_at next_at
 past_word keyword word rest other = rw (other, ends_first word rest) refl
 
-past_kept : (keyword : List ℕ) (word : Option (List ℕ)) (rest : Words) → is_keyword (codes "UNITS") keyword ≡ false → past microns_at (kept_line_words keyword word ++ rest) ≡ past microns_at rest
+past_kept : (keyword : List ℕ) (word : Option (List ℕ)) (rest : Words) → is_keyword (codes "UNITS") keyword ≡ false
+    → past microns_at (kept_line_words keyword word ++ rest) ≡ past microns_at rest
 past_kept keyword None rest other = refl
 past_kept keyword (Some word) rest other = past_word keyword word rest other
 
@@ -260,14 +288,16 @@ begins_itself words = record { tail = []; are = sym (append-nil words) }
 begins_more : {words front : Words} (more : Words) → Begins words front → Begins (words ++ more) front
 begins_more {words} {front} more begins = record { tail = begins.tail ++ more; are = ap (λ all. all ++ more) begins.are ∙ append_assoc front begins.tail more }
 
-in_turn : (version divider bus name units die tail : Words) → ((version ++ divider ++ bus) ++ (name ++ units ++ die)) ++ tail ≡ version ++ (divider ++ (bus ++ (name ++ (units ++ (die ++ tail)))))
+in_turn : (version divider bus name units die tail : Words)
+    → ((version ++ divider ++ bus) ++ (name ++ units ++ die)) ++ tail ≡ version ++ (divider ++ (bus ++ (name ++ (units ++ (die ++ tail)))))
 in_turn version divider bus name units die tail =
     append_assoc (version ++ divider ++ bus) (name ++ units ++ die) tail
     ∙ append_assoc (version ++ divider) bus ((name ++ units ++ die) ++ tail)
     ∙ append_assoc version divider (bus ++ ((name ++ units ++ die) ++ tail))
     ∙ ap (λ all. version ++ (divider ++ (bus ++ all))) (append_assoc (name ++ units) die tail ∙ append_assoc name units (die ++ tail))
 
-units_read : (design : DesignModel) → IsSound design.library → (tail : Words) → units_in ((naming_words design ++ frame_words design) ++ tail) ≡ Some design.library.units
+units_read : (design : DesignModel) → IsSound design.library → (tail : Words)
+    → units_in ((naming_words design ++ frame_words design) ++ tail) ≡ Some design.library.units
 unfolding units_in
 units_read design sound tail =
     let divider = kept_line_words (codes "DIVIDERCHAR") design.divider in
@@ -299,10 +329,12 @@ units_are design sound =
     ap units_in begins.are ∙ units_read design sound begins.tail
 
 -- The text says the units of the library.
-pub text_says_units : (design : DesignModel) → IsSound design.library → IsWellFormed design → StayOne (printed_names design) → length (design_text design) ≤ TEXT_LIMIT
+pub text_says_units : (design : DesignModel) → IsSound design.library → IsWellFormed design → StayOne (printed_names design)
+    → length (design_text design) ≤ TEXT_LIMIT
     → Denotes units_in (design_text design) design.library.units
 text_says_units design sound well one fits =
-    let found = lines_are_text (design_text design) (whole_words design) (whole_lines design sound well (all_stay_one design one) (few_vias design fits)) in record {
+    let found =
+    lines_are_text (design_text design) (whole_words design) (whole_lines design sound well (all_stay_one design one) (few_vias design fits)) in record {
       fits = fits;
       words = found.0;
       tokens = found.1;
@@ -313,8 +345,10 @@ text_says_units design sound well one fits =
 some_same : {X : Type 0} (a b : X) → Some a ≡ Some b → a ≡ b
 some_same a b is = cc
 
-pub text_says_only : (design other : DesignModel) → IsSound design.library → IsWellFormed design → StayOne (printed_names design) → length (design_text design) ≤ TEXT_LIMIT
-    → ((p q : List (List ℕ)) → Cut p (design_text design) → Cut q (design_text design) → p ≡ q) → Denotes (design_in design.library) (design_text design) other → other ≡ design
+pub text_says_only : (design other : DesignModel) → IsSound design.library → IsWellFormed design → StayOne (printed_names design)
+    → length (design_text design) ≤ TEXT_LIMIT
+    → ((p q : List (List ℕ)) → Cut p (design_text design) → Cut q (design_text design) → p ≡ q)
+    → Denotes (design_in design.library) (design_text design) other → other ≡ design
 text_says_only design other sound well one fits cut says =
     let each = all_stay_one design one in
     let few = few_vias design fits in

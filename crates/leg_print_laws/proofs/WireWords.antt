@@ -20,8 +20,8 @@ use Rattle.leg_grammar.specs.Def.PathItem.{at_path_end}
 use Rattle.leg_grammar.specs.Def.Wiring.{at_no_new, new_path, paths_at, wiring_start, wiring_at}
 use Rattle.leg_output.specs.Names.{layer_name}
 use Rattle.leg_rules.specs.Names.{via_name}
-use Rattle.leg_output.specs.Text.Wires.{number_words, width_words, point_words, given_extension, wire_words, layer_of_via}
-use Rattle.leg_output.specs.Text.Nets.{wiring_words}
+use Rattle.leg_output.specs.Text.Wires.{number_words, width_words, point_words, given_extension, wire_words, lower_layer_of_via}
+use Rattle.leg_output.specs.Text.Nets.{wiring_lines}
 use Rattle.leg_print_laws.specs.PrintedNames.{StayOne, wire_names}
 use Rattle.leg_print_laws.specs.NetScope.{known_of}
 use Rattle.leg_print_laws.proofs.FreeWords.{AreInside, AreFree, free_literal, free_name, free_number, free_nil, free_cons, free_append, inside_nil, inside_cons, inside_each}
@@ -60,24 +60,29 @@ module _ (design : DesignModel) (sound : IsSound design.library) (vias : AreVias
     zero_is : IsNumber (pos 0)
     zero_is = omega arith
 
-  pub wire_free : (special : Bool) (wire : Wire) → IsWire design.library design.vias special wire → StayOne (wire_names design wire) → AreFree (wire_words design special wire)
+  pub wire_free : (special : Bool) (wire : Wire) → IsWire design.library design.vias special wire → StayOne (wire_names design wire)
+      → AreFree (wire_words design special wire)
   wire_free special (Segment layer from to width ext_from ext_to) is one =
       free_append (free_append
-      (free_cons (free_name (layer_name design layer) (path_layer design sound vias layer is.routes).named.is_one (first_passes stays_one (layer_name design layer) [] one)) (width_free special width (width_number special layer width is.width_)))
+      (free_cons (free_name (layer_name design layer) (path_layer design sound vias layer is.routes).named.is_one
+      (first_passes stays_one (layer_name design layer) [] one)) (width_free special width (width_number special layer width is.width_)))
       (point_free from (given_extension design.library special layer ext_from) is.from_ (given_is design.library special layer ext_from is.from_extension)))
       (point_free to (given_extension design.library special layer ext_to) is.to_ (given_is design.library special layer ext_to is.to_extension))
   wire_free special (ViaAt number at) is one =
-      let layer = layer_name design (layer_of_via design number) in
+      let layer = layer_name design (lower_layer_of_via design number) in
       free_append (free_append
-      (free_cons (free_name layer (lower_named design sound vias number is.1.0 is.1.1 is.1.2) (first_passes stays_one layer (via_name design number ∷ []) one)) (width_free special (pos 0) (zero_number special)))
+      (free_cons (free_name layer (lower_named design sound vias number is.1.0 is.1.1 is.1.2)
+      (first_passes stays_one layer (via_name design number ∷ []) one)) (width_free special (pos 0) (zero_number special)))
       (spot_free at is.0))
       (free_cons (free_name (via_name design number) (via_is_name design sound vias number is.1.0 is.1.1 is.1.2)
       (first_passes stays_one (via_name design number) [] (others_pass stays_one layer (via_name design number ∷ []) one))) free_nil)
   wire_free special (Patch layer at rect) is one =
       free_append
-      (free_cons (free_name (layer_name design layer) (path_layer design sound vias layer is.1).named.is_one (first_passes stays_one (layer_name design layer) [] one)) (spot_free at is.2))
+      (free_cons (free_name (layer_name design layer) (path_layer design sound vias layer is.1).named.is_one
+      (first_passes stays_one (layer_name design layer) [] one)) (spot_free at is.2))
       (free_cons (free_literal (codes "RECT") refl refl refl) (free_cons (free_literal (codes "(") refl refl refl)
-      (free_cons (free_number rect.x1 is.3.x1) (free_cons (free_number rect.y1 is.3.y1) (free_cons (free_number rect.x2 is.3.x2) (free_cons (free_number rect.y2 is.3.y2)
+      (free_cons (free_number rect.x1 is.3.x1) (free_cons (free_number rect.y1 is.3.y1)
+      (free_cons (free_number rect.x2 is.3.x2) (free_cons (free_number rect.y2 is.3.y2)
       (free_cons (free_literal (codes ")") refl refl refl) free_nil)))))))
 
   module _ (special : Bool) where
@@ -94,7 +99,8 @@ module _ (design : DesignModel) (sound : IsSound design.library) (vias : AreVias
     no_north (wire ∷ wires) = refl
 
     more_again : (front : List Wire) (wire : Wire) (back : List Wire) → IsWire design.library design.vias special wire
-        → new_path (known_of design) special front (more_words wire ++ (flat_map more_words back ++ [])) ≡ Some (front ++ wire ∷ [], flat_map more_words back ++ [])
+        → new_path (known_of design) special front (more_words wire ++ (flat_map more_words back ++ [])) ≡ Some
+        (front ++ wire ∷ [], flat_map more_words back ++ [])
     unfolding new_path keyword_at next_at
     more_again front wire back is = rw (wire_again design sound vias special wire is (flat_map more_words back ++ []) (ends_path back) (no_north back)) refl
 
@@ -110,30 +116,39 @@ module _ (design : DesignModel) (sound : IsSound design.library) (vias : AreVias
         })
 
     pub wiring_again : (wire : Wire) (wires : List Wire) → All (IsWire design.library design.vias special) (wire ∷ wires)
-        → wiring_at (known_of design) special (codes "ROUTED" ∷ (wire_words design special wire ++ words_in_lines (map more_words wires))) ≡ Some (wire ∷ wires, [])
+        → wiring_at (known_of design) special (codes "ROUTED" ∷ (wire_words design special wire ++ words_in_lines (map more_words wires))) ≡ Some
+        (wire ∷ wires, [])
     unfolding wiring_at wiring_start paths_at next_at
     wiring_again wire wires each =
         let words = flat_map more_words wires in
         let same : words_in_lines (map more_words wires) ≡ words ++ [] = flat_map-map (λ v. v) more_words wires ∙ sym (append-nil words) in
         rw (
           same,
-          wire_again design sound vias special wire (All-head (IsWire design.library design.vias special) wire wires each) (words ++ []) (ends_path wires) (no_north wires),
+          wire_again design sound vias special wire (All-head (IsWire design.library design.vias special) wire wires each) (words ++ []) (ends_path wires)
+              (no_north wires),
           more_wires wire wires (All-tail (IsWire design.library design.vias special) wire wires each),
         ) refl
 
-    more_free : (wires : List Wire) → All (IsWire design.library design.vias special) wires → list_all stays_one (flat_map (wire_names design) wires) ≡ true → All (λ words. AreInside words) (map more_words wires)
+    more_free : (wires : List Wire) → All (IsWire design.library design.vias special) wires → list_all stays_one (flat_map (wire_names design) wires) ≡ true
+        → All (λ words. AreInside words) (map more_words wires)
     more_free [] each one = All-nil AreInside
     more_free (wire ∷ wires) each one =
         All-cons AreInside (more_words wire) (map more_words wires)
-        (inside_cons (record { printable = refl; semicolon = refl }) (wire_free special wire (All-head (IsWire design.library design.vias special) wire wires each) (first_run_passes stays_one (wire_names design wire) (flat_map (wire_names design) wires) one)).inside)
-        (more_free wires (All-tail (IsWire design.library design.vias special) wire wires each) (next_run_passes stays_one (wire_names design wire) (flat_map (wire_names design) wires) one))
+        (inside_cons (record { printable = refl; semicolon = refl })
+        (wire_free special wire (All-head (IsWire design.library design.vias special) wire wires each)
+        (first_run_passes stays_one (wire_names design wire) (flat_map (wire_names design) wires) one)).inside)
+        (more_free wires (All-tail (IsWire design.library design.vias special) wire wires each)
+        (next_run_passes stays_one (wire_names design wire) (flat_map (wire_names design) wires) one))
 
     -- the lines of the wires stay words
-    pub wires_inside : (wires : List Wire) → All (IsWire design.library design.vias special) wires → list_all stays_one (flat_map (wire_names design) wires) ≡ true → AreInside (words_in_lines (wiring_words design special wires))
+    pub wires_inside : (wires : List Wire) → All (IsWire design.library design.vias special) wires
+        → list_all stays_one (flat_map (wire_names design) wires) ≡ true → AreInside (words_in_lines (wiring_lines design special wires))
     wires_inside [] each one = inside_nil
     wires_inside (wire ∷ wires) each one =
-        inside_each (λ words. words) (wiring_words design special (wire ∷ wires))
+        inside_each (λ words. words) (wiring_lines design special (wire ∷ wires))
         (All-cons AreInside (codes "+" ∷ codes "ROUTED" ∷ wire_words design special wire) (map more_words wires)
         (inside_cons (record { printable = refl; semicolon = refl }) (inside_cons (record { printable = refl; semicolon = refl })
-        (wire_free special wire (All-head (IsWire design.library design.vias special) wire wires each) (first_run_passes stays_one (wire_names design wire) (flat_map (wire_names design) wires) one)).inside))
-        (more_free wires (All-tail (IsWire design.library design.vias special) wire wires each) (next_run_passes stays_one (wire_names design wire) (flat_map (wire_names design) wires) one)))
+        (wire_free special wire (All-head (IsWire design.library design.vias special) wire wires each)
+        (first_run_passes stays_one (wire_names design wire) (flat_map (wire_names design) wires) one)).inside))
+        (more_free wires (All-tail (IsWire design.library design.vias special) wire wires each)
+        (next_run_passes stays_one (wire_names design wire) (flat_map (wire_names design) wires) one)))

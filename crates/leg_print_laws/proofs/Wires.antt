@@ -52,7 +52,8 @@ no_mark m mark small word name = by (is_keyword (m ∷ []) word) refl where
   by : (same : Bool) → is_keyword (m ∷ []) word ≡ same → is_keyword (m ∷ []) word ≡ false
   by false is = is
   by true is =
-      let e : word ≡ m ∷ [] = same_letter word m small (same_name (map to_ascii_lowercase word) (map to_ascii_lowercase (m ∷ [])) is ∙ ap (λ b. b ∷ []) (mark_lower m small)) in
+      let e : word ≡ m ∷ [] =
+      same_letter word m small (same_name (map to_ascii_lowercase word) (map to_ascii_lowercase (m ∷ [])) is ∙ ap (λ b. b ∷ []) (mark_lower m small)) in
       let named : is_name (m ∷ []) ≡ true = rw e at name in
       absurd (name_no_mark (is_plain (m ∷ [])) (rw mark at named))
 
@@ -67,7 +68,8 @@ IsGiven (Some z) = IsNumber z × (pos 0 ≤ℤ z)
 not_below : (z : ℤ) → pos 0 ≤ℤ z → int_lt z (pos 0) ≡ false
 not_below z le = grind (arith, ints)
 
-first_point_again : (p : PointModel) (extension : Option ℤ) (rest : Words) → IsPosition p → IsGiven extension → first_point_at (point_words p extension ++ rest) ≡ Some ((p, extension), rest)
+first_point_again : (p : PointModel) (extension : Option ℤ) (rest : Words) → IsPosition p → IsGiven extension
+    → first_point_at (point_words p extension ++ rest) ≡ Some ((p, extension), rest)
 unfolding first_point_at extension_in_point count_at mark_at next_at
 first_point_again p None rest is given = rw (number_again p.x _ is.x, number_again p.y _ is.y) refl
 first_point_again p (Some z) rest is given =
@@ -82,7 +84,8 @@ abbrev IsWritten : Bool → ℤ → Type 0
 IsWritten false width = Unit {0}
 IsWritten true width = IsNumber width × (pos 0 ≤ℤ width) × (is_even width ≡ true)
 
-written_again : (special : Bool) (width : ℤ) (rest : Words) → IsWritten special width → written_at special (width_words special width ++ (codes "(" ∷ rest)) ≡ Some (written_as special width, codes "(" ∷ rest)
+written_again : (special : Bool) (width : ℤ) (rest : Words) → IsWritten special width
+    → written_at special (width_words special width ++ (codes "(" ∷ rest)) ≡ Some (written_as special width, codes "(" ∷ rest)
 unfolding written_at past_taper written_width_at count_at steps
 written_again false width rest is = refl
 written_again true width rest is = rw (number_again width _ is.0, not_below width is.1, is.2) refl
@@ -105,14 +108,16 @@ other_spot p q apart = by (int_eq p.x q.x) (int_eq p.y q.y) refl refl where
   by true true at of = absurd (apart (same_spot p q (int_same p.x q.x at) (int_same p.y q.y of)))
 
 -- the width of a segment, and the extension that holds where none is given
-width_again : (library : LibraryModel) (special : Bool) (layer : ℕ) (width : ℤ) → IsWidth library special layer width → segment_width library (written_as special width) layer ≡ Some width
+width_again : (library : LibraryModel) (special : Bool) (layer : ℕ) (width : ℤ) → IsWidth library special layer width
+    → segment_width library (written_as special width) layer ≡ Some width
 unfolding segment_width
 width_again library false layer width is = is
 width_again library true layer width is = rw (not_zero width is.1) refl where
   not_zero : (w : ℤ) → pos 0 <ℤ w → int_eq w (pos 0) ≡ false
   not_zero w above = grind (arith, ints)
 
-same_default : (library : LibraryModel) (special : Bool) (layer : ℕ) (width : ℤ) → default_extension library (written_as special width) layer ≡ default_extension library (written special) layer
+same_default : (library : LibraryModel) (special : Bool) (layer : ℕ) (width : ℤ)
+    → default_extension library (written_as special width) layer ≡ default_extension library (written special) layer
 unfolding default_extension
 same_default library false layer width = refl
 same_default library true layer width = refl
@@ -133,10 +138,15 @@ module _ (known : KnownModel) (special : Bool) (layer : ℕ) (name : List ℕ) (
   unfolding routing_at name_at next_at
   layer_again rest = rw (is_layer.named.is_one, is_layer.named.there, is_layer.routes) refl
 
-  module _ (from to : PointModel) (width : ℤ) (is_from : IsPosition from) (is_to : IsPosition to) (straight : is_straight from to ≡ true) (long : from ≢ to) (is_width : IsWidth known.library special layer width) where
+  module _ (from to : PointModel) (width : ℤ) (is_from : IsPosition from) (is_to : IsPosition to) (straight : is_straight from to ≡ true) (long : from ≢ to)
+      (is_width : IsWidth known.library special layer width) where
     pub segment_path : (first next : Option ℤ) (rest : Words) → IsGiven first → IsGiven next → at_path_end rest ≡ true
         → path_at known special (name ∷ (width_words special width ++ (point_words from first ++ (point_words to next ++ rest))))
-        ≡ Some (Segment layer from to width (unwrap_or first (default_extension known.library (written_as special width) layer)) (unwrap_or next (default_extension known.library (written_as special width) layer)) ∷ [], rest)
+        ≡ Some (
+          Segment layer from to width (unwrap_or first (default_extension known.library (written_as special width) layer))
+              (unwrap_or next (default_extension known.library (written_as special width) layer)) ∷ [],
+          rest,
+        )
     unfolding path_at next_at steps one_item item_at point_item coordinate_at extension_in_point count_at mark_at wires_from extension_at segment_to
     segment_path first None rest is_first is_next ends =
         rw (
@@ -171,7 +181,8 @@ module _ (known : KnownModel) (special : Bool) (layer : ℕ) (name : List ℕ) (
         ) refl
 
   -- a via, where its path begins on a layer from which it leads to another
-  pub via_path : (at : PointModel) (number other : ℕ) (via : List ℕ) (rest : Words) → IsPosition at → is_name via ≡ true → is_wiring_word via ≡ false → via_named known via ≡ Some number → across known number layer ≡ Some other
+  pub via_path : (at : PointModel) (number other : ℕ) (via : List ℕ) (rest : Words) → IsPosition at → is_name via ≡ true → is_wiring_word via ≡ false
+      → via_named known via ≡ Some number → across known number layer ≡ Some other
       → at_path_end rest ≡ true → is_at (codes "N") rest ≡ false
       → path_at known special (name ∷ (width_words special (pos 0) ++ (point_words at None ++ (via ∷ rest)))) ≡ Some (ViaAt number at ∷ [], rest)
   unfolding path_at name_at next_at steps one_item item_at via_item past_north wires_from extension_at
@@ -206,8 +217,10 @@ module _ (known : KnownModel) (special : Bool) (layer : ℕ) (name : List ℕ) (
             least = omega (arith, ints)
 
 -- a rectangle, in NETS
-pub patch_path : (known : KnownModel) (layer : ℕ) (name : List ℕ) (at : PointModel) (rect : RectModel) (rest : Words) → IsPathLayer known.library layer name → IsPosition at → IsArea rect → at_path_end rest ≡ true
-    → path_at known false (name ∷ (spot_words at ++ (codes "RECT" ∷ codes "(" ∷ signed_decimal rect.x1 ∷ signed_decimal rect.y1 ∷ signed_decimal rect.x2 ∷ signed_decimal rect.y2 ∷ codes ")" ∷ rest)))
+pub patch_path : (known : KnownModel) (layer : ℕ) (name : List ℕ) (at : PointModel) (rect : RectModel) (rest : Words) → IsPathLayer known.library layer name
+    → IsPosition at → IsArea rect → at_path_end rest ≡ true
+    → path_at known false (name ∷ (spot_words at ++
+    (codes "RECT" ∷ codes "(" ∷ signed_decimal rect.x1 ∷ signed_decimal rect.y1 ∷ signed_decimal rect.x2 ∷ signed_decimal rect.y2 ∷ codes ")" ∷ rest)))
     ≡ Some (Patch layer at rect ∷ [], rest)
 unfolding path_at keyword_at next_at steps one_item item_at rect_item mark_at wires_from extension_at
 patch_path known layer name at rect rest is_layer is is_rect ends =
@@ -230,13 +243,16 @@ module _ (library : LibraryModel) (special : Bool) (layer : ℕ) (extension : �
     self : (z : ℤ) → int_eq z z ≡ true
     self z = grind (arith, ints)
 
-    by : (same : Bool) → int_eq extension (default_extension library (written special) layer) ≡ same → IsExtension library special layer extension → IsGiven (given_extension library special layer extension)
+    by : (same : Bool) → int_eq extension (default_extension library (written special) layer) ≡ same → IsExtension library special layer extension
+        → IsGiven (given_extension library special layer extension)
     by true test is = rw test tt
     by false test (inl given) = rw test given
     by false test (inr same) = absurd (false≢true (sym test ∙ ap (λ z. int_eq extension z) (sym same) ∙ self extension))
 
-  pub extension_again : (width : ℤ) → unwrap_or (given_extension library special layer extension) (default_extension library (written_as special width) layer) ≡ extension
+  pub extension_again : (width : ℤ) → unwrap_or (given_extension library special layer extension)
+      (default_extension library (written_as special width) layer) ≡ extension
   extension_again width = by (int_eq extension (default_extension library (written special) layer)) refl where
-    by : (same : Bool) → int_eq extension (default_extension library (written special) layer) ≡ same → unwrap_or (given_extension library special layer extension) (default_extension library (written_as special width) layer) ≡ extension
+    by : (same : Bool) → int_eq extension (default_extension library (written special) layer) ≡ same
+        → unwrap_or (given_extension library special layer extension) (default_extension library (written_as special width) layer) ≡ extension
     by true test = rw test (same_default library special layer width ∙ sym (int_same extension (default_extension library (written special) layer) test))
     by false test = rw test refl

@@ -14,7 +14,7 @@ use Rattle.leg_design_records.specs.declared.records.Wire.TheVariants.{Segment, 
 use Rattle.leg_design_records.specs.Records.{DesignModel, TrackModel, PortModel, PinModel, BlockageModel, NetModel}
 use Rattle.leg_output.specs.Names.{layer_name, site_name, master_name, component_pin_name}
 use Rattle.leg_rules.specs.Names.{via_name, component_name, design_pin_name}
-use Rattle.leg_output.specs.Text.Wires.{layer_of_via}
+use Rattle.leg_output.specs.Text.Wires.{lower_layer_of_via}
 
 -- none of the words ends with `;`, but for the semicolon alone: such a word would be read as two
 abbrev pub StayOne : Words → Type 0
@@ -57,7 +57,7 @@ terminal_names design (Pin p) = design_pin_name design p ∷ []
 
 abbrev pub wire_names : DesignModel → Wire → Words
 wire_names design (Segment layer from to width ext_from ext_to) = layer_name design layer ∷ []
-wire_names design (ViaAt via at) = layer_name design (layer_of_via design via) ∷ via_name design via ∷ []
+wire_names design (ViaAt via at) = layer_name design (lower_layer_of_via design via) ∷ via_name design via ∷ []
 wire_names design (Patch layer at rect) = layer_name design layer ∷ []
 
 abbrev pub net_entry_names : DesignModel → NetModel → Words

@@ -1,10 +1,9 @@
 -- Texts that begin with white space, and their words.
-use Rattle.std.proofs.Common.{◌≡◌, ℕ, ◌+◌, ◌-◌, Bool, true, false, not, ◌&&◌, ◌==◌, nat_lt, if◌then◌else◌, MatchBool, List, [], ◌∷◌, ◌++◌, All, length, slice_index, count_by, refl, sym, ap, ◌∙◌, subst, arith}
-use Rattle.std.specs.List.{list_any, list_all, flat_map}
+use Rattle.std.proofs.Common.{◌≡◌, ℕ, ◌+◌, ◌-◌, Bool, true, false, not, ◌&&◌, ◌==◌, nat_lt, if◌then◌else◌, MatchBool, List, [], ◌∷◌, ◌++◌, length, slice_index, count_by, refl, sym, ap, ◌∙◌, subst, arith}
+use Rattle.std.specs.List.{list_any, list_all}
 use Rattle.std.proofs.lemmas.Bool.{eqb-true, false≢true}
 use Rattle.std.proofs.lemmas.Bool.Decides.{nat_tests}
 use Rattle.std.proofs.lemmas.List.{append_assoc, map-append, nil_from_length}
-use Rattle.std.proofs.lemmas.List.Elements.{All-head, All-tail}
 use Rattle.leg_lex.specs.Word.{texts}
 use Rattle.leg_lex.specs.Cut.{Kind, White, Comment, Quoted, Plain, kind_of, Closes, Ends, RunsTo, IsPiece, CutTo, is_white, is_line_feed}
 use Rattle.leg_lex.specs.Tokens.{plain_words, words_in, words_from}
@@ -153,9 +152,3 @@ pub behind_spaced : (words : Words) → list_all is_printable words ≡ true →
 behind_spaced [] all = behind_nil
 behind_spaced (word ∷ words) all =
     behind_append (behind_word word (printable_is_one word (first_passes is_printable word words all))) (behind_spaced words (others_pass is_printable word words all))
-
--- the texts of a list's elements, one after the other
-pub behind_each : {X : Type 0} (text : X → List ℕ) (words : X → Words) (xs : List X) → All (λ x. Behind (text x) (words x)) xs → Behind (flat_map text xs) (flat_map words xs)
-behind_each text words [] each = behind_nil
-behind_each text words (x ∷ xs) each =
-    behind_append (All-head (λ x. Behind (text x) (words x)) x xs each) (behind_each text words xs (All-tail (λ x. Behind (text x) (words x)) x xs each))

@@ -1,8 +1,7 @@
 -- Which words are printable.
-use Rattle.std.proofs.Common.{◌≡◌, ℕ, Bool, true, false, not, ◌&&◌, ◌||◌, List, [], ◌∷◌, ◌++◌, All, refl}
-use Rattle.std.specs.List.{list_all, flat_map}
+use Rattle.std.proofs.Common.{◌≡◌, ℕ, Bool, true, false, not, ◌&&◌, ◌||◌, List, ◌++◌, refl}
+use Rattle.std.specs.List.{list_all}
 use Rattle.std.proofs.lemmas.Bool.{false≢true}
-use Rattle.std.proofs.lemmas.List.Elements.{All-head, All-tail}
 use Rattle.std.proofs.lemmas.List.Folds.{list_all-append}
 use Rattle.leg_lex.specs.Words.{Words, is_name, is_plain, is_mark, is_closed, is_word}
 use Rattle.leg_output.specs.Words.{stays_one, is_printable}
@@ -34,10 +33,3 @@ printable_word word is stays = by (is_name word) (is_closed word) refl refl wher
 -- words of a run and of the next
 pub printable_append : (v w : Words) → list_all is_printable v ≡ true → list_all is_printable w ≡ true → list_all is_printable (v ++ w) ≡ true
 printable_append v w first next = rw (list_all-append is_printable v w, first, next) refl
-
--- words of a list's elements
-pub printable_each : {X : Type 0} (words : X → Words) (xs : List X) → All (λ x. list_all is_printable (words x) ≡ true) xs → list_all is_printable (flat_map words xs) ≡ true
-printable_each words [] each = refl
-printable_each words (x ∷ xs) each =
-    printable_append (words x) (flat_map words xs) (All-head (λ y. list_all is_printable (words y) ≡ true) x xs each)
-    (printable_each words xs (All-tail (λ y. list_all is_printable (words y) ≡ true) x xs each))

@@ -2,7 +2,6 @@
 use Rattle.std.proofs.Common.{◌≡◌, ◌≢◌, ◌↔◌, ◌≤ℤ◌, ℕ, ℤ, pos, List, ◌++◌, All, length}
 use Rattle.leg_geom.specs.Plane.{PointModel}
 use Rattle.leg_lib_records.specs.Scale.{IsEven}
-use Rattle.leg_lib_records.specs.Records.{LibraryModel}
 use Rattle.leg_design_records.specs.declared.fault.Fault.{Fault}
 use Rattle.leg_design_records.specs.declared.records.Wire.{Wire}
 use Rattle.leg_design_records.specs.declared.records.Wire.TheVariants.{Segment}
@@ -19,16 +18,16 @@ use Rattle.leg_rules.specs.Joins.Violations.{IsOpenNet}
 
 abbrev pub RunOfCleanWires : Type 0
 RunOfCleanWires =
-    (library : LibraryModel) (design : DesignModel) (flat : FlatModel) (net layer : ℕ) (width reach : ℤ) (from : PointModel) (spots : List PointModel)
+    (design : DesignModel) (flat : FlatModel) (net layer : ℕ) (width reach : ℤ) (from : PointModel) (spots : List PointModel)
     → IsEven width → pos 0 ≤ℤ reach → AreInLine from spots → from ≢ last_spot from spots → EachStep (λ a b. a ≢ b) from spots
-    → EachStep (λ a b. IsCleanWire library design flat net (Segment layer a b width reach reach)) from spots
-    → IsCleanWire library design flat net (Segment layer from (last_spot from spots) width reach reach)
+    → EachStep (λ a b. IsCleanWire design flat net (Segment layer a b width reach reach)) from spots
+    → IsCleanWire design flat net (Segment layer from (last_spot from spots) width reach reach)
 
 abbrev pub CleanWiresStay : Type 0
 CleanWiresStay =
-    (library : LibraryModel) (design : DesignModel) (net : ℕ) (wires : List Wire) (old new : FlatModel)
-    → HasNoSpacingFault library old → All (IsCleanWire library design old net) wires → Grows design (of_net net wires) old new
-    → HasNoSpacingFault library new
+    (design : DesignModel) (net : ℕ) (wires : List Wire) (old new : FlatModel)
+    → HasNoSpacingFault design.library old → All (IsCleanWire design old net) wires → Grows design (of_net net wires) old new
+    → HasNoSpacingFault design.library new
 
 abbrev pub GrowthGoesOn : Type 0
 GrowthGoesOn =
@@ -37,15 +36,15 @@ GrowthGoesOn =
 
 abbrev pub FinishedIsLegal : Type 0
 FinishedIsLegal =
-    (library : LibraryModel) (design : DesignModel) (added : List AddedWire) (grown : FlatModel) (lists : List (List Wire)) (end : FlatModel)
+    (design : DesignModel) (added : List AddedWire) (grown : FlatModel) (lists : List (List Wire)) (end : FlatModel)
     → IsFinishedFrom design added grown lists end
-    → ((fault : Fault) → ¬ IsPlacementViolation library design fault) → HasNoSpacingFault library grown → ((n : ℕ) → ¬ IsOpenNet design grown n)
-    → (fault : Fault) → ¬ IsViolationIn library (finished design lists) end fault
+    → ((fault : Fault) → ¬ IsPlacementViolation design fault) → HasNoSpacingFault design.library grown → ((n : ℕ) → ¬ IsOpenNet design grown n)
+    → (fault : Fault) → ¬ IsViolationIn (finished design lists) end fault
 
 abbrev pub PlacementStays : Type 0
 PlacementStays =
-    (library : LibraryModel) (design : DesignModel) (lists : List (List Wire)) (fault : Fault)
-    → IsPlacementViolation library design fault ↔ IsPlacementViolation library (finished design lists) fault
+    (design : DesignModel) (lists : List (List Wire)) (fault : Fault)
+    → IsPlacementViolation design fault ↔ IsPlacementViolation (finished design lists) fault
 
 abbrev pub ShapesStayAsMany : Type 0
 ShapesStayAsMany =

@@ -67,7 +67,7 @@ module _ (run_of_clean : RunOfCleanWires) (design : DesignModel) (flat : FlatMod
   node_clean a wire is_open adds =
       let width : is_open.adds.width ≡ adds.width =
       same_width design.library a.layer is_open.adds.direction adds.direction is_open.adds.width adds.width is_open.adds.runs adds.runs in
-      let same : is_open.wire ≡ wire = is_open.adds.is ∙ ap (λ w. Patch a.layer a.at (square w)) width ∙ sym adds.is in
+      let same : is_open.wire ≡ wire = is_open.adds.is ∙ ap (λ w. Patch a.layer a.at (square (half w))) width ∙ sym adds.is in
       subst Clean same is_open.clean
 
   -- steps on a layer are not steps through a via
@@ -132,7 +132,7 @@ module _ (run_of_clean : RunOfCleanWires) (design : DesignModel) (flat : FlatMod
         let last = straight_last design side on_layer a b run straight in
         let apart : a.at ≢ last_spot a.at (points run) =
         λ same. ahead_apart side a.at b.at (straight_ahead design side on_layer a b run straight) (same ∙ last) in
-        let whole = run_of_clean design.library design flat net layer width (half width) a.at (points run) is_width.even (half_least width is_width)
+        let whole = run_of_clean design flat net layer width (half width) a.at (points run) is_width.even (half_least width is_width)
         (in_line side a.at (points run) on_layer (straight_keeps design side on_layer a b run straight)) apart
         (straight_apart design side on_layer a b run straight) (run_clean a b run is straight steps) in
         subst (λ q. Clean (Segment layer a.at q width (half width) (half width))) last whole

@@ -54,10 +54,10 @@ module _ (run_of : RunOfCleanWires) (stay : CleanWiresStay) (goes_on : GrowthGoe
   pub legal_then : (design : DesignModel) (flat grown : FlatModel) (added : List Added) (lists : List (List Wire))
       → IsSound design.library → IsWellFormed design → IsWellFormed (finished design lists) → IsFlatOf design flat
       → ((fault : Fault) → ¬ IsOtherThanOpen design flat fault) → RouteRun design flat added grown → IsDone design grown
-      → AreListsOf (length design.nets) added lists → (fault : Fault) → ¬ IsViolation design.library (finished design lists) fault
+      → AreListsOf (length design.nets) added lists → (fault : Fault) → ¬ IsViolation (finished design lists) fault
   legal_then design flat grown added lists sound proper proper_then is_flat clean run done are fault holds =
       elim holds [
-        | inl placed ↦ clean fault (inl ((placement design.library design lists fault).1 placed))
+        | inl placed ↦ clean fault (inl ((placement design lists fault).1 placed))
         | inr metal ↦ in_flat metal.flat metal.is_flat fault (inr metal.holds)
       ] where
         from : (end : FlatModel) → IsFlatOf (finished design lists) end → IsFinishedFrom design (told added) grown lists end
@@ -71,9 +71,9 @@ module _ (run_of : RunOfCleanWires) (stay : CleanWiresStay) (goes_on : GrowthGoe
           is_end = is_end;
         }
 
-        in_flat : (end : FlatModel) → IsFlatOf (finished design lists) end → (fault : Fault) → ¬ IsViolationIn design.library (finished design lists) end fault
+        in_flat : (end : FlatModel) → IsFlatOf (finished design lists) end → (fault : Fault) → ¬ IsViolationIn (finished design lists) end fault
         in_flat end is_end =
-            is_legal design.library design (told added) grown lists end (from end is_end) (λ fault holds. clean fault (inl holds))
+            is_legal design (told added) grown lists end (from end is_end) (λ fault holds. clean fault (inl holds))
             (run_clean run_of stay design flat grown added sound (λ fault holds. clean fault (inr holds)) run) done
 
 pub routed_then : (design : DesignModel) (flat grown : FlatModel) (added : List Added) (lists : List (List Wire)) → IsFlatOf design flat → RouteRun design flat added grown

@@ -82,7 +82,7 @@ module _ (run_of_clean : RunOfCleanWires) (stay : CleanWiresStay) (design : Desi
       → HasNoSpacingFault design.library grown
   run_clean flat grown added sound clean begun = clean
   run_clean flat grown added sound clean (walked {mid = mid} {added = before} {nodes = nodes} {wires = wires} net run turn walk spelled more) =
-      stay design.library design net wires mid grown (run_clean flat mid before sound clean run)
+      stay design net wires mid grown (run_clean flat mid before sound clean run)
       (walk_clean run_of_clean design mid net sound walk.from walk.to nodes wires walk.walk spelled)
       (more_grows design net wires mid grown more)
 

@@ -57,7 +57,7 @@ pub fn finished_run()
     ensures legal { (design : DesignModel) (flat grown : FlatModel) (added : List Added) (lists : List (List Wire))
         → IsSound design.library → IsWellFormed design → IsWellFormed (finished design lists) → IsFlatOf design flat
         → ((fault : Fault) → ¬ IsOtherThanOpen design flat fault) → RouteRun design flat added grown → IsDone design grown
-        → AreListsOf (length design.nets) added lists → (fault : Fault) → ¬ IsViolation design.library (finished design lists) fault }
+        → AreListsOf (length design.nets) added lists → (fault : Fault) → ¬ IsViolation (finished design lists) fault }
     ensures shapes { (design : DesignModel) (flat grown : FlatModel) (added : List Added) (lists : List (List Wire)) → IsFlatOf design flat
         → RouteRun design flat added grown → AreListsOf (length design.nets) added lists → length (metal_of (finished design lists)) ≡ length grown.shapes }
     ensures wires { (design : DesignModel) (lists : List (List Wire)) → IsSound design.library → IsWellFormed design

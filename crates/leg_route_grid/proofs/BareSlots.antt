@@ -39,14 +39,20 @@ module _ (flat : FlatModel) (bare : flat.shapes ≡ []) where
     bare_node : (node : Node) → IsNumberOf grid n node → IsNode grid.design node → IsOneOf (IsNumberOf grid) (IsOpenNode grid.design flat net) n
     bare_node node number is_node =
         let own = number.lies.layer in
-        let wire = Patch node.layer node.at (square own.width) in
+        let wire = Patch node.layer node.at (square (half own.width)) in
         record {
           node = node;
           is = number;
           holds = record {
             is_node = is_node;
             wire = wire;
-            adds = record { direction = own.direction; width = own.width; runs = runs_at_node grid number.k number.j number.i node own number.lies.there number.lies (runs_there grid is_grid number.k own number.lies.there); is = refl };
+            adds = record {
+              direction = own.direction;
+              width = own.width;
+              runs = runs_at_node grid number.k number.j number.i node own number.lies.there number.lies
+                  (runs_there grid is_grid number.k own number.lies.there);
+              is = refl;
+            };
             clean = bare_wire grid.design net wire;
           };
         }
@@ -100,7 +106,8 @@ module _ (flat : FlatModel) (bare : flat.shapes ≡ []) where
     bare_along m (inr north) = inr (bare_north m north)
 
 module _ (grid : GridModel) (is_grid : IsDesignGrid grid) (n : ℕ) (flat : FlatModel) (bare : flat.shapes ≡ []) where
-  pub node_told : (access : Access) (set : Bool) (node : Node) → IsNumberOf grid n node → ((node : Node) → IsNumberOf grid n node → IsTrue set ↔ IsNode grid.design node) → ((net : ℕ) → Admits access net ↔ IsTrue set)
+  pub node_told : (access : Access) (set : Bool) (node : Node) → IsNumberOf grid n node
+      → ((node : Node) → IsNumberOf grid n node → IsTrue set ↔ IsNode grid.design node) → ((net : ℕ) → Admits access net ↔ IsTrue set)
       → AdmitsJust access (λ net. IsOneOf (IsNumberOf grid) (IsOpenNode grid.design flat net) n)
   node_told access set node number is_node admits net = (
     λ free. bare_node flat bare grid is_grid n net node number ((is_node node number).0 ((admits net).0 free)),
@@ -110,14 +117,16 @@ module _ (grid : GridModel) (is_grid : IsDesignGrid grid) (n : ℕ) (flat : Flat
   no_free : (access : Access) (net : ℕ) → Admits access net ↔ IsTrue false → ¬ Admits access net
   no_free access net admits free = true≢false (sym (admits.0 free))
 
-  pub along_told : (access : Access) (next : Option ℕ) → IsNextIfAny grid n next → ((net : ℕ) → Admits access net ↔ IsTrue (is_some next)) → AdmitsJust access (λ net. IsOpenAlong grid flat net n)
+  pub along_told : (access : Access) (next : Option ℕ) → IsNextIfAny grid n next → ((net : ℕ) → Admits access net ↔ IsTrue (is_some next))
+      → AdmitsJust access (λ net. IsOpenAlong grid flat net n)
   along_told access None none admits net = (
     λ free. absurd (no_free access net (admits net) free),
     λ is_open. absurd (none_along grid n flat net is_grid none is_open),
   )
   along_told access (Some m) along admits net = (λ free. bare_along flat bare grid is_grid n net m along, λ is_open. (admits net).1 refl)
 
-  pub above_told : (access : Access) (next : Option ℕ) → ((m : ℕ) → (next ≡ Some m) ↔ IsNeighbourAt grid Above n m) → ((net : ℕ) → Admits access net ↔ IsTrue (is_some next)) → AdmitsJust access (λ net. IsOpenStepAt grid flat net Above n)
+  pub above_told : (access : Access) (next : Option ℕ) → ((m : ℕ) → (next ≡ Some m) ↔ IsNeighbourAt grid Above n m)
+      → ((net : ℕ) → Admits access net ↔ IsTrue (is_some next)) → AdmitsJust access (λ net. IsOpenStepAt grid flat net Above n)
   above_told access None is admits net = (
     λ free. absurd (no_free access net (admits net) free),
     λ step. absurd (no_step grid is_grid Above n flat net (λ m beside. none-some m ((is m).1 beside)) step),
@@ -129,8 +138,16 @@ pub node_in : (grid : GridModel) (n : ℕ) → n < slot_total grid → (node : N
 node_in grid n below =
     let parts = by_division (length grid.layers) (length grid.ys) (length grid.xs) n below in
     let s : Slot = record { layer = n / length grid.xs / length grid.ys; row = n / length grid.xs % length grid.ys; column = n % length grid.xs } in
-    let point = point_in grid s (record { layer = parts.layer; row = parts.row; column = parts.column }) in
-    (point.node, record { k = s.layer; j = s.row; i = s.column; slot = record { layer = parts.layer; row = parts.row; column = parts.column; is = parts.is }; lies = point.lies })
+    let point = point_in grid s (record { layer = parts.layer; row = parts.row; column = parts.column }) in (
+      point.node,
+      record {
+        k = s.layer;
+        j = s.row;
+        i = s.column;
+        slot = record { layer = parts.layer; row = parts.row; column = parts.column; is = parts.is };
+        lies = point.lies;
+      },
+    )
 
 -- the slots below this number are told, where no shape lies
 pub record AreToldBelow (grid : GridModel) (n : ℕ) (slots : List SlotAccess) : Type 0 where
@@ -138,9 +155,11 @@ pub record AreToldBelow (grid : GridModel) (n : ℕ) (slots : List SlotAccess) :
   pub told : (flat : FlatModel) → flat.shapes ≡ [] → (k : ℕ) (s : SlotAccess) → slice_get slots k ≡ Some s → IsSlotAccess grid flat k s
 
 pub none_told_yet : (grid : GridModel) (slots : List SlotAccess) → slots ≡ [] → AreToldBelow grid 0 slots
-none_told_yet grid slots none = rw none (record { count = refl; told = λ flat bare k s there. absurd (let within = slice_get_within [] k s there in omega (arith, within)) })
+none_told_yet grid slots none =
+    rw none (record { count = refl; told = λ flat bare k s there. absurd (let within = slice_get_within [] k s there in omega (arith, within)) })
 
-pub one_slot_more : (grid : GridModel) (n : ℕ) (slots : List SlotAccess) (slot : SlotAccess) → AreToldBelow grid n slots → ((flat : FlatModel) → flat.shapes ≡ [] → IsSlotAccess grid flat n slot) → AreToldBelow grid (n + 1) (slots ++ slot ∷ [])
+pub one_slot_more : (grid : GridModel) (n : ℕ) (slots : List SlotAccess) (slot : SlotAccess) → AreToldBelow grid n slots
+    → ((flat : FlatModel) → flat.shapes ≡ [] → IsSlotAccess grid flat n slot) → AreToldBelow grid (n + 1) (slots ++ slot ∷ [])
 one_slot_more grid n slots slot before tells = record {
   count = let count = before.count in omega (arith, count, length-append slots (slot ∷ []));
   told = λ flat bare k s there. by flat bare k s (read_pushed slots slot k s there);

@@ -23,11 +23,13 @@ pub record IsSlotOf (grid : GridModel) (n k j i : ℕ) : Type 0 where
   pub column : n % length grid.xs ≡ i
 
 rest_of : (size a i : ℕ) → i < size → (a * size + i) % size ≡ i
-rest_of size a i within = let q = div-mul-add a size i within in let e : (a * size + i) / size * size ≡ a * size = ap (λ (n : ℕ). n * size) q in omega (arith, e)
+rest_of size a i within = let q = div-mul-add a size i within in let e : (a * size + i) / size * size ≡ a * size = ap (λ (n : ℕ). n * size) q in
+    omega (arith, e)
 
 pub slot_is : (grid : GridModel) (n k j i : ℕ) → IsSlot grid n k j i → IsSlotOf grid n k j i
 slot_is grid n k j i slot =
-    let lines : n / length grid.xs ≡ k * length grid.ys + j = ap (λ (m : ℕ). m / length grid.xs) slot.is ∙ div-mul-add (k * length grid.ys + j) (length grid.xs) i slot.column in
+    let lines : n / length grid.xs ≡ k * length grid.ys + j =
+    ap (λ (m : ℕ). m / length grid.xs) slot.is ∙ div-mul-add (k * length grid.ys + j) (length grid.xs) i slot.column in
     record {
       layer = ap (λ (m : ℕ). m / length grid.ys) lines ∙ div-mul-add k (length grid.ys) j slot.row;
       row = ap (λ (m : ℕ). m % length grid.ys) lines ∙ rest_of (length grid.ys) k j slot.row;
@@ -97,20 +99,24 @@ least_near a b c d first rest = grind arith
 
 nearest_near : (boxes : List SlotBox) (s t : Slot) → ((ends : SlotBox) → slot_bound ends s ≤ slot_bound ends t + 1) → nearest boxes s ≤ nearest boxes t + 1
 nearest_near [] s t each = omega arith
-nearest_near (ends ∷ boxes) s t each = least_near (slot_bound ends s) (slot_bound ends t) (nearest boxes s) (nearest boxes t) (each ends) (nearest_near boxes s t each)
+nearest_near (ends ∷ boxes) s t each =
+    least_near (slot_bound ends s) (slot_bound ends t) (nearest boxes s) (nearest boxes t) (each ends) (nearest_near boxes s t each)
 
 -- a step comes one nearer at most
-pub one_nearer : (grid : GridModel) (boxes : List SlotBox) (side : Side) (n to : ℕ) → IsDesignGrid grid → IsNeighbourAt grid side n to → bound_at grid boxes n ≤ bound_at grid boxes to + 1
+pub one_nearer : (grid : GridModel) (boxes : List SlotBox) (side : Side) (n to : ℕ) → IsDesignGrid grid → IsNeighbourAt grid side n to
+    → bound_at grid boxes n ≤ bound_at grid boxes to + 1
 one_nearer grid boxes side n to is_grid step =
     let number = step.a_is in
     let s : Slot = record { layer = number.k; row = number.j; column = number.i } in
     let from = step_from grid side n s to is_grid number.slot step in
-    rw (bound_is grid boxes n s number.slot, bound_is grid boxes to from.t from.number) (nearest_near boxes s from.t (λ ends. slots_near grid ends side s from.t from.beside.beside))
+    rw (bound_is grid boxes n s number.slot, bound_is grid boxes to from.t from.number)
+    (nearest_near boxes s from.t (λ ends. slots_near grid ends side s from.t from.beside.beside))
 
 gap_below : (n low high place : ℕ) → low < n → place < n → gap low high place < n
 gap_below n low high place l p = omega arith
 
-pub bound_small : (grid : GridModel) (ends : SlotBox) (n : ℕ) (s : Slot) → IsDesignGrid grid → IsBoxOf grid ends → IsSlot grid n s.layer s.row s.column → slot_bound ends s ≤ 50331648
+pub bound_small : (grid : GridModel) (ends : SlotBox) (n : ℕ) (s : Slot) → IsDesignGrid grid → IsBoxOf grid ends → IsSlot grid n s.layer s.row s.column
+    → slot_bound ends s ≤ 50331648
 bound_small grid ends n s is_grid box slot =
     let layer = slot.layer in
     let row = slot.row in
@@ -123,12 +129,6 @@ bound_small grid ends n s is_grid box slot =
 
 min_upto : (a b c : ℕ) → b ≤ c → min a b ≤ min a c
 min_upto a b c upto = grind arith
-
-min_turned : (a b : ℕ) → min a b ≡ min b a
-min_turned a b = grind arith
-
-min_grouped : (a b c : ℕ) → min a (min b c) ≡ min (min a b) c
-min_grouped a b c = grind arith
 
 pub none_upto : (a b : ℕ) → a ≤ b → b ≡ 0 → a ≡ 0
 none_upto a b upto none = omega arith
@@ -154,7 +154,8 @@ from_none ends s none = record {
 -- the number of a slot is that of the slot that division tells
 pub slot_there : (grid : GridModel) (n : ℕ) → n < slot_total grid → IsSlot grid n (slot_of grid n).layer (slot_of grid n).row (slot_of grid n).column
 slot_there grid n within =
-    let parts = by_division (length grid.layers) (length grid.ys) (length grid.xs) n within in record { layer = parts.layer; row = parts.row; column = parts.column; is = parts.is }
+    let parts = by_division (length grid.layers) (length grid.ys) (length grid.xs) n within in
+    record { layer = parts.layer; row = parts.row; column = parts.column; is = parts.is }
 
 -- a slot in a box doesn't lie outside
 pub in_box : (ends : SlotBox) (s : Slot) → IsInBox ends s → slot_bound ends s ≡ 0
@@ -185,13 +186,8 @@ pub nearest_first : (boxes more : List SlotBox) (s : Slot) → nearest (boxes ++
 nearest_first [] more s = nearest_few more s
 nearest_first (ends ∷ boxes) more s = min_upto (slot_bound ends s) (nearest (boxes ++ more) s) (nearest boxes s) (nearest_first boxes more s)
 
--- one box more
-pub nearest_more : (boxes : List SlotBox) (ends : SlotBox) (s : Slot) → nearest (boxes ++ ends ∷ []) s ≡ min (nearest boxes s) (slot_bound ends s)
-nearest_more [] ends s = min_turned (slot_bound ends s) GREATEST_GRID
-nearest_more (first ∷ boxes) ends s =
-    ap (min (slot_bound first s)) (nearest_more boxes ends s) ∙ min_grouped (slot_bound first s) (nearest boxes s) (slot_bound ends s)
-
-pub in_boxes : (grid : GridModel) (boxes : List SlotBox) (ends : SlotBox) (n : ℕ) (s : Slot) → IsSlot grid n s.layer s.row s.column → Contains boxes ends → IsInBox ends s → bound_at grid boxes n ≡ 0
+pub in_boxes : (grid : GridModel) (boxes : List SlotBox) (ends : SlotBox) (n : ℕ) (s : Slot) → IsSlot grid n s.layer s.row s.column → Contains boxes ends
+    → IsInBox ends s → bound_at grid boxes n ≡ 0
 in_boxes grid boxes ends n s slot has inside =
     let upto = nearest_upto boxes ends s has in
     let none : slot_bound ends s ≡ 0 = in_box ends s inside in
@@ -207,7 +203,8 @@ turned_beside grid North n to step = record { a = step.b; b = step.a; a_is = ste
 turned_beside grid Below n to step = record { a = step.b; b = step.a; a_is = step.b_is; b_is = step.a_is; step = step.step }
 turned_beside grid Above n to step = record { a = step.b; b = step.a; a_is = step.b_is; b_is = step.a_is; step = step.step }
 
-pub beside_near : (grid : GridModel) (starts ends : List SlotBox) (side : Side) (n to : ℕ) → IsDesignGrid grid → IsNeighbourAt grid side n to → IsNeighbourNear grid starts ends side n to
+pub beside_near : (grid : GridModel) (starts ends : List SlotBox) (side : Side) (n to : ℕ) → IsDesignGrid grid → IsNeighbourAt grid side n to
+    → IsNeighbourNear grid starts ends side n to
 beside_near grid starts ends side n to is_grid step =
     let back = turned_beside grid side n to step in record {
       beside = step;

@@ -42,7 +42,8 @@ IsWireAround design layer reach low high wire =
     (metal : OnLayer) → Contains (wire_outlines design wire) metal → metal.layer ≡ layer → AreAround reach low high (λ p. HasPointOf metal.outline p)
 
 -- a rectangle about a point
-rect_around : (reach : ℤ) (at : PointModel) (rect : RectModel) → ReachesAll (Some reach) rect → (p : PointModel) → ComesFrom (moved at) rect p → IsAround reach at at p
+rect_around : (reach : ℤ) (at : PointModel) (rect : RectModel) → ReachesAll (Some reach) rect → (p : PointModel) → ComesFrom (moved at) rect p
+    → IsAround reach at at p
 rect_around reach at rect all p comes =
     let left = comes.in_r.left in
     let right = comes.in_r.right in
@@ -60,13 +61,14 @@ shifted_around : (reach : Option ℤ) (at : PointModel) (rect : RectModel) → R
 shifted_around None at rect all = absurd all.x2
 shifted_around (Some reach) at rect all = rect_around reach at rect all
 
-square_reach : (reach : Option ℤ) (width : ℤ) → Reaches reach (half width) → ReachesAll reach (square width)
+square_reach : (reach : Option ℤ) (width : ℤ) → Reaches reach (half width) → ReachesAll reach (square (half width))
 square_reach None width reaches = absurd reaches
 square_reach (Some reach) width reaches = by (half width) reaches where
   by : (h : ℤ) → h ≤ℤ reach → ReachesAll (Some reach) (record { x1 = pos 0 -ℤ h; y1 = pos 0 -ℤ h; x2 = h; y2 = h })
   by h long = record { x1 = omega (arith, ints); y1 = omega (arith, ints); x2 = omega (arith, ints); y2 = omega (arith, ints) }
 
-strip_around : (reach h : ℤ) (low high p : PointModel) → h ≤ℤ reach → HasPoint (record { x1 = low.x -ℤ h; y1 = low.y -ℤ h; x2 = high.x +ℤ h; y2 = high.y +ℤ h }) p → IsAround reach low high p
+strip_around : (reach h : ℤ) (low high p : PointModel) → h ≤ℤ reach
+    → HasPoint (record { x1 = low.x -ℤ h; y1 = low.y -ℤ h; x2 = high.x +ℤ h; y2 = high.y +ℤ h }) p → IsAround reach low high p
 strip_around reach h low high p long inside =
     let left = inside.left in
     let right = inside.right in
@@ -74,27 +76,31 @@ strip_around reach h low high p long inside =
     let top = inside.top in
     record { left = omega (arith, ints); right = omega (arith, ints); bottom = omega (arith, ints); top = omega (arith, ints) }
 
-line_around : (reach : Option ℤ) (low high : PointModel) (width : ℤ) → IsWidth width → IsStretch low high → Reaches reach (half width) → AreAround reach low high (λ p. HasPointOf (Line low high width (half width) (half width)) p)
+line_around : (reach : Option ℤ) (low high : PointModel) (width : ℤ) → IsWidth width → IsStretch low high → Reaches reach (half width)
+    → AreAround reach low high (λ p. HasPointOf (Line low high width (half width) (half width)) p)
 line_around None low high width wide stretch reaches = absurd reaches
 line_around (Some reach) low high width wide stretch reaches = λ p there.
     strip_around reach (half width) low high p reaches ((points_forth low high width wide (strip_of low high width) refl stretch p).1 there)
 
 module _ (design : DesignModel) (layer : ℕ) (reach : Option ℤ) where
-  pub patch_around : (on : ℕ) (at : PointModel) (width : ℤ) → (on ≡ layer → Reaches reach (half width)) → IsWireAround design layer reach at at (Patch on at (square width))
+  pub patch_around : (on : ℕ) (at : PointModel) (width : ℤ) → (on ≡ layer → Reaches reach (half width))
+      → IsWireAround design layer reach at at (Patch on at (square (half width)))
   patch_around on at width reaches metal there here =
-      let the : OnLayer = record { layer = on; outline = Shifted at (square width) } in
+      let the : OnLayer = record { layer = on; outline = Shifted at (square (half width)) } in
       let same : the ≡ metal = the_one the metal there in
       let P : OnLayer → Type 0 = λ m. AreAround reach at at (λ p. HasPointOf m.outline p) in
-      subst P same (shifted_around reach at (square width) (square_reach reach width (reaches (ap (λ (m : OnLayer). m.layer) same ∙ here))))
+      subst P same (shifted_around reach at (square (half width)) (square_reach reach width (reaches (ap (λ (m : OnLayer). m.layer) same ∙ here))))
 
-  pub segment_around : (on : ℕ) (low high : PointModel) (width : ℤ) → IsWidth width → IsStretch low high → (on ≡ layer → Reaches reach (half width)) → IsWireAround design layer reach low high (Segment on low high width (half width) (half width))
+  pub segment_around : (on : ℕ) (low high : PointModel) (width : ℤ) → IsWidth width → IsStretch low high → (on ≡ layer → Reaches reach (half width))
+      → IsWireAround design layer reach low high (Segment on low high width (half width) (half width))
   segment_around on low high width wide stretch reaches metal there here =
       let the : OnLayer = record { layer = on; outline = Line low high width (half width) (half width) } in
       let same : the ≡ metal = the_one the metal there in
       let P : OnLayer → Type 0 = λ m. AreAround reach low high (λ p. HasPointOf m.outline p) in
       subst P same (line_around reach low high width wide stretch (reaches (ap (λ (m : OnLayer). m.layer) same ∙ here)))
 
-  pub via_around : (via : ℕ) (at : PointModel) (said : ViaModel) → slice_get design.library.vias via ≡ Some said → All (ReachesShape reach layer) said.shapes → IsWireAround design layer reach at at (ViaAt via at)
+  pub via_around : (via : ℕ) (at : PointModel) (said : ViaModel) → slice_get design.library.vias via ≡ Some said → All (ReachesShape reach layer) said.shapes
+      → IsWireAround design layer reach at at (ViaAt via at)
   via_around via at said is all metal there here =
       let outlines : via_outlines (slice_get (design.library.vias ++ design.vias) via) (ViaAt via at) ≡ map (metal_at at) said.shapes =
       ap (λ (v : Option ViaModel). via_outlines v (ViaAt via at)) (read_old design.library.vias design.vias via said is) in
@@ -129,26 +135,34 @@ pub record AreEnds (grid : GridModel) (along_x along_y : Bool) (j i : ℕ) (low 
   pub x_end : IsHere grid.xs along_x i high.x
   pub y_end : IsHere grid.ys along_y j high.y
 
-past_beyond : (values : List ℤ) (along : Bool) (i : ℕ) (z1 z2 reach : ℤ) (distance : ℕ) (low high p q : ℤ) → IsPast values along i (z1 -ℤ (reach +ℤ pos distance)) (z2 +ℤ (reach +ℤ pos distance)) → slice_get values i ≡ Some low → IsHere values along i high
+past_beyond : (values : List ℤ) (along : Bool) (i : ℕ) (z1 z2 reach : ℤ) (distance : ℕ) (low high p q : ℤ)
+    → IsPast values along i (z1 -ℤ (reach +ℤ pos distance)) (z2 +ℤ (reach +ℤ pos distance)) → slice_get values i ≡ Some low → IsHere values along i high
     → (low -ℤ reach) ≤ℤ p → p ≤ℤ (high +ℤ reach) → z1 ≤ℤ q → q ≤ℤ z2 → IsBeyond distance p q
-past_beyond values along i z1 z2 reach distance low high p q (inl before) there end from to above below = inl (let less = before end.m high end.upto end.there in omega (arith, ints, less, from, to, above, below))
-past_beyond values along i z1 z2 reach distance low high p q (inr behind) there end from to above below = inr (let more = behind low there in omega (arith, ints, more, from, to, above, below))
+past_beyond values along i z1 z2 reach distance low high p q (inl before) there end from to above below =
+    inl (let less = before end.m high end.upto end.there in omega (arith, ints, less, from, to, above, below))
+past_beyond values along i z1 z2 reach distance low high p q (inr behind) there end from to above below =
+    inr (let more = behind low there in omega (arith, ints, more, from, to, above, below))
 
-module _ (grid : GridModel) (along_x along_y : Bool) (j i : ℕ) (shape : Shape) (low high : PointModel) (are_ends : AreEnds grid along_x along_y j i low high) where
+module _ (grid : GridModel) (along_x along_y : Bool) (j i : ℕ) (shape : Shape) (low high : PointModel)
+    (are_ends : AreEnds grid along_x along_y j i low high) where
   abbrev distance : ℕ
   distance = clear_at grid.design.library.layers shape.layer
 
-  points_beyond : (reach : Option ℤ) → IsSlotPast grid along_x along_y j i shape.rect reach distance → (Holds : PointModel → Type 0) → AreAround reach low high Holds → (p q : PointModel) → Holds p → HasPoint shape.rect q → AreBeyond distance p q
+  points_beyond : (reach : Option ℤ) → IsSlotPast grid along_x along_y j i shape.rect reach distance → (Holds : PointModel → Type 0)
+      → AreAround reach low high Holds → (p q : PointModel) → Holds p → HasPoint shape.rect q → AreBeyond distance p q
   points_beyond None past Holds around p q holds inside = absurd around
   points_beyond (Some reach) (inl column) Holds around p q holds inside =
       let here = around p holds in
-      inl (past_beyond grid.xs along_x i shape.rect.x1 shape.rect.x2 reach distance low.x high.x p.x q.x column are_ends.x are_ends.x_end here.left here.right inside.left inside.right)
+      inl (past_beyond grid.xs along_x i shape.rect.x1 shape.rect.x2 reach distance low.x high.x p.x q.x column are_ends.x are_ends.x_end here.left here.right
+      inside.left inside.right)
   points_beyond (Some reach) (inr row) Holds around p q holds inside =
       let here = around p holds in
-      inr (past_beyond grid.ys along_y j shape.rect.y1 shape.rect.y2 reach distance low.y high.y p.y q.y row are_ends.y are_ends.y_end here.bottom here.top inside.bottom inside.top)
+      inr (past_beyond grid.ys along_y j shape.rect.y1 shape.rect.y2 reach distance low.y high.y p.y q.y row are_ends.y are_ends.y_end here.bottom here.top
+      inside.bottom inside.top)
 
   -- a wire whose metal lies around a slot's points is open where the shape lies far from there
-  pub far_wire : (reach : Option ℤ) → IsSlotPast grid along_x along_y j i shape.rect reach distance → (wire : Wire) → IsWireAround grid.design shape.layer reach low high wire → (net : ℕ) → IsOpenWire grid.design (alone shape) net wire
+  pub far_wire : (reach : Option ℤ) → IsSlotPast grid along_x along_y j i shape.rect reach distance → (wire : Wire)
+      → IsWireAround grid.design shape.layer reach low high wire → (net : ℕ) → IsOpenWire grid.design (alone shape) net wire
   far_wire reach past wire around net metal rect there points =
       far_is_clean grid.design.library shape net metal.layer rect
       (λ same p q in_p in_q. points_beyond reach past (λ p. HasPointOf metal.outline p) (around metal there same) p q ((points p).0 in_p) in_q)

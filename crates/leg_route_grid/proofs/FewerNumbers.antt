@@ -1,9 +1,8 @@
 -- Numbers of which some are dropped, and others added.
-use Rattle.std.proofs.Common.{◌≡◌, ℕ, zero, suc, ◌<◌, ◌≤◌, ◌⊎◌, inl, inr, Bool, true, false, List, [], ◌∷◌, Contains, length, get_or, refl, sym, subst, arith}
+use Rattle.std.proofs.Common.{◌≡◌, ℕ, zero, suc, ◌<◌, ◌⊎◌, inl, inr, Bool, true, false, List, [], ◌∷◌, Contains, length, get_or, refl, sym, subst, arith}
 use Rattle.std.specs.List.{items_where_true}
 use Rattle.std.specs.List.Retain.{IsFiltered, ReturnsInTurn}
-use Rattle.leg_route_grid.specs.Steps.Grid.{GridModel, IsSlot}
-use Rattle.leg_route_grid.specs.Steps.SlotRanges.{IsInRows, HaveGot, HaveDropped}
+use Rattle.leg_route_grid.specs.Steps.SlotRanges.{HaveGot, HaveDropped}
 
 here_or_later : {X : Type 0} (x : X) (xs : List X) (y : X) → Contains (x ∷ xs) y → (x ≡ y) ⊎ Contains xs y
 here_or_later x xs y there = by there.0 there.1 there.2 where
@@ -14,7 +13,8 @@ here_or_later x xs y there = by there.0 there.1 there.2 where
 later : {X : Type 0} (x : X) (xs : List X) (y : X) → Contains xs y → Contains (x ∷ xs) y
 later x xs y there = (suc there.0, omega (arith, there.1), there.2)
 
-module _ {X F : Type 0} (R : F → X → Bool → F → Type 0) (P : X → Type 0) (f : F) (h : (x : X) (b : Bool) (g : F) → R f x b g → (b ≡ false → P x) × (g ≡ f)) where
+module _ {X F : Type 0} (R : F → X → Bool → F → Type 0) (P : X → Type 0) (f : F)
+    (h : (x : X) (b : Bool) (g : F) → R f x b g → (b ≡ false → P x) × (g ≡ f)) where
   still_there : (bs : List Bool) (xs : List X) (y : X) → Contains (items_where_true bs xs) y → Contains xs y
   still_there [] xs y there = absurd (omega (arith, there.1))
   still_there (b ∷ bs) [] y there = absurd (omega (arith, there.1))
@@ -24,7 +24,8 @@ module _ {X F : Type 0} (R : F → X → Bool → F → Type 0) (P : X → Type 
   ]
   still_there (false ∷ bs) (x ∷ xs) y there = later x xs y (still_there bs xs y there)
 
-  left_or : (bs : List Bool) (xs : List X) (q : F) → length bs ≡ length xs → ReturnsInTurn R f bs xs q → (y : X) → Contains xs y → Contains (items_where_true bs xs) y ⊎ P y
+  left_or : (bs : List Bool) (xs : List X) (q : F) → length bs ≡ length xs → ReturnsInTurn R f bs xs q → (y : X) → Contains xs y
+      → Contains (items_where_true bs xs) y ⊎ P y
   left_or [] [] q long told y there = absurd (omega (arith, there.1))
   left_or [] (x ∷ xs) q long told y there = absurd (omega (arith, long))
   left_or (b ∷ bs) [] q long told y there = absurd told
@@ -44,7 +45,11 @@ module _ {X F : Type 0} (R : F → X → Bool → F → Type 0) (P : X → Type 
   pub left_of : (xs ys : List X) → IsFiltered R f xs ys → ((y : X) → Contains ys y → Contains xs y) × ((y : X) → Contains xs y → Contains ys y ⊎ P y)
   left_of xs ys kept = (
     λ y there. still_there kept.0 xs y (subst (λ (ys : List X). Contains ys y) kept.4 there),
-    λ y there. elim (left_or kept.0 xs kept.1 kept.2 kept.3 y there) [ inl left ↦ inl (subst (λ (ys : List X). Contains ys y) (sym kept.4) left) | inr p ↦ inr p ],
+    λ y there. elim (left_or kept.0 xs kept.1 kept.2 kept.3 y there) [
+      | inl left ↦
+          inl (subst (λ (ys : List X). Contains ys y) (sym kept.4) left)
+      | inr p ↦ inr p
+    ],
   )
 
 pub none_dropped : (P : ℕ → Type 0) (numbers : List ℕ) → HaveDropped P numbers numbers
@@ -59,6 +64,3 @@ got_again New before mid after dropped got n = (
     | inr new ↦ (got n).1 (inr new)
   ],
 )
-
-pub in_rows : (grid : GridModel) (k j i n r0 r1 c0 c1 : ℕ) → IsSlot grid n k j i → r0 ≤ j → j < r1 → c0 ≤ i → i < c1 → IsInRows grid k (r0, r1) (c0, c1) n
-in_rows grid k j i n r0 r1 c0 c1 slot from below left right = record { k = j; from = from; below = below; is = record { k = i; from = left; below = right; is = slot } }

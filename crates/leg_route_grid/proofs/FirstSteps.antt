@@ -12,7 +12,8 @@ use Rattle.leg_route_grid.specs.Steps.Towards.{LiesDue}
 use Rattle.leg_route_grid.proofs.NodeSides.{due}
 
 -- a step to a side that isn't on the layer is one by a via
-pub by_via : (design : DesignModel) (side : Side) (a b : Node) → ¬ IsOnLayer side → IsNeighbour design side a b → (via : ℕ) × (IsOver design via a b ⊎ IsOver design via b a)
+pub by_via : (design : DesignModel) (side : Side) (a b : Node) → ¬ IsOnLayer side → IsNeighbour design side a b
+    → (via : ℕ) × (IsOver design via a b ⊎ IsOver design via b a)
 by_via design West a b off is = absurd (off tt)
 by_via design East a b off is = absurd (off tt)
 by_via design South a b off is = absurd (off tt)
@@ -20,7 +21,8 @@ by_via design North a b off is = absurd (off tt)
 by_via design Below a b off is = (is.0, inr is.1)
 by_via design Above a b off is = (is.0, inl is.1)
 
-module _ (design : DesignModel) (nodes : List Node) (walk : IsGridWalk design nodes) (from next : Node) (at_from : slice_get nodes 0 ≡ Some from) (at_next : slice_get nodes 1 ≡ Some next) (side : Side)
+module _ (design : DesignModel) (nodes : List Node) (walk : IsGridWalk design nodes) (from next : Node) (at_from : slice_get nodes 0 ≡ Some from)
+    (at_next : slice_get nodes 1 ≡ Some next) (side : Side)
     (towards : (other : Side) → LiesDue other from next → side ≡ other) where
   pub first_beside : IsNeighbour design side from next
   first_beside =

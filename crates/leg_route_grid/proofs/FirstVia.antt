@@ -39,7 +39,8 @@ module _ (Holds : ViaModel → Type 0) (vias : List ViaModel) where
     by (inr (inr more)) = absurd (first.none_before j other.via more other.there other.holds)
 
   pub first_is_there : (k : ℕ) → (first : IsFirst Holds vias k) → Contains vias first.via
-  first_is_there k first = let within = slice_get_within vias k first.via first.there in (k, within, let e : Some (get_or vias k first.via) ≡ Some first.via = sym (slice_get-get_or vias k first.via within) ∙ first.there in same_Some _ _ e)
+  first_is_there k first = let within = slice_get_within vias k first.via first.there in
+      (k, within, let e : Some (get_or vias k first.via) ≡ Some first.via = sym (slice_get-get_or vias k first.via within) ∙ first.there in same_Some _ _ e)
 
 module _ (library : LibraryModel) (low high : ℕ) where
   -- one via leads from one layer to the other
@@ -52,7 +53,8 @@ module _ (library : LibraryModel) (low high : ℕ) where
   pub first_default : (k : ℕ) (first : Option ℕ) → first ≡ Some k → IsFirstIfAny library low high true first → IsVia library low high k
   first_default k first is found = inl (rw is at found)
 
-  pub first_of_all : (found : Option ℕ) → ((via : ViaModel) → Contains library.vias via → ¬ JoinsByDefault library low high via) → IsFirstIfAny library low high false found → IsViaIfAny library low high found
+  pub first_of_all : (found : Option ℕ) → ((via : ViaModel) → Contains library.vias via → ¬ JoinsByDefault library low high via)
+      → IsFirstIfAny library low high false found → IsViaIfAny library low high found
   first_of_all None no_default none = λ k. by k where
     by : (k : ℕ) → ¬ IsVia library low high k
     by k (inl first) = no_default first.via (first_is_there (JoinsByDefault library low high) library.vias k first) first.holds

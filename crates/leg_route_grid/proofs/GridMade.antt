@@ -23,7 +23,8 @@ module _ (design : DesignModel) (layers : List RoutingLayer) (xs ys : List ℤ) 
   no_tables = record { count = refl; each = λ k layer marks at_layer is. absurd (let e = slice_get_within [] k marks is in omega (arith, e)) }
 
   pub one_table_more : (n : ℕ) (tracks more : List (List Bool)) (marks : List Bool) → AreFirstTracks design layers xs ys n tracks → more ≡ tracks ++ marks ∷ []
-      → ((layer : RoutingLayer) → slice_get layers n ≡ Some layer → AreTrackMarks design layer.number (axis_of layer.direction) (values_of xs ys layer.direction) marks)
+      → ((layer : RoutingLayer) → slice_get layers n ≡ Some layer
+      → AreTrackMarks design layer.number (axis_of layer.direction) (values_of xs ys layer.direction) marks)
       → AreFirstTracks design layers xs ys (n + 1) more
   one_table_more n tracks more marks are is last = rw is (record {
     count = omega (arith, length-append tracks (marks ∷ []), are.count);
@@ -46,12 +47,14 @@ module _ (design : DesignModel) (xs ys : List ℤ) (xs_are : AreValues (IsGridX 
   slots_are : (layers : List RoutingLayer) → layers ≡ routing_from 0 design.library.layers → length layers * length ys * length xs ≡ slot_count design xs ys
   slots_are layers is = ap (λ n. n * length ys * length xs) (ap length is ∙ count_from 0 design.library.layers)
 
-  pub not_beyond : (limit : ℕ) (layers : List RoutingLayer) → layers ≡ routing_from 0 design.library.layers → ¬ (limit < track_count design.tracks) → length layers * length ys * length xs ≤ limit
+  pub not_beyond : (limit : ℕ) (layers : List RoutingLayer) → layers ≡ routing_from 0 design.library.layers → ¬ (limit < track_count design.tracks)
+      → length layers * length ys * length xs ≤ limit
       → ¬ IsGridBeyond limit design
   not_beyond limit layers is few_tracks few (inl many) = few_tracks many
   not_beyond limit layers is few_tracks few (inr (others, more, are, many)) =
       let same : slot_count design others more ≡ slot_count design xs ys = rw (same_xs others are.xs_are, same_ys more are.ys_are) refl in
       omega (arith, many, same, slots_are layers is, few)
 
-  pub beyond : (limit : ℕ) (layers : List RoutingLayer) → layers ≡ routing_from 0 design.library.layers → ¬ (length layers * length ys * length xs ≤ limit) → IsGridBeyond limit design
+  pub beyond : (limit : ℕ) (layers : List RoutingLayer) → layers ≡ routing_from 0 design.library.layers → ¬ (length layers * length ys * length xs ≤ limit)
+      → IsGridBeyond limit design
   beyond limit layers is many = inr (xs, ys, record { xs_are = xs_are; ys_are = ys_are }, let same = slots_are layers is in omega (arith, same, many))

@@ -20,7 +20,8 @@ same_node : (a b : Node) → a.layer ≡ b.layer → a.at.x ≡ b.at.x → a.at.
 same_node a b layer x y = λ i. record { layer = layer i; at = record { x = x i; y = y i } }
 
 -- an element stands in one place of a list that is in order
-pub one_place : {T : Type 0} (R : T → T → Type 0) (list : List T) (i j : ℕ) (a b : T) → AllPairs R list → slice_get list i ≡ Some a → slice_get list j ≡ Some b → ¬ R a b → ¬ R b a → i ≡ j
+pub one_place : {T : Type 0} (R : T → T → Type 0) (list : List T) (i j : ℕ) (a b : T) → AllPairs R list → slice_get list i ≡ Some a
+    → slice_get list j ≡ Some b → ¬ R a b → ¬ R b a → i ≡ j
 one_place {T} R list i j a b rising at_i at_j not_less not_more = by (order i j) where
   order : (i j : ℕ) → (i < j) ⊎ ((i ≡ j) ⊎ (j < i))
   order i j = grind arith
@@ -45,7 +46,9 @@ one_direction library n d e v w runs also =
 -- the node of a slot lies there
 pub lies_at : (grid : GridModel) (n k j i : ℕ) (node : Node) → IsSlot grid n k j i → IsNumberOf grid n node → LiesAt grid k j i node
 lies_at grid n k j i node slot number =
-    let lines = one_rest (length grid.xs) (k * length grid.ys + j) (number.k * length grid.ys + number.j) i number.i slot.column number.slot.column (sym slot.is ∙ number.slot.is) in
+    let lines =
+    one_rest (length grid.xs) (k * length grid.ys + j) (number.k * length grid.ys + number.j) i number.i slot.column number.slot.column
+    (sym slot.is ∙ number.slot.is) in
     let rows = one_rest (length grid.ys) k number.k j number.j slot.row number.slot.row lines.0 in
     rw (rows.0, rows.1, lines.1) number.lies
 
@@ -67,17 +70,25 @@ module _ (grid : GridModel) (is_grid : IsDesignGrid grid) where
   pub one_number : (m n : ℕ) (a : Node) → IsNumberOf grid m a → IsNumberOf grid n a → m ≡ n
   one_number m n a first other =
       let on : first.lies.layer.number ≡ other.lies.layer.number = sym first.lies.on ∙ other.lies.on in
-      let k : first.k ≡ other.k = one_place (λ a b. a.number < b.number) grid.layers first.k other.k first.lies.layer other.lies.layer is_grid.layers_are.increasing first.lies.there other.lies.there
+      let k : first.k ≡ other.k =
+      one_place (λ a b. a.number < b.number) grid.layers first.k other.k first.lies.layer other.lies.layer is_grid.layers_are.increasing first.lies.there
+      other.lies.there
       (λ less. omega (arith, less, on)) (λ more. omega (arith, more, on)) in
-      let j : first.j ≡ other.j = one_place (λ a b. a <ℤ b) grid.ys first.j other.j a.at.y a.at.y is_grid.ys_are.increasing first.lies.y other.lies.y (λ less. omega (arith, ints, less)) (λ more. omega (arith, ints, more)) in
-      let i : first.i ≡ other.i = one_place (λ a b. a <ℤ b) grid.xs first.i other.i a.at.x a.at.x is_grid.xs_are.increasing first.lies.x other.lies.x (λ less. omega (arith, ints, less)) (λ more. omega (arith, ints, more)) in
-      let same : (first.k * length grid.ys + first.j) * length grid.xs + first.i ≡ (other.k * length grid.ys + other.j) * length grid.xs + other.i = rw (k, j, i) refl in
+      let j : first.j ≡ other.j =
+      one_place (λ a b. a <ℤ b) grid.ys first.j other.j a.at.y a.at.y is_grid.ys_are.increasing first.lies.y other.lies.y (λ less. omega (arith, ints, less))
+      (λ more. omega (arith, ints, more)) in
+      let i : first.i ≡ other.i =
+      one_place (λ a b. a <ℤ b) grid.xs first.i other.i a.at.x a.at.x is_grid.xs_are.increasing first.lies.x other.lies.x (λ less. omega (arith, ints, less))
+      (λ more. omega (arith, ints, more)) in
+      let same : (first.k * length grid.ys + first.j) * length grid.xs + first.i ≡ (other.k * length grid.ys + other.j) * length grid.xs + other.i =
+      rw (k, j, i) refl in
       first.slot.is ∙ same ∙ sym other.slot.is
 
   read_there : {T : Type 0} (list : List T) (x : T) → (there : Contains list x) → slice_get list there.0 ≡ Some x
   read_there list x there = slice_get-get_or list there.0 x there.1 ∙ ap Some there.2
 
-  slot_of : (a : Node) (direction : Direction) (width : ℤ) → Runs grid.design.library a.layer direction width → IsGridX grid.design a.at.x → IsGridY grid.design a.at.y → (n : ℕ) × IsNumberOf grid n a
+  slot_of : (a : Node) (direction : Direction) (width : ℤ) → Runs grid.design.library a.layer direction width → IsGridX grid.design a.at.x
+      → IsGridY grid.design a.at.y → (n : ℕ) × IsNumberOf grid n a
   slot_of a direction width runs x y =
       let layer : RoutingLayer = record { number = a.layer; direction = direction; width = width } in
       let k = is_grid.layers_are.all a.layer direction width runs in
@@ -95,12 +106,17 @@ module _ (grid : GridModel) (is_grid : IsDesignGrid grid) where
 
   -- each node of the grid lies in a slot
   pub numbered : (a : Node) → IsNode grid.design a → (n : ℕ) × IsNumberOf grid n a
-  numbered a (inl upright) = slot_of a Vertical upright.width upright.vertical (record { number = a.layer; width = upright.width; vertical = upright.vertical; track = upright.track }) upright.y
-  numbered a (inr level) = slot_of a Horizontal level.width level.horizontal level.x (record { number = a.layer; width = level.width; horizontal = level.horizontal; track = level.track })
+  numbered a (inl upright) =
+      slot_of a Vertical upright.width upright.vertical
+      (record { number = a.layer; width = upright.width; vertical = upright.vertical; track = upright.track }) upright.y
+  numbered a (inr level) =
+      slot_of a Horizontal level.width level.horizontal level.x
+      (record { number = a.layer; width = level.width; horizontal = level.horizontal; track = level.track })
 
   -- the layer of such a slot
   pub runs_there : (k : ℕ) (layer : RoutingLayer) → slice_get grid.layers k ≡ Some layer → Runs grid.design.library layer.number layer.direction layer.width
-  runs_there k layer there = rw (get_or_from_slice_get grid.layers k layer layer there) at (is_grid.layers_are.each k layer (slice_get_within grid.layers k layer there))
+  runs_there k layer there =
+      rw (get_or_from_slice_get grid.layers k layer layer there) at (is_grid.layers_are.each k layer (slice_get_within grid.layers k layer there))
 
   pub x_is : (i : ℕ) (x : ℤ) → slice_get grid.xs i ≡ Some x → IsGridX grid.design x
   x_is i x there = rw (get_or_from_slice_get grid.xs i x x there) at (is_grid.xs_are.each i x (slice_get_within grid.xs i x there))
@@ -109,17 +125,21 @@ module _ (grid : GridModel) (is_grid : IsDesignGrid grid) where
   y_is j y there = rw (get_or_from_slice_get grid.ys j y y there) at (is_grid.ys_are.each j y (slice_get_within grid.ys j y there))
 
   -- the marks of a layer's tracks, along the axis of its direction
-  marks_there : (k : ℕ) (layer : RoutingLayer) (marks : List Bool) (direction : Direction) → slice_get grid.layers k ≡ Some layer → slice_get grid.tracks k ≡ Some marks → layer.direction ≡ direction
+  marks_there : (k : ℕ) (layer : RoutingLayer) (marks : List Bool) (direction : Direction) → slice_get grid.layers k ≡ Some layer
+      → slice_get grid.tracks k ≡ Some marks → layer.direction ≡ direction
       → AreTrackMarks grid.design layer.number (axis_of direction) (values_of grid.xs grid.ys direction) marks
   marks_there k layer marks direction there at_k way = rw way at (is_grid.tracks_are.each k layer marks there at_k)
 
-  pub column_within : (k i : ℕ) (layer : RoutingLayer) (marks : List Bool) → slice_get grid.layers k ≡ Some layer → slice_get grid.tracks k ≡ Some marks → layer.direction ≡ Vertical → i < length grid.xs → i < length marks
+  pub column_within : (k i : ℕ) (layer : RoutingLayer) (marks : List Bool) → slice_get grid.layers k ≡ Some layer → slice_get grid.tracks k ≡ Some marks
+      → layer.direction ≡ Vertical → i < length grid.xs → i < length marks
   column_within k i layer marks there at_k way within = let count = (marks_there k layer marks Vertical there at_k way).count in omega (arith, count, within)
 
-  pub row_within : (k j : ℕ) (layer : RoutingLayer) (marks : List Bool) → slice_get grid.layers k ≡ Some layer → slice_get grid.tracks k ≡ Some marks → layer.direction ≡ Horizontal → j < length grid.ys → j < length marks
+  pub row_within : (k j : ℕ) (layer : RoutingLayer) (marks : List Bool) → slice_get grid.layers k ≡ Some layer → slice_get grid.tracks k ≡ Some marks
+      → layer.direction ≡ Horizontal → j < length grid.ys → j < length marks
   row_within k j layer marks there at_k way within = let count = (marks_there k layer marks Horizontal there at_k way).count in omega (arith, count, within)
 
-  module _ (k j i : ℕ) (layer : RoutingLayer) (marks : List Bool) (mark : Bool) (node : Node) (there : slice_get grid.layers k ≡ Some layer) (at_k : slice_get grid.tracks k ≡ Some marks) (lies : LiesAt grid k j i node) where
+  module _ (k j i : ℕ) (layer : RoutingLayer) (marks : List Bool) (mark : Bool) (node : Node) (there : slice_get grid.layers k ≡ Some layer)
+      (at_k : slice_get grid.tracks k ≡ Some marks) (lies : LiesAt grid k j i node) where
     on : node.layer ≡ layer.number
     on = lies.on ∙ ap (λ (l : RoutingLayer). l.number) (same_Some lies.layer layer (sym lies.there ∙ there))
 
@@ -137,7 +157,8 @@ module _ (grid : GridModel) (is_grid : IsDesignGrid grid) where
       }),
       elim [
         | inl upright ↦ same_Some mark true (sym is ∙ tracks.1 (rw on at upright.track))
-        | inr level ↦ absurd (other (one_direction grid.design.library node.layer Horizontal layer.direction level.width layer.width level.horizontal runs_at ∙ way))
+        | inr level ↦
+            absurd (other (one_direction grid.design.library node.layer Horizontal layer.direction level.width layer.width level.horizontal runs_at ∙ way))
       ],
     ) where
       tracks : (slice_get marks i ≡ Some true) ↔ HasTrack grid.design layer.number X node.at.x
@@ -156,7 +177,8 @@ module _ (grid : GridModel) (is_grid : IsDesignGrid grid) where
         x = x_is i node.at.x lies.x;
       }),
       elim [
-        | inl upright ↦ absurd (other (one_direction grid.design.library node.layer Vertical layer.direction upright.width layer.width upright.vertical runs_at ∙ way))
+        | inl upright ↦
+            absurd (other (one_direction grid.design.library node.layer Vertical layer.direction upright.width layer.width upright.vertical runs_at ∙ way))
         | inr level ↦ same_Some mark true (sym is ∙ tracks.1 (rw on at level.track))
       ],
     ) where

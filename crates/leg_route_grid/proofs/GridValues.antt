@@ -26,7 +26,11 @@ module _ (design : DesignModel) (z : ℤ) where
     λ x. record {
       track = x.track.track;
       given = x.track.given;
-      is = record { along = x.track.along; serve = record { number = x.number; width = x.width; runs = x.vertical; are_for = x.track.are_for }; line = x.track.line };
+      is = record {
+        along = x.track.along;
+        serve = record { number = x.number; width = x.width; runs = x.vertical; are_for = x.track.are_for };
+        line = x.track.line;
+      };
     },
   )
 
@@ -41,13 +45,18 @@ module _ (design : DesignModel) (z : ℤ) where
     λ y. record {
       track = y.track.track;
       given = y.track.given;
-      is = record { along = y.track.along; serve = record { number = y.number; width = y.width; runs = y.horizontal; are_for = y.track.are_for }; line = y.track.line };
+      is = record {
+        along = y.track.along;
+        serve = record { number = y.number; width = y.width; runs = y.horizontal; are_for = y.track.are_for };
+        line = y.track.line;
+      };
     },
   )
 
 -- values in order are those that were gathered
 pub in_order : (IsValue IsLine : ℤ → Type 0) (gathered values : List ℤ) → AllPairs (λ a b. a <ℤ b) values
-    → ((z : ℤ) → Contains values z ↔ Contains gathered z) → ((z : ℤ) → Contains gathered z ↔ IsLine z) → ((z : ℤ) → IsLine z ↔ IsValue z) → AreValues IsValue values
+    → ((z : ℤ) → Contains values z ↔ Contains gathered z) → ((z : ℤ) → Contains gathered z ↔ IsLine z) → ((z : ℤ) → IsLine z ↔ IsValue z)
+    → AreValues IsValue values
 in_order IsValue IsLine gathered values rising same are is = record {
   increasing = rising;
   each = λ k d within. (is _).0 ((are _).0 ((same _).0 (Contains-get_or values k d within)));
@@ -59,7 +68,9 @@ between start k last step below from to = let less : k * step ≤ last * step = 
 
 line_within : (start count step : ℤ) (k : ℕ) → IsNumber start → pos 1 ≤ℤ count → pos 1 ≤ℤ step → IsNumber (start +ℤ ((count -ℤ pos 1) *ℤ step)) → pos k <ℤ count
     → IsNumber (start +ℤ (pos k *ℤ step))
-line_within start (pos (suc n)) (pos s) k from some apart to below = between start k n s (let b : k < suc n = omega (arith, ints) in omega (arith, b)) from (let e : pos (suc n) -ℤ pos 1 ≡ pos n = omega (arith, ints) in rw e at to)
+line_within start (pos (suc n)) (pos s) k from some apart to below =
+    between start k n s (let b : k < suc n = omega (arith, ints) in omega (arith, b)) from
+    (let e : pos (suc n) -ℤ pos 1 ≡ pos n = omega (arith, ints) in rw e at to)
 line_within start (pos zero) step k from some apart to below = absurd (omega (arith, ints))
 line_within start (negsuc n) step k from some apart to below = absurd (omega (arith, ints))
 line_within start count (negsuc s) k from some apart to below = absurd (omega (arith, ints))

@@ -37,7 +37,8 @@ pub record IsWalkUpto (grid : GridModel) (numbers : List ℕ) (end : ℕ) : Type
   pub beside : (k m n : ℕ) → k + 1 < end → slice_get numbers k ≡ Some m → slice_get numbers (k + 1) ≡ Some n → (side : Side) × IsNeighbourAt grid side m n
 
 -- whether a node lies in a slot, where that is known of each node that has the slot's number
-pub one_there : (grid : GridModel) (n : ℕ) (held : Bool) → n < slot_total grid → ((node : Node) → IsNumberOf grid n node → (IsTrue held ↔ IsNode grid.design node))
+pub one_there : (grid : GridModel) (n : ℕ) (held : Bool) → n < slot_total grid
+    → ((node : Node) → IsNumberOf grid n node → (IsTrue held ↔ IsNode grid.design node))
     → IsTrue held ↔ IsOneOf (IsNumberOf grid) (IsNode grid.design) n
 one_there grid n held below holds =
     let point = node_in grid n below in
@@ -53,7 +54,8 @@ module _ (grid : GridModel) (numbers : List ℕ) where
     beside = λ k m n below at_k next. absurd (omega (arith, below));
   }
 
-  pub walk_on : (k m n : ℕ) → 0 < k → slice_get numbers (k - 1) ≡ Some m → slice_get numbers k ≡ Some n → (side : Side) × IsNeighbourAt grid side m n → IsWalkUpto grid numbers k → IsWalkUpto grid numbers (k + 1)
+  pub walk_on : (k m n : ℕ) → 0 < k → slice_get numbers (k - 1) ≡ Some m → slice_get numbers k ≡ Some n → (side : Side) × IsNeighbourAt grid side m n
+      → IsWalkUpto grid numbers k → IsWalkUpto grid numbers (k + 1)
   walk_on k m n some at_m at_n step before = record {
     each = λ j x below at_j. elim (cases_lt j k) [
       | inl earlier ↦ before.each j x earlier at_j
@@ -61,7 +63,8 @@ module _ (grid : GridModel) (numbers : List ℕ) where
           let here : j ≡ k = omega (arith, below, late) in
           let same : n ≡ x = same_Some n x (sym at_n ∙ (rw here at at_j)) in
           let beside = step.1 in
-          let node : IsOneOf (IsNumberOf grid) (IsNode grid.design) n = record { node = beside.b; is = beside.b_is; holds = (ends_are_nodes grid.design step.0 beside.a beside.b beside.step).1 } in
+          let node : IsOneOf (IsNumberOf grid) (IsNode grid.design) n =
+          record { node = beside.b; is = beside.b_is; holds = (ends_are_nodes grid.design step.0 beside.a beside.b beside.step).1 } in
           rw same at node
     ];
     beside = λ j x y below at_j next. elim (cases_lt (j + 1) k) [
@@ -85,7 +88,8 @@ module _ (grid : GridModel) (numbers : List ℕ) where
   upto_within_at end k n walk below at_k = let one = walk.each k n below at_k in below_total grid n one.node one.is
 
   -- and their nodes those of a walk
-  pub upto_walks : IsDesignGrid grid → 0 < length numbers → (end : ℕ) → length numbers ≤ end → IsWalkUpto grid numbers end → (nodes : List Node) → AllZip (IsNumberOf grid) numbers nodes → IsGridWalk grid.design nodes
+  pub upto_walks : IsDesignGrid grid → 0 < length numbers → (end : ℕ) → length numbers ≤ end → IsWalkUpto grid numbers end → (nodes : List Node)
+      → AllZip (IsNumberOf grid) numbers nodes → IsGridWalk grid.design nodes
   upto_walks is_grid some end whole walk nodes each =
       let long : length nodes ≡ length numbers = AllZip-long (IsNumberOf grid) numbers nodes each in
       record {
@@ -126,7 +130,8 @@ module _ (grid : GridModel) (numbers : List ℕ) where
         (side.0, record { a = a.0; b = b.0; a_is = a.2; b_is = b.2; step = side.1 });
   }
 
-  pub step_of : (k m n : ℕ) → 0 < k → k < length numbers → slice_get numbers (k - 1) ≡ Some m → slice_get numbers k ≡ Some n → IsWalkByNumbers grid numbers → (side : Side) × IsNeighbourAt grid side m n
+  pub step_of : (k m n : ℕ) → 0 < k → k < length numbers → slice_get numbers (k - 1) ≡ Some m → slice_get numbers k ≡ Some n → IsWalkByNumbers grid numbers
+      → (side : Side) × IsNeighbourAt grid side m n
   step_of k m n some below at_m at_n is =
       let here : k - 1 + 1 ≡ k = omega (arith, some) in
       (upto_of is).beside (k - 1) m n (omega (arith, here, below)) at_m (rw here at_n)

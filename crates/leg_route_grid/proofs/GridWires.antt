@@ -51,12 +51,15 @@ runs_width library n direction width runs = rw (runs.there, runs.routes) refl
 
 pub width_runs : (library : LibraryModel) (n : ℕ) (width : ℤ) → width_of_layer library n ≡ Some width → (direction : Direction) × Runs library n direction width
 width_runs library n width is = by (slice_get library.layers n) refl is where
-  by_kind : (layer : Layer) (kind : LayerKind) → slice_get library.layers n ≡ Some layer → layer.kind ≡ kind → wire_width kind ≡ Some width → (direction : Direction) × Runs library n direction width
-  by_kind layer (Routing direction w) there kind is = (direction, record { layer = layer; there = there; routes = kind ∙ ap (Routing direction) (same_Some w width is) })
+  by_kind : (layer : Layer) (kind : LayerKind) → slice_get library.layers n ≡ Some layer → layer.kind ≡ kind → wire_width kind ≡ Some width
+      → (direction : Direction) × Runs library n direction width
+  by_kind layer (Routing direction w) there kind is =
+      (direction, record { layer = layer; there = there; routes = kind ∙ ap (Routing direction) (same_Some w width is) })
   by_kind layer Cut there kind is = absurd (let e : ⊥ = cc is in e)
   by_kind layer Other there kind is = absurd (let e : ⊥ = cc is in e)
 
-  by : (layer : Option Layer) → slice_get library.layers n ≡ layer → (layer >>= λ l. wire_width l.kind) ≡ Some width → (direction : Direction) × Runs library n direction width
+  by : (layer : Option Layer) → slice_get library.layers n ≡ layer → (layer >>= λ l. wire_width l.kind) ≡ Some width
+      → (direction : Direction) × Runs library n direction width
   by None there is = absurd (let e : ⊥ = cc is in e)
   by (Some layer) there is = by_kind layer layer.kind there refl is
 
@@ -100,7 +103,8 @@ unfolding default_extension
 half_is_default library n width is = rw is refl
 
 module _ (design : DesignModel) (a : Node) (wire : Wire) (a_at : IsPosition a.at) where
-  pub line_is_wire : (side : Side) (b : Node) → IsPosition b.at → IsOnLayer side → LiesDue side a b → IsLine design a b wire → IsWire design.library design.vias false wire
+  pub line_is_wire : (side : Side) (b : Node) → IsPosition b.at → IsOnLayer side → LiesDue side a b → IsLine design a b wire
+      → IsWire design.library design.vias false wire
   line_is_wire side b b_at on is line =
       let wide = runs_width design.library a.layer line.direction line.width line.runs in
       let extension = half_is_default design.library a.layer line.width wide in
@@ -123,19 +127,28 @@ module _ (design : DesignModel) (a : Node) (wire : Wire) (a_at : IsPosition a.at
       let within = h.within in
       rw adds.is (refl, rw wide refl, a_at, area (half adds.width) some within) where
         area : (z : ℤ) → pos 1 ≤ℤ z → IsNumber z → IsArea (record { x1 = pos 0 -ℤ z; y1 = pos 0 -ℤ z; x2 = z; y2 = z })
-        area z some within = record { x1 = omega (arith, ints); y1 = omega (arith, ints); x2 = omega (arith, ints); y2 = omega (arith, ints); proper = record { wide = omega (arith, ints); high = omega (arith, ints) } }
+        area z some within =
+            record {
+              x1 = omega (arith, ints);
+              y1 = omega (arith, ints);
+              x2 = omega (arith, ints);
+              y2 = omega (arith, ints);
+              proper = record { wide = omega (arith, ints); high = omega (arith, ints) };
+            }
 
   get_left : (xs ys : List ViaModel) (k : ℕ) (via : ViaModel) → slice_get xs k ≡ Some via → slice_get (xs ++ ys) k ≡ Some via
   get_left [] ys k via is = absurd (let e : ⊥ = cc is in e)
   get_left (x ∷ xs) ys zero via is = is
   get_left (x ∷ xs) ys (suc k) via is = get_left xs ys k via is
 
-  via_there : (low high k : ℕ) → IsVia design.library low high k → (via : ViaModel) × (slice_get (design.library.vias ++ design.vias) k ≡ Some via) × IsTrue via.good
+  via_there : (low high k : ℕ) → IsVia design.library low high k
+      → (via : ViaModel) × (slice_get (design.library.vias ++ design.vias) k ≡ Some via) × IsTrue via.good
   via_there low high k (inl first) = (first.via, get_left design.library.vias design.vias k first.via first.there, first.holds.joins.good)
   via_there low high k (inr other) = (other.first.via, get_left design.library.vias design.vias k other.first.via other.first.there, other.first.holds.good)
 
   pub via_is_wire : (b : Node) → IsViaStep design a b wire → IsWire design.library design.vias false wire
   via_is_wire b step = rw step.is (by step.over) where
-    by : IsOver design step.via a b ⊎ IsOver design step.via b a → IsPosition a.at × ((via : ViaModel) × (slice_get (design.library.vias ++ design.vias) step.via ≡ Some via) × IsTrue via.good)
+    by : IsOver design step.via a b ⊎ IsOver design step.via b a
+        → IsPosition a.at × ((via : ViaModel) × (slice_get (design.library.vias ++ design.vias) step.via ≡ Some via) × IsTrue via.good)
     by (inl up) = (a_at, via_there a.layer b.layer step.via up.via_is)
     by (inr down) = (a_at, via_there b.layer a.layer step.via down.via_is)

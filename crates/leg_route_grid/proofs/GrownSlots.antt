@@ -30,12 +30,13 @@ use Rattle.leg_route_grid.proofs.StepsAt.{ends_are_nodes}
 one_patch : (design : DesignModel) (node : Node) (wire other : Wire) → NodeAdds design node wire → NodeAdds design node other → wire ≡ other
 one_patch design node wire other adds also =
     let wide : adds.width ≡ also.width = one_width design.library node.layer adds.direction also.direction adds.width also.width adds.runs also.runs in
-    adds.is ∙ ap (λ (w : ℤ). Patch node.layer node.at (square w)) wide ∙ sym also.is
+    adds.is ∙ ap (λ (w : ℤ). Patch node.layer node.at (square (half w))) wide ∙ sym also.is
 
 -- a step adds one wire
 one_wire : (design : DesignModel) (a b : Node) (wire other : Wire) → StepAdds design a b wire → StepAdds design a b other → wire ≡ other
 one_wire design a b wire other (inl line) (inl also) =
-    let wide : line.line.width ≡ also.line.width = one_width design.library a.layer line.line.direction also.line.direction line.line.width also.line.width line.line.runs also.line.runs in
+    let wide : line.line.width ≡ also.line.width =
+    one_width design.library a.layer line.line.direction also.line.direction line.line.width also.line.width line.line.runs also.line.runs in
     line.line.is ∙ ap (λ (w : ℤ). Segment a.layer a.at b.at w (half w) (half w)) wide ∙ sym also.line.is
 one_wire design a b wire other (inl line) (inr through) = absurd (other_layer design through.via a b through.over (one_layer design a b line.in_line))
 one_wire design a b wire other (inr through) (inl line) = absurd (other_layer design through.via a b through.over (one_layer design a b line.in_line))
@@ -58,7 +59,8 @@ module _ (design : DesignModel) (shape : Shape) (flat grown : FlatModel) (has : 
   from_shape : (s : Shape) → Contains the_shape s → Contains grown.shapes s
   from_shape s there = rw has (Contains-append_right flat.shapes the_shape s there)
 
-  clean_grown : (layer : ℕ) (rect : RectModel) → IsClean design.library flat net layer rect → IsClean design.library (alone shape) net layer rect → IsClean design.library grown net layer rect
+  clean_grown : (layer : ℕ) (rect : RectModel) → IsClean design.library flat net layer rect → IsClean design.library (alone shape) net layer rect
+      → IsClean design.library grown net layer rect
   clean_grown layer rect here beside = record {
     no_short = λ s there. elim (in_grown s there) [ inl old ↦ here.no_short s old | inr new ↦ beside.no_short s (only s new) ];
     far = λ s there. elim (in_grown s there) [ inl old ↦ here.far s old | inr new ↦ beside.far s (only s new) ];
@@ -106,7 +108,8 @@ module _ (design : DesignModel) (shape : Shape) (flat grown : FlatModel) (has : 
   )
 
 -- what is clean in a flat is clean beside one of its shapes
-wire_only : (design : DesignModel) (shape : Shape) (flat : FlatModel) → Contains flat.shapes shape → (net : ℕ) (wire : Wire) → IsOpenWire design flat net wire → IsOpenWire design (alone shape) net wire
+wire_only : (design : DesignModel) (shape : Shape) (flat : FlatModel) → Contains flat.shapes shape → (net : ℕ) (wire : Wire) → IsOpenWire design flat net wire
+    → IsOpenWire design (alone shape) net wire
 wire_only design shape flat there net wire is_open metal rect has points =
     let clean = is_open metal rect has points in
     record { no_short = λ s only. clean.no_short s (one s only); far = λ s only. clean.far s (one s only) } where
@@ -115,7 +118,8 @@ wire_only design shape flat there net wire is_open metal rect has points =
 
 module _ (grid : GridModel) (is_grid : IsDesignGrid grid) (n : ℕ) where
   -- the node on the side of an open step
-  pub beside_open : (side : Side) (flat : FlatModel) (net : ℕ) (step : IsOpenStepAt grid flat net side n) → (m : ℕ) × IsNumberOf grid m step.b × IsNeighbourAt grid side n m
+  pub beside_open : (side : Side) (flat : FlatModel) (net : ℕ) (step : IsOpenStepAt grid flat net side n)
+      → (m : ℕ) × IsNumberOf grid m step.b × IsNeighbourAt grid side n m
   beside_open side flat net step =
       let to = numbered grid is_grid step.b (ends_are_nodes grid.design side step.a step.b step.beside).1 in
       (to.0, to.1, record { a = step.a; b = step.b; a_is = step.a_is; b_is = to.1; step = step.beside })
@@ -148,7 +152,13 @@ module _ (grid : GridModel) (is_grid : IsDesignGrid grid) (n : ℕ) where
           let here = both.0 in
           let to = beside_open side flat net here in
           let other = (open_at grid is_grid side n to.0 here.a here.b here.a_is to.1 (alone shape) net to.2).0 both.1 in
-          record { a = here.a; b = here.b; a_is = here.a_is; beside = here.beside; is_open = (step_grown grid.design shape flat grown has net here.a here.b).1 (here.is_open, other) },
+          record {
+            a = here.a;
+            b = here.b;
+            a_is = here.a_is;
+            beside = here.beside;
+            is_open = (step_grown grid.design shape flat grown has net here.a here.b).1 (here.is_open, other);
+          },
     )
 
     turned_here : (first second : FlatModel) → IsOpenStepAt grid first net East n → IsOpenStepAt grid second net North n → ⊥
@@ -196,7 +206,8 @@ pub record IsFarFrom (grid : GridModel) (shape : Shape) (n : ℕ) (flat : FlatMo
 
 module _ (grid : GridModel) (is_grid : IsDesignGrid grid) (n : ℕ) (shape : Shape) (flat grown : FlatModel) (has : HasShape shape flat grown) where
   -- what is told of the slot in the flat and beside the shape is both told of it in the grown flat
-  pub tells_grown : (a b c : SlotAccess) → IsSlotAccess grid flat n a → IsSlotAccess grid (alone shape) n b → IsBoth a.node b.node c.node → IsBoth a.along b.along c.along → IsBoth a.above b.above c.above
+  pub tells_grown : (a b c : SlotAccess) → IsSlotAccess grid flat n a → IsSlotAccess grid (alone shape) n b → IsBoth a.node b.node c.node
+      → IsBoth a.along b.along c.along → IsBoth a.above b.above c.above
       → IsSlotAccess grid grown n c
   tells_grown a b c here beside node along above = record {
     node = told_both _ _ _ a.node b.node c.node node here.node beside.node (λ net. one_grown grid is_grid n shape flat grown has net);
@@ -207,15 +218,27 @@ module _ (grid : GridModel) (is_grid : IsDesignGrid grid) (n : ℕ) (shape : Sha
   -- what is told of a slot far from the shape stays told
   pub tells_far : (a : SlotAccess) → ((net : ℕ) → IsFarFrom grid shape n flat net) → IsSlotAccess grid flat n a → IsSlotAccess grid grown n a
   tells_far a far here = record {
-    node = told_same _ _ a.node here.node (λ net is_open. (one_grown grid is_grid n shape flat grown has net).1 (is_open, (far net).node is_open)) (λ net is_open. ((one_grown grid is_grid n shape flat grown has net).0 is_open).0);
-    along = told_same _ _ a.along here.along (λ net is_open. (along_grown grid is_grid n shape flat grown has net).1 (is_open, (far net).along is_open)) (λ net is_open. ((along_grown grid is_grid n shape flat grown has net).0 is_open).0);
-    above = told_same _ _ a.above here.above (λ net is_open. (step_at_grown grid is_grid n shape flat grown has net Above).1 (is_open, (far net).above is_open)) (λ net is_open. ((step_at_grown grid is_grid n shape flat grown has net Above).0 is_open).0);
+    node = told_same _ _ a.node here.node (λ net is_open. (one_grown grid is_grid n shape flat grown has net).1 (is_open, (far net).node is_open))
+        (λ net is_open. ((one_grown grid is_grid n shape flat grown has net).0 is_open).0);
+    along = told_same _ _ a.along here.along (λ net is_open. (along_grown grid is_grid n shape flat grown has net).1 (is_open, (far net).along is_open))
+        (λ net is_open. ((along_grown grid is_grid n shape flat grown has net).0 is_open).0);
+    above = told_same _ _ a.above here.above (λ net is_open. (step_at_grown grid is_grid n shape flat grown has net Above).1
+        (is_open, (far net).above is_open)) (λ net is_open. ((step_at_grown grid is_grid n shape flat grown has net Above).0 is_open).0);
   }
 
   -- a shape that is there already takes away nothing
   pub tells_again : (a : SlotAccess) → Contains flat.shapes shape → IsSlotAccess grid flat n a → IsSlotAccess grid grown n a
   tells_again a there here = tells_far a (λ net. record {
-    node = λ one. record { node = one.node; is = one.is; holds = record { is_node = one.holds.is_node; wire = one.holds.wire; adds = one.holds.adds; clean = wire_only grid.design shape flat there net one.holds.wire one.holds.clean } };
+    node = λ one. record {
+      node = one.node;
+      is = one.is;
+      holds = record {
+        is_node = one.holds.is_node;
+        wire = one.holds.wire;
+        adds = one.holds.adds;
+        clean = wire_only grid.design shape flat there net one.holds.wire one.holds.clean;
+      };
+    };
     along = elim [ inl east ↦ inl (step_only net East east) | inr north ↦ inr (step_only net North north) ];
     above = step_only net Above;
   }) here where
@@ -225,5 +248,10 @@ module _ (grid : GridModel) (is_grid : IsDesignGrid grid) (n : ℕ) (shape : Sha
       b = step.b;
       a_is = step.a_is;
       beside = step.beside;
-      is_open = record { wire = step.is_open.wire; adds = step.is_open.adds; clean = wire_only grid.design shape flat there net step.is_open.wire step.is_open.clean };
+      is_open =
+          record {
+            wire = step.is_open.wire;
+            adds = step.is_open.adds;
+            clean = wire_only grid.design shape flat there net step.is_open.wire step.is_open.clean;
+          };
     }

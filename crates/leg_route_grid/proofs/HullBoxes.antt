@@ -30,7 +30,8 @@ pub covers_bound : (hull ends : SlotBox) (s : Slot) → Covers hull ends → slo
 covers_bound hull ends s covers =
     let l : gap hull.low.layer hull.high.layer s.layer ≤ gap ends.low.layer ends.high.layer s.layer = omega (arith, covers.low_layer, covers.high_layer) in
     let r : gap hull.low.row hull.high.row s.row ≤ gap ends.low.row ends.high.row s.row = omega (arith, covers.low_row, covers.high_row) in
-    let c : gap hull.low.column hull.high.column s.column ≤ gap ends.low.column ends.high.column s.column = omega (arith, covers.low_column, covers.high_column) in
+    let c : gap hull.low.column hull.high.column s.column ≤ gap ends.low.column ends.high.column s.column =
+    omega (arith, covers.low_column, covers.high_column) in
     omega (arith, l, r, c)
 
 push_cases : {X : Type 0} (xs : List X) (x : X) (k : ℕ) (y : X) → slice_get (xs ++ x ∷ []) k ≡ Some y → (slice_get xs k ≡ Some y) ⊎ ((k ≡ length xs) × (x ≡ y))
@@ -40,14 +41,16 @@ push_cases (z ∷ xs) x zero y is = inl is
 push_cases (z ∷ xs) x (suc k) y is = elim (push_cases xs x k y is) [ inl before ↦ inl before | inr last ↦ inr (ap suc last.0, last.1) ]
 
 -- one hull more
-pub hulls_push : (boxes : List SlotBox) (hulls : List Hull) (last : ℕ) (hull : Hull) → length hulls ≡ last → AreEachHull boxes hulls → IsHullAt boxes last hull → AreEachHull boxes (hulls ++ hull ∷ [])
+pub hulls_push : (boxes : List SlotBox) (hulls : List Hull) (last : ℕ) (hull : Hull) → length hulls ≡ last → AreEachHull boxes hulls
+    → IsHullAt boxes last hull → AreEachHull boxes (hulls ++ hull ∷ [])
 hulls_push boxes hulls last hull count each is k other there = elim (push_cases hulls hull k other there) [
   | inl before ↦ each k other before
   | inr new ↦ subst (λ (h : Hull). IsHullAt boxes k h) new.1 (subst (λ (n : ℕ). IsHullAt boxes n hull) (sym (new.0 ∙ count)) is)
 ]
 
 -- the hull of some boxes, and of those that end before them
-pub hull_of_more : (boxes : List SlotBox) (last : ℕ) (hull before : Hull) (ends : SlotBox) → hull.count ≤ last → IsHullAt boxes last hull → IsHullAt boxes (last - hull.count) before
+pub hull_of_more : (boxes : List SlotBox) (last : ℕ) (hull before : Hull) (ends : SlotBox) → hull.count ≤ last → IsHullAt boxes last hull
+    → IsHullAt boxes (last - hull.count) before
     → Covers ends hull.ends → Covers ends before.ends → IsHullAt boxes last (record { ends = ends; count = hull.count + before.count })
 hull_of_more boxes last hull before ends room is was first second = record {
   some = omega (arith, is.some);
@@ -89,16 +92,19 @@ none_of_more : (least most a b : ℕ) → least ≡ 0 → least ≡ min most b �
 none_of_more least most a b none is upto = grind (arith, none, is, upto)
 
 -- where none is left to some of the boxes, none is left to the nearest of all
-pub nearest_none_left : (boxes : List SlotBox) (s : Slot) (most least i : ℕ) → least ≡ 0 → least ≡ min most (nearest (drop i boxes) s) → least ≡ min most (nearest boxes s)
+pub nearest_none_left : (boxes : List SlotBox) (s : Slot) (most least i : ℕ) → least ≡ 0 → least ≡ min most (nearest (drop i boxes) s)
+    → least ≡ min most (nearest boxes s)
 nearest_none_left boxes s most least i none is = none_of_more least most (nearest boxes s) (nearest (drop i boxes) s) none is (nearest_drop boxes s i)
 
 abbrev pub no_hull : Hull
 no_hull = record { ends = nowhere; count = 0 }
 
 -- the hull of the boxes that end before this one
-pub hull_before : (boxes : List SlotBox) (hulls : List Hull) (before : ℕ) → AreHulls boxes hulls → 0 < before → before ≤ length boxes → IsHullAt boxes (before - 1) (get_or hulls (before - 1) no_hull)
+pub hull_before : (boxes : List SlotBox) (hulls : List Hull) (before : ℕ) → AreHulls boxes hulls → 0 < before → before ≤ length boxes
+    → IsHullAt boxes (before - 1) (get_or hulls (before - 1) no_hull)
 hull_before boxes hulls before are some within =
-    let count = are.one_each in are.each (before - 1) (get_or hulls (before - 1) no_hull) (slice_get-get_or hulls (before - 1) no_hull (omega (arith, some, within, count)))
+    let count = are.one_each in
+    are.each (before - 1) (get_or hulls (before - 1) no_hull) (slice_get-get_or hulls (before - 1) no_hull (omega (arith, some, within, count)))
 
 module _ (boxes : List SlotBox) (last : ℕ) (hull : Hull) (is : IsHullAt boxes last hull) (within : last < length boxes) where
   -- a box is no nearer than a hull in which it lies
@@ -107,7 +113,8 @@ module _ (boxes : List SlotBox) (last : ℕ) (hull : Hull) (is : IsHullAt boxes 
       let there : slice_get boxes j ≡ Some (get_or boxes j nowhere) = slice_get-get_or boxes j nowhere (omega (arith, upto, within)) in
       covers_bound hull.ends (get_or boxes j nowhere) s (is.covers j (get_or boxes j nowhere) there upto past)
 
-  pub hull_small : (grid : GridModel) (n : ℕ) (s : Slot) → IsDesignGrid grid → All (IsBoxOf grid) boxes → IsSlot grid n s.layer s.row s.column → slot_bound hull.ends s ≤ 50331648
+  pub hull_small : (grid : GridModel) (n : ℕ) (s : Slot) → IsDesignGrid grid → All (IsBoxOf grid) boxes → IsSlot grid n s.layer s.row s.column
+      → slot_bound hull.ends s ≤ 50331648
   hull_small grid n s is_grid corners slot =
       let some = is.some in
       let small = bound_small grid (get_or boxes last nowhere) n s is_grid (corners last nowhere within) slot in

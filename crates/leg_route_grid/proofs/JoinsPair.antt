@@ -44,23 +44,28 @@ used_by_shapes shapes n = (into, back) where
         first (shape ∷ shapes) within = shape
 
 -- a layer of wires that is used is the lower or the higher of the two
-outer : (layers : List LayerUse) (parts : List ViaPart) (low cut high n : ℕ) → Joins layers parts low cut high → is_routing layers n ≡ true → IsUsed parts n → (n ≡ low) ⊎ (n ≡ high)
-outer layers parts low cut high n joins routes (k, part, within, is, on) = by on (let p : IsPart low cut high part = rw is at (joins.each k part within) in p) where
-  by : part.layer ≡ n → IsPart low cut high part → (n ≡ low) ⊎ (n ≡ high)
-  by on (inl at_cut) = absurd (not_both layers n routes (rw (sym on ∙ at_cut) joins.cut_cuts))
-  by on (inr (inl at_low, holds)) = inl (sym on ∙ at_low)
-  by on (inr (inr at_high, holds)) = inr (sym on ∙ at_high)
+outer : (layers : List LayerUse) (parts : List ViaPart) (low cut high n : ℕ) → Joins layers parts low cut high → is_routing layers n ≡ true → IsUsed parts n
+    → (n ≡ low) ⊎ (n ≡ high)
+outer layers parts low cut high n joins routes (k, part, within, is, on) =
+    by on (let p : IsPart low cut high part = rw is at (joins.each k part within) in p) where
+      by : part.layer ≡ n → IsPart low cut high part → (n ≡ low) ⊎ (n ≡ high)
+      by on (inl at_cut) = absurd (not_both layers n routes (rw (sym on ∙ at_cut) joins.cut_cuts))
+      by on (inr (inl at_low, holds)) = inl (sym on ∙ at_low)
+      by on (inr (inr at_high, holds)) = inr (sym on ∙ at_high)
 
 -- the parts of a good via join three layers
 abbrev pub Law : Type 0
-Law = (layers : List LayerUse) (parts : List ViaPart) → IsTrue (join_layers layers parts) ↔ ((low : ℕ) × (cut : ℕ) × (high : ℕ) × Joins layers parts low cut high)
+Law = (layers : List LayerUse) (parts : List ViaPart)
+    → IsTrue (join_layers layers parts) ↔ ((low : ℕ) × (cut : ℕ) × (high : ℕ) × Joins layers parts low cut high)
 
 -- two such layers, one below the other, are the two that a good via joins
-pub joins_used : Law → (layers : List LayerUse) (parts : List ViaPart) (low high : ℕ) → IsTrue (join_layers layers parts) → is_routing layers low ≡ true → is_routing layers high ≡ true → low < high
+pub joins_used : Law → (layers : List LayerUse) (parts : List ViaPart) (low high : ℕ) → IsTrue (join_layers layers parts) → is_routing layers low ≡ true
+    → is_routing layers high ≡ true → low < high
     → IsUsed parts low → IsUsed parts high → (cut : ℕ) × Joins layers parts low cut high
 joins_used law layers parts low high joined low_routes high_routes less low_used high_used =
     let three = (law layers parts).0 joined in
-    by three.0 three.1 three.2 three.3 (outer layers parts three.0 three.1 three.2 low three.3 low_routes low_used) (outer layers parts three.0 three.1 three.2 high three.3 high_routes high_used) where
+    by three.0 three.1 three.2 three.3 (outer layers parts three.0 three.1 three.2 low three.3 low_routes low_used)
+    (outer layers parts three.0 three.1 three.2 high three.3 high_routes high_used) where
       by : (l c h : ℕ) → Joins layers parts l c h → (low ≡ l) ⊎ (low ≡ h) → (high ≡ l) ⊎ (high ≡ h) → (cut : ℕ) × Joins layers parts low cut high
       by l c h joins (inl is_l) (inr is_h) = (c, rw (is_l, is_h) joins)
       by l c h joins (inl is_l) (inl also) = absurd (omega (arith, less, is_l, also))
@@ -68,7 +73,8 @@ joins_used law layers parts low high joined low_routes high_routes less low_used
       by l c h joins (inr is_h) (inl is_l) = absurd (omega (arith, less, is_h, is_l, joins.above, joins.below))
 
 -- a via that is marked good has shapes that join layers
-good_shapes : (library : LibraryModel) (via : ViaModel) → IsViaOf library via → via.good ≡ true → IsTrue (join_layers (uses_of library.layers) (parts_of via.shapes))
+good_shapes : (library : LibraryModel) (via : ViaModel) → IsViaOf library via → via.good ≡ true
+    → IsTrue (join_layers (uses_of library.layers) (parts_of via.shapes))
 unfolding is_good_via
 good_shapes library via of good =
     let both : not (is_wiring_word via.name) && join_layers (uses_of library.layers) (parts_of via.shapes) ≡ true = sym of.good ∙ good in
@@ -80,9 +86,12 @@ good_shapes library via of good =
       and_parts false false is = is
 
 module _ (library : LibraryModel) (low high : ℕ) (via : ViaModel) (of : IsViaOf library via) (routing : AreRouting library low high) where
-  pub joins_by_shapes : Law → via.good ≡ true → Any (λ shape. shape.layer ≡ low) via.shapes → Any (λ shape. shape.layer ≡ high) via.shapes → JoinsLayers library low high via
+  pub joins_by_shapes : Law → via.good ≡ true → Any (λ shape. shape.layer ≡ low) via.shapes → Any (λ shape. shape.layer ≡ high) via.shapes
+      → JoinsLayers library low high via
   joins_by_shapes law good on_low on_high =
-      let cut = joins_used law (uses_of library.layers) (parts_of via.shapes) low high (good_shapes library via of good) routing.low_routes routing.high_routes routing.less
+      let cut =
+      joins_used law (uses_of library.layers) (parts_of via.shapes) low high
+      (good_shapes library via of good) routing.low_routes routing.high_routes routing.less
       ((used_by_shapes via.shapes low).0 on_low) ((used_by_shapes via.shapes high).0 on_high) in
       record { good = good; cut = cut.0; joins = cut.1 }
 

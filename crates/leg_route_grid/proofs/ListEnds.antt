@@ -25,12 +25,6 @@ read_old [] ys j y is = absurd (none-some y is)
 read_old (a ∷ xs) ys zero y is = is
 read_old (a ∷ xs) ys (suc j) y is = read_old xs ys j y is
 
-pub read_last : {X : Type 0} (xs : List X) (x : X) (j : ℕ) → j ≡ length xs → slice_get (xs ++ x ∷ []) j ≡ Some x
-read_last [] x zero is = refl
-read_last [] x (suc j) is = absurd (omega (arith, is))
-read_last (a ∷ xs) x zero is = absurd (omega (arith, is))
-read_last (a ∷ xs) x (suc j) is = read_last xs x j (omega (arith, is))
-
 pub set_same : {X : Type 0} (xs : List X) (i : ℕ) (w : X) → i < length xs → slice_get (slice_set xs i w) i ≡ Some w
 set_same [] i w h = absurd (omega (arith, h))
 set_same (x ∷ xs) zero w h = refl

@@ -14,12 +14,14 @@ use Rattle.leg_route_grid.specs.Steps.SlotRanges.{IsRoutingLayerAt}
 use Rattle.leg_route_grid.proofs.JoinsPair.{part_of, used_by_shapes}
 use Rattle.leg_route_grid.proofs.SlotRanges.{one_layer}
 
-joins_them : (library : LibraryModel) (low high : ℕ) (only_default : Bool) (via : ViaModel) → JoinsNodes library low high only_default via → JoinsLayers library low high via
+joins_them : (library : LibraryModel) (low high : ℕ) (only_default : Bool) (via : ViaModel) → JoinsNodes library low high only_default via
+    → JoinsLayers library low high via
 joins_them library low high true via joins = joins.joins
 joins_them library low high false via joins = joins
 
 -- no shape lies below
-none_below : (library : LibraryModel) (via : ViaModel) (low cut high : ℕ) → JoinsThree (uses_of library.layers) (parts_of via.shapes) low cut high → All (λ shape. low ≤ shape.layer) via.shapes
+none_below : (library : LibraryModel) (via : ViaModel) (low cut high : ℕ) → JoinsThree (uses_of library.layers) (parts_of via.shapes) low cut high
+    → All (λ shape. low ≤ shape.layer) via.shapes
 none_below library via low cut high joins k shape within = by part where
   there : k < length (parts_of via.shapes)
   there = rw (length-map via.shapes part_of) within
@@ -36,7 +38,8 @@ none_below library via low cut high joins k shape within = by part where
 upto_used : (shapes : List Shape) (low used : ℕ) → All (λ shape. low ≤ shape.layer) shapes → Any (λ shape. shape.layer ≡ used) shapes → low ≤ used
 upto_used shapes low used least (k, shape, within, is, on) = let upto : low ≤ shape.layer = rw is at (least k shape within) in omega (arith, upto, on)
 
-module _ (library : LibraryModel) (layers : List RoutingLayer) (are : AreRoutingLayers library layers) (via : ViaModel) (only_default : Bool) (lowest : ℕ) (used : Any (λ shape. shape.layer ≡ lowest) via.shapes) (least : All (λ shape. lowest ≤ shape.layer) via.shapes) where
+module _ (library : LibraryModel) (layers : List RoutingLayer) (are : AreRoutingLayers library layers) (via : ViaModel) (only_default : Bool) (lowest : ℕ)
+    (used : Any (λ shape. shape.layer ≡ lowest) via.shapes) (least : All (λ shape. lowest ≤ shape.layer) via.shapes) where
   pub joins_lowest : (k : ℕ) → JoinsAt library layers only_default via k → IsRoutingLayerAt layers lowest k
   joins_lowest k at =
       let joins = joins_them library at.low.number at.high.number only_default via at.joins in
@@ -45,7 +48,8 @@ module _ (library : LibraryModel) (layers : List RoutingLayer) (are : AreRouting
       record { layer = at.low; there = at.at_low; is = omega (arith, down, up) }
 
   -- it joins no two layers where none has the number
-  pub joins_none : (result : Option ℕ) → result ≡ None → ((k : ℕ) → ¬ JoinsAt library layers only_default via k) → (k : ℕ) → (result ≡ Some k) ↔ JoinsAt library layers only_default via k
+  pub joins_none : (result : Option ℕ) → result ≡ None → ((k : ℕ) → ¬ JoinsAt library layers only_default via k) → (k : ℕ)
+      → (result ≡ Some k) ↔ JoinsAt library layers only_default via k
   joins_none result is none k = (λ same. absurd (none-some k (sym is ∙ same)), λ at. absurd (none k at))
 
   module _ (place : ℕ) (at_place : IsRoutingLayerAt layers lowest place) where
@@ -62,7 +66,8 @@ module _ (library : LibraryModel) (layers : List RoutingLayer) (are : AreRouting
     pub none_above : length layers ≤ place + 1 → (k : ℕ) → ¬ JoinsAt library layers only_default via k
     none_above most k at = let within = slice_get_within layers (k + 1) at.high at.at_high in omega (arith, most, within, only_there k at)
 
-    pub joined_at : (low high : RoutingLayer) → slice_get layers place ≡ Some low → slice_get layers (place + 1) ≡ Some high → (k : ℕ) → JoinsAt library layers only_default via k → JoinsNodes library low.number high.number only_default via
+    pub joined_at : (low high : RoutingLayer) → slice_get layers place ≡ Some low → slice_get layers (place + 1) ≡ Some high → (k : ℕ)
+        → JoinsAt library layers only_default via k → JoinsNodes library low.number high.number only_default via
     joined_at low high at_low at_high k at =
         let is = only_there k at in
         let is_low : at.low ≡ low = same_Some at.low low (sym at.at_low ∙ ap (slice_get layers) is ∙ at_low) in

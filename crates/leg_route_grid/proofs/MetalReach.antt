@@ -1,5 +1,5 @@
 -- How far the metal of slots reaches.
-use Rattle.std.proofs.Common.{◌≡◌, ℕ, zero, suc, ◌+◌, ◌-◌, ◌<◌, ◌≤◌, ◌⊎◌, inl, inr, ℤ, pos, ◌+ℤ◌, ◌-ℤ◌, ◌≤ℤ◌, ◌<ℤ◌, Bool, List, All, get_or, Option, None, Some, slice_get, FitsSigned, w64, refl, arith}
+use Rattle.std.proofs.Common.{◌≡◌, ℕ, zero, suc, ◌+◌, ◌-◌, ◌<◌, ◌≤◌, ◌⊎◌, inl, inr, ℤ, pos, ◌+ℤ◌, ◌-ℤ◌, ◌≤ℤ◌, ◌<ℤ◌, Bool, List, All, get_or, Option, None, Some, slice_get, FitsSigned, w64, arith}
 use Rattle.std.proofs.lemmas.Int.{ints}
 use Rattle.std.specs.Int.{int_max}
 use Rattle.std.specs.Option.{unwrap_or}
@@ -15,14 +15,16 @@ use Rattle.leg_route_grid.specs.Steps.AccessUpdates.{ArePlacesNear}
 pub wider_all : (reach wider : Option ℤ) (rect : RectModel) → IsWider reach wider → ReachesAll reach rect → ReachesAll wider rect
 wider_all reach wider rect is all = record { x1 = is _ all.x1; y1 = is _ all.y1; x2 = is _ all.x2; y2 = is _ all.y2 }
 
-pub wider_shapes : (reach wider : Option ℤ) (layer : ℕ) (shapes : List Shape) → IsWider reach wider → All (ReachesShape reach layer) shapes → All (ReachesShape wider layer) shapes
+pub wider_shapes : (reach wider : Option ℤ) (layer : ℕ) (shapes : List Shape) → IsWider reach wider → All (ReachesShape reach layer) shapes
+    → All (ReachesShape wider layer) shapes
 wider_shapes reach wider layer shapes is all k d within on = wider_all reach wider (get_or shapes k d).rect is (all k d within on)
 
 pub wider_then : (a b c : Option ℤ) → IsWider a b → IsWider b c → IsWider a c
 wider_then a b c first then z reaches = then z (first z reaches)
 
 -- places from the last value below
-pub places_before : (values : List ℤ) (back : Bool) (low high : ℤ) (first end near : ℕ) → ArePlaces values low high first end → (near + one_if back ≤ first) ⊎ (near ≡ 0) → ArePlacesNear values back low high near end
+pub places_before : (values : List ℤ) (back : Bool) (low high : ℤ) (first end near : ℕ) → ArePlaces values low high first end
+    → (near + one_if back ≤ first) ⊎ (near ≡ 0) → ArePlacesNear values back low high near end
 places_before values back low high first end near places early = record {
   within = places.within;
   before = λ k m z below upto there. lower m z there (by k m early below upto);
@@ -96,10 +98,6 @@ coordinate_fits z within = omega (arith, ints)
 
 pub turned : (z : ℤ) → IsNumber z → IsNumber (pos 0 -ℤ z)
 turned z within = omega (arith, ints)
-
-pub none_left : (spacing : ℕ) (z : ℤ) → z ≡ pos spacing → ¬ (pos 0 <ℤ z) → pos 0 ≡ pos (spacing - 1)
-none_left zero z is none = let e : 0 - 1 ≡ 0 = omega arith in rw e refl
-none_left (suc n) z is none = absurd (none (omega (arith, ints, is)))
 
 pub far_fits : (far : ℤ) → IsFar far → FitsSigned w64 far
 far_fits far is = let least = is.least in let most = is.most in omega (arith, ints)

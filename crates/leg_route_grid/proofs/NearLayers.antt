@@ -17,7 +17,8 @@ use Rattle.leg_route_grid.proofs.JoinsPair.{part_of}
 use Rattle.leg_route_grid.proofs.StepsAt.{some_at}
 
 -- the via of this number joins the layers
-joined_by : (library : LibraryModel) (low high via : ℕ) (said : ViaModel) → IsVia library low high via → slice_get library.vias via ≡ Some said → JoinsLayers library low high said
+joined_by : (library : LibraryModel) (low high via : ℕ) (said : ViaModel) → IsVia library low high via → slice_get library.vias via ≡ Some said
+    → JoinsLayers library low high said
 joined_by library low high via said (inl first) there =
     let P : ViaModel → Type 0 = λ v. JoinsLayers library low high v in
     subst P (same_Some first.via said (sym first.there ∙ there)) first.holds.joins
@@ -26,7 +27,8 @@ joined_by library low high via said (inr other) there =
     subst P (same_Some other.first.via said (sym other.first.there ∙ there)) other.first.holds
 
 -- its shapes lie on no layer below or above both
-shapes_between : (uses : List LayerUse) (said : ViaModel) (low cut high layer : ℕ) → Joins uses (parts_of said.shapes) low cut high → (layer < low) ⊎ (high < layer) → All (ReachesShape None layer) said.shapes
+shapes_between : (uses : List LayerUse) (said : ViaModel) (low cut high layer : ℕ) → Joins uses (parts_of said.shapes) low cut high
+    → (layer < low) ⊎ (high < layer) → All (ReachesShape None layer) said.shapes
 shapes_between uses said low cut high layer joins out k shape within on = absurd (by out part) where
   there : k < length (parts_of said.shapes)
   there = rw (length-map said.shapes part_of) within
@@ -46,7 +48,8 @@ module _ (grid : GridModel) (is_grid : IsDesignGrid grid) (layer : ℕ) where
   -- the routing layer at this place lies above the layer, or it and the next one lie below
   pub record IsOff (k : ℕ) : Type 0 where
     pub off : (own : RoutingLayer) → slice_get grid.layers k ≡ Some own → (layer < own.number) ⊎ (own.number < layer)
-    pub next_off : (own high : RoutingLayer) → slice_get grid.layers k ≡ Some own → slice_get grid.layers (k + 1) ≡ Some high → (layer < own.number) ⊎ (high.number < layer)
+    pub next_off : (own high : RoutingLayer) → slice_get grid.layers k ≡ Some own → slice_get grid.layers (k + 1) ≡ Some high
+        → (layer < own.number) ⊎ (high.number < layer)
 
   none_off : (k : ℕ) → IsOff k → ReachesMetal grid k layer None
   none_off k is_off = record {
@@ -55,20 +58,27 @@ module _ (grid : GridModel) (is_grid : IsDesignGrid grid) (layer : ℕ) where
     via = λ via said high at_high at_via there.
         let within = slice_get_within grid.layers (k + 1) high at_high in
         let own = some_at grid.layers k (omega (arith, within)) in
-        let joins = joined_by grid.design.library own.value.number high.number via said (is_grid.vias_are.each k own.value high (Some via) own.there at_high at_via) there in
+        let joins =
+        joined_by grid.design.library own.value.number high.number via said
+        (is_grid.vias_are.each k own.value high (Some via) own.there at_high at_via) there in
         shapes_between _ said own.value.number joins.cut high.number layer joins.joins (is_off.next_off own.value high own.there at_high);
   }
 
-  module _ (point : ℕ) (bound : point ≤ length grid.layers) (is_point : IsPartitionPoint (λ (own : RoutingLayer). ltb own.number layer ≡ true) (λ (own : RoutingLayer). ltb own.number layer ≡ false) grid.layers point) where
+  module _ (point : ℕ) (bound : point ≤ length grid.layers)
+      (is_point : IsPartitionPoint (λ (own : RoutingLayer). ltb own.number layer ≡ true)
+      (λ (own : RoutingLayer). ltb own.number layer ≡ false) grid.layers point) where
     below : (k : ℕ) (own : RoutingLayer) → slice_get grid.layers k ≡ Some own → k < point → own.number < layer
-    below k own there early = let test = rw (get_or_from_slice_get grid.layers k own own there) at (is_point.0 k own (omega (arith, early)) early) in less own.number layer test where
-      less : (a b : ℕ) → ltb a b ≡ true → a < b
-      less a b test = grind arith
+    below k own there early = let test = rw (get_or_from_slice_get grid.layers k own own there) at (is_point.0 k own (omega (arith, early)) early) in
+        less own.number layer test where
+          less : (a b : ℕ) → ltb a b ≡ true → a < b
+          less a b test = grind arith
 
     least : (k : ℕ) (own : RoutingLayer) → slice_get grid.layers k ≡ Some own → point ≤ k → layer ≤ own.number
-    least k own there late = let test = rw (get_or_from_slice_get grid.layers k own own there) at (is_point.1 k own late (slice_get_within grid.layers k own there)) in more own.number layer test where
-      more : (a b : ℕ) → ltb a b ≡ false → b ≤ a
-      more a b test = grind arith
+    least k own there late = let test =
+        rw (get_or_from_slice_get grid.layers k own own there) at (is_point.1 k own late (slice_get_within grid.layers k own there)) in
+        more own.number layer test where
+          more : (a b : ℕ) → ltb a b ≡ false → b ≤ a
+          more a b test = grind arith
 
     -- those behind the first that isn't below
     later : (k : ℕ) (own : RoutingLayer) → slice_get grid.layers k ≡ Some own → point < k → layer < own.number
@@ -76,11 +86,13 @@ module _ (grid : GridModel) (is_grid : IsDesignGrid grid) (layer : ℕ) where
         let within = slice_get_within grid.layers k own there in
         let first = some_at grid.layers point (omega (arith, within, late)) in
         let rises = is_grid.layers_are.increasing point k own late within in
-        let rising : first.value.number < own.number = rw (get_or_from_slice_get grid.layers point first.value own first.there, get_or_from_slice_get grid.layers k own own there) at rises in
+        let rising : first.value.number < own.number =
+        rw (get_or_from_slice_get grid.layers point first.value own first.there, get_or_from_slice_get grid.layers k own own there) at rises in
         let from = least point first.value first.there (omega arith) in
         omega (arith, rising, from)
 
-    pub near_layers : (first end : ℕ) → first ≡ point - 1 → end ≤ length grid.layers → (end ≡ point + 1) ⊎ (end ≡ length grid.layers) → AreNearLayers grid layer first end
+    pub near_layers : (first end : ℕ) → first ≡ point - 1 → end ≤ length grid.layers → (end ≡ point + 1) ⊎ (end ≡ length grid.layers)
+        → AreNearLayers grid layer first end
     near_layers first end first_is within end_is = record {
       within = within;
       before = λ k early. none_off k (record {
@@ -97,7 +109,8 @@ module _ (grid : GridModel) (is_grid : IsDesignGrid grid) (layer : ℕ) where
       beyond k own there late (inr is) = absurd (let within = slice_get_within grid.layers k own there in omega (arith, within, late, is))
 
 -- those below a layer stand first
-pub below_first : (layers : List RoutingLayer) → AllPairs (λ a b. a.number < b.number) layers → (number : ℕ) → IsPartitionedBy (λ (own : RoutingLayer). ltb own.number number) layers
+pub below_first : (layers : List RoutingLayer) → AllPairs (λ a b. a.number < b.number) layers → (number : ℕ)
+    → IsPartitionedBy (λ (own : RoutingLayer). ltb own.number number) layers
 below_first layers rising number i j d upto within test = elim (cases_eq i j) [
   | inl same ↦ rw same test
   | inr differ ↦ let more = rising i j d (omega (arith, upto, differ)) within in lower (get_or layers i d).number (get_or layers j d).number number more test

@@ -18,7 +18,7 @@ use Rattle.leg_wire.specs.Access.{Admits, alone}
 use Rattle.leg_rules.specs.Spacing.Clean.{IsClean}
 use Rattle.leg_rules.specs.declared.node.Node.{Node}
 use Rattle.leg_route_grid.specs.declared.slot_access.SlotAccess.{SlotAccess}
-use Rattle.leg_rules.specs.Route.StepWires.{NodeAdds, StepAdds, square}
+use Rattle.leg_rules.specs.Route.StepWires.{half, NodeAdds, StepAdds, square}
 use Rattle.leg_rules.specs.Route.OpenMetal.{IsOpenWire, IsOpenNode}
 use Rattle.leg_route_grid.specs.Steps.Grid.{GridModel, IsDesignGrid, IsNumberOf}
 use Rattle.leg_route_grid.specs.Steps.NodeNumbers.{IsOneOf}
@@ -60,7 +60,8 @@ module _ (design : DesignModel) (shape : Shape) (net : ℕ) where
       let the : OnLayer = record { layer = on; outline = Shifted at area } in
       elsewhere_is_clean design.library shape net metal.layer rect (λ same. other (ap (λ (m : OnLayer). m.layer) (the_one the metal there) ∙ same))
 
-  segment_elsewhere : (on : ℕ) (low high : PointModel) (width before behind : ℤ) → on ≢ shape.layer → IsOpenWire design (alone shape) net (Segment on low high width before behind)
+  segment_elsewhere : (on : ℕ) (low high : PointModel) (width before behind : ℤ) → on ≢ shape.layer
+      → IsOpenWire design (alone shape) net (Segment on low high width before behind)
   segment_elsewhere on low high width before behind other metal rect there points =
       let the : OnLayer = record { layer = on; outline = Line low high width before behind } in
       elsewhere_is_clean design.library shape net metal.layer rect (λ same. other (ap (λ (m : OnLayer). m.layer) (the_one the metal there) ∙ same))
@@ -68,32 +69,43 @@ module _ (design : DesignModel) (shape : Shape) (net : ℕ) where
   node_elsewhere : (node : Node) (wire : Wire) → node.layer ≢ shape.layer → NodeAdds design node wire → IsOpenWire design (alone shape) net wire
   node_elsewhere node wire other adds =
       let P : Wire → Type 0 = λ wire. IsOpenWire design (alone shape) net wire in
-      subst P (sym adds.is) (patch_elsewhere node.layer node.at (square adds.width) other)
+      subst P (sym adds.is) (patch_elsewhere node.layer node.at (square (half adds.width)) other)
 
-  pub step_elsewhere : (a b : Node) (wire : Wire) → a.layer ≡ b.layer → a.layer ≢ shape.layer → StepAdds design a b wire → IsOpenWire design (alone shape) net wire
+  pub step_elsewhere : (a b : Node) (wire : Wire) → a.layer ≡ b.layer → a.layer ≢ shape.layer → StepAdds design a b wire
+      → IsOpenWire design (alone shape) net wire
   step_elsewhere a b wire same other (inl along) =
       let P : Wire → Type 0 = λ wire. IsOpenWire design (alone shape) net wire in
       subst P (sym along.line.is) (segment_elsewhere a.layer a.at b.at along.line.width _ _ other)
   step_elsewhere a b wire same other (inr through) = absurd (other_layer design through.via a b through.over same)
 
-module _ (grid : GridModel) (n : ℕ) (shape : Shape) (slot : SlotAccess) (on_layer : Bool) (flat : FlatModel) (net : ℕ) (settled : AreSettled slot shape.owner on_layer)
+module _ (grid : GridModel) (n : ℕ) (shape : Shape) (slot : SlotAccess) (on_layer : Bool) (flat : FlatModel) (net : ℕ)
+    (settled : AreSettled slot shape.owner on_layer)
     (on : (node : Node) → IsNumberOf grid n node → node.layer ≡ shape.layer → IsTrue on_layer) (tells : IsSlotAccess grid flat n slot) where
   -- what lies on the slot's layer, on the shape's layer or not
-  node_wire : (one : IsOneOf (IsNumberOf grid) (IsOpenNode grid.design flat net) n) (set : Bool) → on_layer ≡ set → IsOpenWire grid.design (alone shape) net one.holds.wire
+  node_wire : (one : IsOneOf (IsNumberOf grid) (IsOpenNode grid.design flat net) n) (set : Bool) → on_layer ≡ set
+      → IsOpenWire grid.design (alone shape) net one.holds.wire
   node_wire one true is = own_wire grid.design shape net one.holds.wire (owns slot.node shape.owner net (settled.node is) ((tells.node net).1 one))
-  node_wire one false is = node_elsewhere grid.design shape net one.node one.holds.wire (λ same. not_set (sym is ∙ on one.node one.is same)) one.holds.adds where
-    not_set : false ≡ true → ⊥
-    not_set e = cc
+  node_wire one false is =
+      node_elsewhere grid.design shape net one.node one.holds.wire (λ same. not_set (sym is ∙ on one.node one.is same)) one.holds.adds where
+        not_set : false ≡ true → ⊥
+        not_set e = cc
 
-  along_wire : (is_open : IsOpenAlong grid flat net n) (a b : Node) (wire : Wire) → IsNumberOf grid n a → a.layer ≡ b.layer → StepAdds grid.design a b wire → (set : Bool) → on_layer ≡ set → IsOpenWire grid.design (alone shape) net wire
-  along_wire is_open a b wire a_is same adds true is = own_wire grid.design shape net wire (owns slot.along shape.owner net (settled.along is) ((tells.along net).1 is_open))
-  along_wire is_open a b wire a_is same adds false is = step_elsewhere grid.design shape net a b wire same (λ here. not_set (sym is ∙ on a a_is here)) adds where
-    not_set : false ≡ true → ⊥
-    not_set e = cc
+  along_wire : (is_open : IsOpenAlong grid flat net n) (a b : Node) (wire : Wire) → IsNumberOf grid n a → a.layer ≡ b.layer → StepAdds grid.design a b wire
+      → (set : Bool) → on_layer ≡ set → IsOpenWire grid.design (alone shape) net wire
+  along_wire is_open a b wire a_is same adds true is =
+      own_wire grid.design shape net wire (owns slot.along shape.owner net (settled.along is) ((tells.along net).1 is_open))
+  along_wire is_open a b wire a_is same adds false is =
+      step_elsewhere grid.design shape net a b wire same (λ here. not_set (sym is ∙ on a a_is here)) adds where
+        not_set : false ≡ true → ⊥
+        not_set e = cc
 
   far_where_settled : IsFarFrom grid shape n flat net
   far_where_settled = record {
-    node = λ one. record { node = one.node; is = one.is; holds = record { is_node = one.holds.is_node; wire = one.holds.wire; adds = one.holds.adds; clean = node_wire one on_layer refl } };
+    node = λ one. record {
+      node = one.node;
+      is = one.is;
+      holds = record { is_node = one.holds.is_node; wire = one.holds.wire; adds = one.holds.adds; clean = node_wire one on_layer refl };
+    };
     along = elim [
       | inl east ↦ inl (record {
         a = east.a;
@@ -132,8 +144,10 @@ module _ (grid : GridModel) (n : ℕ) (shape : Shape) (slot : SlotAccess) (on_la
   }
 
 -- the slot stays told as it is
-pub settled_here : (grid : GridModel) → IsDesignGrid grid → (shape : Shape) (number : ℕ) (before : List SlotAccess) (kept : SlotAccess) (on_layer : Bool) → slice_get before number ≡ Some kept
-    → AreSettled kept shape.owner on_layer → ((node : Node) → IsNumberOf grid number node → node.layer ≡ shape.layer → IsTrue on_layer) → AreAccessAfter grid shape (λ n. n ≡ number) before before
+pub settled_here : (grid : GridModel) → IsDesignGrid grid → (shape : Shape) (number : ℕ) (before : List SlotAccess) (kept : SlotAccess) (on_layer : Bool)
+    → slice_get before number ≡ Some kept
+    → AreSettled kept shape.owner on_layer → ((node : Node) → IsNumberOf grid number node → node.layer ≡ shape.layer → IsTrue on_layer)
+    → AreAccessAfter grid shape (λ n. n ≡ number) before before
 settled_here grid is_grid shape number before kept on_layer there settled on = record {
   count = refl;
   told = λ n is. record {
@@ -144,7 +158,8 @@ settled_here grid is_grid shape number before kept on_layer there settled on = r
         let S : SlotAccess → Type 0 = λ s. AreSettled s shape.owner on_layer in
         let N : ℕ → Type 0 = λ m. (node : Node) → IsNumberOf grid m node → node.layer ≡ shape.layer → IsTrue on_layer in
         let T : SlotAccess → Type 0 = λ s. IsSlotAccess grid grown n s in
-        subst T same (tells_far grid is_grid n shape flat grown has slot (λ net. far_where_settled grid n shape slot on_layer flat net (subst S first settled) (subst N (sym is) on) told) told);
+        subst T same (tells_far grid is_grid n shape flat grown has slot
+        (λ net. far_where_settled grid n shape slot on_layer flat net (subst S first settled) (subst N (sym is) on) told) told);
   };
   others = λ n other. refl;
 }

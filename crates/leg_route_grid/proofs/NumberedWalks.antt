@@ -10,7 +10,8 @@ long_zip R [] (y ∷ ys) all = absurd all
 long_zip R (x ∷ xs) [] all = absurd all
 long_zip R (x ∷ xs) (y ∷ ys) all = omega (arith, long_zip R xs ys all.1)
 
-module _ {Node : Type 0} (Number : ℕ → Node → Type 0) (unique : (n : ℕ) (a b : Node) → Number n a → Number n b → a ≡ b) (Open : Node → Type 0) (Step : Node → Node → Type 0) where
+module _ {Node : Type 0} (Number : ℕ → Node → Type 0) (unique : (n : ℕ) (a b : Node) → Number n a → Number n b → a ≡ b) (Open : Node → Type 0)
+    (Step : Node → Node → Type 0) where
   abbrev OpenAt : ℕ → Type 0
   OpenAt n = IsOneOf Number Open n
 
@@ -86,12 +87,14 @@ module _ {Node : Type 0} (Number : ℕ → Node → Type 0) (unique : (n : ℕ) 
 
     module _ (Start End : Node → Type 0) where
       -- no walk of nodes is shorter than a shortest walk of numbers
-      none_shorter : (numbers : List ℕ) → ((m n : ℕ) (others : List ℕ) → IsOneOf Number Start m → IsOneOf Number End n → Walk OpenAt StepAt m others n → length numbers ≤ length others)
+      none_shorter : (numbers : List ℕ) → ((m n : ℕ) (others : List ℕ) → IsOneOf Number Start m → IsOneOf Number End n → Walk OpenAt StepAt m others n
+          → length numbers ≤ length others)
           → (a b : Node) (others : List Node) → Start a → End b → Walk Open Step a others b → length numbers ≤ length others
       none_shorter numbers least a b others start end walk =
           let first = numbered a (first_open walk) in
           let same = to_numbers walk first.0 first.1 in
-          let less = least first.0 same.n same.numbers (record { node = a; is = first.1; holds = start }) (record { node = b; is = same.n_is; holds = end }) same.walk in
+          let less =
+          least first.0 same.n same.numbers (record { node = a; is = first.1; holds = start }) (record { node = b; is = same.n_is; holds = end }) same.walk in
           omega (arith, less, same.long)
 
       pub no_walk : NoWalk OpenAt StepAt (IsOneOf Number Start) (IsOneOf Number End) → NoWalk Open Step Start End

@@ -10,8 +10,10 @@ use Rattle.leg_route_grid.specs.Steps.AccessUpdates.{IsBoth, AreAccessAfter}
 use Rattle.leg_route_grid.proofs.GrownSlots.{tells_grown}
 use Rattle.leg_route_grid.proofs.ListEnds.{set_same, set_other}
 
-pub told_here : (grid : GridModel) → IsDesignGrid grid → (shape : Shape) (number : ℕ) (before : List SlotAccess) (old beside both : SlotAccess) → number < length before → slice_get before number ≡ Some old → IsSlotAccess grid (alone shape) number beside
-    → IsBoth old.node beside.node both.node → IsBoth old.along beside.along both.along → IsBoth old.above beside.above both.above → AreAccessAfter grid shape (λ n. n ≡ number) before (slice_set before number both)
+pub told_here : (grid : GridModel) → IsDesignGrid grid → (shape : Shape) (number : ℕ) (before : List SlotAccess) (old beside both : SlotAccess)
+    → number < length before → slice_get before number ≡ Some old → IsSlotAccess grid (alone shape) number beside
+    → IsBoth old.node beside.node both.node → IsBoth old.along beside.along both.along → IsBoth old.above beside.above both.above
+    → AreAccessAfter grid shape (λ n. n ≡ number) before (slice_set before number both)
 told_here grid is_grid shape number before old beside both within there tells node along above = record {
   count = length-set before number both;
   told = λ n is. record {

@@ -13,7 +13,7 @@ use Rattle.leg_route_grid.specs.declared.layers.RoutingLayer.{RoutingLayer}
 use Rattle.leg_rules.specs.declared.node.Node.{Node}
 use Rattle.leg_rules.specs.Route.Tracks.{Runs}
 use Rattle.leg_rules.specs.Route.Nodes.{IsNode}
-use Rattle.leg_rules.specs.Route.StepWires.{square}
+use Rattle.leg_rules.specs.Route.StepWires.{half, square}
 use Rattle.leg_rules.specs.Route.OpenMetal.{IsOpenWire, IsOpenNode}
 use Rattle.leg_route_grid.specs.Steps.Grid.{GridModel, LiesAt, IsNumberOf}
 use Rattle.leg_route_grid.specs.Steps.NodeNumbers.{IsOneOf}
@@ -22,7 +22,9 @@ use Rattle.leg_route_grid.proofs.GridSlots.{the_node}
 -- a routing layer's width
 pub width_is : (library : LibraryModel) (n : ℕ) (direction : Direction) (width : ℤ) → IsSound library → Runs library n direction width → IsWidth width
 width_is library n direction width sound runs =
-    let of_layer : IsSoundLayer runs.layer = rw (get_or_from_slice_get library.layers n runs.layer runs.layer runs.there) at (sound.layers n runs.layer (slice_get_within library.layers n runs.layer runs.there)) in
+    let of_layer : IsSoundLayer runs.layer =
+    rw (get_or_from_slice_get library.layers n runs.layer runs.layer runs.there) at
+    (sound.layers n runs.layer (slice_get_within library.layers n runs.layer runs.there)) in
     let wide : HasWidth (Routing direction width) = rw runs.routes at of_layer.width in
     wide
 
@@ -43,24 +45,25 @@ runs_at_node grid k j i node layer there lies runs =
 
 module _ (grid : GridModel) (design : DesignModel) (flat : FlatModel) (net n : ℕ) (node : Node) (number : IsNumberOf grid n node) where
   pub open_by_patch : (direction : Direction) (width : ℤ) → Runs design.library node.layer direction width → IsNode design node
-      → IsOpenWire design flat net (Patch node.layer node.at (square width)) → IsOneOf (IsNumberOf grid) (IsOpenNode design flat net) n
+      → IsOpenWire design flat net (Patch node.layer node.at (square (half width))) → IsOneOf (IsNumberOf grid) (IsOpenNode design flat net) n
   open_by_patch direction width runs is_node is_open = record {
     node = node;
     is = number;
     holds = record {
       is_node = is_node;
-      wire = Patch node.layer node.at (square width);
+      wire = Patch node.layer node.at (square (half width));
       adds = record { direction = direction; width = width; runs = runs; is = refl };
       clean = is_open;
     };
   }
 
-  pub patch_of_open : (direction : Direction) (width : ℤ) → Runs design.library node.layer direction width → IsOneOf (IsNumberOf grid) (IsOpenNode design flat net) n
-      → IsOpenWire design flat net (Patch node.layer node.at (square width))
+  pub patch_of_open : (direction : Direction) (width : ℤ) → Runs design.library node.layer direction width
+      → IsOneOf (IsNumberOf grid) (IsOpenNode design flat net) n
+      → IsOpenWire design flat net (Patch node.layer node.at (square (half width)))
   patch_of_open direction width runs one =
       let same : one.node ≡ node = the_node grid n one.node node one.is number in
       let is_open : IsOpenNode design flat net node = rw same at one.holds in
       let adds = is_open.adds in
       let wide : adds.width ≡ width = one_width design.library node.layer adds.direction direction adds.width width adds.runs runs in
-      let wire : is_open.wire ≡ Patch node.layer node.at (square width) = adds.is ∙ ap (λ (w : ℤ). Patch node.layer node.at (square w)) wide in
+      let wire : is_open.wire ≡ Patch node.layer node.at (square (half width)) = adds.is ∙ ap (λ (w : ℤ). Patch node.layer node.at (square (half w))) wide in
       rw wire at is_open.clean

@@ -41,20 +41,31 @@ pub other_layer : (design : DesignModel) (via : ℕ) (a b : Node) → IsOver des
 other_layer design via a b (inl up) same = let rises = via_rises design.library a.layer b.layer via up.via_is in omega (arith, rises, same)
 other_layer design via a b (inr down) same = let rises = via_rises design.library b.layer a.layer via down.via_is in omega (arith, rises, same)
 
-pub same_via : (design : DesignModel) (via other : ℕ) (a b : Node) → IsOver design via a b ⊎ IsOver design via b a → IsOver design other a b ⊎ IsOver design other b a → other ≡ via
+pub same_via : (design : DesignModel) (via other : ℕ) (a b : Node) → IsOver design via a b ⊎ IsOver design via b a
+    → IsOver design other a b ⊎ IsOver design other b a → other ≡ via
 same_via design via other a b (inl up) (inl also) = one_via design.library a.layer b.layer other via also.via_is up.via_is
 same_via design via other a b (inr down) (inr also) = one_via design.library b.layer a.layer other via also.via_is down.via_is
-same_via design via other a b (inl up) (inr also) = absurd (let rises = via_rises design.library a.layer b.layer via up.via_is in let falls = via_rises design.library b.layer a.layer other also.via_is in omega (arith, rises, falls))
-same_via design via other a b (inr down) (inl also) = absurd (let falls = via_rises design.library b.layer a.layer via down.via_is in let rises = via_rises design.library a.layer b.layer other also.via_is in omega (arith, rises, falls))
+same_via design via other a b (inl up) (inr also) =
+    absurd (let rises = via_rises design.library a.layer b.layer via up.via_is in let falls = via_rises design.library b.layer a.layer other also.via_is in
+    omega (arith, rises, falls))
+same_via design via other a b (inr down) (inl also) =
+    absurd (let falls = via_rises design.library b.layer a.layer via down.via_is in let rises = via_rises design.library a.layer b.layer other also.via_is in
+    omega (arith, rises, falls))
 
 module _ (design : DesignModel) (flat : FlatModel) (net : ℕ) (a b : Node) where
   abbrev pub line_of : ℤ → Wire
   line_of width = Segment a.layer a.at b.at width (half width) (half width)
 
-  pub open_line : (direction : Direction) (width : ℤ) → IsInLine design a b → Runs design.library a.layer direction width → IsOpenStep design flat net a b ↔ IsOpenWire design flat net (line_of width)
+  pub open_line : (direction : Direction) (width : ℤ) → IsInLine design a b → Runs design.library a.layer direction width
+      → IsOpenStep design flat net a b ↔ IsOpenWire design flat net (line_of width)
   open_line direction width in_line runs = (
     λ is_open. by is_open.wire is_open.adds is_open.clean,
-    λ clean. record { wire = line_of width; adds = inl (record { in_line = in_line; line = record { direction = direction; width = width; runs = runs; is = refl } }); clean = clean },
+    λ clean. record {
+      wire = line_of width;
+      adds = inl
+          (record { in_line = in_line; line = record { direction = direction; width = width; runs = runs; is = refl } });
+      clean = clean;
+    },
   ) where
     by : (wire : Wire) → StepAdds design a b wire → IsOpenWire design flat net wire → IsOpenWire design flat net (line_of width)
     by wire (inl along) clean =
@@ -100,7 +111,8 @@ module _ (grid : GridModel) (is_grid : IsDesignGrid grid) (side : Side) (n : ℕ
       λ open_step.
           let from : open_step.a ≡ a = the_node grid n open_step.a a open_step.a_is a_is in
           let to = numbered grid is_grid open_step.b (ends_are_nodes grid.design side open_step.a open_step.b open_step.beside).1 in
-          let m_is : to.0 ≡ next = one_number_beside to.0 next (record { a = open_step.a; b = open_step.b; a_is = open_step.a_is; b_is = to.1; step = open_step.beside }) step in
+          let m_is : to.0 ≡ next =
+          one_number_beside to.0 next (record { a = open_step.a; b = open_step.b; a_is = open_step.a_is; b_is = to.1; step = open_step.beside }) step in
           let here : IsNumberOf grid next open_step.b = rw m_is at to.1 in
           let end : open_step.b ≡ b = the_node grid next open_step.b b here b_is in
           rw (from, end) at open_step.is_open,
@@ -111,7 +123,8 @@ moved_via : (library : LibraryModel) (low high l h k : ℕ) → l ≡ low → h 
 moved_via library low high l h k from to leads = rw (from, to) leads
 
 -- the via that leads up from a slot
-pub via_there : (grid : GridModel) (n to via : ℕ) (s : Slot) (a b : Node) → IsDesignGrid grid → IsSlot grid n s.layer s.row s.column → IsNumberOf grid n a → IsNumberOf grid to b → IsOver grid.design via a b
+pub via_there : (grid : GridModel) (n to via : ℕ) (s : Slot) (a b : Node) → IsDesignGrid grid → IsSlot grid n s.layer s.row s.column → IsNumberOf grid n a
+    → IsNumberOf grid to b → IsOver grid.design via a b
     → slice_get grid.vias s.layer ≡ Some (Some via)
 via_there grid n to via s a b is_grid at_n a_is b_is over =
     let t : Slot = record { layer = b_is.k; row = b_is.j; column = b_is.i } in
@@ -121,12 +134,16 @@ via_there grid n to via s a b is_grid at_n a_is b_is over =
     let low = a_lies.layer in
     let high = b_is.lies.layer in
     let at_high : slice_get grid.layers (s.layer + 1) ≡ Some high = rw above.next at b_is.lies.there in
-    let leads : IsVia grid.design.library low.number high.number above.via = is_grid.vias_are.each s.layer low high (Some above.via) a_lies.there at_high above.there in
-    let same : above.via ≡ via = one_via grid.design.library a.layer b.layer above.via via (moved_via grid.design.library low.number high.number a.layer b.layer above.via a_lies.on b_is.lies.on leads) over.via_is in
+    let leads : IsVia grid.design.library low.number high.number above.via =
+    is_grid.vias_are.each s.layer low high (Some above.via) a_lies.there at_high above.there in
+    let same : above.via ≡ via =
+    one_via grid.design.library a.layer b.layer above.via via
+    (moved_via grid.design.library low.number high.number a.layer b.layer above.via a_lies.on b_is.lies.on leads) over.via_is in
     above.there ∙ ap (λ (k : ℕ). Some (Some k)) same
 
 -- a routing layer to which it goes
-pub layer_above : (grid : GridModel) (n to via : ℕ) (s : Slot) (a b : Node) → IsDesignGrid grid → IsSlot grid n s.layer s.row s.column → IsNumberOf grid n a → IsNumberOf grid to b → IsOver grid.design via a b
+pub layer_above : (grid : GridModel) (n to via : ℕ) (s : Slot) (a b : Node) → IsDesignGrid grid → IsSlot grid n s.layer s.row s.column → IsNumberOf grid n a
+    → IsNumberOf grid to b → IsOver grid.design via a b
     → (high : RoutingLayer) × (slice_get grid.layers (s.layer + 1) ≡ Some high)
 layer_above grid n to via s a b is_grid at_n a_is b_is over =
     let t : Slot = record { layer = b_is.k; row = b_is.j; column = b_is.i } in
@@ -151,13 +168,16 @@ pub stretch_north : (design : DesignModel) (a b : Node) → IsNorth design a b �
 stretch_north design a b north = inr (record { upright = sym north.upright; less = north.next.less })
 
 -- no step where there is no node on the side
-pub no_step : (grid : GridModel) (is_grid : IsDesignGrid grid) (side : Side) (n : ℕ) (flat : FlatModel) (net : ℕ) → ((m : ℕ) → ¬ IsNeighbourAt grid side n m) → ¬ IsOpenStepAt grid flat net side n
+pub no_step : (grid : GridModel) (is_grid : IsDesignGrid grid) (side : Side) (n : ℕ) (flat : FlatModel) (net : ℕ) → ((m : ℕ) → ¬ IsNeighbourAt grid side n m)
+    → ¬ IsOpenStepAt grid flat net side n
 no_step grid is_grid side n flat net none open_step =
     let to = numbered grid is_grid open_step.b (ends_are_nodes grid.design side open_step.a open_step.b open_step.beside).1 in
     none to.0 (record { a = open_step.a; b = open_step.b; a_is = open_step.a_is; b_is = to.1; step = open_step.beside })
 
-module _ (grid : GridModel) (is_grid : IsDesignGrid grid) (side : Side) (n next : ℕ) (a b : Node) (a_is : IsNumberOf grid n a) (b_is : IsNumberOf grid next b) (step : IsNeighbourAt grid side n next) (design : DesignModel) (of_design : grid.design ≡ design) (flat : FlatModel) (net : ℕ) (Answer : Type 0) where
-  same_wire : (wire : Wire) → IsOpenStepAt grid flat net side n ↔ IsOpenWire grid.design flat net wire → Answer ↔ IsOpenWire design flat net wire → Answer ↔ IsOpenStepAt grid flat net side n
+module _ (grid : GridModel) (is_grid : IsDesignGrid grid) (side : Side) (n next : ℕ) (a b : Node) (a_is : IsNumberOf grid n a) (b_is : IsNumberOf grid next b)
+    (step : IsNeighbourAt grid side n next) (design : DesignModel) (of_design : grid.design ≡ design) (flat : FlatModel) (net : ℕ) (Answer : Type 0) where
+  same_wire : (wire : Wire) → IsOpenStepAt grid flat net side n ↔ IsOpenWire grid.design flat net wire → Answer ↔ IsOpenWire design flat net wire
+      → Answer ↔ IsOpenStepAt grid flat net side n
   same_wire wire one other =
       let P : DesignModel → Type 0 = λ design. Answer ↔ IsOpenWire design flat net wire in
       let says = subst P (sym of_design) other in
@@ -170,7 +190,8 @@ module _ (grid : GridModel) (is_grid : IsDesignGrid grid) (side : Side) (n next 
       let line = open_line grid.design flat net a b direction width in_line runs in
       same_wire (line_of design flat net a b width) (λ is. line.0 (here.0 is), λ clean. here.1 (line.1 clean)) says
 
-  pub via_answer : (via : ℕ) → IsOver grid.design via a b ⊎ IsOver grid.design via b a → Answer ↔ IsOpenWire design flat net (ViaAt via a.at) → Answer ↔ IsOpenStepAt grid flat net side n
+  pub via_answer : (via : ℕ) → IsOver grid.design via a b ⊎ IsOver grid.design via b a → Answer ↔ IsOpenWire design flat net (ViaAt via a.at)
+      → Answer ↔ IsOpenStepAt grid flat net side n
   via_answer via over says =
       let here = open_at grid is_grid side n next a b a_is b_is flat net step in
       let through = open_via grid.design flat net a b via over in
@@ -189,11 +210,17 @@ side_of design a b wire (inr through) = by through.over where
   by (inr down) = (Below, (through.via, down))
 
 -- an open step goes to some side, and an open step to a side is one
-pub steps_have_sides : (grid : GridModel) (flat : FlatModel) (net m n : ℕ) → IsDesignGrid grid → IsStepOf (IsNumberOf grid) (IsOpenStep grid.design flat net) m n ↔ IsStep (IsNeighbourAt grid) (IsOpenStepAt grid flat net) m n
+pub steps_have_sides : (grid : GridModel) (flat : FlatModel) (net m n : ℕ) → IsDesignGrid grid
+    → IsStepOf (IsNumberOf grid) (IsOpenStep grid.design flat net) m n ↔ IsStep (IsNeighbourAt grid) (IsOpenStepAt grid flat net) m n
 steps_have_sides grid flat net m n is_grid = (
   λ step.
-      let side = side_of grid.design step.a step.b step.step.wire step.step.adds in
-      (side.0, (record { a = step.a; b = step.b; a_is = step.a_is; b_is = step.b_is; step = side.1 }, record { a = step.a; b = step.b; a_is = step.a_is; beside = side.1; is_open = step.step })),
+      let side = side_of grid.design step.a step.b step.step.wire step.step.adds in (
+        side.0,
+        (
+          record { a = step.a; b = step.b; a_is = step.a_is; b_is = step.b_is; step = side.1 },
+          record { a = step.a; b = step.b; a_is = step.a_is; beside = side.1; is_open = step.step },
+        ),
+      ),
   λ step.
       let beside = step.1.0 in
       record {

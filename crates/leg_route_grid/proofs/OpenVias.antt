@@ -56,7 +56,9 @@ module _ (design : DesignModel) (flat : FlatModel) (net : ℕ) (at : PointModel)
   IsOpenShape s = IsOpenWire design flat net (Patch s.layer at s.rect)
 
   abbrev AllClean : List OnLayer → Type 0
-  AllClean outlines = (metal : OnLayer) (rect : RectModel) → Contains outlines metal → ((p : PointModel) → HasPoint rect p ↔ HasPointOf metal.outline p) → IsClean design.library flat net metal.layer rect
+  AllClean outlines =
+      (metal : OnLayer) (rect : RectModel) → Contains outlines metal → ((p : PointModel) → HasPoint rect p ↔ HasPointOf metal.outline p)
+      → IsClean design.library flat net metal.layer rect
 
   alone : (m n : OnLayer) → Contains (m ∷ []) n → m ≡ n
   alone m n there = by there.0 there.1 there.2 where
@@ -76,7 +78,8 @@ module _ (design : DesignModel) (flat : FlatModel) (net : ℕ) (at : PointModel)
       let same : metal_at at s ≡ metal = alone (metal_at at s) metal there in
       all metal rect (subst (λ (m : OnLayer). Contains (map (metal_at at) shapes) m) same image) points
 
-  pub via_is_open : (via : ℕ) (said : ViaModel) → slice_get design.library.vias via ≡ Some said → All IsOpenShape said.shapes ↔ IsOpenWire design flat net (ViaAt via at)
+  pub via_is_open : (via : ℕ) (said : ViaModel) → slice_get design.library.vias via ≡ Some said
+      → All IsOpenShape said.shapes ↔ IsOpenWire design flat net (ViaAt via at)
   via_is_open via said there =
       let outlines : via_outlines (slice_get (design.library.vias ++ design.vias) via) (ViaAt via at) ≡ map (metal_at at) said.shapes =
       ap (λ (v : Option ViaModel). via_outlines v (ViaAt via at)) (read_old design.library.vias design.vias via said there) in (

@@ -26,13 +26,15 @@ module _ (design : DesignModel) (flat : FlatModel) (net : ℕ) where
     | inr down ↦ (Below, (via.via, down))
   ]
 
-  all_open : {a b : Node} {nodes : List Node} → Walk (IsOpenNode design flat net) (IsOpenStep design flat net) a nodes b → (k : ℕ) (x : Node) → slice_get nodes k ≡ Some x → IsOpenNode design flat net x
+  all_open : {a b : Node} {nodes : List Node} → Walk (IsOpenNode design flat net) (IsOpenStep design flat net) a nodes b → (k : ℕ) (x : Node)
+      → slice_get nodes k ≡ Some x → IsOpenNode design flat net x
   all_open {a} (here is_open) zero x is = rw (← same_Some a x is) is_open
   all_open {a} (here is_open) (suc k) x is = absurd (none-some x is)
   all_open {a} (on is_open step rest) zero x is = rw (← same_Some a x is) is_open
   all_open {a} (on is_open step rest) (suc k) x is = all_open rest k x is
 
-  starts : {a b : Node} {nodes : List Node} → Walk (IsOpenNode design flat net) (IsOpenStep design flat net) a nodes b → (x : Node) → slice_get nodes 0 ≡ Some x → a ≡ x
+  starts : {a b : Node} {nodes : List Node} → Walk (IsOpenNode design flat net) (IsOpenStep design flat net) a nodes b → (x : Node)
+      → slice_get nodes 0 ≡ Some x → a ≡ x
   starts {a} (here is_open) x is = same_Some a x is
   starts {a} (on is_open step rest) x is = same_Some a x is
 

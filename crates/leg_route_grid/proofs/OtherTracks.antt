@@ -42,4 +42,5 @@ module _ (library : LibraryModel) (direction : Direction) where
 
   pub serves_none : (track : TrackModel) (i : ℕ) → length library.layers ≤ i → NoneBelow track i → ¬ Serve library track direction
   serves_none track i all none serve =
-      none serve.number serve.width (omega (arith, all, slice_get_within library.layers serve.number serve.runs.layer serve.runs.there)) serve.runs serve.are_for
+      none serve.number serve.width (omega (arith, all, slice_get_within library.layers serve.number serve.runs.layer serve.runs.there)) serve.runs
+      serve.are_for

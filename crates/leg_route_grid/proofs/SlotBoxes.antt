@@ -1,9 +1,8 @@
 -- The box of the slots in a rectangle.
-use Rattle.std.proofs.Common.{◌≡◌, ℕ, ◌<◌, ◌⊎◌, inl, inr, List, [], ◌∷◌, ◌++◌, Contains, sym, subst, ◌∙◌, arith}
-use Rattle.std.proofs.lemmas.List.{append-nil}
+use Rattle.std.proofs.Common.{◌≡◌, ℕ, ◌<◌, ◌⊎◌, inl, inr, List, ◌++◌, Contains, sym, subst, ◌∙◌, arith}
 use Rattle.std.proofs.lemmas.Option.{slice_get_within}
-use Rattle.std.proofs.lemmas.List.Elements.{All-append, All-cons, All-nil, All-contains, Contains-append_cases, Contains-append_right}
-use Rattle.leg_sweep.proofs.Lists.{All-from_contains, Contains-here}
+use Rattle.std.proofs.lemmas.List.Elements.{All-append, All-contains, Contains-append_cases, Contains-append_right}
+use Rattle.leg_sweep.proofs.Lists.{All-from_contains}
 use Rattle.leg_geom.specs.Plane.{RectModel}
 use Rattle.leg_route_grid.specs.declared.slot.Slot.{Slot}
 use Rattle.leg_route_grid.specs.declared.slot_box.SlotBox.{SlotBox}
@@ -17,24 +16,6 @@ use Rattle.leg_route_grid.specs.Steps.SlotRanges.{IsRoutingLayerAt, IsInRows, Ha
 use Rattle.leg_route_grid.proofs.Bounds.{slot_is, slot_there, in_boxes, nearest_first, nearest_upto, nearest_none, from_none, none_upto}
 use Rattle.leg_route_grid.proofs.SlotRanges.{in_rect, from_rect}
 
--- no box, where there are no such rows or columns
-pub no_box : (layer : ℕ) (rows columns : ℕ × ℕ) (boxes : List SlotBox) → (rows.0 < rows.1 → columns.0 < columns.1 → ⊥) → HaveGotBox layer rows columns boxes boxes
-no_box layer rows columns boxes none = record {
-  more = [];
-  are = sym (append-nil boxes);
-  each = All-nil (IsBoxAt layer rows columns);
-  some = λ some_rows some_columns. absurd (none some_rows some_columns);
-}
-
--- the box
-pub one_box : (layer : ℕ) (rows columns : ℕ × ℕ) (before after : List SlotBox) (ends : SlotBox) → IsBoxAt layer rows columns ends → after ≡ before ++ ends ∷ [] → HaveGotBox layer rows columns before after
-one_box layer rows columns before after ends is are = record {
-  more = ends ∷ [];
-  are = are;
-  each = All-cons (IsBoxAt layer rows columns) ends [] is (All-nil (IsBoxAt layer rows columns));
-  some = λ some_rows some_columns. (ends, Contains-here ends []);
-}
-
 -- a slot has one number of layer, row and column
 record IsSame (k j i l m n : ℕ) : Type 0 where
   pub layer : k ≡ l
@@ -47,13 +28,15 @@ same_slot grid n k j i s a b =
     let other = slot_is grid n s.layer s.row s.column b in
     record { layer = sym one.layer ∙ other.layer; row = sym one.row ∙ other.row; column = sym one.column ∙ other.column }
 
-module _ (grid : GridModel) (is_grid : IsDesignGrid grid) (layer : ℕ) (rect : RectModel) (k c0 c1 r0 r1 : ℕ) (on : IsRoutingLayerAt grid.layers layer k) (columns : ArePlaces grid.xs rect.x1 rect.x2 c0 c1)
+module _ (grid : GridModel) (is_grid : IsDesignGrid grid) (layer : ℕ) (rect : RectModel) (k c0 c1 r0 r1 : ℕ) (on : IsRoutingLayerAt grid.layers layer k)
+    (columns : ArePlaces grid.xs rect.x1 rect.x2 c0 c1)
     (rows : ArePlaces grid.ys rect.y1 rect.y2 r0 r1) where
   abbrev InRect : ℕ → Type 0
   InRect n = IsOneOf (IsNumberOf grid) (LiesInRect layer rect) n
 
   -- such rows and columns are those of a slot in the box
-  comes_in : (n : ℕ) (s : Slot) (ends : SlotBox) → IsBoxAt k (r0, r1) (c0, c1) ends → IsSlot grid n s.layer s.row s.column → IsInRows grid k (r0, r1) (c0, c1) n → IsInBox ends s
+  comes_in : (n : ℕ) (s : Slot) (ends : SlotBox) → IsBoxAt k (r0, r1) (c0, c1) ends → IsSlot grid n s.layer s.row s.column
+      → IsInRows grid k (r0, r1) (c0, c1) n → IsInBox ends s
   comes_in n s ends is slot row =
       let column = row.is in
       let same = same_slot grid n k row.k column.k s column.is slot in
@@ -66,7 +49,8 @@ module _ (grid : GridModel) (is_grid : IsDesignGrid grid) (layer : ℕ) (rect : 
         high_column = omega (arith, is.high_column, same.column, column.below);
       }
 
-  goes_out : (n : ℕ) (s : Slot) (ends : SlotBox) → IsBoxAt k (r0, r1) (c0, c1) ends → IsSlot grid n s.layer s.row s.column → IsInBox ends s → IsInRows grid k (r0, r1) (c0, c1) n
+  goes_out : (n : ℕ) (s : Slot) (ends : SlotBox) → IsBoxAt k (r0, r1) (c0, c1) ends → IsSlot grid n s.layer s.row s.column → IsInBox ends s
+      → IsInRows grid k (r0, r1) (c0, c1) n
   goes_out n s ends is slot inside =
       let layer_is : s.layer ≡ k = omega (arith, is.low_layer, is.high_layer, inside.low_layer, inside.high_layer) in
       record {
@@ -91,8 +75,16 @@ module _ (grid : GridModel) (is_grid : IsDesignGrid grid) (layer : ℕ) (rect : 
       let last_column = columns.within in
       record {
         corners = record {
-          low = record { layer = omega (arith, within, is.low_layer); row = omega (arith, some_rows, last_row, is.low_row); column = omega (arith, some_columns, last_column, is.low_column) };
-          high = record { layer = omega (arith, within, is.high_layer); row = omega (arith, last_row, is.high_row); column = omega (arith, last_column, is.high_column) };
+          low = record {
+            layer = omega (arith, within, is.low_layer);
+            row = omega (arith, some_rows, last_row, is.low_row);
+            column = omega (arith, some_columns, last_column, is.low_column);
+          };
+          high = record {
+            layer = omega (arith, within, is.high_layer);
+            row = omega (arith, last_row, is.high_row);
+            column = omega (arith, last_column, is.high_column);
+          };
         };
         each = λ n s slot. (
           λ one. comes_in n s ends is slot (from_rect grid is_grid layer rect k c0 c1 r0 r1 on columns rows n one),
@@ -121,7 +113,9 @@ module _ (grid : GridModel) (is_grid : IsDesignGrid grid) (layer : ℕ) (rect : 
           let row = from_rect grid is_grid layer rect k c0 c1 r0 r1 on columns rows n one in
           let column = row.is in
           let s : Slot = record { layer = k; row = row.k; column = column.k } in
-          let box = got.some (let from = row.from in let below = row.below in omega (arith, from, below)) (let from = column.from in let below = column.below in omega (arith, from, below)) in
+          let box =
+          got.some (let from = row.from in let below = row.below in omega (arith, from, below))
+          (let from = column.from in let below = column.below in omega (arith, from, below)) in
           let is = All-contains (IsBoxAt k (r0, r1) (c0, c1)) got.more box.0 got.each box.1 in
           in_boxes grid after box.0 n s column.is (rw got.are (Contains-append_right before got.more box.0 box.1)) (comes_in n s box.0 is column.is row)
 
@@ -144,20 +138,25 @@ module _ (grid : GridModel) (is_grid : IsDesignGrid grid) (layer : ℕ) (rect : 
       still_boxed = record {
         corners = rw got.are
             (All-append (IsBoxOf grid) before got.more boxed.corners
-            (All-from_contains (IsBoxOf grid) got.more (λ ends has. (has_just ends (All-contains (IsBoxAt k (r0, r1) (c0, c1)) got.more ends got.each has)).corners)));
-        inside = All-from_contains (λ n. bound_at grid after n ≡ 0) numbers (λ n has. elim ((added n).0 has) [ inl old ↦ old_slot n old | inr new ↦ new_slot n new ]);
+            (All-from_contains (IsBoxOf grid) got.more
+            (λ ends has. (has_just ends (All-contains (IsBoxAt k (r0, r1) (c0, c1)) got.more ends got.each has)).corners)));
+        inside =
+            All-from_contains (λ n. bound_at grid after n ≡ 0) numbers
+            (λ n has. elim ((added n).0 has) [ inl old ↦ old_slot n old | inr new ↦ new_slot n new ]);
         only = only_slots;
       }
 
 -- where none is left to the nearest of some boxes, none is left to that of others that have them too
-none_as : (before after : List SlotBox) (s : Slot) → ((ends : SlotBox) → Contains before ends → Contains after ends) → nearest before s ≡ 0 → nearest after s ≡ 0
+none_as : (before after : List SlotBox) (s : Slot) → ((ends : SlotBox) → Contains before ends → Contains after ends) → nearest before s ≡ 0
+    → nearest after s ≡ 0
 none_as before after s same none =
     let box = nearest_none before s none in
     let upto = nearest_upto after box.0 s (same box.0 box.1) in
     none_upto (nearest after s) (slot_bound box.0 s) upto box.2
 
 -- the boxes may stand in another order
-pub boxed_as : (grid : GridModel) (before after : List SlotBox) (numbers : List ℕ) → ((ends : SlotBox) → Contains before ends → Contains after ends) → ((ends : SlotBox) → Contains after ends → Contains before ends)
+pub boxed_as : (grid : GridModel) (before after : List SlotBox) (numbers : List ℕ) → ((ends : SlotBox) → Contains before ends → Contains after ends)
+    → ((ends : SlotBox) → Contains after ends → Contains before ends)
     → AreBoxed grid before numbers → AreBoxed grid after numbers
 boxed_as grid before after numbers to from boxed = record {
   corners = All-from_contains (IsBoxOf grid) after (λ ends has. All-contains (IsBoxOf grid) before ends boxed.corners (from ends has));

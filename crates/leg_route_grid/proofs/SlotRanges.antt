@@ -90,7 +90,8 @@ places_from_points values low high first end within below upto = record {
   late_high k z there late = rw (get_or_from_slice_get values k z z there) at (upto.1 k z late (slice_get_within values k z there))
 
 -- one layer has a number
-pub one_layer : (layers : List RoutingLayer) → AllPairs (λ a b. a.number < b.number) layers → (number k m : ℕ) → IsRoutingLayerAt layers number k → IsRoutingLayerAt layers number m → k ≡ m
+pub one_layer : (layers : List RoutingLayer) → AllPairs (λ a b. a.number < b.number) layers → (number k m : ℕ) → IsRoutingLayerAt layers number k
+    → IsRoutingLayerAt layers number m → k ≡ m
 one_layer layers rising number k m at_k at_m = elim (order k m) [
   | inl less ↦ absurd (apart k m at_k at_m less)
   | inr (inl same) ↦ same
@@ -108,10 +109,12 @@ one_layer layers rising number k m at_k at_m = elim (order k m) [
       omega (arith, rises, at_k.is, at_m.is)
 
 -- no layer has the number, where the first one that isn't below it has another
-pub no_layer : (layers : List RoutingLayer) (number point : ℕ) → AllPairs (λ a b. a.number < b.number) layers → IsPartitionPoint (λ (own : RoutingLayer). ltb own.number number ≡ true) (λ (own : RoutingLayer). ltb own.number number ≡ false) layers point
+pub no_layer : (layers : List RoutingLayer) (number point : ℕ) → AllPairs (λ a b. a.number < b.number) layers
+    → IsPartitionPoint (λ (own : RoutingLayer). ltb own.number number ≡ true) (λ (own : RoutingLayer). ltb own.number number ≡ false) layers point
     → ((own : RoutingLayer) → slice_get layers point ≡ Some own → ¬ (own.number ≡ number)) → (k : ℕ) → ¬ IsRoutingLayerAt layers number k
 no_layer layers number point rising is_point other k at_k = elim (cases_lt k point) [
-  | inl early ↦ let test = is_point.0 k at_k.layer (omega arith) early in below (get_or layers k at_k.layer).number number test (ap (λ (l : RoutingLayer). l.number) here ∙ at_k.is)
+  | inl early ↦ let test = is_point.0 k at_k.layer (omega arith) early in
+      below (get_or layers k at_k.layer).number number test (ap (λ (l : RoutingLayer). l.number) here ∙ at_k.is)
   | inr late ↦ elim (cases_eq k point) [
     | inl same ↦ other at_k.layer (ap (slice_get layers) (sym same) ∙ at_k.there) at_k.is
     | inr differ ↦
@@ -137,7 +140,8 @@ module _ (At : ℕ → ℕ → Type 0) (first : ℕ) (before : List ℕ) where
   pub none_more : HaveGot (IsSlotAmong At first first) before before
   none_more n = (λ there. inl there, elim [ inl there ↦ there | inr among ↦ absurd (let from = among.from in let below = among.below in omega arith) ])
 
-  pub one_more : (k : ℕ) (mid after : List ℕ) → first ≤ k → HaveGot (IsSlotAmong At first k) before mid → HaveGot (At k) mid after → HaveGot (IsSlotAmong At first (k + 1)) before after
+  pub one_more : (k : ℕ) (mid after : List ℕ) → first ≤ k → HaveGot (IsSlotAmong At first k) before mid → HaveGot (At k) mid after
+      → HaveGot (IsSlotAmong At first (k + 1)) before after
   one_more k mid after from got more n = (
     λ there. elim ((more n).0 there) [
       | inl earlier ↦ elim ((got n).0 earlier) [
@@ -150,12 +154,19 @@ module _ (At : ℕ → ℕ → Type 0) (first : ℕ) (before : List ℕ) where
       | inl old ↦ (more n).1 (inl ((got n).1 (inl old)))
       | inr among ↦ elim (cases_eq among.k k) [
         | inl same ↦ (more n).1 (inr (rw same at among.is))
-        | inr differ ↦ (more n).1 (inl ((got n).1 (inr (record { k = among.k; from = among.from; below = (let below = among.below in omega (arith, differ)); is = among.is }))))
+        | inr differ ↦
+            (more n).1 (inl ((got n).1 (inr (record {
+              k = among.k;
+              from = among.from;
+              below = (let below = among.below in omega (arith, differ));
+              is = among.is;
+            }))))
       ]
     ],
   )
 
-  pub all_got : (k end : ℕ) (after : List ℕ) → ¬ (k < end) → ((j : ℕ) → first ≤ j → j < k → j < end) → HaveGot (IsSlotAmong At first k) before after → HaveGot (IsSlotAmong At first end) before after
+  pub all_got : (k end : ℕ) (after : List ℕ) → ¬ (k < end) → ((j : ℕ) → first ≤ j → j < k → j < end) → HaveGot (IsSlotAmong At first k) before after
+      → HaveGot (IsSlotAmong At first end) before after
   all_got k end after done inside got n = (
     λ there. elim ((got n).0 there) [
       | inl old ↦ inl old
@@ -168,7 +179,8 @@ module _ (At : ℕ → ℕ → Type 0) (first : ℕ) (before : List ℕ) where
   )
 
 -- the number of one slot
-pub one_slot : (grid : GridModel) (m k j i : ℕ) (before after : List ℕ) → IsSlot grid m k j i → after ≡ before ++ m ∷ [] → HaveGot (λ n. IsSlot grid n k j i) before after
+pub one_slot : (grid : GridModel) (m k j i : ℕ) (before after : List ℕ) → IsSlot grid m k j i → after ≡ before ++ m ∷ []
+    → HaveGot (λ n. IsSlot grid n k j i) before after
 one_slot grid m k j i before after slot is n = rw is (
   λ there. elim (Contains-push_cases before m n there) [
     | inl old ↦ inl old
@@ -193,7 +205,8 @@ module _ (grid : GridModel) (is_grid : IsDesignGrid grid) (layer : ℕ) (rect : 
     ],
   )
 
-  module _ (k c0 c1 r0 r1 : ℕ) (on : IsRoutingLayerAt grid.layers layer k) (columns : ArePlaces grid.xs rect.x1 rect.x2 c0 c1) (rows : ArePlaces grid.ys rect.y1 rect.y2 r0 r1) where
+  module _ (k c0 c1 r0 r1 : ℕ) (on : IsRoutingLayerAt grid.layers layer k) (columns : ArePlaces grid.xs rect.x1 rect.x2 c0 c1)
+      (rows : ArePlaces grid.ys rect.y1 rect.y2 r0 r1) where
     pub in_rect : (n : ℕ) → IsInRows grid k (r0, r1) (c0, c1) n → InRect n
     in_rect n row =
         let column = row.is in
@@ -221,7 +234,9 @@ module _ (grid : GridModel) (is_grid : IsDesignGrid grid) (layer : ℕ) (rect : 
         let lies = number.lies in
         let inside = one.holds.inside in
         let same : lies.layer.number ≡ on.layer.number = sym lies.on ∙ one.holds.on_layer ∙ sym on.is in
-        let at_k : number.k ≡ k = one_place (λ a b. a.number < b.number) grid.layers number.k k lies.layer on.layer is_grid.layers_are.increasing lies.there on.there (λ less. omega (arith, less, same)) (λ more. omega (arith, more, same)) in
+        let at_k : number.k ≡ k =
+        one_place (λ a b. a.number < b.number) grid.layers number.k k lies.layer on.layer is_grid.layers_are.increasing lies.there on.there
+        (λ less. omega (arith, less, same)) (λ more. omega (arith, more, same)) in
         let slot : IsSlot grid n k number.j number.i = rw at_k at number.slot in
         record {
           k = number.j;

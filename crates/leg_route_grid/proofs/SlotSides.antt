@@ -30,19 +30,23 @@ abbrev Rises : List RoutingLayer → Type 0
 Rises layers = AllPairs (λ a b. a.number < b.number) layers
 
 -- a layer of a higher number stands behind
-later : (layers : List RoutingLayer) (i j : ℕ) (a b : RoutingLayer) → Rises layers → slice_get layers i ≡ Some a → slice_get layers j ≡ Some b → i < j → a.number < b.number
+later : (layers : List RoutingLayer) (i j : ℕ) (a b : RoutingLayer) → Rises layers → slice_get layers i ≡ Some a → slice_get layers j ≡ Some b → i < j
+    → a.number < b.number
 later layers i j a b rising at_i at_j less =
     let both : (get_or layers i b).number < (get_or layers j b).number = rising i j b less (slice_get_within layers j b at_j) in
     rw (get_or_from_slice_get layers i a b at_i) at (rw (get_or_from_slice_get layers j b b at_j) at both)
 
-behind : (layers : List RoutingLayer) (i j : ℕ) (a b : RoutingLayer) → Rises layers → slice_get layers i ≡ Some a → slice_get layers j ≡ Some b → a.number < b.number → i < j
+behind : (layers : List RoutingLayer) (i j : ℕ) (a b : RoutingLayer) → Rises layers → slice_get layers i ≡ Some a → slice_get layers j ≡ Some b
+    → a.number < b.number → i < j
 behind layers i j a b rising at_i at_j less = by (order i j) where
   order : (i j : ℕ) → (i < j) ⊎ ((i ≡ j) ⊎ (j < i))
   order i j = grind arith
 
   by : (i < j) ⊎ ((i ≡ j) ⊎ (j < i)) → i < j
   by (inl before) = before
-  by (inr (inl same)) = absurd (let e : a ≡ b = same_Some a b (sym at_i ∙ ap (slice_get layers) same ∙ at_j) in let n : a.number ≡ b.number = ap (λ (l : RoutingLayer). l.number) e in omega (arith, n, less))
+  by (inr (inl same)) =
+      absurd (let e : a ≡ b = same_Some a b (sym at_i ∙ ap (slice_get layers) same ∙ at_j) in
+      let n : a.number ≡ b.number = ap (λ (l : RoutingLayer). l.number) e in omega (arith, n, less))
   by (inr (inr after)) = absurd (let more = later layers j i b a rising at_j at_i after in omega (arith, more, less))
 
 -- what the parts of the via between two layers join
@@ -55,7 +59,8 @@ pub via_joins : (library : LibraryModel) (low high via : ℕ) → IsVia library 
 via_joins library low high via (inl first) = record { parts = _; cut = first.holds.joins.cut; joins = first.holds.joins.joins }
 via_joins library low high via (inr first) = record { parts = _; cut = first.first.holds.cut; joins = first.first.holds.joins }
 
-module _ (grid : GridModel) (is_grid : IsDesignGrid grid) (s t : Slot) (a b : Node) (at_s : LiesAt grid s.layer s.row s.column a) (at_t : LiesAt grid t.layer t.row t.column b) (a_is : IsNode grid.design a) (b_is : IsNode grid.design b) where
+module _ (grid : GridModel) (is_grid : IsDesignGrid grid) (s t : Slot) (a b : Node) (at_s : LiesAt grid s.layer s.row s.column a)
+    (at_t : LiesAt grid t.layer t.row t.column b) (a_is : IsNode grid.design a) (b_is : IsNode grid.design b) where
   runs_a : Runs grid.design.library a.layer at_s.layer.direction at_s.layer.width
   runs_a = runs_at_node grid s.layer s.row s.column a at_s.layer at_s.there at_s (runs_there grid is_grid s.layer at_s.layer at_s.there)
 
@@ -63,12 +68,15 @@ module _ (grid : GridModel) (is_grid : IsDesignGrid grid) (s t : Slot) (a b : No
   layer_here layer there = same_Some at_s.layer layer (sym at_s.there ∙ there)
 
   same_layers : t.layer ≡ s.layer → b.layer ≡ a.layer
-  same_layers same = at_t.on ∙ ap (λ (l : RoutingLayer). l.number) (same_Some at_t.layer at_s.layer (sym at_t.there ∙ ap (slice_get grid.layers) same ∙ at_s.there)) ∙ sym at_s.on
+  same_layers same =
+      at_t.on ∙ ap (λ (l : RoutingLayer). l.number) (same_Some at_t.layer at_s.layer (sym at_t.there ∙ ap (slice_get grid.layers) same ∙ at_s.there))
+      ∙ sym at_s.on
 
   same_places : b.layer ≡ a.layer → t.layer ≡ s.layer
   same_places same =
       let number : at_t.layer.number ≡ at_s.layer.number = sym at_t.on ∙ same ∙ at_s.on in
-      one_place (λ a b. a.number < b.number) grid.layers t.layer s.layer at_t.layer at_s.layer is_grid.layers_are.increasing at_t.there at_s.there (λ less. omega (arith, less, number)) (λ more. omega (arith, more, number))
+      one_place (λ a b. a.number < b.number) grid.layers t.layer s.layer at_t.layer at_s.layer is_grid.layers_are.increasing at_t.there at_s.there
+      (λ less. omega (arith, less, number)) (λ more. omega (arith, more, number))
 
   same_x : t.column ≡ s.column → b.at.x ≡ a.at.x
   same_x same = same_Some _ _ (sym at_t.x ∙ ap (slice_get grid.xs) same ∙ at_s.x)
@@ -77,10 +85,14 @@ module _ (grid : GridModel) (is_grid : IsDesignGrid grid) (s t : Slot) (a b : No
   same_y same = same_Some _ _ (sym at_t.y ∙ ap (slice_get grid.ys) same ∙ at_s.y)
 
   same_column : b.at.x ≡ a.at.x → t.column ≡ s.column
-  same_column same = one_place (λ a b. a <ℤ b) grid.xs t.column s.column b.at.x a.at.x is_grid.xs_are.increasing at_t.x at_s.x (λ less. omega (arith, ints, less, same)) (λ more. omega (arith, ints, more, same))
+  same_column same =
+      one_place (λ a b. a <ℤ b) grid.xs t.column s.column b.at.x a.at.x is_grid.xs_are.increasing at_t.x at_s.x (λ less. omega (arith, ints, less, same))
+      (λ more. omega (arith, ints, more, same))
 
   same_row : b.at.y ≡ a.at.y → t.row ≡ s.row
-  same_row same = one_place (λ a b. a <ℤ b) grid.ys t.row s.row b.at.y a.at.y is_grid.ys_are.increasing at_t.y at_s.y (λ less. omega (arith, ints, less, same)) (λ more. omega (arith, ints, more, same))
+  same_row same =
+      one_place (λ a b. a <ℤ b) grid.ys t.row s.row b.at.y a.at.y is_grid.ys_are.increasing at_t.y at_s.y (λ less. omega (arith, ints, less, same))
+      (λ more. omega (arith, ints, more, same))
 
   pub east : IsEastOf grid s t ↔ IsEast grid.design a b
   east = (
@@ -153,7 +165,8 @@ module _ (grid : GridModel) (is_grid : IsDesignGrid grid) (s t : Slot) (a b : No
     above_it : s.layer < t.layer
     above_it =
         let joins = joined.joins in
-        behind grid.layers s.layer t.layer at_s.layer at_t.layer is_grid.layers_are.increasing at_s.there at_t.there (omega (arith, joins.above, joins.below, at_s.on, at_t.on))
+        behind grid.layers s.layer t.layer at_s.layer at_t.layer is_grid.layers_are.increasing at_s.there at_t.there
+        (omega (arith, joins.above, joins.below, at_s.on, at_t.on))
 
     between : s.layer + 1 < t.layer → ⊥
     between more =
@@ -161,8 +174,10 @@ module _ (grid : GridModel) (is_grid : IsDesignGrid grid) (s t : Slot) (a b : No
         let within : s.layer + 1 < length grid.layers = let high = slice_get_within grid.layers t.layer at_t.layer at_t.there in omega (arith, more, high) in
         let mid : RoutingLayer = get_or grid.layers (s.layer + 1) at_s.layer in
         let there : slice_get grid.layers (s.layer + 1) ≡ Some mid = slice_get-get_or grid.layers (s.layer + 1) at_s.layer within in
-        let low : at_s.layer.number < mid.number = later grid.layers s.layer (s.layer + 1) at_s.layer mid is_grid.layers_are.increasing at_s.there there (omega arith) in
-        let high : mid.number < at_t.layer.number = later grid.layers (s.layer + 1) t.layer mid at_t.layer is_grid.layers_are.increasing there at_t.there more in
+        let low : at_s.layer.number < mid.number =
+        later grid.layers s.layer (s.layer + 1) at_s.layer mid is_grid.layers_are.increasing at_s.there there (omega arith) in
+        let high : mid.number < at_t.layer.number =
+        later grid.layers (s.layer + 1) t.layer mid at_t.layer is_grid.layers_are.increasing there at_t.there more in
         let routes = runs_is_routing grid.design.library mid.number mid.direction mid.width (runs_there grid is_grid (s.layer + 1) mid there) in
         let none = joins.none_between mid.number (omega (arith, low, at_s.on)) (omega (arith, high, at_t.on)) in
         true≢false (sym routes ∙ none)
@@ -176,7 +191,8 @@ module _ (grid : GridModel) (is_grid : IsDesignGrid grid) (s t : Slot) (a b : No
   above = (
     λ e.
         let high : slice_get grid.layers (s.layer + 1) ≡ Some at_t.layer = rw e.next at at_t.there in
-        let leads : IsVia grid.design.library at_s.layer.number at_t.layer.number e.via = is_grid.vias_are.each s.layer at_s.layer at_t.layer (Some e.via) at_s.there high e.there in
+        let leads : IsVia grid.design.library at_s.layer.number at_t.layer.number e.via =
+        is_grid.vias_are.each s.layer at_s.layer at_t.layer (Some e.via) at_s.there high e.there in
         let x = same_x e.same_column in
         let y = same_y e.same_row in
         (e.via, record { a_is = a_is; b_is = b_is; at = λ i. record { x = x i; y = y i }; via_is = rw (at_s.on, at_t.on) leads }),
@@ -192,20 +208,25 @@ module _ (grid : GridModel) (is_grid : IsDesignGrid grid) (s t : Slot) (a b : No
   ) where
     via_there : (via : ℕ) → t.layer ≡ s.layer + 1 → IsVia grid.design.library a.layer b.layer via → slice_get grid.vias s.layer ≡ Some (Some via)
     via_there via next leads =
-        let within : s.layer < length grid.vias = let count = is_grid.vias_are.count in let low = slice_get_within grid.layers s.layer at_s.layer at_s.there in omega (arith, count, low) in
+        let within : s.layer < length grid.vias = let count = is_grid.vias_are.count in let low =
+        slice_get_within grid.layers s.layer at_s.layer at_s.there in omega (arith, count, low) in
         let high : slice_get grid.layers (s.layer + 1) ≡ Some at_t.layer = rw next at at_t.there in
         by (get_or grid.vias s.layer None) (slice_get-get_or grid.vias s.layer None within) high where
-          by : (v : Option ℕ) → slice_get grid.vias s.layer ≡ Some v → slice_get grid.layers (s.layer + 1) ≡ Some at_t.layer → slice_get grid.vias s.layer ≡ Some (Some via)
+          by : (v : Option ℕ) → slice_get grid.vias s.layer ≡ Some v → slice_get grid.layers (s.layer + 1) ≡ Some at_t.layer
+              → slice_get grid.vias s.layer ≡ Some (Some via)
           by None is high =
-              let none : (k : ℕ) → ¬ IsVia grid.design.library at_s.layer.number at_t.layer.number k = is_grid.vias_are.each s.layer at_s.layer at_t.layer None at_s.there high is in
+              let none : (k : ℕ) → ¬ IsVia grid.design.library at_s.layer.number at_t.layer.number k =
+              is_grid.vias_are.each s.layer at_s.layer at_t.layer None at_s.there high is in
               absurd (none via (rw (← at_s.on, ← at_t.on) leads))
           by (Some k) is high =
-              let other : IsVia grid.design.library at_s.layer.number at_t.layer.number k = is_grid.vias_are.each s.layer at_s.layer at_t.layer (Some k) at_s.there high is in
+              let other : IsVia grid.design.library at_s.layer.number at_t.layer.number k =
+              is_grid.vias_are.each s.layer at_s.layer at_t.layer (Some k) at_s.there high is in
               let same : k ≡ via = one_via grid.design.library a.layer b.layer k via (rw (at_s.on, at_t.on) other) leads in
               is ∙ ap (λ (n : ℕ). Some (Some n)) same
 
 -- on each side, slots step as the nodes in them
-pub beside_is : (grid : GridModel) (side : Side) (s t : Slot) (a b : Node) → IsDesignGrid grid → LiesAt grid s.layer s.row s.column a → LiesAt grid t.layer t.row t.column b → IsNode grid.design a → IsNode grid.design b
+pub beside_is : (grid : GridModel) (side : Side) (s t : Slot) (a b : Node) → IsDesignGrid grid → LiesAt grid s.layer s.row s.column a
+    → LiesAt grid t.layer t.row t.column b → IsNode grid.design a → IsNode grid.design b
     → IsSlotNeighbour grid side s t ↔ IsNeighbour grid.design side a b
 beside_is grid West s t a b is_grid at_s at_t a_is b_is = east grid is_grid t s b a at_t at_s b_is a_is
 beside_is grid East s t a b is_grid at_s at_t a_is b_is = east grid is_grid s t a b at_s at_t a_is b_is

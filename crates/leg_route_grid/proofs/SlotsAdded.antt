@@ -53,15 +53,24 @@ module _ (grid : GridModel) (shape : Shape) where
   none_told P slots none = record { count = refl; told = λ n is. absurd (none n is); others = λ n other. refl }
 
   -- first those of P, and then those of Q
-  told_then : (P Q R : ℕ → Type 0) (a b c : List SlotAccess) → ((n : ℕ) → P n → Q n → ⊥) → ((n : ℕ) → R n → P n ⊎ Q n) → ((n : ℕ) → P n → R n) → ((n : ℕ) → Q n → R n) → Told P a b → Told Q b c → Told R a c
+  told_then : (P Q R : ℕ → Type 0) (a b c : List SlotAccess) → ((n : ℕ) → P n → Q n → ⊥) → ((n : ℕ) → R n → P n ⊎ Q n) → ((n : ℕ) → P n → R n)
+      → ((n : ℕ) → Q n → R n) → Told P a b → Told Q b c → Told R a c
   told_then P Q R a b c differ from left right first then = record {
     count = then.count ∙ first.count;
     told = λ n is. by n (from n is);
     others = λ n other. then.others n (λ q. other (right n q)) ∙ first.others n (λ p. other (left n p));
   } where
     by : (n : ℕ) → P n ⊎ Q n → IsAccessAfter grid shape n a c
-    by n (inl p) = record { told = λ flat grown slot has at tells new there. (first.told n p).told flat grown slot has at tells new (sym (then.others n (λ q. differ n p q)) ∙ there) }
-    by n (inr q) = record { told = λ flat grown slot has at tells new there. (then.told n q).told flat grown slot has (first.others n (λ p. differ n p q) ∙ at) tells new there }
+    by n (inl p) =
+        record {
+          told = λ flat grown slot has at tells new there. (first.told n p).told flat grown slot has at tells new
+              (sym (then.others n (λ q. differ n p q)) ∙ there);
+        }
+    by n (inr q) =
+        record {
+          told = λ flat grown slot has at tells new there. (then.told n q).told flat grown slot has
+              (first.others n (λ p. differ n p q) ∙ at) tells new there;
+        }
 
   -- the same slots said otherwise
   pub told_as : (P Q : ℕ → Type 0) (a b : List SlotAccess) → ((n : ℕ) → Q n → P n) → ((n : ℕ) → P n → Q n) → Told P a b → Told Q a b
@@ -75,7 +84,8 @@ module _ (grid : GridModel) (shape : Shape) where
     pub none_among : Told (IsSlotAmong At first first) before before
     none_among = none_told (IsSlotAmong At first first) before (λ n among. let from = among.from in let below = among.below in omega arith)
 
-    pub one_among : (k : ℕ) (mid after : List SlotAccess) → ((l m n : ℕ) → At l n → At m n → l ≡ m) → first ≤ k → Told (IsSlotAmong At first k) before mid → Told (At k) mid after → Told (IsSlotAmong At first (k + 1)) before after
+    pub one_among : (k : ℕ) (mid after : List SlotAccess) → ((l m n : ℕ) → At l n → At m n → l ≡ m) → first ≤ k → Told (IsSlotAmong At first k) before mid
+        → Told (At k) mid after → Told (IsSlotAmong At first (k + 1)) before after
     one_among k mid after one_place from got more =
         told_then (IsSlotAmong At first k) (At k) (IsSlotAmong At first (k + 1)) before mid after
         (λ n among at_k. let below = among.below in let same : among.k ≡ k = one_place among.k k n among.is at_k in omega (arith, same))
@@ -87,23 +97,27 @@ module _ (grid : GridModel) (shape : Shape) where
         (λ n at_k. record { k = k; from = from; below = omega arith; is = at_k })
         got more
 
-    pub all_among : (k end : ℕ) (after : List SlotAccess) → ¬ (k < end) → ((j : ℕ) → first ≤ j → j < k → j < end) → Told (IsSlotAmong At first k) before after → Told (IsSlotAmong At first end) before after
+    pub all_among : (k end : ℕ) (after : List SlotAccess) → ¬ (k < end) → ((j : ℕ) → first ≤ j → j < k → j < end) → Told (IsSlotAmong At first k) before after
+        → Told (IsSlotAmong At first end) before after
     all_among k end after done inside got =
         told_as (IsSlotAmong At first k) (IsSlotAmong At first end) before after
         (λ n among. record { k = among.k; from = among.from; below = (let below = among.below in omega (arith, done)); is = among.is })
         (λ n among. record { k = among.k; from = among.from; below = inside among.k among.from among.below; is = among.is })
         got
 
-  module _ (is_grid : IsDesignGrid grid) (sound : IsSound grid.design.library) (k : ℕ) (reach : Option ℤ) (reaches : ReachesMetal grid k shape.layer reach) (along_x along_y : Bool) (along : AreAlong grid k shape.layer along_x along_y) where
+  module _ (is_grid : IsDesignGrid grid) (sound : IsSound grid.design.library) (k : ℕ) (reach : Option ℤ) (reaches : ReachesMetal grid k shape.layer reach)
+      (along_x along_y : Bool) (along : AreAlong grid k shape.layer along_x along_y) where
     abbrev distance : ℕ
     distance = clear_at grid.design.library.layers shape.layer
 
-    far_told : (before after : List SlotAccess) (n j i : ℕ) → IsSlot grid n k j i → IsSlotPast grid along_x along_y j i shape.rect reach distance → slice_get after n ≡ slice_get before n → IsAccessAfter grid shape n before after
+    far_told : (before after : List SlotAccess) (n j i : ℕ) → IsSlot grid n k j i → IsSlotPast grid along_x along_y j i shape.rect reach distance
+        → slice_get after n ≡ slice_get before n → IsAccessAfter grid shape n before after
     far_told before after n j i slot past same = record {
       told = λ flat grown old has at tells new there.
           let is : old ≡ new = same_Some old new (sym at ∙ sym same ∙ there) in
           let P : SlotAccess → Type 0 = λ s. IsSlotAccess grid grown n s in
-          subst P is (tells_far grid is_grid n shape flat grown has old (λ net. far_access grid is_grid sound shape n k j i slot reach reaches along_x along_y along past flat net) tells);
+          subst P is (tells_far grid is_grid n shape flat grown has old
+          (λ net. far_access grid is_grid sound shape n k j i slot reach reaches along_x along_y along past flat net) tells);
     }
 
     -- where no metal of the layer's slots lies on the shape's layer
@@ -120,12 +134,14 @@ module _ (grid : GridModel) (shape : Shape) where
       abbrev InRows : ℕ → Type 0
       InRows = IsInRows grid k (r0, r1) (c0, c1)
 
-      past : (j i : ℕ) → IsPast grid.xs along_x i (shape.rect.x1 -ℤ (r +ℤ pos distance)) (shape.rect.x2 +ℤ (r +ℤ pos distance)) ⊎ IsPast grid.ys along_y j (shape.rect.y1 -ℤ (r +ℤ pos distance)) (shape.rect.y2 +ℤ (r +ℤ pos distance))
+      past : (j i : ℕ) → IsPast grid.xs along_x i (shape.rect.x1 -ℤ (r +ℤ pos distance)) (shape.rect.x2 +ℤ (r +ℤ pos distance))
+          ⊎ IsPast grid.ys along_y j (shape.rect.y1 -ℤ (r +ℤ pos distance)) (shape.rect.y2 +ℤ (r +ℤ pos distance))
           → IsSlotPast grid along_x along_y j i shape.rect reach distance
       past j i far = rw is far
 
       -- a place that isn't among those near
-      placed : (values : List ℤ) (back : Bool) (low high : ℤ) (first end i : ℕ) → ArePlacesNear values back low high first end → IsOut values back low high first end i ⊎ ((first ≤ i) × (i < end))
+      placed : (values : List ℤ) (back : Bool) (low high : ℤ) (first end i : ℕ) → ArePlacesNear values back low high first end
+          → IsOut values back low high first end i ⊎ ((first ≤ i) × (i < end))
       placed values back low high first end i near = elim (order i first) [
         | inl before ↦ inl (record { past = inl (λ m z upto there. near.before i m z before upto there); out = λ from below. omega (arith, before, from) })
         | inr from ↦ elim (order i end) [
@@ -172,13 +188,16 @@ module _ (grid : GridModel) (shape : Shape) where
         told = λ n on. by n on (near_or_past n on.j on.i on.slot);
         others = λ n other. got.others n (λ row. other (on_layer n row));
       } where
-        by : (n : ℕ) (on : IsSlotOnLayer grid k n) → InRows n ⊎ ((¬ InRows n) × IsSlotPast grid along_x along_y on.j on.i shape.rect reach distance) → IsAccessAfter grid shape n before after
+        by : (n : ℕ) (on : IsSlotOnLayer grid k n) → InRows n ⊎ ((¬ InRows n) × IsSlotPast grid along_x along_y on.j on.i shape.rect reach distance)
+            → IsAccessAfter grid shape n before after
         by n on (inl row) = got.told n row
         by n on (inr far) = far_told before after n on.j on.i on.slot far.1 (got.others n far.0)
 
 -- in all slots, of layers near the shape and of others
-pub all_told : (grid : GridModel) → IsDesignGrid grid → IsSound grid.design.library → (shape : Shape) (first end : ℕ) → AreNearLayers grid shape.layer first end → (before after : List SlotAccess) → length before ≡ slot_total grid
-    → AreAccessAfter grid shape (IsSlotAmong (IsSlotOnLayer grid) first end) before after → (flat grown : FlatModel) → HasShape shape flat grown → IsAccessTable grid flat before → IsAccessTable grid grown after
+pub all_told : (grid : GridModel) → IsDesignGrid grid → IsSound grid.design.library → (shape : Shape) (first end : ℕ)
+    → AreNearLayers grid shape.layer first end → (before after : List SlotAccess) → length before ≡ slot_total grid
+    → AreAccessAfter grid shape (IsSlotAmong (IsSlotOnLayer grid) first end) before after → (flat grown : FlatModel) → HasShape shape flat grown
+    → IsAccessTable grid flat before → IsAccessTable grid grown after
 all_told grid is_grid sound shape first end near before after count got flat grown has tells = record {
   count = got.count ∙ count;
   each = λ n new there.
@@ -202,11 +221,16 @@ all_told grid is_grid sound shape first end near before after count got flat gro
 
   told : (n k j i : ℕ) → IsSlot grid n k j i → ((first ≤ k) × (k < end)) ⊎ ((k < first) ⊎ (end ≤ k)) → IsAccessAfter grid shape n before after
   told n k j i slot (inl (from, below)) = got.told n (record { k = k; from = from; below = below; is = record { j = j; i = i; slot = slot } })
-  told n k j i slot (inr (inl early)) = far_told grid shape is_grid sound k None (near.before k early) true true (all_along grid k shape.layer) before after n j i slot tt (got.others n (off n k j i slot (inl early)))
-  told n k j i slot (inr (inr late)) = far_told grid shape is_grid sound k None (near.behind k late) true true (all_along grid k shape.layer) before after n j i slot tt (got.others n (off n k j i slot (inr late)))
+  told n k j i slot (inr (inl early)) =
+      far_told grid shape is_grid sound k None (near.before k early) true true (all_along grid k shape.layer) before after n j i slot tt
+      (got.others n (off n k j i slot (inl early)))
+  told n k j i slot (inr (inr late)) =
+      far_told grid shape is_grid sound k None (near.behind k late) true true (all_along grid k shape.layer) before after n j i slot tt
+      (got.others n (off n k j i slot (inr late)))
 
 -- the one slot, by its place
-pub one_slot_told : (grid : GridModel) (shape : Shape) (number k j i : ℕ) (before after : List SlotAccess) → IsSlot grid number k j i → AreAccessAfter grid shape (λ n. n ≡ number) before after → AreAccessAfter grid shape (λ n. IsSlot grid n k j i) before after
+pub one_slot_told : (grid : GridModel) (shape : Shape) (number k j i : ℕ) (before after : List SlotAccess) → IsSlot grid number k j i
+    → AreAccessAfter grid shape (λ n. n ≡ number) before after → AreAccessAfter grid shape (λ n. IsSlot grid n k j i) before after
 one_slot_told grid shape number k j i before after slot got =
     let P : ℕ → Type 0 = λ n. IsSlot grid n k j i in
     told_as grid shape (λ n. n ≡ number) (λ n. IsSlot grid n k j i) before after (λ n other. other.is ∙ sym slot.is) (λ n same. subst P (sym same) slot) got
@@ -220,7 +244,8 @@ one_row grid k columns l m n row other = (same_slot grid n k l row.k k m other.k
 pub one_layer : (grid : GridModel) (l m n : ℕ) → IsSlotOnLayer grid l n → IsSlotOnLayer grid m n → l ≡ m
 one_layer grid l m n on other = (same_slot grid n l on.j on.i m other.j other.i on.slot other.slot).layer
 
-module _ (grid : GridModel) (shapes : List Shape) (i : ℕ) (shape : Shape) (at : slice_get shapes i ≡ Some shape) (before : List Shape) (flat : FlatModel) (are : flat.shapes ≡ before ++ take (i + 1) shapes) where
+module _ (grid : GridModel) (shapes : List Shape) (i : ℕ) (shape : Shape) (at : slice_get shapes i ≡ Some shape) (before : List Shape) (flat : FlatModel)
+    (are : flat.shapes ≡ before ++ take (i + 1) shapes) where
   -- the flat without the shape
   abbrev pub without_it : FlatModel
   without_it = record { shapes = before ++ take i shapes; pieces = [] }
@@ -232,19 +257,24 @@ module _ (grid : GridModel) (shapes : List Shape) (i : ℕ) (shape : Shape) (at 
       are ∙ ap (λ (more : List Shape). before ++ more) longer ∙ sym (append_assoc before (take i shapes) (shape ∷ []))
 
   -- the shape is added
-  pub told_next : (old new : List SlotAccess) → ((f g : FlatModel) → HasShape shape f g → IsAccessTable grid f old → IsAccessTable grid g new) → IsAccessTable grid without_it old → IsAccessTable grid flat new
+  pub told_next : (old new : List SlotAccess) → ((f g : FlatModel) → HasShape shape f g → IsAccessTable grid f old → IsAccessTable grid g new)
+      → IsAccessTable grid without_it old → IsAccessTable grid flat new
   told_next old new told tells = told without_it flat has_it tells
 
   -- it is among those before it
-  pub told_again : IsDesignGrid grid → Contains (take i shapes) shape → (slots : List SlotAccess) → IsAccessTable grid without_it slots → IsAccessTable grid flat slots
+  pub told_again : IsDesignGrid grid → Contains (take i shapes) shape → (slots : List SlotAccess) → IsAccessTable grid without_it slots
+      → IsAccessTable grid flat slots
   told_again is_grid there slots tells = record {
     count = tells.count;
-    each = λ n slot slot_at. tells_again grid is_grid n shape without_it flat has_it slot (Contains-append_right before (take i shapes) shape there) (tells.each n slot slot_at);
+    each = λ n slot slot_at. tells_again grid is_grid n shape without_it flat has_it slot (Contains-append_right before (take i shapes) shape there)
+        (tells.each n slot slot_at);
   }
 
 -- a shape that is the one before it is among those before it
-pub among_before : (shapes : List Shape) (k : ℕ) (a shape : Shape) → 0 < k → k < length shapes → slice_get shapes (k - 1) ≡ Some a → a ≡ shape → Contains (take k shapes) shape
+pub among_before : (shapes : List Shape) (k : ℕ) (a shape : Shape) → 0 < k → k < length shapes → slice_get shapes (k - 1) ≡ Some a → a ≡ shape
+    → Contains (take k shapes) shape
 among_before shapes k a shape some within at same =
     let low : k - 1 < length (take k shapes) = omega (arith, some, within, length-take k shapes) in
-    let here : get_or (take k shapes) (k - 1) shape ≡ shape = get_or-take k shapes (k - 1) shape (omega (arith, some)) ∙ get_or_from_slice_get shapes (k - 1) a shape at ∙ same in
+    let here : get_or (take k shapes) (k - 1) shape ≡ shape =
+    get_or-take k shapes (k - 1) shape (omega (arith, some)) ∙ get_or_from_slice_get shapes (k - 1) a shape at ∙ same in
     (k - 1, low, here)

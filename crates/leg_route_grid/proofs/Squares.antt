@@ -3,19 +3,15 @@ use Rattle.std.proofs.Common.{◌≡◌, ℕ, suc, zero, ◌<◌, ◌↔◌, ℤ
 use Rattle.std.proofs.lemmas.Int.{ints}
 use Rattle.leg_lex.specs.Number.{IsNumber}
 use Rattle.leg_geom.specs.Plane.{PointModel, RectModel, HasPoint}
-use Rattle.leg_geom.specs.Orientation.{placed, StaysWithin}
-use Rattle.leg_geom.specs.declared.orient.Orient.TheVariants.{N}
 use Rattle.leg_lib_records.specs.Sound.{IsWidth}
 use Rattle.leg_lib_records.specs.Records.{LibraryModel}
 use Rattle.leg_design_records.specs.Records.{DesignModel}
-use Rattle.leg_design_records.specs.WellFormedParts.{IsPosition}
 use Rattle.leg_rules.specs.declared.shape.Shape.{Shape}
 use Rattle.leg_rules.specs.Metal.Outline.{Outline, HasPointOf}
 use Rattle.leg_rules.specs.Metal.Metal.{OnLayer}
 use Rattle.leg_rules.specs.Metal.Flat.{FlatModel}
 use Rattle.leg_rules.specs.Spacing.Comparable.{AreComparable}
 use Rattle.leg_rules.specs.Spacing.Clean.{net_metal, IsClean}
-use Rattle.leg_route_grid.specs.Steps.SmallRects.{IsSmallRect}
 use Rattle.leg_rules.specs.Route.StepWires.{half}
 
 -- half of a width is above 0, and is a number that a DEF may have
@@ -33,22 +29,15 @@ half_is (pos a) is =
       halved a h e above = omega (arith, ints)
 half_is (negsuc a) is = absurd (let above = is.above in let e : ⊥ = omega (arith, ints) in e)
 
-pub stays : (at : PointModel) (r : RectModel) → IsPosition at → IsSmallRect r → StaysWithin (placed at N (pos 0) (pos 0)) r
-stays at r there small p inside =
-    let x1 = small.x1 in
-    let x2 = small.x2 in
-    let y1 = small.y1 in
-    let y2 = small.y2 in
-    let left = inside.left in
-    let right = inside.right in
-    let bottom = inside.bottom in
-    let top = inside.top in
-    record { x = omega (arith, ints); y = omega (arith, ints) }
-
 -- what lies within clean metal is clean
-pub clean_within : (library : LibraryModel) (flat : FlatModel) (net layer : ℕ) (rect r : RectModel) → ((p : PointModel) → HasPoint r p → HasPoint rect p) → IsClean library flat net layer rect → IsClean library flat net layer r
+pub clean_within : (library : LibraryModel) (flat : FlatModel) (net layer : ℕ) (rect r : RectModel) → ((p : PointModel) → HasPoint r p → HasPoint rect p)
+    → IsClean library flat net layer rect → IsClean library flat net layer r
 clean_within library flat net layer rect r within clean = record {
-  no_short = λ shape has short. clean.no_short shape has (record { comparable = comparable shape short.comparable; shared = record { point = short.shared.point; in_a = within short.shared.point short.shared.in_a; in_b = short.shared.in_b } });
+  no_short =
+      λ shape has short. clean.no_short shape has (record {
+        comparable = comparable shape short.comparable;
+        shared = record { point = short.shared.point; in_a = within short.shared.point short.shared.in_a; in_b = short.shared.in_b };
+      });
   far = λ shape has near. clean.far shape has (record {
     comparable = comparable shape near.comparable;
     apart = λ shared. clean.no_short shape has (record { comparable = comparable shape near.comparable; shared = shared });
@@ -58,15 +47,24 @@ clean_within library flat net layer rect r within clean = record {
   });
 } where
   comparable : (shape : Shape) → AreComparable (net_metal net layer r) shape → AreComparable (net_metal net layer rect) shape
-  comparable shape is = record { layer = is.layer; owners = is.owners; apart = λ one. is.apart (record { component = one.component; of_a = one.of_a; of_b = one.of_b }); metal = is.metal }
+  comparable shape is =
+      record {
+        layer = is.layer;
+        owners = is.owners;
+        apart = λ one. is.apart (record { component = one.component; of_a = one.of_a; of_b = one.of_b });
+        metal = is.metal;
+      }
 
 -- metal of one outline, which has the points of a rectangle
-module _ (design : DesignModel) (flat : FlatModel) (net layer : ℕ) (outline : Outline) (rect : RectModel) (points : (p : PointModel) → HasPoint rect p ↔ HasPointOf outline p) where
+module _ (design : DesignModel) (flat : FlatModel) (net layer : ℕ) (outline : Outline) (rect : RectModel)
+    (points : (p : PointModel) → HasPoint rect p ↔ HasPointOf outline p) where
   abbrev the_metal : OnLayer
   the_metal = record { layer = layer; outline = outline }
 
   abbrev pub IsOpenMetal : Type 0
-  IsOpenMetal = (metal : OnLayer) (r : RectModel) → Contains (the_metal ∷ []) metal → ((p : PointModel) → HasPoint r p ↔ HasPointOf metal.outline p) → IsClean design.library flat net metal.layer r
+  IsOpenMetal =
+      (metal : OnLayer) (r : RectModel) → Contains (the_metal ∷ []) metal → ((p : PointModel) → HasPoint r p ↔ HasPointOf metal.outline p)
+      → IsClean design.library flat net metal.layer r
 
   pub open_is_clean : IsOpenMetal → IsClean design.library flat net layer rect
   open_is_clean is_open = is_open the_metal rect (0, omega arith, refl) points

@@ -36,14 +36,16 @@ not_both grid n a b c d a_is c_is east north =
     runs_one_way grid.design.library a.layer east.width north.width east.horizontal (subst P (the_node grid n c a c_is a_is) north.vertical)
 
 -- no open step where there is no next slot
-pub none_along : (grid : GridModel) (n : ℕ) (flat : FlatModel) (net : ℕ) → IsDesignGrid grid → ((m : ℕ) → ¬ IsNextAlong grid n m) → ¬ IsOpenAlong grid flat net n
+pub none_along : (grid : GridModel) (n : ℕ) (flat : FlatModel) (net : ℕ) → IsDesignGrid grid → ((m : ℕ) → ¬ IsNextAlong grid n m)
+    → ¬ IsOpenAlong grid flat net n
 none_along grid n flat net is_grid none = λ is_open. elim is_open [
   | inl east ↦ no_step grid is_grid East n flat net (λ m beside. none m (inl beside)) east
   | inr north ↦ no_step grid is_grid North n flat net (λ m beside. none m (inr beside)) north
 ]
 
 -- the next slot is told by what lies on both sides
-pub next_is : (grid : GridModel) (n : ℕ) (east north : Option ℕ) → ((to : ℕ) → (east ≡ Some to) ↔ IsNeighbourAt grid East n to) → ((to : ℕ) → (north ≡ Some to) ↔ IsNeighbourAt grid North n to)
+pub next_is : (grid : GridModel) (n : ℕ) (east north : Option ℕ) → ((to : ℕ) → (east ≡ Some to) ↔ IsNeighbourAt grid East n to)
+    → ((to : ℕ) → (north ≡ Some to) ↔ IsNeighbourAt grid North n to)
     → IsNextIfAny grid n (option_or east north)
 next_is grid n (Some m) north e o = inl ((e m).0 refl)
 next_is grid n None (Some m) e o = inr ((o m).0 refl)
@@ -77,8 +79,10 @@ module _ (grid : GridModel) (is_grid : IsDesignGrid grid) (n next : ℕ) where
     next_stretch (inr north) = stretch_north grid.design a b (beside_nodes grid is_grid North n next a b a_is b_is north)
 
     -- what tells whether the segment to the next slot is open tells it of the step
-    module _ (design : DesignModel) (of_design : grid.design ≡ design) (flat : FlatModel) (net : ℕ) (Answer : Type 0) (direction : Direction) (width : ℤ) (runs : Runs grid.design.library a.layer direction width) where
-      pub along_answer : IsNextAlong grid n next → Answer ↔ IsOpenWire design flat net (line_of design flat net a b width) → Answer ↔ IsOpenAlong grid flat net n
+    module _ (design : DesignModel) (of_design : grid.design ≡ design) (flat : FlatModel) (net : ℕ) (Answer : Type 0) (direction : Direction) (width : ℤ)
+        (runs : Runs grid.design.library a.layer direction width) where
+      pub along_answer : IsNextAlong grid n next → Answer ↔ IsOpenWire design flat net (line_of design flat net a b width)
+          → Answer ↔ IsOpenAlong grid flat net n
       along_answer (inl east) says =
           let in_line : IsInLine grid.design a b = inl (inr (beside_nodes grid is_grid East n next a b a_is b_is east)) in
           let step = line_answer grid is_grid East n next a b a_is b_is east design of_design flat net Answer direction width in_line runs says in

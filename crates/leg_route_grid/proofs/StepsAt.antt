@@ -53,12 +53,18 @@ same_slot s t layer row column = λ i. record { layer = layer i; row = row i; co
 
 -- on a side lies one slot
 pub one_beside : (grid : GridModel) (side : Side) (s t u : Slot) → IsSlotNeighbour grid side s t → IsSlotNeighbour grid side s u → t ≡ u
-one_beside grid West s t u e f = same_slot t u (omega (arith, e.same_layer, f.same_layer)) (omega (arith, e.same_row, f.same_row)) (omega (arith, e.next, f.next))
-one_beside grid East s t u e f = same_slot t u (omega (arith, e.same_layer, f.same_layer)) (omega (arith, e.same_row, f.same_row)) (omega (arith, e.next, f.next))
-one_beside grid South s t u e f = same_slot t u (omega (arith, e.same_layer, f.same_layer)) (omega (arith, e.next, f.next)) (omega (arith, e.same_column, f.same_column))
-one_beside grid North s t u e f = same_slot t u (omega (arith, e.same_layer, f.same_layer)) (omega (arith, e.next, f.next)) (omega (arith, e.same_column, f.same_column))
-one_beside grid Below s t u e f = same_slot t u (omega (arith, e.next, f.next)) (omega (arith, e.same_row, f.same_row)) (omega (arith, e.same_column, f.same_column))
-one_beside grid Above s t u e f = same_slot t u (omega (arith, e.next, f.next)) (omega (arith, e.same_row, f.same_row)) (omega (arith, e.same_column, f.same_column))
+one_beside grid West s t u e f =
+    same_slot t u (omega (arith, e.same_layer, f.same_layer)) (omega (arith, e.same_row, f.same_row)) (omega (arith, e.next, f.next))
+one_beside grid East s t u e f =
+    same_slot t u (omega (arith, e.same_layer, f.same_layer)) (omega (arith, e.same_row, f.same_row)) (omega (arith, e.next, f.next))
+one_beside grid South s t u e f =
+    same_slot t u (omega (arith, e.same_layer, f.same_layer)) (omega (arith, e.next, f.next)) (omega (arith, e.same_column, f.same_column))
+one_beside grid North s t u e f =
+    same_slot t u (omega (arith, e.same_layer, f.same_layer)) (omega (arith, e.next, f.next)) (omega (arith, e.same_column, f.same_column))
+one_beside grid Below s t u e f =
+    same_slot t u (omega (arith, e.next, f.next)) (omega (arith, e.same_row, f.same_row)) (omega (arith, e.same_column, f.same_column))
+one_beside grid Above s t u e f =
+    same_slot t u (omega (arith, e.next, f.next)) (omega (arith, e.same_row, f.same_row)) (omega (arith, e.same_column, f.same_column))
 
 -- the step of nodes, as one of their slots
 pub record IsStepFrom (grid : GridModel) (side : Side) (s : Slot) (to : ℕ) : Type 0 where
@@ -72,7 +78,8 @@ pub record IsStepFrom (grid : GridModel) (side : Side) (s : Slot) (to : ℕ) : T
   pub a_is : IsNode grid.design a
   pub b_is : IsNode grid.design b
 
-pub step_from : (grid : GridModel) (side : Side) (n : ℕ) (s : Slot) (to : ℕ) → IsDesignGrid grid → IsSlot grid n s.layer s.row s.column → IsNeighbourAt grid side n to → IsStepFrom grid side s to
+pub step_from : (grid : GridModel) (side : Side) (n : ℕ) (s : Slot) (to : ℕ) → IsDesignGrid grid → IsSlot grid n s.layer s.row s.column
+    → IsNeighbourAt grid side n to → IsStepFrom grid side s to
 step_from grid side n s to is_grid at_n step =
     let ends = ends_are_nodes grid.design side step.a step.b step.step in
     let a_lies = lies_at grid n s.layer s.row s.column step.a at_n step.a_is in
@@ -115,7 +122,8 @@ module _ (grid : GridModel) (side : Side) (n : ℕ) (s : Slot) (is_grid : IsDesi
 
     module _ (m : ℕ) (at_m : IsSlot grid m t.layer t.row t.column) where
       -- where nodes lie in both, it does
-      pub steps_there : ((node : Node) → LiesAt grid s.layer s.row s.column node → IsNode grid.design node) → ((node : Node) → LiesAt grid t.layer t.row t.column node → IsNode grid.design node) → IsNeighbourAt grid side n m
+      pub steps_there : ((node : Node) → LiesAt grid s.layer s.row s.column node → IsNode grid.design node)
+          → ((node : Node) → LiesAt grid t.layer t.row t.column node → IsNode grid.design node) → IsNeighbourAt grid side n m
       steps_there here there =
           let a = point_in grid s its_within in
           let b = point_in grid t beside.within in

@@ -31,23 +31,15 @@ across_line line width h low high twice l r z = (
 )
 
 -- a stretch with half a width past its ends stays within the numbers of the machine
-pub span_of : (low high width l h : ℤ) → IsWidth width → IsNumber low → IsNumber high → low ≤ℤ high → l ≡ low -ℤ half width → h ≡ high +ℤ half width → IsSpan (ends l h)
+pub span_of : (low high width l h : ℤ) → IsWidth width → IsNumber low → IsNumber high → low ≤ℤ high → l ≡ low -ℤ half width → h ≡ high +ℤ half width
+    → IsSpan (ends l h)
 span_of low high width l h wide from to order is_l is_h =
     let some = (half_is width wide).some in
     let within = (half_is width wide).within in
     record { low = omega (arith, ints); high = omega (arith, ints); long = omega (arith, ints) }
 
-pub in_order : (low high : PointModel) → IsStretch low high → (low.x ≤ℤ high.x) × (low.y ≤ℤ high.y)
-in_order low high (inl east) =
-    let level = east.level in
-    let less = east.less in
-    (omega (arith, ints), omega (arith, ints))
-in_order low high (inr north) =
-    let upright = north.upright in
-    let less = north.less in
-    (omega (arith, ints), omega (arith, ints))
-
-pub same_strip : (low high : PointModel) (width x1 y1 x2 y2 : ℤ) → x1 ≡ low.x -ℤ half width → y1 ≡ low.y -ℤ half width → x2 ≡ high.x +ℤ half width → y2 ≡ high.y +ℤ half width
+pub same_strip : (low high : PointModel) (width x1 y1 x2 y2 : ℤ) → x1 ≡ low.x -ℤ half width → y1 ≡ low.y -ℤ half width → x2 ≡ high.x +ℤ half width
+    → y2 ≡ high.y +ℤ half width
     → sides_of (ends x1 x2) (ends y1 y2) ≡ strip_of low high width
 same_strip low high width x1 y1 x2 y2 a b c d = λ i. record { x1 = a i; y1 = b i; x2 = c i; y2 = d i }
 
@@ -55,7 +47,8 @@ module _ (low high : PointModel) (width : ℤ) (wide : IsWidth width) where
   abbrev h : ℤ
   h = half width
 
-  pub points_forth : (r : RectModel) → r ≡ strip_of low high width → IsStretch low high → (p : PointModel) → HasPoint r p ↔ HasPointOf (Line low high width h h) p
+  pub points_forth : (r : RectModel) → r ≡ strip_of low high width → IsStretch low high → (p : PointModel)
+      → HasPoint r p ↔ HasPointOf (Line low high width h h) p
   points_forth r is (inl east) =
       let level = east.level in
       let less = east.less in
@@ -71,7 +64,8 @@ module _ (low high : PointModel) (width : ℤ) (wide : IsWidth width) where
       (across_line low.x width h r.x1 r.x2 (twice_half width wide) (ap (λ (s : RectModel). s.x1) is) right)
       (along_up low.y high.y h h r.y1 r.y2 less (ap (λ (s : RectModel). s.y1) is) (ap (λ (s : RectModel). s.y2) is))
 
-  pub points_back : (r : RectModel) → r ≡ strip_of low high width → IsStretch low high → (p : PointModel) → HasPoint r p ↔ HasPointOf (Line high low width h h) p
+  pub points_back : (r : RectModel) → r ≡ strip_of low high width → IsStretch low high → (p : PointModel)
+      → HasPoint r p ↔ HasPointOf (Line high low width h h) p
   points_back r is (inl east) =
       let level = east.level in
       let less = east.less in

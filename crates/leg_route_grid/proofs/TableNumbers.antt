@@ -24,12 +24,14 @@ use Rattle.leg_route_grid.proofs.OpenSteps.{steps_have_sides}
 use Rattle.leg_route_grid.proofs.AccessSteps.{node_admitted, step_admitted}
 
 pub one_node_more : (grid : GridModel) (numbers : List ℕ) (i n : ℕ) (nodes more : List Node) (node : Node) → i < length numbers → get_or numbers i n ≡ n
-    → AllZip (IsNumberOf grid) (take i numbers) nodes → more ≡ nodes ++ node ∷ [] → IsNumberOf grid n node → AllZip (IsNumberOf grid) (take (i + 1) numbers) more
+    → AllZip (IsNumberOf grid) (take i numbers) nodes → more ≡ nodes ++ node ∷ [] → IsNumberOf grid n node
+    → AllZip (IsNumberOf grid) (take (i + 1) numbers) more
 one_node_more grid numbers i n nodes more node within is told more_is number =
     let longer : take (i + 1) numbers ≡ take i numbers ++ n ∷ [] = take_more numbers i n within ∙ rw is refl in
     rw (longer, more_is) (all_zipped_more (IsNumberOf grid) (take i numbers) nodes n node told number)
 
-module _ {Node : Type 0} (Open Other : Node → Type 0) (Step Further : Node → Node → Type 0) (opens : (a : Node) → Open a → Other a) (steps : (a b : Node) → Step a b → Further a b) where
+module _ {Node : Type 0} (Open Other : Node → Type 0) (Step Further : Node → Node → Type 0) (opens : (a : Node) → Open a → Other a)
+    (steps : (a b : Node) → Step a b → Further a b) where
   -- a walk of nodes and steps that are told otherwise
   pub walk_as : {a b : Node} {nodes : List Node} → Walk Open Step a nodes b → Walk Other Further a nodes b
   walk_as (here is_open) = here (opens _ is_open)
@@ -46,7 +48,8 @@ module _ {Node : Type 0} {Open : Node → Type 0} {Step : Node → Node → Type
   to_open (on is_open step rest) = to_open rest
 
 -- a shortest walk by nodes and steps, and by open starts and ends, that are told otherwise
-module _ {Node : Type 0} (Open Other : Node → Type 0) (Step Further : Node → Node → Type 0) (Start End First Last : Node → Type 0) (opens : (a : Node) → Open a ↔ Other a)
+module _ {Node : Type 0} (Open Other : Node → Type 0) (Step Further : Node → Node → Type 0) (Start End First Last : Node → Type 0)
+    (opens : (a : Node) → Open a ↔ Other a)
     (steps : (a b : Node) → Step a b ↔ Further a b) (starts : (a : Node) → Open a → Start a ↔ First a) (ends : (a : Node) → Open a → End a ↔ Last a) where
   forth : {a b : Node} {nodes : List Node} → Walk Open Step a nodes b → Walk Other Further a nodes b
   forth walk = walk_as Open Other Step Further (λ a is. (opens a).0 is) (λ a b step. (steps a b).0 step) walk
@@ -87,36 +90,50 @@ module _ (grid : GridModel) (origin around : List SlotBox) (flat : FlatModel) (s
   module _ (is_grid : IsDesignGrid grid) (sound : IsSound grid.design.library) (told : IsAccessTable grid flat slots) where
     same_steps : (m n : ℕ) → StepAdmitted m n ↔ StepAt m n
     same_steps m n = (
-      λ step. (steps_have_sides grid flat net m n is_grid).1 (step.0, (step.1.0.beside, (step_admitted grid is_grid sound flat slots told net m n step.0 step.1.0.beside).0 step.1.1)),
+      λ step. (steps_have_sides grid flat net m n is_grid).1
+          (step.0, (step.1.0.beside, (step_admitted grid is_grid sound flat slots told net m n step.0 step.1.0.beside).0 step.1.1)),
       λ step.
-          let side = (steps_have_sides grid flat net m n is_grid).0 step in
-          (side.0, (beside_near grid origin around side.0 m n is_grid side.1.0, (step_admitted grid is_grid sound flat slots told net m n side.0 side.1.0).1 side.1.1)),
+          let side = (steps_have_sides grid flat net m n is_grid).0 step in (
+            side.0,
+            (
+              beside_near grid origin around side.0 m n is_grid side.1.0,
+              (step_admitted grid is_grid sound flat slots told net m n side.0 side.1.0).1 side.1.1,
+            ),
+          ),
     )
 
     -- what a search answers is so of the numbers of open nodes
-    module _ (Start End : ℕ → Type 0) (starts finish : List ℕ) (first : (n : ℕ) → Admitted n → Contains starts n ↔ Start n) (last : (n : ℕ) → Admitted n → Contains finish n ↔ End n) where
-      pub shortest_at : (numbers : List ℕ) → IsShortest Admitted StepAdmitted (Contains starts) (Contains finish) numbers → IsShortest OpenAt StepAt Start End numbers
+    module _ (Start End : ℕ → Type 0) (starts finish : List ℕ) (first : (n : ℕ) → Admitted n → Contains starts n ↔ Start n)
+        (last : (n : ℕ) → Admitted n → Contains finish n ↔ End n) where
+      pub shortest_at : (numbers : List ℕ) → IsShortest Admitted StepAdmitted (Contains starts) (Contains finish) numbers
+          → IsShortest OpenAt StepAt Start End numbers
       shortest_at numbers is =
-          shortest_as Admitted OpenAt StepAdmitted StepAt (Contains starts) (Contains finish) Start End (node_admitted grid flat slots told net) same_steps first last numbers is
+          shortest_as Admitted OpenAt StepAdmitted StepAt (Contains starts) (Contains finish) Start End
+          (node_admitted grid flat slots told net) same_steps first last numbers is
 
       pub none_at : NoWalk Admitted StepAdmitted (Contains starts) (Contains finish) → NoWalk OpenAt StepAt Start End
       none_at none =
-          none_as Admitted OpenAt StepAdmitted StepAt (Contains starts) (Contains finish) Start End (node_admitted grid flat slots told net) same_steps first last none
+          none_as Admitted OpenAt StepAdmitted StepAt (Contains starts) (Contains finish) Start End
+          (node_admitted grid flat slots told net) same_steps first last none
 
-    module _ (starts finish : List ℕ) (first : (n : ℕ) → Contains starts n ↔ IsOneOf (IsNumberOf grid) (MeetsJoined flat net) n) (last : (n : ℕ) → Contains finish n ↔ IsOneOf (IsNumberOf grid) (MeetsRest flat net) n) where
+    module _ (starts finish : List ℕ) (first : (n : ℕ) → Contains starts n ↔ IsOneOf (IsNumberOf grid) (MeetsJoined flat net) n)
+        (last : (n : ℕ) → Contains finish n ↔ IsOneOf (IsNumberOf grid) (MeetsRest flat net) n) where
       pub next_walk_at : (numbers : List ℕ) → IsShortest Admitted StepAdmitted (Contains starts) (Contains finish) numbers → IsNextWalkAt grid flat net numbers
       next_walk_at numbers is =
-          shortest_at (IsOneOf (IsNumberOf grid) (MeetsJoined flat net)) (IsOneOf (IsNumberOf grid) (MeetsRest flat net)) starts finish (λ n is_open. first n) (λ n is_open. last n) numbers is
+          shortest_at (IsOneOf (IsNumberOf grid) (MeetsJoined flat net)) (IsOneOf (IsNumberOf grid) (MeetsRest flat net)) starts finish (λ n is_open. first n)
+          (λ n is_open. last n) numbers is
 
       pub no_walk_at : NoWalk Admitted StepAdmitted (Contains starts) (Contains finish) → HasNoWalkAt grid flat net
       no_walk_at none =
-          none_at (IsOneOf (IsNumberOf grid) (MeetsJoined flat net)) (IsOneOf (IsNumberOf grid) (MeetsRest flat net)) starts finish (λ n is_open. first n) (λ n is_open. last n) none
+          none_at (IsOneOf (IsNumberOf grid) (MeetsJoined flat net)) (IsOneOf (IsNumberOf grid) (MeetsRest flat net)) starts finish (λ n is_open. first n)
+          (λ n is_open. last n) none
 
 module _ (grid : GridModel) (slots : List SlotAccess) (count : length slots ≡ slot_total grid) (net : ℕ) where
   below : (n : ℕ) → IsNodeAdmitted slots net n → n < slot_total grid
   below n is = omega (arith, count, slice_get_within slots n is.slot is.there)
 
   -- the numbers of an open walk are those of slots
-  pub walk_below : {Step : ℕ → ℕ → Type 0} {m n : ℕ} {numbers : List ℕ} → Walk (IsNodeAdmitted slots net) Step m numbers n → All (λ n. n < slot_total grid) numbers
+  pub walk_below : {Step : ℕ → ℕ → Type 0} {m n : ℕ} {numbers : List ℕ} → Walk (IsNodeAdmitted slots net) Step m numbers n
+      → All (λ n. n < slot_total grid) numbers
   walk_below {m = m} (here is_open) = All-cons (λ n. n < slot_total grid) m [] (below m is_open) (λ k d within. absurd (omega (arith, within)))
   walk_below {m = m} (on {nodes = nodes} is_open step rest) = All-cons (λ n. n < slot_total grid) m nodes (below m is_open) (walk_below rest)

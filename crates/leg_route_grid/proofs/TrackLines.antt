@@ -75,7 +75,8 @@ module _ (library : LibraryModel) (direction : Direction) (axis : Axis) where
       → AreLines (take (i + 1) tracks) more
   one_track_more tracks i track values more within is are adds z = rw longer (
     λ there. elim ((adds z).0 there) [
-      | inl old ↦ let line = (are z).0 old in record { track = line.track; given = Contains-append_left (take i tracks) (track ∷ []) line.track line.given; is = line.is }
+      | inl old ↦ let line = (are z).0 old in
+          record { track = line.track; given = Contains-append_left (take i tracks) (track ∷ []) line.track line.given; is = line.is }
       | inr line ↦ record { track = track; given = Contains-push (take i tracks) track; is = line }
     ],
     λ line. (adds z).1 (elim (Contains-push_cases (take i tracks) track line.track line.given) [

@@ -53,20 +53,23 @@ module _ (grid : GridModel) (is_grid : IsDesignGrid grid) (n m : ℕ) where
   pub west_apart : IsNeighbourAt grid West n m → n ≡ m + 1
   west_apart step =
       let east = slots_beside West step in
-      let line : (step.a_is.k * length grid.ys + step.a_is.j) * length grid.xs ≡ (step.b_is.k * length grid.ys + step.b_is.j) * length grid.xs = rw (east.same_layer, east.same_row) refl in
+      let line : (step.a_is.k * length grid.ys + step.a_is.j) * length grid.xs ≡ (step.b_is.k * length grid.ys + step.b_is.j) * length grid.xs =
+      rw (east.same_layer, east.same_row) refl in
       omega (arith, step.a_is.slot.is, step.b_is.slot.is, line, east.next)
 
   pub south_apart_at : IsNeighbourAt grid South n m → n ≡ m + length grid.xs
   south_apart_at step =
       let north = slots_beside South step in
-      let here : n ≡ (step.b_is.k * length grid.ys + (step.b_is.j + 1)) * length grid.xs + step.b_is.i = rw (← north.same_layer, ← north.next, ← north.same_column) step.a_is.slot.is in
+      let here : n ≡ (step.b_is.k * length grid.ys + (step.b_is.j + 1)) * length grid.xs + step.b_is.i =
+      rw (← north.same_layer, ← north.next, ← north.same_column) step.a_is.slot.is in
       let apart = south_apart step.b_is.k (length grid.ys) step.b_is.j step.b_is.i (length grid.xs) in
       omega (arith, here, apart, step.b_is.slot.is)
 
   pub below_apart_at : IsNeighbourAt grid Below n m → n ≡ m + length grid.ys * length grid.xs
   below_apart_at step =
       let above = slots_beside Below step in
-      let here : n ≡ ((step.b_is.k + 1) * length grid.ys + step.b_is.j) * length grid.xs + step.b_is.i = rw (← above.next, ← above.same_row, ← above.same_column) step.a_is.slot.is in
+      let here : n ≡ ((step.b_is.k + 1) * length grid.ys + step.b_is.j) * length grid.xs + step.b_is.i =
+      rw (← above.next, ← above.same_row, ← above.same_column) step.a_is.slot.is in
       let apart = below_apart step.b_is.k (length grid.ys) step.b_is.j step.b_is.i (length grid.xs) in
       omega (arith, here, apart, step.b_is.slot.is)
 
@@ -102,13 +105,20 @@ one_point design via a b (inr down) = down.at
 module _ (design : DesignModel) (flat : FlatModel) (net : ℕ) where
   -- a segment from its other end has the same points
   segment_turned : (layer : ℕ) (from to : PointModel) (width : ℤ) → IsWidth width → IsStretch from to ⊎ IsStretch to from
-      → IsOpenWire design flat net (Segment layer from to width (half width) (half width)) → IsOpenWire design flat net (Segment layer to from width (half width) (half width))
+      → IsOpenWire design flat net (Segment layer from to width (half width) (half width))
+      → IsOpenWire design flat net (Segment layer to from width (half width) (half width))
   segment_turned layer from to width wide (inl forth) is_open =
-      let strip = open_is_clean design flat net layer (Line from to width (half width) (half width)) (strip_of from to width) (points_forth from to width wide (strip_of from to width) refl forth) is_open in
-      clean_is_open design flat net layer (Line to from width (half width) (half width)) (strip_of from to width) (points_back from to width wide (strip_of from to width) refl forth) strip
+      let strip =
+      open_is_clean design flat net layer (Line from to width (half width) (half width)) (strip_of from to width)
+      (points_forth from to width wide (strip_of from to width) refl forth) is_open in
+      clean_is_open design flat net layer (Line to from width (half width) (half width)) (strip_of from to width)
+      (points_back from to width wide (strip_of from to width) refl forth) strip
   segment_turned layer from to width wide (inr back) is_open =
-      let strip = open_is_clean design flat net layer (Line from to width (half width) (half width)) (strip_of to from width) (points_back to from width wide (strip_of to from width) refl back) is_open in
-      clean_is_open design flat net layer (Line to from width (half width) (half width)) (strip_of to from width) (points_forth to from width wide (strip_of to from width) refl back) strip
+      let strip =
+      open_is_clean design flat net layer (Line from to width (half width) (half width)) (strip_of to from width)
+      (points_back to from width wide (strip_of to from width) refl back) is_open in
+      clean_is_open design flat net layer (Line to from width (half width) (half width)) (strip_of to from width)
+      (points_forth to from width wide (strip_of to from width) refl back) strip
 
   step_turned : (a b : Node) → IsSound design.library → IsOpenStep design flat net a b → IsOpenStep design flat net b a
   step_turned a b sound is_open = by is_open.wire is_open.adds is_open.clean where
@@ -124,7 +134,10 @@ module _ (design : DesignModel) (flat : FlatModel) (net : ℕ) where
         let R : ℕ → Type 0 = λ layer. Runs design.library layer line.direction width in
         record {
           wire = Segment b.layer b.at a.at width (half width) (half width);
-          adds = inl (record { in_line = turned_in_line design a b along.in_line; line = record { direction = line.direction; width = width; runs = subst R same line.runs; is = refl } });
+          adds = inl (record {
+            in_line = turned_in_line design a b along.in_line;
+            line = record { direction = line.direction; width = width; runs = subst R same line.runs; is = refl };
+          });
           clean = subst P same turned;
         }
     by wire (inr through) clean =
@@ -139,7 +152,8 @@ module _ (design : DesignModel) (flat : FlatModel) (net : ℕ) where
 
 module _ (grid : GridModel) (is_grid : IsDesignGrid grid) (flat : FlatModel) (net n m : ℕ) where
   -- a step is open from the one end where it is from the other
-  pub open_across : (side : Side) → IsSound grid.design.library → IsNeighbourAt grid side n m → IsOpenStepAt grid flat net (opposite side) m ↔ IsOpenStepAt grid flat net side n
+  pub open_across : (side : Side) → IsSound grid.design.library → IsNeighbourAt grid side n m
+      → IsOpenStepAt grid flat net (opposite side) m ↔ IsOpenStepAt grid flat net side n
   open_across side sound beside =
       let across = swapped grid side n m beside in
       let here = open_at grid is_grid side n m beside.a beside.b beside.a_is beside.b_is flat net beside in
@@ -150,9 +164,10 @@ module _ (grid : GridModel) (is_grid : IsDesignGrid grid) (flat : FlatModel) (ne
 
   -- along a layer steps go one way
   one_way : (a b c d : Node) → IsEast grid.design a b → IsNorth grid.design c d → a ≡ c → ⊥
-  one_way a b c d east north same = apart (one_direction grid.design.library c.layer Horizontal Vertical east.width north.width (rw same at east.horizontal) north.vertical) where
-    apart : Horizontal ≡ Vertical → ⊥
-    apart e = cc
+  one_way a b c d east north same =
+      apart (one_direction grid.design.library c.layer Horizontal Vertical east.width north.width (rw same at east.horizontal) north.vertical) where
+        apart : Horizontal ≡ Vertical → ⊥
+        apart e = cc
 
   pub along_east : IsNeighbourAt grid East n m → IsOpenAlong grid flat net n ↔ IsOpenStepAt grid flat net East n
   along_east beside = (

@@ -1,5 +1,5 @@
 -- Marks of values, set one after another.
-use Rattle.std.proofs.Common.{◌≡◌, ℕ, ◌+◌, ◌<◌, ◌≤◌, ◌⊎◌, inl, inr, ℤ, ◌<ℤ◌, unsigned_abs, Bool, true, false, true≢false, List, [], ◌∷◌, ◌++◌, AllPairs, Contains, Some, slice_get, slice_set, length, length-set, take, get_or, replicate, refl, sym, ◌∙◌, arith}
+use Rattle.std.proofs.Common.{◌≡◌, ℕ, ◌+◌, ◌<◌, ◌≤◌, ◌⊎◌, inl, inr, ℤ, ◌<ℤ◌, Bool, true, false, true≢false, List, [], ◌∷◌, ◌++◌, AllPairs, Contains, Some, slice_get, slice_set, length, length-set, take, get_or, replicate, refl, sym, ◌∙◌, arith}
 use Rattle.std.proofs.lemmas.Int.{ints}
 use Rattle.std.proofs.lemmas.Bool.{cases_eq}
 use Rattle.std.proofs.lemmas.List.{take_more, length-replicate, get_or-replicate}
@@ -7,12 +7,10 @@ use Rattle.std.proofs.lemmas.List.Elements.{Contains-append_left, Contains-push,
 use Rattle.std.proofs.lemmas.Option.{slice_get_within, slice_get-get_or, get_or_from_slice_get}
 use Rattle.leg_design_records.specs.declared.records.Axis.{Axis}
 use Rattle.leg_design_records.specs.Records.{TrackModel, DesignModel}
-use Rattle.leg_rules.specs.Route.Tracks.{IsLineOf}
 use Rattle.leg_route_grid.specs.Steps.Places.{ArePlaces}
-use Rattle.leg_route_grid.specs.Steps.Lines.{HasLines, IsTrackAt, HaveMarked}
+use Rattle.leg_route_grid.specs.Steps.Lines.{IsTrackAt, HaveMarked}
 use Rattle.leg_route_grid.specs.Steps.TrackMarks.{AreTrackMarks}
 use Rattle.leg_route_grid.proofs.ListEnds.{set_same, set_other}
-use Rattle.leg_route_grid.proofs.TrackLines.{IsLineBelow, line_at}
 
 -- the mark of one value
 module _ (values : List ℤ) (value : ℤ) (first end : ℕ) (places : ArePlaces values value value first end) (marks : List Bool) where
@@ -57,7 +55,8 @@ module _ (values : List ℤ) (value : ℤ) (first end : ℕ) (places : ArePlaces
 
 -- some marks after others
 module _ (values : List ℤ) where
-  pub marked_then : (P Q R : ℤ → Type 0) (a b c : List Bool) → ((z : ℤ) → R z → P z ⊎ Q z) → ((z : ℤ) → P z → R z) → ((z : ℤ) → Q z → R z) → HaveMarked values P a b → HaveMarked values Q b c → HaveMarked values R a c
+  pub marked_then : (P Q R : ℤ → Type 0) (a b c : List Bool) → ((z : ℤ) → R z → P z ⊎ Q z) → ((z : ℤ) → P z → R z) → ((z : ℤ) → Q z → R z)
+      → HaveMarked values P a b → HaveMarked values Q b c → HaveMarked values R a c
   marked_then P Q R a b c from left right first then = record {
     count = then.count ∙ first.count;
     each = λ i z there. (
@@ -84,7 +83,8 @@ module _ (values : List ℤ) (number : ℕ) (axis : Axis) where
   unset = replicate (length values) false
 
   pub one_track_marked : (tracks : List TrackModel) (i : ℕ) (track : TrackModel) (mid after : List Bool) → i < length tracks → get_or tracks i track ≡ track
-      → HaveMarked values (IsTrackAmong (take i tracks)) unset mid → HaveMarked values (λ z. IsTrackAt number axis z track) mid after → HaveMarked values (IsTrackAmong (take (i + 1) tracks)) unset after
+      → HaveMarked values (IsTrackAmong (take i tracks)) unset mid → HaveMarked values (λ z. IsTrackAt number axis z track) mid after
+      → HaveMarked values (IsTrackAmong (take (i + 1) tracks)) unset after
   one_track_marked tracks i track mid after within is are more = rw longer (
       marked_then values (IsTrackAmong (take i tracks)) (λ z. IsTrackAt number axis z track) (IsTrackAmong (take i tracks ++ track ∷ [])) unset mid after
       (λ z among. elim (Contains-push_cases (take i tracks) track among.track among.given) [
@@ -104,7 +104,8 @@ module _ (values : List ℤ) (number : ℕ) (axis : Axis) where
       let below : i < length values = omega (arith, within, length-replicate (length values) false) in
       true≢false (sym (get_or_from_slice_get unset i true false set) ∙ get_or-replicate (length values) i false false below)
 
-  pub marks_are : (design : DesignModel) (marks : List Bool) → HaveMarked values (IsTrackAmong design.tracks) unset marks → AreTrackMarks design number axis values marks
+  pub marks_are : (design : DesignModel) (marks : List Bool) → HaveMarked values (IsTrackAmong design.tracks) unset marks
+      → AreTrackMarks design number axis values marks
   marks_are design marks are = record {
     count = are.count ∙ length-replicate (length values) false;
     each = λ i z there. (
@@ -112,6 +113,10 @@ module _ (values : List ℤ) (number : ℕ) (axis : Axis) where
         | inl old ↦ absurd (never_set i old)
         | inr among ↦ record { track = among.track; given = among.given; along = among.is.along; are_for = among.is.are_for; line = among.is.line }
       ],
-      λ has. (are.each i z there).1 (inr (record { track = has.track; given = has.given; is = record { along = has.along; are_for = has.are_for; line = has.line } })),
+      λ has. (are.each i z there).1 (inr (record {
+        track = has.track;
+        given = has.given;
+        is = record { along = has.along; are_for = has.are_for; line = has.line };
+      })),
     );
   }

@@ -1,7 +1,7 @@
 -- The vias of a library's routing layers, one after another.
 use Rattle.std.proofs.Common.{◌≡◌, ℕ, ◌+◌, ◌<◌, inl, inr, IsTrue, List, [], ◌∷◌, ◌++◌, length, length-append, get_or, Option, Some, slice_get, refl, arith}
 use Rattle.std.proofs.lemmas.List.{get_or_default}
-use Rattle.std.proofs.lemmas.Option.{slice_get-map, slice_get_within}
+use Rattle.std.proofs.lemmas.Option.{slice_get-map}
 use Rattle.leg_lib_records.specs.declared.records.Direction.{Direction}
 use Rattle.leg_lib_records.specs.declared.records.Layer.{Layer}
 use Rattle.leg_lib_records.specs.Joins.{is_routing}
@@ -13,7 +13,8 @@ use Rattle.leg_route_grid.specs.Steps.Grid.{AreRoutingLayers, AreViasFrom, IsVia
 use Rattle.leg_route_grid.specs.Steps.Joining.{AreRouting}
 use Rattle.leg_route_grid.proofs.ListEnds.{read_pushed}
 
-pub runs_is_routing : (library : LibraryModel) (number : ℕ) (direction : Direction) (width : _) → Runs library number direction width → IsTrue (is_routing (uses_of library.layers) number)
+pub runs_is_routing : (library : LibraryModel) (number : ℕ) (direction : Direction) (width : _) → Runs library number direction width
+    → IsTrue (is_routing (uses_of library.layers) number)
 runs_is_routing library number direction width runs =
     rw (slice_get-map (λ (layer : Layer). use_of layer.kind) library.layers number, runs.there, runs.routes) refl
 
@@ -30,11 +31,10 @@ next_layers library layers k d e are within =
       less = rw same at (are.increasing k (k + 1) e (omega arith) within);
     }
 
-pub no_vias : (library : LibraryModel) (layers : List RoutingLayer) → AreViasFrom library layers 0 []
-no_vias library layers = record { count = refl; each = λ k low high via at_low at_high is. absurd (let e = slice_get_within [] k via is in omega (arith, e)) }
-
-pub one_via_more : (library : LibraryModel) (layers : List RoutingLayer) (n : ℕ) (vias more : List (Option ℕ)) (via : Option ℕ) → AreViasFrom library layers n vias → more ≡ vias ++ via ∷ []
-    → ((low high : RoutingLayer) → slice_get layers n ≡ Some low → slice_get layers (n + 1) ≡ Some high → IsViaIfAny library low.number high.number via) → AreViasFrom library layers (n + 1) more
+pub one_via_more : (library : LibraryModel) (layers : List RoutingLayer) (n : ℕ) (vias more : List (Option ℕ)) (via : Option ℕ)
+    → AreViasFrom library layers n vias → more ≡ vias ++ via ∷ []
+    → ((low high : RoutingLayer) → slice_get layers n ≡ Some low → slice_get layers (n + 1) ≡ Some high → IsViaIfAny library low.number high.number via)
+    → AreViasFrom library layers (n + 1) more
 one_via_more library layers n vias more via are is last = rw is (record {
   count = omega (arith, length-append vias (via ∷ []), are.count);
   each = λ k low high v at_low at_high there. elim (read_pushed vias via k v there) [

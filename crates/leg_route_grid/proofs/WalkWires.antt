@@ -44,7 +44,8 @@ module _ (design : DesignModel) where
       pub rest_is : drop n (a ∷ nodes) ≡ last ∷ rest
 
     front : (n : ℕ) (a : Node) (nodes : List Node) → n < length nodes
-        → ((k : ℕ) (x y : Node) → k < suc n → slice_get (a ∷ nodes) k ≡ Some x → slice_get nodes k ≡ Some y → IsNeighbour design side x y) → Front a nodes (suc n)
+        → ((k : ℕ) (x y : Node) → k < suc n → slice_get (a ∷ nodes) k ≡ Some x → slice_get nodes k ≡ Some y → IsNeighbour design side x y)
+        → Front a nodes (suc n)
     front n a [] within steps = absurd (let e : n < 0 = within in omega (arith, e))
     front zero a (b ∷ nodes) within steps = record {
       run = b ∷ [];
@@ -56,7 +57,9 @@ module _ (design : DesignModel) where
       rest_is = refl;
     }
     front (suc n) a (b ∷ nodes) within steps =
-        let further = front n b nodes (let e : suc n < suc (length nodes) = omega (arith, within) in omega (arith, e)) (λ k x y below at_x at_y. steps (suc k) x y (omega (arith, below)) at_x at_y) in
+        let further =
+        front n b nodes (let e : suc n < suc (length nodes) = omega (arith, within) in omega (arith, e))
+        (λ k x y below at_x at_y. steps (suc k) x y (omega (arith, below)) at_x at_y) in
         record {
           run = b ∷ further.run;
           rest = further.rest;
@@ -82,7 +85,8 @@ module _ (design : DesignModel) where
         let same : beside.0 ≡ side = one_side side beside.0 x y (due design beside.0 x y beside.1) (run.straight (suc k) x y (omega arith) below at_x next) in
         rw same at beside.1
 
-    turns : (nodes : List Node) (n : ℕ) (last : Node) (rest : List Node) → IsRunTowards side nodes n → slice_get nodes n ≡ Some last → drop n nodes ≡ last ∷ rest → EndsOrTurns design side last rest
+    turns : (nodes : List Node) (n : ℕ) (last : Node) (rest : List Node) → IsRunTowards side nodes n → slice_get nodes n ≡ Some last
+        → drop n nodes ≡ last ∷ rest → EndsOrTurns design side last rest
     turns nodes n last [] run at_last left = tt
     turns nodes n last (c ∷ rest) run at_last left = λ is.
         run.ends last c at_last (sym (get_drop n nodes 1) ∙ ap (λ l. slice_get l 1) left) (due_towards side last c (due design side last c is))
@@ -92,7 +96,8 @@ module _ (design : DesignModel) where
       pub due_is : LiesDue side a b
       pub begins : (wire : Wire) → IsLine design a b wire → BeginsWithWire design nodes wire n
 
-    begin : (a : Node) (nodes : List Node) (n : ℕ) (b : Node) → IsOnLayer side → IsRunTowards side (a ∷ nodes) n → slice_get (a ∷ nodes) n ≡ Some b → Front a nodes n → Along a b (a ∷ nodes) n
+    begin : (a : Node) (nodes : List Node) (n : ℕ) (b : Node) → IsOnLayer side → IsRunTowards side (a ∷ nodes) n → slice_get (a ∷ nodes) n ≡ Some b
+        → Front a nodes n → Along a b (a ∷ nodes) n
     begin a nodes n b on run at_b front =
         let same : front.last ≡ b = same_Some front.last b (sym front.last_is ∙ at_b) in
         let straight : IsStraight design side a front.run b = rw same at front.straight in
@@ -114,12 +119,15 @@ module _ (design : DesignModel) where
     along_run (x ∷ nodes) zero a b on some within walk run first at_a at_b = absurd (omega (arith, some))
     along_run (x ∷ nodes) (suc n) a b on some within walk run first at_a at_b =
         let same : x ≡ a = same_Some x a at_a in
-        let found = begin x nodes (suc n) b on run at_b (front n x nodes (let e : suc n < suc (length nodes) = within in omega (arith, e)) (goes_on (x ∷ nodes) (suc n) walk run first)) in
+        let found =
+        begin x nodes (suc n) b on run at_b (front n x nodes (let e : suc n < suc (length nodes) = within in omega (arith, e))
+        (goes_on (x ∷ nodes) (suc n) walk run first)) in
         let From : Node → Type 0 = λ z. Along z b (x ∷ nodes) (suc n) in
         subst From same found
 
   -- a step by a via
-  pub through_step : (nodes : List Node) (a b : Node) (wire : Wire) → slice_get nodes 0 ≡ Some a → slice_get nodes 1 ≡ Some b → IsViaStep design a b wire → BeginsWithWire design nodes wire 1
+  pub through_step : (nodes : List Node) (a b : Node) (wire : Wire) → slice_get nodes 0 ≡ Some a → slice_get nodes 1 ≡ Some b → IsViaStep design a b wire
+      → BeginsWithWire design nodes wire 1
   through_step [] a b wire at_a at_b step = absurd (let e : ⊥ = cc at_a in e)
   through_step (x ∷ []) a b wire at_a at_b step = absurd (let e : ⊥ = cc at_b in e)
   through_step (x ∷ y ∷ nodes) a b wire at_a at_b step = λ wires left.

@@ -1,7 +1,7 @@
 //! The routing layers of a library.
 
 ghost use Rattle.std.specs.Prelude.{◌≡◌, ◌<◌, ◌++◌, AllPairs, IfOk, OnOk};
-ghost use Rattle.leg_route_grid.specs.Steps.LayerList.{routing_at, routing_from};
+ghost use Rattle.leg_route_grid.specs.Steps.LayerList.{routing_layer_at, routing_from};
 ghost use Rattle.leg_route_grid.specs.Steps.SlotRanges.{IsLayerIfAny};
 
 use leg_lib_records::{Direction, Layer, LayerKind};
@@ -24,7 +24,7 @@ fn add_routing<A: Allocator>(
     number: usize,
     kind: LayerKind,
 ) -> Result<(), AllocError>
-    ensures { OnOk result (found.new.items ≡ found.old.items ++ routing_at number kind) }
+    ensures { OnOk result (found.new.items ≡ found.old.items ++ routing_layer_at number kind) }
 {
     match kind {
         LayerKind::Routing { direction, width } => {

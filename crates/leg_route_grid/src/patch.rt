@@ -30,7 +30,7 @@ pub(crate) fn half(width: i64) -> i64
 /// given from the node's point.
 pub fn square(width: i64) -> Rect
     requires { IsWidth width }
-    ensures is { result ≡ square width }
+    ensures is { result ≡ square (half width) }
     ensures small { IsSmallRect result }
 {
     let half = half(width);

@@ -27,9 +27,11 @@ by_net_none count = record { nets = All-nil (IsBelow count); one_each = how_many
 
 all_below : (count net : ℕ) (wires : List Wire) → net < count → All (IsBelow count) (of_net net wires)
 all_below count net [] within = All-nil (IsBelow count)
-all_below count net (wire ∷ wires) within = All-cons (IsBelow count) (record { net = net; wire = wire }) (of_net net wires) within (all_below count net wires within)
+all_below count net (wire ∷ wires) within =
+    All-cons (IsBelow count) (record { net = net; wire = wire }) (of_net net wires) within (all_below count net wires within)
 
-pub by_net_more : (count : ℕ) (added : List AddedWire) (lists : List (List Wire)) (net : ℕ) (before wires : List Wire) → AreByNet count added lists → net < count
+pub by_net_more : (count : ℕ) (added : List AddedWire) (lists : List (List Wire)) (net : ℕ) (before wires : List Wire) → AreByNet count added lists
+    → net < count
     → slice_get lists net ≡ Some before → AreByNet count (added ++ of_net net wires) (set lists net (before ++ wires))
 by_net_more count added lists net before wires are within there = record {
   nets = All-append (IsBelow count) added (of_net net wires) are.nets (all_below count net wires within);
@@ -49,4 +51,5 @@ by_net_more count added lists net before wires are within there = record {
     by (inr differ) =
         set_elsewhere lists net other (before ++ wires) differ
         ∙ are.each other less
-        ∙ ap Some (sym (added_then other added (of_net net wires) ∙ ap (λ ws. wires_added other added ++ ws) (added_of_other other net wires differ) ∙ append-nil (wires_added other added)))
+        ∙ ap Some (sym (added_then other added (of_net net wires) ∙ ap (λ ws. wires_added other added ++ ws) (added_of_other other net wires differ)
+        ∙ append-nil (wires_added other added)))

@@ -42,12 +42,13 @@ module _ (library : LibraryModel) (flat : FlatModel) (net layer : ℕ) where
   }
 
   -- each rectangle of an outline is clean if one is that covers it
-  pub covered_outline : (outline : Outline) (rect : RectModel) → HasCleanRect library flat net layer outline → IsRectOf outline rect → IsClean library flat net layer rect
+  pub covered_outline : (outline : Outline) (rect : RectModel) → HasCleanRect library flat net layer outline → IsRectOf outline rect
+      → IsClean library flat net layer rect
   covered_outline outline rect has is =
       covered rect (λ p inside. record { rect = has.rect; clean = has.clean; inside = has.covers p ((is p).0 inside) })
 
-pub clean_wire : (library : LibraryModel) (design : DesignModel) (flat : FlatModel) (net : ℕ) (wire : Wire)
-    → ((metal : OnLayer) → Contains (wire_outlines design wire) metal → HasCleanRect library flat net metal.layer metal.outline)
-    → IsCleanWire library design flat net wire
-clean_wire library design flat net wire has metal rect there is =
-    covered_outline library flat net metal.layer metal.outline rect (has metal there) is
+pub clean_wire : (design : DesignModel) (flat : FlatModel) (net : ℕ) (wire : Wire)
+    → ((metal : OnLayer) → Contains (wire_outlines design wire) metal → HasCleanRect design.library flat net metal.layer metal.outline)
+    → IsCleanWire design flat net wire
+clean_wire design flat net wire has metal rect there is =
+    covered_outline design.library flat net metal.layer metal.outline rect (has metal there) is

@@ -26,7 +26,8 @@ use Rattle.leg_route_laws.specs.Finished.{finished}
 use Rattle.leg_route_laws.proofs.Places.{contains_at}
 
 abbrev pub GoodViasJoin : Type 0
-GoodViasJoin = (layers : List LayerUse) (parts : List ViaPart) → IsTrue (join_layers layers parts) ↔ ((low : ℕ) × (cut : ℕ) × (high : ℕ) × Joins layers parts low cut high)
+GoodViasJoin =
+    (layers : List LayerUse) (parts : List ViaPart) → IsTrue (join_layers layers parts) ↔ ((low : ℕ) × (cut : ℕ) × (high : ℕ) × Joins layers parts low cut high)
 
 -- a good via has shapes
 second_true : (a b : Bool) → IsTrue (a && b) → IsTrue b
@@ -36,7 +37,8 @@ second_true false b is = absurd (let e : ⊥ = cc in e)
 via_some : GoodViasJoin → (library : LibraryModel) (name : List ℕ) (shapes : List cells.Shape) → IsTrue (is_good_via library name shapes) → 0 < length shapes
 unfolding is_good_via
 via_some join library name [] good =
-    let joins = (join (uses_of library.layers) (parts_of [])).0 (second_true (not (is_wiring_word name)) (join_layers (uses_of library.layers) (parts_of [])) good) in
+    let joins =
+    (join (uses_of library.layers) (parts_of [])).0 (second_true (not (is_wiring_word name)) (join_layers (uses_of library.layers) (parts_of [])) good) in
     absurd (omega (arith, joins.3.low_used.1))
 via_some join library name (shape ∷ shapes) good = omega arith
 
@@ -58,7 +60,9 @@ module _ (join : GoodViasJoin) (design : DesignModel) (sound : IsSound design.li
   has_metal special (ViaAt number place) is =
       let via = is.1.0 in
       let there = is.1.1 in
-      let marked = All-contains (IsMarked design.library) (design.library.vias ++ design.vias) via all_marked (contains_at (design.library.vias ++ design.vias) number via there) in
+      let marked =
+      All-contains (IsMarked design.library) (design.library.vias ++ design.vias) via all_marked
+      (contains_at (design.library.vias ++ design.vias) number via there) in
       let some = via_some join design.library via.name via.shapes (subst IsTrue marked is.1.2) in
       let count : length (wire_outlines design (ViaAt number place)) ≡ length via.shapes =
       ap (λ (o : Option ViaModel). length (via_outlines o (ViaAt number place))) there ∙ length-map via.shapes _ in
@@ -127,8 +131,11 @@ few_wires join design lists sound proper spelled =
   where
     metal : (special : Bool) (wires : List Wire) → All (IsWire design.library design.vias special) wires → All (HasMetal (finished design lists)) wires
     metal special wires all =
-        All-weaker (IsWire design.library design.vias special) (HasMetal (finished design lists)) (has_metal join (finished design lists) sound proper.vias special) wires all
+        All-weaker (IsWire design.library design.vias special) (HasMetal (finished design lists))
+        (has_metal join (finished design lists) sound proper.vias special) wires all
 
-    entries : (special : Bool) (nets : List NetModel) → All (IsNet design special) nets → All (λ (net : NetModel). All (HasMetal (finished design lists)) net.wires) nets
+    entries : (special : Bool) (nets : List NetModel) → All (IsNet design special) nets
+        → All (λ (net : NetModel). All (HasMetal (finished design lists)) net.wires) nets
     entries special nets all =
-        All-weaker (IsNet design special) (λ (net : NetModel). All (HasMetal (finished design lists)) net.wires) (λ net is. metal special net.wires is.wires) nets all
+        All-weaker (IsNet design special) (λ (net : NetModel). All (HasMetal (finished design lists)) net.wires)
+        (λ net is. metal special net.wires is.wires) nets all

@@ -21,12 +21,14 @@ module _ (design : DesignModel) (lists : List (List Wire)) where
   abbrev done : DesignModel
   done = finished design lists
 
-  same_pins : (c : ℕ) (place : Place) (size : ExtentModel) (k : ℕ) (pins : List library.MasterPinModel) → pins_metal done c place size k pins ≡ pins_metal design c place size k pins
+  same_pins : (c : ℕ) (place : Place) (size : ExtentModel) (k : ℕ) (pins : List library.MasterPinModel)
+      → pins_metal done c place size k pins ≡ pins_metal design c place size k pins
   unfolding pins_metal
   same_pins c place size k [] = refl
   same_pins c place size k (pin ∷ pins) = rw (same_belonging design lists (Some c) (Comp c k), same_pins c place size (suc k) pins) refl
 
-  same_component : (c : ℕ) (place : Option Place) (master : Option library.MasterModel) → component_metal done c place master ≡ component_metal design c place master
+  same_component : (c : ℕ) (place : Option Place) (master : Option library.MasterModel)
+      → component_metal done c place master ≡ component_metal design c place master
   same_component c (Some place) (Some master) = rw (same_pins c place master.size 0 master.pins) refl
   same_component c (Some place) None = refl
   same_component c None (Some master) = refl
@@ -87,7 +89,8 @@ module _ (design : DesignModel) (m : Metal) where
     one : List Metal
     one = belonging belongs (wire_outlines design wire)
 
-    by : (Contains (wires_metal design n (suc piece) wires) m → IsNet m.belongs.owner) → Contains one m ⊎ Contains (wires_metal design n (suc piece) wires) m → IsNet m.belongs.owner
+    by : (Contains (wires_metal design n (suc piece) wires) m → IsNet m.belongs.owner) → Contains one m ⊎ Contains (wires_metal design n (suc piece) wires) m
+        → IsNet m.belongs.owner
     by rest (inl here) =
         let from = comes_from (λ (o : OnLayer). record { metal = o; belongs = belongs }) (wire_outlines design wire) m here in
         (n, sym (ap (λ (x : Metal). x.belongs.owner) from.2))
@@ -106,9 +109,12 @@ module _ (design : DesignModel) (m : Metal) where
   unfolding specials_metal
   specials_own k [] there = absurd (nothing_in m there)
   specials_own k (net ∷ nets) there = by (specials_own (suc k) nets) (number_of_special design k net) there where
-    by : (Contains (specials_metal design (suc k) nets) m → IsNet m.belongs.owner) → (n : ℕ) → Contains (wires_metal design n (length (terminals_of design n) + length (entry_wires (regular_entry design n))) net.wires ++ specials_metal design (suc k) nets) m → IsNet m.belongs.owner
+    by : (Contains (specials_metal design (suc k) nets) m → IsNet m.belongs.owner) → (n : ℕ)
+        → Contains (wires_metal design n (length (terminals_of design n) + length (entry_wires (regular_entry design n))) net.wires ++ specials_metal design
+        (suc k) nets) m → IsNet m.belongs.owner
     by rest n there =
-        elim (Contains-append_cases (wires_metal design n (length (terminals_of design n) + length (entry_wires (regular_entry design n))) net.wires) (specials_metal design (suc k) nets) m there) [
+        elim (Contains-append_cases (wires_metal design n (length (terminals_of design n) + length (entry_wires (regular_entry design n))) net.wires)
+        (specials_metal design (suc k) nets) m there) [
           | inl here ↦ wires_own n (length (terminals_of design n) + length (entry_wires (regular_entry design n))) net.wires here
           | inr later ↦ rest later
         ]

@@ -19,7 +19,8 @@ use Rattle.leg_route_laws.proofs.Growth.{same_number, has_grown, added_of_other}
 use Rattle.leg_route_laws.proofs.LikeShapes.{same_net}
 
 -- the shapes of wires that are added to a net are the net's
-added_owner : (design : DesignModel) (net : ℕ) (wires : List Wire) (before : FlatModel) (metal : Metal) (shape : Shape) → IsMetalAdded design (of_net net wires) before metal → IsShapeOf metal shape → shape.owner ≡ Net net
+added_owner : (design : DesignModel) (net : ℕ) (wires : List Wire) (before : FlatModel) (metal : Metal) (shape : Shape)
+    → IsMetalAdded design (of_net net wires) before metal → IsShapeOf metal shape → shape.owner ≡ Net net
 added_owner design net wires before metal shape it is = by (same_number net it.net) where
   belongs : Belonging
   belongs = record { owner = Net it.net; component = None; piece = Some (length it.terminals + (it.wires + it.j)) }
@@ -59,9 +60,11 @@ module _ (before more : List Shape) (net : ℕ) (owned : (shape : Shape) → Con
   pub own_numbers : (numbers : List ℕ) → AreNumbersOf before net numbers → AreNumbersOf after net (numbers ++ range_with_len (length before) (length more))
   own_numbers numbers are = record {
     increasing =
-        AllPairs-append_by (λ j k. j < k) (λ k. k < length before) (λ k. length before ≤ k) (λ x y low high. omega (arith, low, high)) numbers (range_with_len (length before) (length more))
+        AllPairs-append_by (λ j k. j < k) (λ k. k < length before) (λ k. length before ≤ k) (λ x y low high. omega (arith, low, high)) numbers
+        (range_with_len (length before) (length more))
         (All-from_contains (λ k. k < length before) numbers (λ k has. slice_get_within before k (are.each k has).shape (are.each k has).at))
-        (All-from_contains (λ k. length before ≤ k) (range_with_len (length before) (length more)) (λ k has. (range_each (length before) (length more) k has).0))
+        (All-from_contains (λ k. length before ≤ k) (range_with_len (length before) (length more))
+        (λ k has. (range_each (length before) (length more) k has).0))
         are.increasing (range_rises (length before) (length more));
     each = each;
     all = all;
@@ -90,10 +93,12 @@ module _ (before more : List Shape) (net : ℕ) (owned : (shape : Shape) → Con
     all : (k : ℕ) → IsOfNet after net k → Contains (numbers ++ range_with_len (length before) (length more)) k
     all k is = by (get_cases before more k is.shape is.at) where
       by : (slice_get before k ≡ Some is.shape) ⊎ InSecond before more k is.shape → Contains (numbers ++ range_with_len (length before) (length more)) k
-      by (inl old) = Contains-append_left numbers (range_with_len (length before) (length more)) k (are.all k (record { shape = is.shape; at = old; owner = is.owner }))
+      by (inl old) =
+          Contains-append_left numbers (range_with_len (length before) (length more)) k (are.all k (record { shape = is.shape; at = old; owner = is.owner }))
       by (inr new) =
           Contains-append_right numbers (range_with_len (length before) (length more)) k
-          (subst (Contains (range_with_len (length before) (length more))) (sym new.place) (range_all (length before) (length more) new.j (slice_get_within more new.j is.shape new.there)))
+          (subst (Contains (range_with_len (length before) (length more))) (sym new.place)
+          (range_all (length before) (length more) new.j (slice_get_within more new.j is.shape new.there)))
 
   -- those of another net are the same
   pub other_numbers : (other : ℕ) (numbers : List ℕ) → ¬ (other ≡ net) → AreNumbersOf before other numbers → AreNumbersOf after other numbers
@@ -114,13 +119,18 @@ module _ (design : DesignModel) (net : ℕ) (wires : List Wire) (before after : 
       → AreNumbersOf after.shapes net (numbers ++ range_with_len (length before.shapes) (length after.shapes - length before.shapes))
   grown_numbers numbers are =
       let grown = has_grown design (of_net net wires) before after grows in
-      let many : length after.shapes - length before.shapes ≡ length grown.more = omega (arith, ap length grown.shapes, length-append before.shapes grown.more) in
-      let now = own_numbers before.shapes grown.more net (λ shape there. added_owner design net wires before (grown.each shape there).0 shape (grown.each shape there).1 (grown.each shape there).2) numbers are in
+      let many : length after.shapes - length before.shapes ≡ length grown.more =
+      omega (arith, ap length grown.shapes, length-append before.shapes grown.more) in
+      let now =
+      own_numbers before.shapes grown.more net (λ shape there. added_owner design net wires before (grown.each shape there).0 shape (grown.each shape there).1
+      (grown.each shape there).2) numbers are in
       subst (λ k. AreNumbersOf after.shapes net (numbers ++ range_with_len (length before.shapes) k)) (sym many)
       (subst (λ shapes. AreNumbersOf shapes net (numbers ++ range_with_len (length before.shapes) (length grown.more))) (sym grown.shapes) now)
 
   pub same_numbers : (other : ℕ) (numbers : List ℕ) → ¬ (other ≡ net) → AreNumbersOf before.shapes other numbers → AreNumbersOf after.shapes other numbers
   same_numbers other numbers differ are =
       let grown = has_grown design (of_net net wires) before after grows in
-      let now = other_numbers before.shapes grown.more net (λ shape there. added_owner design net wires before (grown.each shape there).0 shape (grown.each shape there).1 (grown.each shape there).2) other numbers differ are in
+      let now =
+      other_numbers before.shapes grown.more net (λ shape there. added_owner design net wires before (grown.each shape there).0 shape
+      (grown.each shape there).1 (grown.each shape there).2) other numbers differ are in
       subst (λ shapes. AreNumbersOf shapes other numbers) (sym grown.shapes) now

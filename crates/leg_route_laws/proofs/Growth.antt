@@ -56,7 +56,8 @@ module _ (design : DesignModel) (one : AddedWire) (more : List AddedWire) (befor
       ∙ set_elsewhere before.pieces one.net net (pieces_with step.terminals (step.wires + 1)) other
 
   -- the added metal: that of the first wire, and that of the others
-  of_first : (metal : Metal) → Contains (wire_metal design one.net (length step.terminals + step.wires) one.wire) metal → IsMetalAdded design (one ∷ more) before metal
+  of_first : (metal : Metal) → Contains (wire_metal design one.net (length step.terminals + step.wires) one.wire) metal
+      → IsMetalAdded design (one ∷ more) before metal
   of_first metal there = record {
     net = one.net;
     j = 0;
@@ -73,7 +74,8 @@ module _ (design : DesignModel) (one : AddedWire) (more : List AddedWire) (befor
     by : (one.net ≡ it.net) ⊎ (¬ (one.net ≡ it.net)) → IsMetalAdded design (one ∷ more) before metal
     by (inl same) =
         let pieces : pieces_with it.terminals it.wires ≡ pieces_with step.terminals (step.wires + 1) =
-        same_Some (pieces_with it.terminals it.wires) (pieces_with step.terminals (step.wires + 1)) (sym it.had ∙ ap (slice_get between.pieces) (sym same) ∙ piece_here) in
+        same_Some (pieces_with it.terminals it.wires) (pieces_with step.terminals (step.wires + 1))
+        (sym it.had ∙ ap (slice_get between.pieces) (sym same) ∙ piece_here) in
         let terminals = same_terminals it.terminals step.terminals it.wires (step.wires + 1) pieces in
         let wires = same_wires it.terminals step.terminals it.wires (step.wires + 1) pieces in
         let number : length it.terminals + (it.wires + it.j) ≡ length step.terminals + (step.wires + suc it.j) = omega (arith, wires, ap length terminals) in
@@ -106,7 +108,9 @@ module _ (design : DesignModel) (one : AddedWire) (more : List AddedWire) (befor
     by : (one.net ≡ it.net) ⊎ (¬ (one.net ≡ it.net)) → IsFirst metal ⊎ IsMetalAdded design more between metal
     by (inl same) = which it.j (sym (ap (λ wires. slice_get wires it.j) (added_here one more it.net same)) ∙ it.there) it.of_wire where
       pieces : pieces_with it.terminals it.wires ≡ pieces_with step.terminals step.wires
-      pieces = same_Some (pieces_with it.terminals it.wires) (pieces_with step.terminals step.wires) (sym it.had ∙ ap (slice_get before.pieces) (sym same) ∙ step.there)
+      pieces =
+          same_Some (pieces_with it.terminals it.wires) (pieces_with step.terminals step.wires)
+          (sym it.had ∙ ap (slice_get before.pieces) (sym same) ∙ step.there)
 
       terminals : it.terminals ≡ step.terminals
       terminals = same_terminals it.terminals step.terminals it.wires step.wires pieces
@@ -114,7 +118,8 @@ module _ (design : DesignModel) (one : AddedWire) (more : List AddedWire) (befor
       wires : it.wires ≡ step.wires
       wires = same_wires it.terminals step.terminals it.wires step.wires pieces
 
-      which : (j : ℕ) → slice_get (one.wire ∷ wires_added it.net more) j ≡ Some it.wire → Contains (wire_metal design it.net (length it.terminals + (it.wires + j)) it.wire) metal → IsFirst metal ⊎ IsMetalAdded design more between metal
+      which : (j : ℕ) → slice_get (one.wire ∷ wires_added it.net more) j ≡ Some it.wire
+          → Contains (wire_metal design it.net (length it.terminals + (it.wires + j)) it.wire) metal → IsFirst metal ⊎ IsMetalAdded design more between metal
       which zero at of_wire =
           let wire : it.wire ≡ one.wire = sym (same_Some one.wire it.wire at) in
           let number : length it.terminals + (it.wires + 0) ≡ length step.terminals + step.wires = omega (arith, wires, ap length terminals) in
@@ -153,20 +158,28 @@ module _ (design : DesignModel) (one : AddedWire) (more : List AddedWire) (befor
   one_more = record {
     more = step.added ++ rest.more;
     shapes = rest.shapes ∙ ap (λ shapes. shapes ++ rest.more) step.shapes ∙ append_assoc before.shapes step.added rest.more;
-    count = omega (arith, length-append step.added rest.more, rest.count, same_length IsShapeOf added_metal step.added step.each, metal_count design one.net (length step.terminals + step.wires) one.wire);
+    count = omega (
+      arith,
+      length-append step.added rest.more,
+      rest.count,
+      same_length IsShapeOf added_metal step.added step.each,
+      metal_count design one.net (length step.terminals + step.wires) one.wire,
+    );
     each = λ shape there. elim (Contains-append_cases step.added rest.more shape there) [
       | inl here ↦ let of = is_like IsShapeOf added_metal step.added shape step.each here in (of.x, of_first of.x of.there, of.like)
       | inr later ↦ let of = rest.each shape later in (of.0, of_more of.0 of.1, of.2)
     ];
     all = λ metal it. elim (first_or_more metal it) [
-      | inl first ↦ let has = has_like IsShapeOf added_metal step.added metal step.each first in (has.y, Contains-append_left step.added rest.more has.y has.there, has.like)
+      | inl first ↦ let has = has_like IsShapeOf added_metal step.added metal step.each first in
+          (has.y, Contains-append_left step.added rest.more has.y has.there, has.like)
       | inr later ↦ let has = rest.all metal later in (has.0, Contains-append_right step.added rest.more has.0 has.1, has.2)
     ];
     nets = rest.nets ∙ ap length step.pieces ∙ length-set before.pieces one.net (pieces_with step.terminals (step.wires + 1));
     pieces = pieces;
     others = others;
   } where
-    pieces : (net : ℕ) (terminals : List Terminal) (wires : ℕ) → slice_get before.pieces net ≡ Some (pieces_with terminals wires) → slice_get after.pieces net ≡ Some (pieces_with terminals (wires + length (wires_added net (one ∷ more))))
+    pieces : (net : ℕ) (terminals : List Terminal) (wires : ℕ) → slice_get before.pieces net ≡ Some (pieces_with terminals wires)
+        → slice_get after.pieces net ≡ Some (pieces_with terminals (wires + length (wires_added net (one ∷ more))))
     pieces net terminals wires had = by (same_number one.net net) where
       by : (one.net ≡ net) ⊎ (¬ (one.net ≡ net)) → slice_get after.pieces net ≡ Some (pieces_with terminals (wires + length (wires_added net (one ∷ more))))
       by (inl same) =
@@ -174,8 +187,10 @@ module _ (design : DesignModel) (one : AddedWire) (more : List AddedWire) (befor
           same_Some (pieces_with terminals wires) (pieces_with step.terminals step.wires) (sym had ∙ ap (slice_get before.pieces) (sym same) ∙ step.there) in
           let ts = same_terminals terminals step.terminals wires step.wires old in
           let ws = same_wires terminals step.terminals wires step.wires old in
-          let now : slice_get between.pieces net ≡ Some (pieces_with terminals (wires + 1)) = ap (slice_get between.pieces) (sym same) ∙ piece_here ∙ (rw (ts, ws) refl) in
-          let count : (wires + 1) + length (wires_added net more) ≡ wires + length (wires_added net (one ∷ more)) = rw (added_here one more net same) (omega arith) in
+          let now : slice_get between.pieces net ≡ Some (pieces_with terminals (wires + 1)) =
+          ap (slice_get between.pieces) (sym same) ∙ piece_here ∙ (rw (ts, ws) refl) in
+          let count : (wires + 1) + length (wires_added net more) ≡ wires + length (wires_added net (one ∷ more)) =
+          rw (added_here one more net same) (omega arith) in
           rest.pieces net terminals (wires + 1) now ∙ ap (λ k. Some (pieces_with terminals k)) count
       by (inr other) =
           rest.pieces net terminals wires (piece_elsewhere net other ∙ had)
@@ -199,20 +214,18 @@ no_more design before after same = rw same (record {
   others = λ net none. refl;
 })
 
-pub has_grown : (design : DesignModel) (added : List AddedWire) (before after : FlatModel) → Grows design added before after → HasGrown design added before after
+pub has_grown : (design : DesignModel) (added : List AddedWire) (before after : FlatModel) → Grows design added before after
+    → HasGrown design added before after
 has_grown design [] before after grows = no_more design before after grows
 has_grown design (one ∷ more) before after grows =
     one_more design one more before grows.0 after grows.1 (has_grown design more grows.0 after grows.2)
 
 -- a flat that has grown goes on growing
-pub grows_then : (design : DesignModel) (first second : List AddedWire) (before between after : FlatModel) → Grows design first before between → Grows design second between after → Grows design (first ++ second) before after
+pub grows_then : (design : DesignModel) (first second : List AddedWire) (before between after : FlatModel) → Grows design first before between
+    → Grows design second between after → Grows design (first ++ second) before after
 grows_then design [] second before between after grows then_grows = subst (λ f. Grows design second f after) grows then_grows
 grows_then design (one ∷ more) second before between after grows then_grows =
     (grows.0, grows.1, grows_then design more second grows.0 between after grows.2 then_grows)
-
-pub grows_more : (design : DesignModel) (added : List AddedWire) (one : AddedWire) (before between after : FlatModel) → Grows design added before between → HasOneMoreWire design one.net one.wire between after → Grows design (added ++ one ∷ []) before after
-grows_more design added one before between after grows step =
-    grows_then design added (one ∷ []) before between after grows (after, step, refl)
 
 -- the wires of a net, with one more at the end
 pub added_then : (net : ℕ) (first second : List AddedWire) → wires_added net (first ++ second) ≡ wires_added net first ++ wires_added net second
@@ -221,7 +234,8 @@ added_then net (one ∷ more) second = by (added_then net more second) (same_num
   by : wires_added net (more ++ second) ≡ wires_added net more ++ wires_added net second → (one.net ≡ net) ⊎ (¬ (one.net ≡ net))
       → wires_added net (one ∷ (more ++ second)) ≡ wires_added net (one ∷ more) ++ wires_added net second
   by rest (inl same) =
-      added_here one (more ++ second) net same ∙ ap (λ wires. one.wire ∷ wires) rest ∙ ap (λ wires. wires ++ wires_added net second) (sym (added_here one more net same))
+      added_here one (more ++ second) net same ∙ ap (λ wires. one.wire ∷ wires) rest
+      ∙ ap (λ wires. wires ++ wires_added net second) (sym (added_here one more net same))
   by rest (inr other) =
       added_elsewhere one (more ++ second) net other ∙ rest ∙ ap (λ wires. wires ++ wires_added net second) (sym (added_elsewhere one more net other))
 
@@ -232,4 +246,5 @@ added_of_net net (wire ∷ wires) = added_here (record { net = net; wire = wire 
 
 pub added_of_other : (other net : ℕ) (wires : List Wire) → ¬ (net ≡ other) → wires_added other (of_net net wires) ≡ []
 added_of_other other net [] differ = refl
-added_of_other other net (wire ∷ wires) differ = added_elsewhere (record { net = net; wire = wire }) (of_net net wires) other differ ∙ added_of_other other net wires differ
+added_of_other other net (wire ∷ wires) differ =
+    added_elsewhere (record { net = net; wire = wire }) (of_net net wires) other differ ∙ added_of_other other net wires differ

@@ -23,13 +23,14 @@ use Rattle.leg_route_laws.proofs.OpenNets.{JoinedBothWays, JoinedOnward, none_th
 use Rattle.leg_route_laws.proofs.Placement.{placement_before}
 
 -- no fault in a flat, none in one of whose shapes each has its like there
-no_fault_there : (library : LibraryModel) (first second : FlatModel) → HaveLikes second.shapes first.shapes → HasNoSpacingFault library first → HasNoSpacingFault library second
+no_fault_there : (library : LibraryModel) (first second : FlatModel) → HaveLikes second.shapes first.shapes → HasNoSpacingFault library first
+    → HasNoSpacingFault library second
 no_fault_there library first second likes none fault (short {i = i} {j = j} pair) =
     let has = short_there library second first likes (i, j, short pair) in none (Short has.0 has.1) has.2
 no_fault_there library first second likes none fault (too_near {i = i} {j = j} pair) =
     let has = near_there library second first likes (i, j, too_near pair) in none (TooNear has.0 has.1) has.2
 
-module _ (metal_has : MetalHasItsPiece) (piece_has : PieceHasItsMetal) (library : LibraryModel) (design : DesignModel) (added : List AddedWire) (grown : FlatModel)
+module _ (metal_has : MetalHasItsPiece) (piece_has : PieceHasItsMetal) (design : DesignModel) (added : List AddedWire) (grown : FlatModel)
     (lists : List (List Wire)) (end : FlatModel) (from : IsFinishedFrom design added grown lists end) where
   likes_then : HaveLikes grown.shapes end.shapes
   likes_then s there = let goes = goes_on metal_has piece_has design added grown lists end from s there in (goes.0, goes.1, goes.2.alike)
@@ -39,19 +40,19 @@ module _ (metal_has : MetalHasItsPiece) (piece_has : PieceHasItsMetal) (library 
       let comes = comes_back metal_has piece_has design added grown lists end from t there in
       (comes.0, comes.1, alike_back comes.0 t comes.2.alike)
 
-  pub same_shorts : HasShort library grown ↔ HasShort library end
-  same_shorts = (short_there library grown end likes_then, short_there library end grown likes_before)
+  pub same_shorts : (library : LibraryModel) → HasShort library grown ↔ HasShort library end
+  same_shorts library = (short_there library grown end likes_then, short_there library end grown likes_before)
 
-  pub same_near : HasTooNear library grown ↔ HasTooNear library end
-  same_near = (near_there library grown end likes_then, near_there library end grown likes_before)
+  pub same_near : (library : LibraryModel) → HasTooNear library grown ↔ HasTooNear library end
+  same_near library = (near_there library grown end likes_then, near_there library end grown likes_before)
 
-  pub is_legal : JoinedBothWays → JoinedOnward → ((fault : Fault) → ¬ IsPlacementViolation library design fault) → HasNoSpacingFault library grown
-      → ((n : ℕ) → ¬ IsOpenNet design grown n) → (fault : Fault) → ¬ IsViolationIn library (finished design lists) end fault
+  pub is_legal : JoinedBothWays → JoinedOnward → ((fault : Fault) → ¬ IsPlacementViolation design fault) → HasNoSpacingFault design.library grown
+      → ((n : ℕ) → ¬ IsOpenNet design grown n) → (fault : Fault) → ¬ IsViolationIn (finished design lists) end fault
   is_legal back onward places shapes nets fault holds =
       elim holds [
-        | inl placed ↦ places fault (placement_before library design lists fault placed)
+        | inl placed ↦ places fault (placement_before design lists fault placed)
         | inr metal ↦ elim metal [
-          | inl spaced ↦ no_fault_there library grown end likes_before shapes fault spaced
+          | inl spaced ↦ no_fault_there design.library grown end likes_before shapes fault spaced
           | inr opened ↦ none_open fault opened
         ]
       ] where

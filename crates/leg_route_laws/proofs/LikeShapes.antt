@@ -40,7 +40,8 @@ same_net owner m n first second = ap net_number (sym first ∙ second)
 -- how the pieces of a net move
 abbrev pub MovesIn : DesignModel → List AddedWire → ℕ → ℕ → ℕ → Type 0
 MovesIn design added n g d =
-    Moves (length (terminals_of design n)) (length (entry_wires (regular_entry design n))) (length (entry_wires (special_entry design n))) (length (wires_added n added)) g d
+    Moves (length (terminals_of design n)) (length (entry_wires (regular_entry design n))) (length (entry_wires (special_entry design n)))
+    (length (wires_added n added)) g d
 
 -- a shape of a net is of a piece that moves to that of the other shape
 pub record HasMovedPiece (design : DesignModel) (added : List AddedWire) (s t : Shape) (n : ℕ) : Type 0 where
@@ -54,7 +55,8 @@ pub record IsMoved (design : DesignModel) (added : List AddedWire) (s t : Shape)
   pub alike : AreAlike s t
   pub piece : (n : ℕ) → s.owner ≡ Net n → HasMovedPiece design added s t n
 
-module _ (metal_has : MetalHasItsPiece) (piece_has : PieceHasItsMetal) (design : DesignModel) (added : List AddedWire) (grown : FlatModel) (lists : List (List records.Wire)) (end : FlatModel)
+module _ (metal_has : MetalHasItsPiece) (piece_has : PieceHasItsMetal) (design : DesignModel) (added : List AddedWire) (grown : FlatModel)
+    (lists : List (List records.Wire)) (end : FlatModel)
     (from : IsFinishedFrom design added grown lists end) where
   abbrev done : DesignModel
   done = finished design lists
@@ -119,7 +121,8 @@ module _ (metal_has : MetalHasItsPiece) (piece_has : PieceHasItsMetal) (design :
 
   -- how many wires a net had
   had_wires : (n : ℕ) → length (wires_of design n) ≡ length (entry_wires (regular_entry design n)) + length (entry_wires (special_entry design n))
-  had_wires n = ap length (wires_before design added lists from.by_net n) ∙ length-append (entry_wires (regular_entry design n)) (entry_wires (special_entry design n))
+  had_wires n =
+      ap length (wires_before design added lists from.by_net n) ∙ length-append (entry_wires (regular_entry design n)) (entry_wires (special_entry design n))
 
   abbrev wire_belongs : ℕ → ℕ → Belonging
   wire_belongs n g = record { owner = Net n; component = None; piece = Some g }
@@ -162,7 +165,8 @@ module _ (metal_has : MetalHasItsPiece) (piece_has : PieceHasItsMetal) (design :
       let drawn = drawn_from metal_has piece_has done end from.proper_end from.is_end n t there owner in
       by drawn.0 drawn.2 (piece_before design added lists from.by_net n drawn.0 drawn.2.piece drawn.2.metal drawn.2.there drawn.2.draws)
     where
-      by : (d : ℕ) (drawn : IsDrawn done n d t) → ComesBack design added lists from.by_net n d drawn.piece drawn.metal ⊎ IsNewWire design added lists from.by_net n d drawn.piece drawn.metal → ComesFrom t
+      by : (d : ℕ) (drawn : IsDrawn done n d t) → ComesBack design added lists from.by_net n d drawn.piece drawn.metal
+          ⊎ IsNewWire design added lists from.by_net n d drawn.piece drawn.metal → ComesFrom t
       by d drawn (inl back) =
           let s = drawn_to metal_has piece_has design from.flat from.proper from.is_flat n back.g back.has.piece drawn.metal back.has.there back.has.draws in
           (s.0, still_there s.0 s.1, moved_piece n back.g d back.has.piece drawn.piece drawn.metal s.0 t s.2 drawn.is back.has.component back.to)
@@ -195,7 +199,8 @@ module _ (metal_has : MetalHasItsPiece) (piece_has : PieceHasItsMetal) (design :
           of_nets : (n < length design.nets) ⊎ (length design.nets ≤ n) → n < length design.nets
           of_nets (inl within) = within
           of_nets (inr past) =
-              absurd (none-some new.wire (ap (λ wires. slice_get wires new.i) (sym (none_added (length design.nets) n added from.by_net.nets past)) ∙ new.there))
+              absurd (none-some new.wire (ap (λ wires. slice_get wires new.i) (sym (none_added (length design.nets) n added from.by_net.nets past))
+              ∙ new.there))
 
   end_other : (t : Shape) → Contains end.shapes t → ¬ IsNet t.owner → ComesFrom t
   end_other t there none =

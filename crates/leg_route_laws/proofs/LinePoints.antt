@@ -3,7 +3,7 @@ use Rattle.std.proofs.Common.{◌≡◌, ◌≢◌, ◌⊎◌, inl, inr, ℤ, po
 use Rattle.std.proofs.lemmas.Int.{ints}
 use Rattle.leg_geom.specs.Plane.{PointModel}
 use Rattle.leg_rules.specs.Metal.Outline.{beyond, IsAlong, IsAcross, HasPointOf}
-use Rattle.leg_route_laws.specs.Lines.{EachStep, last_spot, AreInLine, line}
+use Rattle.leg_route_laws.specs.Lines.{EachStep, last_spot, AreInLine, line_outline}
 
 -- the number lies between two others, or at most this far beyond them
 data IsNear (reach a b z : ℤ) : Type 0 where
@@ -78,9 +78,10 @@ same_spot a b x y = by a.x a.y x y where
 
 module _ (width reach : ℤ) (some : pos 0 ≤ℤ reach) (p : PointModel) where
   abbrev HasIt : PointModel → PointModel → Type 0
-  HasIt a b = HasPointOf (line width reach a b) p
+  HasIt a b = HasPointOf (line_outline width reach a b) p
 
-  level_steps : (from to : PointModel) (spots : List PointModel) → EachStep IsLevel from (to ∷ spots) → IsNear reach from.x (last_spot to spots).x p.x → IsAcross from.y width p.y → SomeStep HasIt from (to ∷ spots)
+  level_steps : (from to : PointModel) (spots : List PointModel) → EachStep IsLevel from (to ∷ spots) → IsNear reach from.x (last_spot to spots).x p.x
+      → IsAcross from.y width p.y → SomeStep HasIt from (to ∷ spots)
   level_steps from to [] each near across = inl (inl (record { level = each.0; along = along_from_near reach from.x to.x p.x some near; across = across }))
   level_steps from to (next ∷ spots) each near across =
       elim (near_split reach from.x to.x (last_spot next spots).x p.x some near) [
@@ -88,7 +89,8 @@ module _ (width reach : ℤ) (some : pos 0 ≤ℤ reach) (p : PointModel) where
         | inr later ↦ inr (level_steps to next spots each.1 later (subst (λ y. IsAcross y width p.y) each.0 across))
       ]
 
-  upright_steps : (from to : PointModel) (spots : List PointModel) → EachStep IsUpright from (to ∷ spots) → IsNear reach from.y (last_spot to spots).y p.y → IsAcross from.x width p.x → SomeStep HasIt from (to ∷ spots)
+  upright_steps : (from to : PointModel) (spots : List PointModel) → EachStep IsUpright from (to ∷ spots) → IsNear reach from.y (last_spot to spots).y p.y
+      → IsAcross from.x width p.x → SomeStep HasIt from (to ∷ spots)
   upright_steps from to [] each near across = inl (inr (record { upright = each.0; along = along_from_near reach from.y to.y p.y some near; across = across }))
   upright_steps from to (next ∷ spots) each near across =
       elim (near_split reach from.y to.y (last_spot next spots).y p.y some near) [
@@ -97,7 +99,8 @@ module _ (width reach : ℤ) (some : pos 0 ≤ℤ reach) (p : PointModel) where
       ]
 
   -- a point of the whole line is one of a line from a point to the next
-  pub some_step : (from : PointModel) (spots : List PointModel) → AreInLine from spots → from ≢ last_spot from spots → HasIt from (last_spot from spots) → SomeStep HasIt from spots
+  pub some_step : (from : PointModel) (spots : List PointModel) → AreInLine from spots → from ≢ last_spot from spots → HasIt from (last_spot from spots)
+      → SomeStep HasIt from spots
   some_step from [] in_line differ has = absurd (differ refl)
   some_step from (to ∷ spots) (inl level) differ has = by has where
     by : HasIt from (last_spot to spots) → SomeStep HasIt from (to ∷ spots)

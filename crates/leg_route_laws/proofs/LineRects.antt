@@ -5,7 +5,7 @@ use Rattle.leg_geom.specs.Plane.{PointModel, RectModel}
 use Rattle.leg_lib_records.specs.Scale.{IsEven}
 use Rattle.leg_rules.specs.Metal.Outline.{IsAlong, IsAcross}
 use Rattle.leg_route_laws.specs.CleanWire.{IsRectOf}
-use Rattle.leg_route_laws.specs.Lines.{line}
+use Rattle.leg_route_laws.specs.Lines.{line_outline}
 use Rattle.leg_route_laws.proofs.LinePoints.{either, same_spot}
 
 -- the numbers of an interval are those along a line, or across one
@@ -52,7 +52,7 @@ across_back : (middle width half z : ℤ) → width ≡ half +ℤ half → IsAcr
 across_back middle width half z even across = (grind (arith, ints), grind (arith, ints))
 
 module _ (width reach : ℤ) (even : IsEven width) (a b : PointModel) (differ : a ≢ b) where
-  level_rect : a.y ≡ b.y → (rect : RectModel) × IsRectOf (line width reach a b) rect
+  level_rect : a.y ≡ b.y → (rect : RectModel) × IsRectOf (line_outline width reach a b) rect
   level_rect level =
       let half = even.0 in
       let x = ends reach a.x b.x (λ same. differ (same_spot a b same level)) in (
@@ -73,7 +73,7 @@ module _ (width reach : ℤ) (even : IsEven width) (a b : PointModel) (differ : 
         ),
       )
 
-  upright_rect : a.x ≡ b.x → (rect : RectModel) × IsRectOf (line width reach a b) rect
+  upright_rect : a.x ≡ b.x → (rect : RectModel) × IsRectOf (line_outline width reach a b) rect
   upright_rect upright =
       let half = even.0 in
       let y = ends reach a.y b.y (λ same. differ (same_spot a b upright same)) in (
@@ -94,6 +94,6 @@ module _ (width reach : ℤ) (even : IsEven width) (a b : PointModel) (differ : 
         ),
       )
 
-  pub line_rect : (a.y ≡ b.y) ⊎ (a.x ≡ b.x) → (rect : RectModel) × IsRectOf (line width reach a b) rect
+  pub line_rect : (a.y ≡ b.y) ⊎ (a.x ≡ b.x) → (rect : RectModel) × IsRectOf (line_outline width reach a b) rect
   line_rect (inl level) = level_rect level
   line_rect (inr upright) = upright_rect upright

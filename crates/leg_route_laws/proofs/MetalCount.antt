@@ -75,7 +75,8 @@ module _ (design : DesignModel) where
   shapes_append (x ∷ xs) ys = omega (arith, shapes_append xs ys)
 
   -- the entries that got wires have those shapes more
-  more_count : (nets : List NetModel) (lists : List (List Wire)) → length lists ≡ length nets → nets_shapes design (with_more_wires nets lists) ≡ nets_shapes design nets + lists_shapes design lists
+  more_count : (nets : List NetModel) (lists : List (List Wire)) → length lists ≡ length nets
+      → nets_shapes design (with_more_wires nets lists) ≡ nets_shapes design nets + lists_shapes design lists
   unfolding each_with
   more_count [] [] long = refl
   more_count [] (wires ∷ lists) long = absurd (omega (arith, long))
@@ -88,10 +89,12 @@ module _ (design : DesignModel) where
   total n zero added = 0
   total n (suc k) added = shapes_of design (wires_added n added) + total (suc n) k added
 
-  lists_total : (added : List AddedWire) (n : ℕ) (lists : List (List Wire)) → ((i : ℕ) → i < length lists → slice_get lists i ≡ Some (wires_added (n + i) added)) → lists_shapes design lists ≡ total n (length lists) added
+  lists_total : (added : List AddedWire) (n : ℕ) (lists : List (List Wire))
+      → ((i : ℕ) → i < length lists → slice_get lists i ≡ Some (wires_added (n + i) added)) → lists_shapes design lists ≡ total n (length lists) added
   lists_total added n [] each = refl
   lists_total added n (wires ∷ lists) each =
-      let first : wires ≡ wires_added n added = same_Some wires (wires_added n added) (each 0 (omega arith) ∙ ap (λ m. Some (wires_added m added)) (add-zero n)) in
+      let first : wires ≡ wires_added n added =
+      same_Some wires (wires_added n added) (each 0 (omega arith) ∙ ap (λ m. Some (wires_added m added)) (add-zero n)) in
       let rest : (i : ℕ) → i < length lists → slice_get lists i ≡ Some (wires_added (suc n + i) added) =
       λ i less. each (suc i) (omega (arith, less)) ∙ ap (λ m. Some (wires_added m added)) (let e : n + suc i ≡ suc n + i = omega arith in e) in
       omega (arith, ap (shapes_of design) first, lists_total added (suc n) lists rest)
@@ -110,7 +113,8 @@ module _ (design : DesignModel) where
     total_within : (n k : ℕ) → n ≤ one.net → one.net < n + k → total n k (one ∷ more) ≡ length (wire_outlines design one.wire) + total n k more
     total_within n zero from below = absurd (omega (arith, from, below))
     total_within n (suc k) from below = by (total_within (suc n) k) (same_number one.net n) where
-      by : (suc n ≤ one.net → one.net < suc n + k → total (suc n) k (one ∷ more) ≡ length (wire_outlines design one.wire) + total (suc n) k more) → (one.net ≡ n) ⊎ (¬ (one.net ≡ n))
+      by : (suc n ≤ one.net → one.net < suc n + k → total (suc n) k (one ∷ more) ≡ length (wire_outlines design one.wire) + total (suc n) k more)
+          → (one.net ≡ n) ⊎ (¬ (one.net ≡ n))
           → total n (suc k) (one ∷ more) ≡ length (wire_outlines design one.wire) + total n (suc k) more
       by rest (inl same) =
           let here = ap (shapes_of design) (added_here one more n same) in
@@ -146,7 +150,8 @@ module _ (design : DesignModel) (lists : List (List Wire)) where
   same_nets_shapes [] = refl
   same_nets_shapes (net ∷ nets) = omega (arith, same_shapes net.wires, same_nets_shapes nets)
 
-  pub same_shape_count : (flat grown : FlatModel) (added : List AddedWire) → IsFlatOf design flat → Grows design added flat grown → AreByNet (length design.nets) added lists
+  pub same_shape_count : (flat grown : FlatModel) (added : List AddedWire) → IsFlatOf design flat → Grows design added flat grown
+      → AreByNet (length design.nets) added lists
       → length (metal_of done) ≡ length grown.shapes
   same_shape_count flat grown added is grows by_net =
       let growth = has_grown design added flat grown grows in

@@ -46,10 +46,13 @@ pub pieces_are : (design : DesignModel) (n : ℕ) → pieces_of design n ≡ pie
 unfolding pieces_of
 pieces_are design n = refl
 
-module _ (metal_has : MetalHasItsPiece) (piece_has : PieceHasItsMetal) (design : DesignModel) (flat : FlatModel) (proper : IsWellFormed design) (is : IsFlatOf design flat) where
-  of_net : (n : ℕ) (metal : Metal) → metal.belongs.owner ≡ Net n → HasItsPiece design metal → (k : ℕ) × (metal.belongs.piece ≡ Some k) × IsOfNumber design n k metal
+module _ (metal_has : MetalHasItsPiece) (piece_has : PieceHasItsMetal) (design : DesignModel) (flat : FlatModel) (proper : IsWellFormed design)
+    (is : IsFlatOf design flat) where
+  of_net : (n : ℕ) (metal : Metal) → metal.belongs.owner ≡ Net n → HasItsPiece design metal
+      → (k : ℕ) × (metal.belongs.piece ≡ Some k) × IsOfNumber design n k metal
   of_net n metal owner has =
-      let as_net : Metal = record { metal = metal.metal; belongs = record { owner = Net n; component = metal.belongs.component; piece = metal.belongs.piece } } in
+      let as_net : Metal =
+      record { metal = metal.metal; belongs = record { owner = Net n; component = metal.belongs.component; piece = metal.belongs.piece } } in
       let it : (k : ℕ) × (metal.belongs.piece ≡ Some k) × IsOfNumber design n k as_net = rw owner at has in
       (it.0, it.1, record { piece = it.2.piece; has_piece = it.2.has_piece; draws = it.2.draws; component = it.2.component })
 

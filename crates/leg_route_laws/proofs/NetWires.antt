@@ -36,7 +36,8 @@ module _ (design : DesignModel) (added : List AddedWire) (lists : List (List Wir
   -- the entry of NETS has the added wires behind its own
   pub regular_then : (n : ℕ) → entry_wires (regular_entry done n) ≡ regular n ++ wires_added n added
   regular_then n = ap entry_wires (entry_at design.nets lists n) ∙ by (slice_get design.nets n) refl where
-    by : (o : Option NetModel) → slice_get design.nets n ≡ o → entry_wires (option_map (λ (net : NetModel). record net { wires = net.wires ++ get_or lists n [] }) o) ≡ entry_wires o ++ wires_added n added
+    by : (o : Option NetModel) → slice_get design.nets n ≡ o
+        → entry_wires (option_map (λ (net : NetModel). record net { wires = net.wires ++ get_or lists n [] }) o) ≡ entry_wires o ++ wires_added n added
     by None none = sym (past (cases_lt n (length design.nets))) where
       past : (n < length design.nets) ⊎ (length design.nets ≤ n) → wires_added n added ≡ []
       past (inl within) = absurd (none_at design.nets n within none) where

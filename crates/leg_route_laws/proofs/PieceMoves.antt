@@ -28,11 +28,13 @@ pub record HasLikePiece (design : DesignModel) (n k : ℕ) (like : Piece) (metal
   pub component : piece_component piece ≡ piece_component like
 
 module _ (design : DesignModel) (n : ℕ) where
-  cases : (k : ℕ) (piece : Piece) → slice_get (pieces_of design n) k ≡ Some piece → IsTerminalAt (terminals_of design n) k piece ⊎ IsWireAt (terminals_of design n) (length (wires_of design n)) k piece
+  cases : (k : ℕ) (piece : Piece) → slice_get (pieces_of design n) k ≡ Some piece
+      → IsTerminalAt (terminals_of design n) k piece ⊎ IsWireAt (terminals_of design n) (length (wires_of design n)) k piece
   cases k piece there =
       piece_cases (terminals_of design n) (length (wires_of design n)) k piece (ap (λ pieces. slice_get pieces k) (sym (pieces_are design n)) ∙ there)
 
-  has_terminal : (k : ℕ) (t : Terminal) (metal : OnLayer) → slice_get (terminals_of design n) k ≡ Some t → IsOfTerminal design t metal → HasLikePiece design n k (Term t) metal
+  has_terminal : (k : ℕ) (t : Terminal) (metal : OnLayer) → slice_get (terminals_of design n) k ≡ Some t → IsOfTerminal design t metal
+      → HasLikePiece design n k (Term t) metal
   has_terminal k t metal there draws = record {
     piece = Term t;
     there = ap (λ pieces. slice_get pieces k) (pieces_are design n) ∙ terminal_at (terminals_of design n) (length (wires_of design n)) k t there;
@@ -40,10 +42,12 @@ module _ (design : DesignModel) (n : ℕ) where
     component = refl;
   }
 
-  has_wire : (j i : ℕ) (wire : records.Wire) (metal : OnLayer) → slice_get (wires_of design n) j ≡ Some wire → Contains (wire_outlines design wire) metal → HasLikePiece design n (length (terminals_of design n) + j) (Wire i) metal
+  has_wire : (j i : ℕ) (wire : records.Wire) (metal : OnLayer) → slice_get (wires_of design n) j ≡ Some wire → Contains (wire_outlines design wire) metal
+      → HasLikePiece design n (length (terminals_of design n) + j) (Wire i) metal
   has_wire j i wire metal there draws = record {
     piece = Wire j;
-    there = ap (λ pieces. slice_get pieces (length (terminals_of design n) + j)) (pieces_are design n) ∙ wire_at (terminals_of design n) (length (wires_of design n)) j (slice_get_within (wires_of design n) j wire there);
+    there = ap (λ pieces. slice_get pieces (length (terminals_of design n) + j)) (pieces_are design n)
+        ∙ wire_at (terminals_of design n) (length (wires_of design n)) j (slice_get_within (wires_of design n) j wire there);
     draws = (wire, there, draws);
     component = refl;
   }
@@ -120,7 +124,8 @@ module _ (design : DesignModel) (added : List AddedWire) (lists : List (List rec
     pub has : HasLikePiece done n d like metal
 
   -- a piece of the design before is one of the design that got wires
-  pub piece_then : (g : ℕ) (piece : Piece) (metal : OnLayer) → slice_get (pieces_of design n) g ≡ Some piece → IsMetalOfPiece design n piece metal → GoesTo g piece metal
+  pub piece_then : (g : ℕ) (piece : Piece) (metal : OnLayer) → slice_get (pieces_of design n) g ≡ Some piece → IsMetalOfPiece design n piece metal
+      → GoesTo g piece metal
   piece_then g piece metal there draws = by (cases design n g piece there) where
     by : IsTerminalAt (terminals_of design n) g piece ⊎ IsWireAt (terminals_of design n) (length (wires_of design n)) g piece → GoesTo g piece metal
     by (inl it) =
@@ -129,14 +134,16 @@ module _ (design : DesignModel) (added : List AddedWire) (lists : List (List rec
           d = g;
           to = inl (record { below = omega (arith, slice_get_within (terminals_of design n) g it.terminal it.there); is = refl });
           has = subst (λ p. HasLikePiece done n g p metal) (sym it.is)
-              (has_terminal done n g it.terminal metal (ap (λ ts. slice_get ts g) (same_terminals design lists n) ∙ it.there) (terminal_then it.terminal metal of_t));
+              (has_terminal done n g it.terminal metal (ap (λ ts. slice_get ts g) (same_terminals design lists n) ∙ it.there)
+              (terminal_then it.terminal metal of_t));
         }
     by (inr it) =
         let of_w : IsMetalOfPiece design n (Wire it.j) metal = subst (λ p. IsMetalOfPiece design n p metal) it.is draws in
         subst (λ p. GoesTo g p metal) (sym it.is)
         (which of_w.0 of_w.2 (get_cases first other it.j of_w.0 (sym (ap (λ wires. slice_get wires it.j) (wires_before design added lists by_net n)) ∙ of_w.1)))
       where
-        which : (wire : records.Wire) → Contains (wire_outlines design wire) metal → (slice_get first it.j ≡ Some wire) ⊎ InSecond first other it.j wire → GoesTo g (Wire it.j) metal
+        which : (wire : records.Wire) → Contains (wire_outlines design wire) metal → (slice_get first it.j ≡ Some wire) ⊎ InSecond first other it.j wire
+            → GoesTo g (Wire it.j) metal
         which wire outline (inl regular) = record {
           d = length (terminals_of design n) + it.j;
           to = inl (record { below = omega (arith, it.place, slice_get_within first it.j wire regular); is = sym it.place });
@@ -167,25 +174,30 @@ module _ (design : DesignModel) (added : List AddedWire) (lists : List (List rec
     pub lone : piece_component like ≡ None
 
   -- a piece of the design that got wires is one of the design before, or an added wire
-  pub piece_before : (d : ℕ) (piece : Piece) (metal : OnLayer) → slice_get (pieces_of done n) d ≡ Some piece → IsMetalOfPiece done n piece metal → ComesBack d piece metal ⊎ IsNewWire d piece metal
+  pub piece_before : (d : ℕ) (piece : Piece) (metal : OnLayer) → slice_get (pieces_of done n) d ≡ Some piece → IsMetalOfPiece done n piece metal
+      → ComesBack d piece metal ⊎ IsNewWire d piece metal
   piece_before d piece metal there draws = by (cases done n d piece there) where
-    by : IsTerminalAt (terminals_of done n) d piece ⊎ IsWireAt (terminals_of done n) (length (wires_of done n)) d piece → ComesBack d piece metal ⊎ IsNewWire d piece metal
+    by : IsTerminalAt (terminals_of done n) d piece ⊎ IsWireAt (terminals_of done n) (length (wires_of done n)) d piece
+        → ComesBack d piece metal ⊎ IsNewWire d piece metal
     by (inl it) =
         let of_t : IsOfTerminal done it.terminal metal = subst (λ p. IsMetalOfPiece done n p metal) it.is draws in
         let at_d : slice_get (terminals_of design n) d ≡ Some it.terminal = ap (λ ts. slice_get ts d) (sym (same_terminals design lists n)) ∙ it.there in
         inl (record {
           g = d;
           to = inl (record { below = omega (arith, slice_get_within (terminals_of design n) d it.terminal at_d); is = refl });
-          has = subst (λ p. HasLikePiece design n d p metal) (sym it.is) (has_terminal design n d it.terminal metal at_d (terminal_before it.terminal metal of_t));
+          has = subst (λ p. HasLikePiece design n d p metal) (sym it.is)
+              (has_terminal design n d it.terminal metal at_d (terminal_before it.terminal metal of_t));
         })
     by (inr it) =
         let of_w : IsMetalOfPiece done n (Wire it.j) metal = subst (λ p. IsMetalOfPiece done n p metal) it.is draws in
         let outline : Contains (wire_outlines design of_w.0) metal = subst (λ outlines. Contains outlines metal) (same_outlines design lists of_w.0) of_w.2 in
         let place : d ≡ length (terminals_of design n) + it.j = omega (arith, it.place, same_count) in
         subst (λ p. ComesBack d p metal ⊎ IsNewWire d p metal) (sym it.is)
-        (which of_w.0 outline place (get_cases (first ++ new) other it.j of_w.0 (sym (ap (λ wires. slice_get wires it.j) (wires_then design added lists by_net n)) ∙ of_w.1)))
+        (which of_w.0 outline place (get_cases (first ++ new) other it.j of_w.0
+        (sym (ap (λ wires. slice_get wires it.j) (wires_then design added lists by_net n)) ∙ of_w.1)))
       where
-        inner : (wire : records.Wire) → Contains (wire_outlines design wire) metal → d ≡ length (terminals_of design n) + it.j → (slice_get first it.j ≡ Some wire) ⊎ InSecond first new it.j wire → ComesBack d (Wire it.j) metal ⊎ IsNewWire d (Wire it.j) metal
+        inner : (wire : records.Wire) → Contains (wire_outlines design wire) metal → d ≡ length (terminals_of design n) + it.j
+            → (slice_get first it.j ≡ Some wire) ⊎ InSecond first new it.j wire → ComesBack d (Wire it.j) metal ⊎ IsNewWire d (Wire it.j) metal
         inner wire outline place (inl regular) = inl (record {
           g = length (terminals_of design n) + it.j;
           to = inl (record { below = omega (arith, slice_get_within first it.j wire regular); is = place });
@@ -200,7 +212,9 @@ module _ (design : DesignModel) (added : List AddedWire) (lists : List (List rec
           lone = refl;
         })
 
-        which : (wire : records.Wire) → Contains (wire_outlines design wire) metal → d ≡ length (terminals_of design n) + it.j → (slice_get (first ++ new) it.j ≡ Some wire) ⊎ InSecond (first ++ new) other it.j wire → ComesBack d (Wire it.j) metal ⊎ IsNewWire d (Wire it.j) metal
+        which : (wire : records.Wire) → Contains (wire_outlines design wire) metal → d ≡ length (terminals_of design n) + it.j
+            → (slice_get (first ++ new) it.j ≡ Some wire) ⊎ InSecond (first ++ new) other it.j wire
+            → ComesBack d (Wire it.j) metal ⊎ IsNewWire d (Wire it.j) metal
         which wire outline place (inl front) = inner wire outline place (get_cases first new it.j wire front)
         which wire outline place (inr behind) = inl (record {
           g = length (terminals_of design n) + (length first + behind.j);

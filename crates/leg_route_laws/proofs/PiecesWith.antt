@@ -23,7 +23,8 @@ counted n k less =
     ∙ ap Some (get_or-range_with_len 0 n k 0 less ∙ zero-add k)
 
 -- which piece is a terminal, and which a wire
-pub terminal_at : (terminals : List Terminal) (wires k : ℕ) (t : Terminal) → slice_get terminals k ≡ Some t → slice_get (pieces_with terminals wires) k ≡ Some (Term t)
+pub terminal_at : (terminals : List Terminal) (wires k : ℕ) (t : Terminal) → slice_get terminals k ≡ Some t
+    → slice_get (pieces_with terminals wires) k ≡ Some (Term t)
 terminal_at terminals wires k t at =
     get_first (map Term terminals) (numbered wires) k (Term t) (slice_get-map Term terminals k ∙ rw at refl)
 
@@ -57,9 +58,11 @@ numbered_is n k j at =
     let less : k < n = omega (arith, slice_get_within (range_with_len 0 n) k j at, length-range_with_len 0 n) in
     (less, same_Some j k (sym at ∙ counted n k less))
 
-pub piece_cases : (terminals : List Terminal) (wires k : ℕ) (piece : Piece) → slice_get (pieces_with terminals wires) k ≡ Some piece → IsTerminalAt terminals k piece ⊎ IsWireAt terminals wires k piece
+pub piece_cases : (terminals : List Terminal) (wires k : ℕ) (piece : Piece) → slice_get (pieces_with terminals wires) k ≡ Some piece
+    → IsTerminalAt terminals k piece ⊎ IsWireAt terminals wires k piece
 piece_cases terminals wires k piece at = by (get_cases (map Term terminals) (numbered wires) k piece at) where
-  by : (slice_get (map Term terminals) k ≡ Some piece) ⊎ InSecond (map Term terminals) (numbered wires) k piece → IsTerminalAt terminals k piece ⊎ IsWireAt terminals wires k piece
+  by : (slice_get (map Term terminals) k ≡ Some piece) ⊎ InSecond (map Term terminals) (numbered wires) k piece
+      → IsTerminalAt terminals k piece ⊎ IsWireAt terminals wires k piece
   by (inl first) =
       let from = mapped_at Term terminals k piece first in
       inl (record { terminal = from.0; is = from.2; there = from.1 })

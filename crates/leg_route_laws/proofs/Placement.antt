@@ -1,6 +1,5 @@
 -- Wires change nothing about where components stand.
 use Rattle.std.proofs.Common.{ℕ, List}
-use Rattle.leg_lib_records.specs.Records.{LibraryModel}
 use Rattle.leg_design_records.specs.declared.fault.Fault.{Fault}
 use Rattle.leg_design_records.specs.declared.records.Wire.{Wire}
 use Rattle.leg_design_records.specs.Records.{DesignModel}
@@ -11,14 +10,14 @@ use Rattle.leg_rules.specs.Placement.Violations.{IsPlacementViolation}
 use Rattle.leg_rules.specs.Placement.Violations.IsPlacementViolation.{unplaced, outside, off_site, overlap, blocked}
 use Rattle.leg_route_laws.specs.Finished.{finished}
 
-module _ (library : LibraryModel) (design : DesignModel) (lists : List (List Wire)) where
+module _ (design : DesignModel) (lists : List (List Wire)) where
   abbrev done : DesignModel
   done = finished design lists
 
-  stands_then : (c : ℕ) (box : RectModel) → HasBox library design c box → HasBox library done c box
+  stands_then : (c : ℕ) (box : RectModel) → HasBox design c box → HasBox done c box
   stands_then c box h = record { component = h.component; there = h.there; placed = h.placed }
 
-  stands_before : (c : ℕ) (box : RectModel) → HasBox library done c box → HasBox library design c box
+  stands_before : (c : ℕ) (box : RectModel) → HasBox done c box → HasBox design c box
   stands_before c box h = record { component = h.component; there = h.there; placed = h.placed }
 
   movable_then : (c : ℕ) → IsMovable design c → IsMovable done c
@@ -43,9 +42,10 @@ module _ (library : LibraryModel) (design : DesignModel) (lists : List (List Wir
     site = h.site;
   }
 
-  pub placement_then : (fault : Fault) → IsPlacementViolation library design fault → IsPlacementViolation library done fault
+  pub placement_then : (fault : Fault) → IsPlacementViolation design fault → IsPlacementViolation done fault
   placement_then fault (unplaced h) = unplaced (record { component = h.component; there = h.there; unplaced = h.unplaced })
-  placement_then fault (outside {c = c} h) = outside (record { box = h.box; stands = stands_then c h.box h.stands; square = h.square; inside = h.inside; outside = h.outside })
+  placement_then fault (outside {c = c} h) =
+      outside (record { box = h.box; stands = stands_then c h.box h.stands; square = h.square; inside = h.inside; outside = h.outside })
   placement_then fault (off_site h) = off_site (record {
     component = h.component;
     there = h.there;
@@ -74,9 +74,10 @@ module _ (library : LibraryModel) (design : DesignModel) (lists : List (List Wir
     shared = h.shared;
   })
 
-  pub placement_before : (fault : Fault) → IsPlacementViolation library done fault → IsPlacementViolation library design fault
+  pub placement_before : (fault : Fault) → IsPlacementViolation done fault → IsPlacementViolation design fault
   placement_before fault (unplaced h) = unplaced (record { component = h.component; there = h.there; unplaced = h.unplaced })
-  placement_before fault (outside {c = c} h) = outside (record { box = h.box; stands = stands_before c h.box h.stands; square = h.square; inside = h.inside; outside = h.outside })
+  placement_before fault (outside {c = c} h) =
+      outside (record { box = h.box; stands = stands_before c h.box h.stands; square = h.square; inside = h.inside; outside = h.outside })
   placement_before fault (off_site h) = off_site (record {
     component = h.component;
     there = h.there;

@@ -1,5 +1,5 @@
 -- A design that got wires is the same but for them.
-use Rattle.std.proofs.Common.{◌≡◌, List, [], ◌∷◌, ◌++◌, refl, sym, ap}
+use Rattle.std.proofs.Common.{List, [], ◌∷◌, refl, sym, ap}
 use Rattle.std.proofs.lemmas.List.{append-nil}
 use Rattle.leg_lib_records.specs.Scale.{OneForOne}
 use Rattle.leg_design_records.specs.declared.records.Wire.{Wire}

@@ -21,7 +21,8 @@ wired_none : (net : NetModel) → wired net [] ≡ net
 wired_none net = ap (λ wires. record net { wires = wires }) (append-nil net.wires)
 
 -- what wires don't touch stays
-each_map : {X Y Z : Type 0} (f : X → Y → X) (g : X → Z) → ((x : X) (y : Y) → g (f x y) ≡ g x) → (xs : List X) (ys : List Y) → map g (each_with f xs ys) ≡ map g xs
+each_map : {X Y Z : Type 0} (f : X → Y → X) (g : X → Z) → ((x : X) (y : Y) → g (f x y) ≡ g x) → (xs : List X) (ys : List Y)
+    → map g (each_with f xs ys) ≡ map g xs
 unfolding each_with
 each_map f g same [] ys = refl
 each_map f g same (x ∷ xs) [] = refl
@@ -40,7 +41,8 @@ not_wired nets n = by (slice_get nets n) where
   by None = refl
   by (Some net) = ap Some (sym (wired_none net))
 
-pub entry_at : (nets : List NetModel) (lists : List (List Wire)) (n : ℕ) → slice_get (with_more_wires nets lists) n ≡ option_map (λ net. wired net (get_or lists n [])) (slice_get nets n)
+pub entry_at : (nets : List NetModel) (lists : List (List Wire)) (n : ℕ)
+    → slice_get (with_more_wires nets lists) n ≡ option_map (λ net. wired net (get_or lists n [])) (slice_get nets n)
 unfolding each_with
 entry_at [] lists n = refl
 entry_at (net ∷ nets) [] zero = ap Some (sym (wired_none net))
@@ -81,7 +83,8 @@ module _ (design : DesignModel) (lists : List (List Wire)) where
         let there : slice_get done.nets n ≡ None = entry_at design.nets lists n ∙ ap (option_map (λ net. wired net (get_or lists n []))) none in
         rw (there, none, same_names, same_count) refl
     by (Some net) is =
-        let there : slice_get done.nets n ≡ Some (wired net (get_or lists n [])) = entry_at design.nets lists n ∙ ap (option_map (λ net. wired net (get_or lists n []))) is in
+        let there : slice_get done.nets n ≡ Some (wired net (get_or lists n [])) =
+        entry_at design.nets lists n ∙ ap (option_map (λ net. wired net (get_or lists n []))) is in
         rw (there, is) refl
 
   pub same_terminals : (n : ℕ) → terminals_of done n ≡ terminals_of design n
@@ -95,7 +98,8 @@ module _ (design : DesignModel) (lists : List (List Wire)) where
     third k None = refl
     third k (Some net) = ap Some (same_number k net)
 
-    second : (o : Option ℕ) → (o >>= λ k. slice_get design.special k >>= λ net. Some (number_of_special done k net)) ≡ (o >>= λ k. slice_get design.special k >>= λ net. Some (number_of_special design k net))
+    second : (o : Option ℕ) → (o >>= λ k. slice_get design.special k >>= λ net. Some (number_of_special done k net)) ≡
+        (o >>= λ k. slice_get design.special k >>= λ net. Some (number_of_special design k net))
     second None = refl
     second (Some k) = third k (slice_get design.special k)
 

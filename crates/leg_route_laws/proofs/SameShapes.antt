@@ -49,7 +49,11 @@ module _ (a b c d : Shape) (left : AreAlike a c) (right : AreAlike b d) where
   near_like : (library : LibraryModel) → AreTooNear library a b → AreTooNear library c d
   near_like library h = record {
     comparable = comparable_like h.comparable;
-    apart = λ shared. h.apart (record { point = shared.point; in_a = (left.points shared.point).1 shared.in_a; in_b = (right.points shared.point).1 shared.in_b });
+    apart = λ shared. h.apart (record {
+      point = shared.point;
+      in_a = (left.points shared.point).1 shared.in_a;
+      in_b = (right.points shared.point).1 shared.in_b;
+    });
     layer = h.layer;
     there = ap (slice_get library.layers) (sym left.layer) ∙ h.there;
     near = record { p = h.near.p; q = h.near.q; in_a = (left.points h.near.p).0 h.near.in_a; in_b = (right.points h.near.q).0 h.near.in_b; near = h.near.near };
@@ -71,5 +75,7 @@ module _ (library : LibraryModel) (first second : FlatModel) (likes : HaveLikes 
     by i j (too_near pair) =
         let a = likes pair.a (contains_at first.shapes i pair.a pair.a_at) in
         let b = likes pair.b (contains_at first.shapes j pair.b pair.b_at) in
-        let there = pair_of (AreTooNear library) (near_back library) (λ x y r. r.comparable) second.shapes a.0 b.0 a.1 b.1 (near_like pair.a pair.b a.0 b.0 a.2 b.2 library pair.holds) in
+        let there =
+        pair_of (AreTooNear library) (near_back library) (λ x y r. r.comparable) second.shapes a.0 b.0 a.1 b.1
+        (near_like pair.a pair.b a.0 b.0 a.2 b.2 library pair.holds) in
         (there.0, there.1, too_near there.2)

@@ -100,7 +100,8 @@ module _ (library : LibraryModel) where
     metal = λ none. absurd none;
   }
 
-  pub clear_clean : (flat : FlatModel) (net : ℕ) (a b : Shape) → a.owner ≡ Net net → IsClean library flat net a.layer a.rect → Contains flat.shapes b → AreClear library a b
+  pub clear_clean : (flat : FlatModel) (net : ℕ) (a b : Shape) → a.owner ≡ Net net → IsClean library flat net a.layer a.rect → Contains flat.shapes b
+      → AreClear library a b
   clear_clean flat net a b owner clean there = record {
     no_short = λ bad. clean.no_short b there (record { comparable = comparable_as net a b owner bad.comparable; shared = bad.shared });
     far = λ bad. clean.far b there (record {

@@ -20,10 +20,10 @@ abbrev pub IsRectOf : Outline → RectModel → Type 0
 IsRectOf outline rect = (p : PointModel) → HasPoint rect p ↔ HasPointOf outline p
 
 -- Each piece of metal of the wire is clean as metal of this net: the rectangle that has exactly its points.
-abbrev pub IsCleanWire : LibraryModel → DesignModel → FlatModel → ℕ → Wire → Type 0
-IsCleanWire library design flat net wire =
+abbrev pub IsCleanWire : DesignModel → FlatModel → ℕ → Wire → Type 0
+IsCleanWire design flat net wire =
     (metal : OnLayer) (rect : RectModel) → Contains (wire_outlines design wire) metal → IsRectOf metal.outline rect
-    → IsClean library flat net metal.layer rect
+    → IsClean design.library flat net metal.layer rect
 
 -- a rectangle that is clean and has every point of the outline
 pub record HasCleanRect (library : LibraryModel) (flat : FlatModel) (net layer : ℕ) (outline : Outline) : Type 0 where

@@ -24,8 +24,9 @@ ghost use Rattle.leg_wire.specs.PieceMarks.{AreMarks};
 ghost use Rattle.leg_rules.specs.Joins.Touch.{piece_count, AreJoined};
 ghost use Rattle.leg_route_laws.specs.Growth.{AddedWire, Grows, of_net, HasGrown};
 ghost use Rattle.leg_route_laws.specs.CleanWire.{HasNoSpacingFault, IsRectOf, IsCleanWire, HasCleanRect, LiesInClean};
-ghost use Rattle.leg_route_laws.specs.Lines.{EachStep, last_spot, AreInLine, line, square_of_reach};
+ghost use Rattle.leg_route_laws.specs.Lines.{EachStep, last_spot, AreInLine, line_outline};
 ghost use Rattle.leg_route_laws.specs.Finished.{finished, AreByNet, IsFinishedFrom};
+ghost use Rattle.leg_rules.specs.Route.StepWires.{square};
 ghost use Rattle.leg_rules.specs.Route.SameButForWires.{IsSameButForWires};
 ghost use Rattle.leg_rules.specs.Violations.{IsViolationIn};
 ghost use Rattle.leg_route_laws.specs.Violations.{HasShort, HasTooNear};
@@ -37,16 +38,16 @@ use leg_wire::laws::{joined_both_ways, joined_onward};
 
 /// A flat without shorts and without shapes too near one another stays so when a net gets a wire whose metal is clean in it.
 pub fn clean_wire_stays_clean()
-    ensures { (library : LibraryModel) (design : DesignModel) (net : ℕ) (wire : Wire) (old new : FlatModel)
-        → HasNoSpacingFault library old → IsCleanWire library design old net wire → HasOneMoreWire design net wire old new
-        → HasNoSpacingFault library new }
+    ensures { (design : DesignModel) (net : ℕ) (wire : Wire) (old new : FlatModel)
+        → HasNoSpacingFault design.library old → IsCleanWire design old net wire → HasOneMoreWire design net wire old new
+        → HasNoSpacingFault design.library new }
 {}
 
 /// So it does when a net gets several wires, of each of which the metal is clean in the flat before all of them.
 pub fn clean_wires_stay_clean()
-    ensures { (library : LibraryModel) (design : DesignModel) (net : ℕ) (wires : List Wire) (old new : FlatModel)
-        → HasNoSpacingFault library old → All (IsCleanWire library design old net) wires → Grows design (of_net net wires) old new
-        → HasNoSpacingFault library new }
+    ensures { (design : DesignModel) (net : ℕ) (wires : List Wire) (old new : FlatModel)
+        → HasNoSpacingFault design.library old → All (IsCleanWire design old net) wires → Grows design (of_net net wires) old new
+        → HasNoSpacingFault design.library new }
 {}
 
 /// A rectangle is clean if each of its points lies in a clean one on the same layer.
@@ -57,33 +58,33 @@ pub fn covered_is_clean()
 
 /// A wire is clean if for each of its pieces of metal some clean rectangle has all its points.
 pub fn covered_wire_is_clean()
-    ensures { (library : LibraryModel) (design : DesignModel) (flat : FlatModel) (net : ℕ) (wire : Wire)
-        → ((metal : OnLayer) → Contains (wire_outlines design wire) metal → HasCleanRect library flat net metal.layer metal.outline)
-        → IsCleanWire library design flat net wire }
+    ensures { (design : DesignModel) (flat : FlatModel) (net : ℕ) (wire : Wire)
+        → ((metal : OnLayer) → Contains (wire_outlines design wire) metal → HasCleanRect design.library flat net metal.layer metal.outline)
+        → IsCleanWire design flat net wire }
 {}
 
 /// A wire that runs straight over several points is clean if the metal from each point to the next is. All of it is on one
 /// layer, of one width, and reaches equally far beyond its ends.
 pub fn run_of_clean_steps_is_clean()
-    ensures { (library : LibraryModel) (design : DesignModel) (flat : FlatModel) (net layer : ℕ) (width reach : ℤ) (from : PointModel) (spots : List PointModel)
+    ensures { (design : DesignModel) (flat : FlatModel) (net layer : ℕ) (width reach : ℤ) (from : PointModel) (spots : List PointModel)
         → pos 0 ≤ℤ reach → AreInLine from spots → from ≢ last_spot from spots
-        → EachStep (λ a b. HasCleanRect library flat net layer (line width reach a b)) from spots
-        → IsCleanWire library design flat net (Segment layer from (last_spot from spots) width reach reach) }
+        → EachStep (λ a b. HasCleanRect design.library flat net layer (line_outline width reach a b)) from spots
+        → IsCleanWire design flat net (Segment layer from (last_spot from spots) width reach reach) }
 {}
 
 /// The same where each step is a clean wire of its own, of an even width.
 pub fn run_of_clean_wires_is_clean()
-    ensures { (library : LibraryModel) (design : DesignModel) (flat : FlatModel) (net layer : ℕ) (width reach : ℤ) (from : PointModel) (spots : List PointModel)
+    ensures { (design : DesignModel) (flat : FlatModel) (net layer : ℕ) (width reach : ℤ) (from : PointModel) (spots : List PointModel)
         → IsEven width → pos 0 ≤ℤ reach → AreInLine from spots → from ≢ last_spot from spots → EachStep (λ a b. a ≢ b) from spots
-        → EachStep (λ a b. IsCleanWire library design flat net (Segment layer a b width reach reach)) from spots
-        → IsCleanWire library design flat net (Segment layer from (last_spot from spots) width reach reach) }
+        → EachStep (λ a b. IsCleanWire design flat net (Segment layer a b width reach reach)) from spots
+        → IsCleanWire design flat net (Segment layer from (last_spot from spots) width reach reach) }
 {}
 
 /// The squares of a wire's width about its two ends are clean if the wire is, which reaches past both by half its width.
 pub fn ends_of_clean_wire_are_clean()
-    ensures { (library : LibraryModel) (design : DesignModel) (flat : FlatModel) (net layer : ℕ) (reach : ℤ) (a b : PointModel)
-        → a ≢ b → (a.y ≡ b.y) ⊎ (a.x ≡ b.x) → IsCleanWire library design flat net (Segment layer a b (reach +ℤ reach) reach reach)
-        → IsCleanWire library design flat net (Patch layer a (square_of_reach reach)) × IsCleanWire library design flat net (Patch layer b (square_of_reach reach)) }
+    ensures { (design : DesignModel) (flat : FlatModel) (net layer : ℕ) (reach : ℤ) (a b : PointModel)
+        → a ≢ b → (a.y ≡ b.y) ⊎ (a.x ≡ b.x) → IsCleanWire design flat net (Segment layer a b (reach +ℤ reach) reach reach)
+        → IsCleanWire design flat net (Patch layer a (square reach)) × IsCleanWire design flat net (Patch layer b (square reach)) }
 {}
 
 /// What a flat has that grew by wires.
@@ -203,17 +204,17 @@ pub fn marked_nets_stay_open()
 
 /// Wires change nothing about placement.
 pub fn placement_stays()
-    ensures { (library : LibraryModel) (design : DesignModel) (lists : List (List Wire)) (fault : Fault)
-        → IsPlacementViolation library design fault ↔ IsPlacementViolation library (finished design lists) fault }
+    ensures { (design : DesignModel) (lists : List (List Wire)) (fault : Fault)
+        → IsPlacementViolation design fault ↔ IsPlacementViolation (finished design lists) fault }
 {}
 
 /// A design that got the wires that its flat grew by has no violation if its components are legally placed and the grown
 /// flat has no short, no shapes too near one another and no open net.
 pub fn finished_design_is_legal()
-    ensures { (library : LibraryModel) (design : DesignModel) (added : List AddedWire) (grown : FlatModel) (lists : List (List Wire)) (end : FlatModel)
+    ensures { (design : DesignModel) (added : List AddedWire) (grown : FlatModel) (lists : List (List Wire)) (end : FlatModel)
         → IsFinishedFrom design added grown lists end
-        → ((fault : Fault) → ¬ IsPlacementViolation library design fault) → HasNoSpacingFault library grown → ((n : ℕ) → ¬ IsOpenNet design grown n)
-        → (fault : Fault) → ¬ IsViolationIn library (finished design lists) end fault }
+        → ((fault : Fault) → ¬ IsPlacementViolation design fault) → HasNoSpacingFault design.library grown → ((n : ℕ) → ¬ IsOpenNet design grown n)
+        → (fault : Fault) → ¬ IsViolationIn (finished design lists) end fault }
 {
     metal_has_its_piece();
     piece_has_its_metal();

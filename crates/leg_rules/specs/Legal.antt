@@ -9,7 +9,7 @@ use Rattle.leg_rules.specs.Violations.{IsViolation, IsOtherThanOpen}
 pub record IsLegal (design : DesignModel) : Type 0 where
   pub flat : FlatModel
   pub judged : IsJudgedBy design flat
-  pub none : (fault : Fault) → ¬ IsViolation design.library design fault
+  pub none : (fault : Fault) → ¬ IsViolation design fault
 
 -- its metal keeps the limit of shapes, and no violation of any kind but Open holds in this flat of it
 pub record IsCleanIn (design : DesignModel) (flat : FlatModel) : Type 0 where

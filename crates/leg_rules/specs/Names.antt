@@ -10,11 +10,11 @@ name_by name None = []
 name_by name (Some x) = name x
 
 -- the via of this number: those of the library count first, and then those of the design
-abbrev pub via_numbered : DesignModel → ℕ → Option library.ViaModel
-via_numbered design via = slice_get (design.library.vias ++ design.vias) via
+abbrev pub design_via : DesignModel → ℕ → Option library.ViaModel
+design_via design via = slice_get (design.library.vias ++ design.vias) via
 
 abbrev pub via_name : DesignModel → ℕ → List ℕ
-via_name design via = name_by (λ (v : library.ViaModel). v.name) (via_numbered design via)
+via_name design via = name_by (λ (v : library.ViaModel). v.name) (design_via design via)
 
 abbrev pub component_name : DesignModel → ℕ → List ℕ
 component_name design c = name_by (λ (component : Component). component.name) (slice_get design.components c)

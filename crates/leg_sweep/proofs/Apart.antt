@@ -14,7 +14,8 @@ use Rattle.leg_geom.specs.Pairs.{IsPair}
 use Rattle.leg_sweep.specs.Steps.Sweep.{pair_cmp}
 
 -- the numbers up to n in another order
-pub numbers_apart : (n : ℕ) (order : List ℕ) → IsPermutation (range_with_len 0 n) order → (a b : ℕ) → a < b → b < length order → get_or order a 0 ≡ get_or order b 0 → ⊥
+pub numbers_apart : (n : ℕ) (order : List ℕ) → IsPermutation (range_with_len 0 n) order → (a b : ℕ) → a < b → b < length order
+    → get_or order a 0 ≡ get_or order b 0 → ⊥
 numbers_apart n order moved a b below within =
     let start : IsDistinct eqb (range_with_len 0 n) =
     IsDistinct-from_apart eqb (range_with_len 0 n) (λ i j d low high.
@@ -33,7 +34,8 @@ rising_pair : (p q : ℕ × ℕ) → is_lt (pair_cmp q p) ≡ false → is_eq (p
 rising_pair (a, b) (c, d) not_above apart = record { first = grind (arith, nat_tests); second = λ same. grind (arith, nat_tests) }
 
 -- pairs that differ from one another, sorted
-pub rising_from_sort : (found sorted : List (ℕ × ℕ)) → AllPairs (λ p q. p ≢ q) found → IsPermutation found sorted → IsSorted pair_cmp sorted → AllPairs Before sorted
+pub rising_from_sort : (found sorted : List (ℕ × ℕ)) → AllPairs (λ p q. p ≢ q) found → IsPermutation found sorted → IsSorted pair_cmp sorted
+    → AllPairs Before sorted
 rising_from_sort found sorted distinct moved up i j d below within =
     let start : IsDistinct (eq_by_cmp pair_cmp) found =
     IsDistinct-from_apart (eq_by_cmp pair_cmp) found (λ k l e low high.
@@ -44,7 +46,8 @@ rising_from_sort found sorted distinct moved up i j d below within =
     (apart_from_distinct (eq_by_cmp pair_cmp) sorted i j d apart below within)
 
 -- the pairs that were found, sorted
-pub pairs_from_sort : {Item : Type 0} (Holds : Item → Item → Type 0) (items : List Item) (found sorted : List (ℕ × ℕ)) → HasPairs Holds items found → IsPermutation found sorted → IsSorted pair_cmp sorted → ArePairs Holds items sorted
+pub pairs_from_sort : {Item : Type 0} (Holds : Item → Item → Type 0) (items : List Item) (found sorted : List (ℕ × ℕ)) → HasPairs Holds items found
+    → IsPermutation found sorted → IsSorted pair_cmp sorted → ArePairs Holds items sorted
 pairs_from_sort Holds items found sorted has moved up = record {
   increasing = rising_from_sort found sorted has.distinct moved up;
   each = All-permutation (IsPair Holds items) found sorted moved has.each;

@@ -88,7 +88,8 @@ count_by-le p q (x ∷ xs) weaker =
           omega (arith, rest, first, sum_by-cons (λ y. cond (p y) 1 0) x xs, sum_by-cons (λ y. cond (q y) 1 0) x xs)
     ]
 
-pub count_pairs-le : {X : Type 0} (p q : X → X → Bool) (xs : List X) → ((x y : X) → Contains xs x → Contains xs y → p x y ≡ true → q x y ≡ true) → count_pairs p xs ≤ count_pairs q xs
+pub count_pairs-le : {X : Type 0} (p q : X → X → Bool) (xs : List X) → ((x y : X) → Contains xs x → Contains xs y → p x y ≡ true → q x y ≡ true)
+    → count_pairs p xs ≤ count_pairs q xs
 count_pairs-le p q [] weaker = omega arith
 count_pairs-le p q (x ∷ xs) weaker =
     let first = count_by-le (p x) (q x) xs (λ y c passes. weaker x y (Contains-here x xs) (Contains-there x xs y c) passes) in

@@ -8,7 +8,8 @@ use Rattle.leg_geom.specs.Gap.{gap_between, x_gap}
 use Rattle.leg_sweep.specs.Steps.Cut.{cut_at}
 
 -- a gap from what begins at the line tells where it ends
-pub cut_told : (line other low high : ℤ) → low <ℤ high → low ≤ℤ line → line <ℤ other → int_max (line -ℤ pos (gap_between low high line other)) (low +ℤ pos 1) ≡ int_max (int_min high line) (low +ℤ pos 1)
+pub cut_told : (line other low high : ℤ) → low <ℤ high → low ≤ℤ line → line <ℤ other
+    → int_max (line -ℤ pos (gap_between low high line other)) (low +ℤ pos 1) ≡ int_max (int_min high line) (low +ℤ pos 1)
 cut_told line other low high wide left right = grind (arith, ints)
 
 -- the gap of two intervals is how far the one begins behind the other's end
@@ -32,13 +33,15 @@ end_kept line low high other wide left right before = omega (arith, ints, int_ma
 end_behind : (line low high other : ℤ) → low <ℤ high → low ≤ℤ line → other ≤ℤ line → other ≤ℤ high → other ≤ℤ int_max (int_min high line) (low +ℤ pos 1)
 end_behind line low high other wide left right behind = omega (arith, ints, int_max_is (int_min high line) (low +ℤ pos 1), int_min_is high line)
 
-end_within : (line low high : ℤ) → IsCoordinate low → IsCoordinate high → IsCoordinate line → low <ℤ high → IsCoordinate (int_max (int_min high line) (low +ℤ pos 1))
+end_within : (line low high : ℤ) → IsCoordinate low → IsCoordinate high → IsCoordinate line → low <ℤ high
+    → IsCoordinate (int_max (int_min high line) (low +ℤ pos 1))
 end_within line low high low_is high_is line_is wide = omega (arith, ints, int_max_is (int_min high line) (low +ℤ pos 1), int_min_is high line)
 
 end_wide : (line low high : ℤ) → low <ℤ int_max (int_min high line) (low +ℤ pos 1)
 end_wide line low high = omega (arith, ints, int_max_is (int_min high line) (low +ℤ pos 1), int_min_is high line)
 
-gaps_kept : (line a b c d : ℤ) → a <ℤ b → c <ℤ d → a ≤ℤ line → c ≤ℤ line → gap_between a (int_max (int_min b line) (a +ℤ pos 1)) c (int_max (int_min d line) (c +ℤ pos 1)) ≡ gap_between a b c d
+gaps_kept : (line a b c d : ℤ) → a <ℤ b → c <ℤ d → a ≤ℤ line → c ≤ℤ line
+    → gap_between a (int_max (int_min b line) (a +ℤ pos 1)) c (int_max (int_min d line) (c +ℤ pos 1)) ≡ gap_between a b c d
 gaps_kept line a b c d wide other left right =
     by_lt_z b c
     (λ before. let same = end_kept line a b c wide left right before in rw same (grind (arith, ints)))
@@ -82,17 +85,21 @@ same_sides : (x1 y1 x2 y2 : ℤ) (v : RectModel) → x1 ≡ v.x1 → y1 ≡ v.y1
 same_sides x1 y1 x2 y2 v a b c d = λ i. record { x1 = a i; y1 = b i; x2 = c i; y2 = d i }
 
 -- a rectangle of these sides is made
-pub sides_made : (o : Option RectModel) (x1 y1 x2 y2 : ℤ) (v : RectModel) → x1 ≡ v.x1 → y1 ≡ v.y1 → x2 ≡ v.x2 → y2 ≡ v.y2 → IsRect v → SomeIff o (IsRect (sides x1 y1 x2 y2)) (sides x1 y1 x2 y2) → IsSome o
+pub sides_made : (o : Option RectModel) (x1 y1 x2 y2 : ℤ) (v : RectModel) → x1 ≡ v.x1 → y1 ≡ v.y1 → x2 ≡ v.x2 → y2 ≡ v.y2 → IsRect v
+    → SomeIff o (IsRect (sides x1 y1 x2 y2)) (sides x1 y1 x2 y2) → IsSome o
 sides_made o x1 y1 x2 y2 v a b c d proper made =
     let same = same_sides x1 y1 x2 y2 v a b c d in
     is_made o (IsRect (sides x1 y1 x2 y2)) (sides x1 y1 x2 y2) made (rw same proper)
 
-pub sides_are : (o : Option RectModel) (x1 y1 x2 y2 : ℤ) (v x : RectModel) → x1 ≡ v.x1 → y1 ≡ v.y1 → x2 ≡ v.x2 → y2 ≡ v.y2 → SomeIff o (IsRect (sides x1 y1 x2 y2)) (sides x1 y1 x2 y2) → o ≡ Some x → x ≡ v
+pub sides_are : (o : Option RectModel) (x1 y1 x2 y2 : ℤ) (v x : RectModel) → x1 ≡ v.x1 → y1 ≡ v.y1 → x2 ≡ v.x2 → y2 ≡ v.y2
+    → SomeIff o (IsRect (sides x1 y1 x2 y2)) (sides x1 y1 x2 y2) → o ≡ Some x → x ≡ v
 sides_are o x1 y1 x2 y2 v x a b c d made is = made_is o (IsRect (sides x1 y1 x2 y2)) (sides x1 y1 x2 y2) x made is ∙ same_sides x1 y1 x2 y2 v a b c d
 
 -- the right edge that a gap tells
-pub edge_told : (right left edge gap : ℤ) (rect other : RectModel) → left ≡ rect.x1 → edge ≡ other.x1 → gap ≡ pos (x_gap rect other) → IsRect rect → IsRect other → rect.x1 ≤ℤ other.x1
-    → right ≡ int_max (to_z w64 (of_z w64 (to_z w64 (of_z w64 edge) -ℤ to_z w64 (of_z w64 gap)))) (to_z w64 (of_z w64 (to_z w64 (of_z w64 left) +ℤ pos 1))) → right ≡ (cut_at other.x1 rect).x2
+pub edge_told : (right left edge gap : ℤ) (rect other : RectModel) → left ≡ rect.x1 → edge ≡ other.x1 → gap ≡ pos (x_gap rect other) → IsRect rect
+    → IsRect other → rect.x1 ≤ℤ other.x1
+    → right ≡ int_max (to_z w64 (of_z w64 (to_z w64 (of_z w64 edge) -ℤ to_z w64 (of_z w64 gap)))) (to_z w64 (of_z w64 (to_z w64 (of_z w64 left) +ℤ pos 1)))
+    → right ≡ (cut_at other.x1 rect).x2
 edge_told right left edge gap rect other left_is edge_is gap_is proper other_proper order is =
     let x1 = proper.x1 in
     let line = other_proper.x1 in
@@ -103,5 +110,11 @@ edge_told right left edge gap rect other left_is edge_is gap_is proper other_pro
     let gap_fits : FitsSigned w64 (pos (x_gap rect other)) = omega (arith, ints, small) in
     let end_fits : FitsSigned w64 (other.x1 -ℤ pos (x_gap rect other)) = omega (arith, ints, small) in
     let next_fits : FitsSigned w64 (rect.x1 +ℤ pos 1) = omega (arith, ints) in
-    (rw (to_z-of_z w64 rect.x1 left_fits, to_z-of_z w64 other.x1 edge_fits, to_z-of_z w64 (pos (x_gap rect other)) gap_fits, to_z-of_z w64 (other.x1 -ℤ pos (x_gap rect other)) end_fits, to_z-of_z w64 (rect.x1 +ℤ pos 1) next_fits) at told)
+    (rw (
+      to_z-of_z w64 rect.x1 left_fits,
+      to_z-of_z w64 other.x1 edge_fits,
+      to_z-of_z w64 (pos (x_gap rect other)) gap_fits,
+      to_z-of_z w64 (other.x1 -ℤ pos (x_gap rect other)) end_fits,
+      to_z-of_z w64 (rect.x1 +ℤ pos 1) next_fits,
+    ) at told)
     ∙ cut_told other.x1 other.x2 rect.x1 rect.x2 proper.wide order other_proper.wide

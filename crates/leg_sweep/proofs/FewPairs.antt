@@ -100,7 +100,8 @@ module _ {Sink : Type 0} (Takes : Sink → ℕ × ℕ → Sink → Type 0) (IsOn
 
   -- one more item
   pub found_below_more : (n tests added later : ℕ) (between after : Sink) → ((p : ℕ × ℕ) → IsOne p → p.0 < p.1) → tests + added ≤ later
-      → FoundBelow Takes IsOne n tests before between → AreNewPairs Takes IsOne (range_with_len 0 n) n added between after → FoundBelow Takes IsOne (n + 1) later before after
+      → FoundBelow Takes IsOne n tests before between → AreNewPairs Takes IsOne (range_with_len 0 n) n added between after
+      → FoundBelow Takes IsOne (n + 1) later before after
   found_below_more n tests added later between after upward grown so_far turned = record {
     found = so_far.found ++ turned.more;
     taken = takes_append Takes before so_far.found between turned.more after so_far.taken turned.taken;
@@ -108,7 +109,8 @@ module _ {Sink : Type 0} (Takes : Sink → ℕ × ℕ → Sink → Type 0) (IsOn
     below =
         All-append (λ p. p.1 < n + 1) so_far.found turned.more
         (All-weaker (λ p. p.1 < n) (λ p. p.1 < n + 1) (λ p low. omega (arith, low)) so_far.found so_far.below)
-        (All-weaker (λ p. (x : ℕ) × Contains (range_with_len 0 n) x × (p ≡ ordered x n)) (λ p. p.1 < n + 1) (λ p named. omega (arith, second_of_new n p named)) turned.more turned.named);
+        (All-weaker (λ p. (x : ℕ) × Contains (range_with_len 0 n) x × (p ≡ ordered x n)) (λ p. p.1 < n + 1)
+        (λ p named. omega (arith, second_of_new n p named)) turned.more turned.named);
     distinct =
         AllPairs-append_by (λ p q. p ≢ q) (λ p. p.1 < n) (λ p. (x : ℕ) × Contains (range_with_len 0 n) x × (p ≡ ordered x n))
         (λ p q low named same. omega (arith, low, second_of_new n q named, ap (λ (r : ℕ × ℕ). r.1) same))
@@ -126,7 +128,8 @@ module _ {Sink : Type 0} (Takes : Sink → ℕ × ℕ → Sink → Type 0) (IsOn
   }
 
 -- after the last one
-pub found_below_all : {Sink Item : Type 0} (Takes : Sink → ℕ × ℕ → Sink → Type 0) (Holds : Item → Item → Type 0) (items : List Item) (tests : ℕ) (before after : Sink)
+pub found_below_all : {Sink Item : Type 0} (Takes : Sink → ℕ × ℕ → Sink → Type 0) (Holds : Item → Item → Type 0) (items : List Item) (tests : ℕ)
+    (before after : Sink)
     → FoundBelow Takes (IsPair Holds items) (length items) tests before after → TookPairs Takes Holds items tests before after
 found_below_all Takes Holds items tests before after to = record {
   found = to.found;

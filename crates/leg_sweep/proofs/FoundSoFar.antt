@@ -25,7 +25,8 @@ use Rattle.leg_sweep.proofs.SinkPairs.{takes_append}
 use Rattle.leg_sweep.proofs.Turns.{ordered_below, ordered_above}
 
 -- The items up to a place of the order are in, and the sink took the pairs among them.
-pub record FoundTo {Sink : Type 0} (Takes : Sink → ℕ × ℕ → Sink → Type 0) (near : ℕ → ℕ → Bool) (IsOne : ℕ × ℕ → Type 0) (stretches : List Stretch) (order : List ℕ) (i : ℕ) (bands : List Waiting) (tests : ℕ) (before after : Sink) : Type 0 where
+pub record FoundTo {Sink : Type 0} (Takes : Sink → ℕ × ℕ → Sink → Type 0) (near : ℕ → ℕ → Bool) (IsOne : ℕ × ℕ → Type 0) (stretches : List Stretch)
+    (order : List ℕ) (i : ℕ) (bands : List Waiting) (tests : ℕ) (before after : Sink) : Type 0 where
   pub found : List (ℕ × ℕ)
   pub swept : SweptTo near IsOne (λ x. (stretch_at stretches x).first) (λ x. (stretch_at stretches x).last) order i (begun_in bands) (passing_in bands) found
   pub taken : TakesAll Takes before found after
@@ -38,16 +39,19 @@ abbrev pub last_at : List Stretch → ℕ → ℕ
 last_at stretches x = (stretch_at stretches x).last
 
 -- a common band of two items
-pub shared : (stretches : List Stretch) (x y : ℕ) → share_band stretches x y ≡ true → (first_at stretches x ≤ last_at stretches y) × (first_at stretches y ≤ last_at stretches x)
+pub shared : (stretches : List Stretch) (x y : ℕ) → share_band stretches x y ≡ true
+    → (first_at stretches x ≤ last_at stretches y) × (first_at stretches y ≤ last_at stretches x)
 shared stretches x y share =
     let both = and_split (leb (first_at stretches x) (last_at stretches y)) (leb (first_at stretches y) (last_at stretches x)) share in
     (leb-true _ _ both.0, leb-true _ _ both.1)
 
-pub shares : (stretches : List Stretch) (x y : ℕ) → first_at stretches x ≤ last_at stretches y → first_at stretches y ≤ last_at stretches x → share_band stretches x y ≡ true
+pub shares : (stretches : List Stretch) (x y : ℕ) → first_at stretches x ≤ last_at stretches y → first_at stretches y ≤ last_at stretches x
+    → share_band stretches x y ≡ true
 shares stretches x y first second = both_true (le-leb _ _ first) (le-leb _ _ second)
 
 -- a visit leaves each band its reach
-pub reaches_after : (narrow : ℕ → Bool) (first last new : ℕ) (before after : List Waiting) → AreVisited narrow first last new before after → (k : ℕ) → (waiting_at after k).reach ≡ (waiting_at before k).reach
+pub reaches_after : (narrow : ℕ → Bool) (first last new : ℕ) (before after : List Waiting) → AreVisited narrow first last new before after → (k : ℕ)
+    → (waiting_at after k).reach ≡ (waiting_at before k).reach
 reaches_after narrow first last new before after visited k =
     elim (cases_lt k first) [
       | inl below ↦ ap (λ (w : Waiting). w.reach) (visited.below k below)
@@ -66,12 +70,14 @@ pub near_split : (rects : List RectModel) (stretches : List Stretch) (start : Li
 near_split rects stretches start x y is_near = and_split (share_band stretches x y) (test_at (near_along_x (reach_at stretches start x)) rects x y) is_near
 
 module _ {Item : Type 0} (Holds : Item → Item → Type 0) (symmetric : (a b : Item) → Holds a b → Holds b a)
-    (rect_of : Item → RectModel) (items : List Item) (stretches : List Stretch) (start : List Waiting) (are : AreStretches Holds rect_of items stretches start) where
+    (rect_of : Item → RectModel) (items : List Item) (stretches : List Stretch) (start : List Waiting)
+    (are : AreStretches Holds rect_of items stretches start) where
   rect_of_got : (x : ℕ) (a : Item) → slice_get items x ≡ Some a → rect_numbered (map rect_of items) x ≡ rect_of a
   rect_of_got x a got = get_or_from_slice_get (map rect_of items) x (rect_of a) unit_square (slice_get-map rect_of items x ∙ ap (λ o. option_map rect_of o) got)
 
   -- items for which the rule holds are near
-  near_held : (x y : ℕ) (a b : Item) → slice_get items x ≡ Some a → slice_get items y ≡ Some b → Holds a b → share_band stretches x y ≡ true → near_in_band (map rect_of items) stretches start x y ≡ true
+  near_held : (x y : ℕ) (a b : Item) → slice_get items x ≡ Some a → slice_get items y ≡ Some b → Holds a b → share_band stretches x y ≡ true
+      → near_in_band (map rect_of items) stretches start x y ≡ true
   near_held x y a b a_at b_at holds share =
       let gaps = are.in_reach x y a b a_at b_at holds in
       let test : test_at (near_along_x (reach_at stretches start x)) (map rect_of items) x y ≡ true =
@@ -92,11 +98,13 @@ module _ {Item : Type 0} (Holds : Item → Item → Type 0) (symmetric : (a b : 
       ]
 
   -- two items of a common band have one reach
-  pub reach_shared : (x k y : ℕ) → x < length items → y < length items → first_at stretches x ≤ k → k ≤ last_at stretches x → first_at stretches y ≤ k → k ≤ last_at stretches y
+  pub reach_shared : (x k y : ℕ) → x < length items → y < length items → first_at stretches x ≤ k → k ≤ last_at stretches x → first_at stretches y ≤ k
+      → k ≤ last_at stretches y
       → reach_at stretches start x ≡ reach_at stretches start y
   reach_shared x k y x_in y_in x_low x_high y_low y_high = sym (are.one_reach x k x_in x_low x_high) ∙ are.one_reach y k y_in y_low y_high
 
-  pub reach_if_shared : (x y : ℕ) → x < length items → y < length items → share_band stretches x y ≡ true → reach_at stretches start x ≡ reach_at stretches start y
+  pub reach_if_shared : (x y : ℕ) → x < length items → y < length items → share_band stretches x y ≡ true
+      → reach_at stretches start x ≡ reach_at stretches start y
   reach_if_shared x y x_in y_in share =
       let common = shared stretches x y share in
       elim (cases_lt (first_at stretches x) (first_at stretches y)) [
@@ -108,8 +116,10 @@ module _ {Item : Type 0} (Holds : Item → Item → Type 0) (symmetric : (a b : 
     pub in_items : (a : ℕ) → a < length order → get_or order a 0 < length items
     in_items a within = omega (arith, order_below (map rect_of items) order sorted a within, length-map items rect_of)
 
-    near_between_bands : (a b c : ℕ) → a ≤ b → b ≤ c → c < length order → near_in_band (map rect_of items) stretches start (get_or order a 0) (get_or order c 0) ≡ true
-        → first_at stretches (get_or order a 0) ≤ last_at stretches (get_or order b 0) → first_at stretches (get_or order b 0) ≤ last_at stretches (get_or order a 0)
+    near_between_bands : (a b c : ℕ) → a ≤ b → b ≤ c → c < length order
+        → near_in_band (map rect_of items) stretches start (get_or order a 0) (get_or order c 0) ≡ true
+        → first_at stretches (get_or order a 0) ≤ last_at stretches (get_or order b 0)
+        → first_at stretches (get_or order b 0) ≤ last_at stretches (get_or order a 0)
         → near_in_band (map rect_of items) stretches start (get_or order a 0) (get_or order b 0) ≡ true
     near_between_bands a b c low high within is_near first second =
         let split = near_split (map rect_of items) stretches start (get_or order a 0) (get_or order c 0) is_near in
@@ -117,7 +127,8 @@ module _ {Item : Type 0} (Holds : Item → Item → Type 0) (symmetric : (a b : 
         (order_between (map rect_of items) order sorted (reach_at stretches start (get_or order a 0)) a b c low high within split.1)
 
     module _ (i : ℕ) (in_order : i < length order) (bands : List Waiting) (found : List (ℕ × ℕ))
-        (swept : SweptTo (near_in_band (map rect_of items) stretches start) (IsPair Holds items) (first_at stretches) (last_at stretches) order i (begun_in bands) (passing_in bands) found)
+        (swept : SweptTo (near_in_band (map rect_of items) stretches start) (IsPair Holds items) (first_at stretches) (last_at stretches) order i
+        (begun_in bands) (passing_in bands) found)
         (reaches : (k : ℕ) → (waiting_at bands k).reach ≡ (waiting_at start k).reach) (count : length bands ≡ length start) where
       -- an item that waits is an earlier one
       waits_in : (x : ℕ) → Contains (take i order) x → (a : ℕ) × (a < i) × (get_or order a 0 ≡ x)
@@ -168,71 +179,90 @@ module _ {Item : Type 0} (Holds : Item → Item → Type 0) (symmetric : (a b : 
             begun = λ k low high. can_meet k (begun_in bands k) low high (begun_upward k) (swept.begun_apart k);
             passing =
                 can_meet (first_at stretches n) (passing_in bands (first_at stretches n)) (omega arith) (are.upward n n_in)
-                (λ x c. let was = swept.passing_in (first_at stretches n) x c in (was.0, omega (arith, was.1), was.2)) (swept.passing_apart (first_at stretches n));
+                (λ x c. let was = swept.passing_in (first_at stretches n) x c in (was.0, omega (arith, was.1), was.2))
+                (swept.passing_apart (first_at stretches n));
             apart = λ j k x low before high in_j in_k. omega (arith, (swept.begun_in j x in_j).1, (swept.begun_in k x in_k).1, before);
-            apart_passing = λ k x low high begins passes. omega (arith, (swept.begun_in k x begins).1, (swept.passing_in (first_at stretches n) x passes).1, low);
+            apart_passing =
+                λ k x low high begins passes. omega (arith, (swept.begun_in k x begins).1, (swept.passing_in (first_at stretches n) x passes).1, low);
           }
 
       -- it meets each once
-      new_apart : AllPairs (λ x y. x ≢ y) (met bands (first_at stretches (get_or order i 0)) (last_at stretches (get_or order i 0) - first_at stretches (get_or order i 0)))
+      new_apart : AllPairs (λ x y. x ≢ y) (met bands (first_at stretches (get_or order i 0))
+          (last_at stretches (get_or order i 0) - first_at stretches (get_or order i 0)))
       new_apart =
           let n = get_or order i 0 in
           let can = can_visit in
-          met_apart bands (first_at stretches n) (last_at stretches n) (λ k low high. (can.begun k low high).apart) can.passing.apart can.apart can.apart_passing
+          met_apart bands (first_at stretches n) (last_at stretches n)
+          (λ k low high. (can.begun k low high).apart) can.passing.apart can.apart can.apart_passing
           (last_at stretches n - first_at stretches n) (omega (arith, can.upward))
 
       -- it is an earlier item of a common band, of the same reach
-      met_common : (x : ℕ) → Contains (met bands (first_at stretches (get_or order i 0)) (last_at stretches (get_or order i 0) - first_at stretches (get_or order i 0))) x
-          → Contains (take i order) x × (share_band stretches x (get_or order i 0) ≡ true) × (reach_at stretches start x ≡ (waiting_at bands (first_at stretches (get_or order i 0))).reach)
+      met_common : (x : ℕ) → Contains (met bands (first_at stretches (get_or order i 0))
+          (last_at stretches (get_or order i 0) - first_at stretches (get_or order i 0))) x
+          → Contains (take i order) x × (share_band stretches x (get_or order i 0) ≡ true)
+          × (reach_at stretches start x ≡ (waiting_at bands (first_at stretches (get_or order i 0))).reach)
       met_common x c =
           let n = get_or order i 0 in
           let n_in = in_items i in_order in
           let up = are.upward n n_in in
           elim ((are_met bands (first_at stretches n) (last_at stretches n) up).each x c) [
             | inl (k, low, high, there) ↦
-                let was = begun_upward k x there in
-                (was.0, shares stretches x n (omega (arith, was.1, high)) (omega (arith, was.2, low)), reach_shared x k n (waits_below x was.0) n_in was.1 was.2 low high ∙ sym new_reach)
+                let was = begun_upward k x there in (
+                  was.0,
+                  shares stretches x n (omega (arith, was.1, high)) (omega (arith, was.2, low)),
+                  reach_shared x k n (waits_below x was.0) n_in was.1 was.2 low high ∙ sym new_reach,
+                )
             | inr passes ↦
-                let was = swept.passing_in (first_at stretches n) x passes in
-                (was.0, shares stretches x n (omega (arith, was.1, up)) was.2, reach_shared x (first_at stretches n) n (waits_below x was.0) n_in (omega (arith, was.1)) was.2 (omega arith) up ∙ sym new_reach)
+                let was = swept.passing_in (first_at stretches n) x passes in (
+                  was.0,
+                  shares stretches x n (omega (arith, was.1, up)) was.2,
+                  reach_shared x (first_at stretches n) n (waits_below x was.0) n_in (omega (arith, was.1)) was.2 (omega arith) up ∙ sym new_reach,
+                )
           ]
 
       -- of those that are met no more are within the reach than earlier items are near
-      pub met_near : count_by (λ x. test_at (near_along_x (waiting_at bands (first_at stretches (get_or order i 0))).reach) (map rect_of items) x (get_or order i 0))
+      pub met_near : count_by (λ x. test_at (near_along_x (waiting_at bands (first_at stretches (get_or order i 0))).reach) (map rect_of items) x
+          (get_or order i 0))
           (met bands (first_at stretches (get_or order i 0)) (last_at stretches (get_or order i 0) - first_at stretches (get_or order i 0)))
           ≤ count_by (λ x. near_in_band (map rect_of items) stretches start x (get_or order i 0)) (take i order)
       met_near =
           let n = get_or order i 0 in
-          count_by-le_within (λ x. test_at (near_along_x (waiting_at bands (first_at stretches n)).reach) (map rect_of items) x n) (λ x. near_in_band (map rect_of items) stretches start x n) _ (take i order) new_apart
+          count_by-le_within (λ x. test_at (near_along_x (waiting_at bands (first_at stretches n)).reach) (map rect_of items) x n)
+          (λ x. near_in_band (map rect_of items) stretches start x n) _ (take i order) new_apart
           (λ x c passes.
           let common = met_common x c in
           let test : test_at (near_along_x (reach_at stretches start x)) (map rect_of items) x n ≡ true = rw common.2 passes in
           (common.0, both_true common.1 test))
 
-      pub met_near_both : count_by (λ x. test_at (near_along_both (waiting_at bands (first_at stretches (get_or order i 0))).reach) (map rect_of items) x (get_or order i 0))
+      pub met_near_both : count_by (λ x. test_at (near_along_both (waiting_at bands (first_at stretches (get_or order i 0))).reach) (map rect_of items) x
+          (get_or order i 0))
           (met bands (first_at stretches (get_or order i 0)) (last_at stretches (get_or order i 0) - first_at stretches (get_or order i 0)))
           ≤ count_by (λ x. near_both_in_band (map rect_of items) stretches start x (get_or order i 0)) (take i order)
       met_near_both =
           let n = get_or order i 0 in
-          count_by-le_within (λ x. test_at (near_along_both (waiting_at bands (first_at stretches n)).reach) (map rect_of items) x n) (λ x. near_both_in_band (map rect_of items) stretches start x n) _ (take i order) new_apart
+          count_by-le_within (λ x. test_at (near_along_both (waiting_at bands (first_at stretches n)).reach) (map rect_of items) x n)
+          (λ x. near_both_in_band (map rect_of items) stretches start x n) _ (take i order) new_apart
           (λ x c passes.
           let common = met_common x c in
           let test : test_at (near_along_both (reach_at stretches start x)) (map rect_of items) x n ≡ true = rw common.2 passes in
           (common.0, both_true common.1 test))
 
       -- it meets each earlier item at most once
-      pub met_few : length (met bands (first_at stretches (get_or order i 0)) (last_at stretches (get_or order i 0) - first_at stretches (get_or order i 0))) ≤ i
+      pub met_few : length (met bands (first_at stretches (get_or order i 0))
+          (last_at stretches (get_or order i 0) - first_at stretches (get_or order i 0))) ≤ i
       met_few =
           let n = get_or order i 0 in
           let list = met bands (first_at stretches n) (last_at stretches n - first_at stretches n) in
           let all = count_by-le_within (λ x. true) (λ x. true) list (take i order) new_apart (λ x c passes. ((met_common x c).0, refl)) in
           omega (arith, all, length_of_all list, length_of_all (take i order), length-take-le i order (omega arith))
 
-module _ {Sink : Type 0} (Takes : Sink → ℕ × ℕ → Sink → Type 0) {Item : Type 0} (Holds : Item → Item → Type 0) (symmetric : (a b : Item) → Holds a b → Holds b a)
+module _ {Sink : Type 0} (Takes : Sink → ℕ × ℕ → Sink → Type 0) {Item : Type 0} (Holds : Item → Item → Type 0)
+    (symmetric : (a b : Item) → Holds a b → Holds b a)
     (rect_of : Item → RectModel) (items : List Item) (stretches : List Stretch) (start : List Waiting) (are : AreStretches Holds rect_of items stretches start)
     (order : List ℕ) (sorted : IsLeftToRight (map rect_of items) order) where
   -- before the first item
-  pub found_none : (before : Sink) → AreEmpty start → FoundTo Takes (near_in_band (map rect_of items) stretches start) (IsPair Holds items) stretches order 0 start 0 before before
+  pub found_none : (before : Sink) → AreEmpty start
+      → FoundTo Takes (near_in_band (map rect_of items) stretches start) (IsPair Holds items) stretches order 0 start 0 before before
   found_none before empty =
       let no_begun : (k x : ℕ) → Contains (begun_in start k) x → ⊥ = λ k x c. Contains-nil x (rw (ap (λ (w : Waiting). w.begun) (empty k)) at c) in
       let no_passing : (k x : ℕ) → Contains (passing_in start k) x → ⊥ = λ k x c. Contains-nil x (rw (ap (λ (w : Waiting). w.passing) (empty k)) at c) in
@@ -260,7 +290,8 @@ module _ {Sink : Type 0} (Takes : Sink → ℕ × ℕ → Sink → Type 0) {Item
       → ((k : ℕ) → (waiting_at bands k).reach ≡ (waiting_at start k).reach) → length bands ≡ length start
       → AreVisited (λ x. test_at (near_along_x (waiting_at bands (first_at stretches (get_or order i 0))).reach) (map rect_of items) x (get_or order i 0))
       (first_at stretches (get_or order i 0)) (last_at stretches (get_or order i 0)) (get_or order i 0) bands bands_after
-      → AreNewPairs Takes (IsPair Holds items) (met bands (first_at stretches (get_or order i 0)) (last_at stretches (get_or order i 0) - first_at stretches (get_or order i 0))) (get_or order i 0) later between after
+      → AreNewPairs Takes (IsPair Holds items) (met bands (first_at stretches (get_or order i 0))
+      (last_at stretches (get_or order i 0) - first_at stretches (get_or order i 0))) (get_or order i 0) later between after
       → FoundTo Takes (near_in_band (map rect_of items) stretches start) (IsPair Holds items) stretches order (i + 1) bands_after (tests + later) before after
   found_more i tests later in_order bands bands_after before between after so_far reaches count visited turned =
       let n = get_or order i 0 in
@@ -270,8 +301,10 @@ module _ {Sink : Type 0} (Takes : Sink → ℕ × ℕ → Sink → Type 0) {Item
       record {
         found = so_far.found ++ turned.more;
         swept =
-            swept_more Takes (near_in_band (map rect_of items) stretches start) (λ x. test_at (near_along_x reach) (map rect_of items) x n) (IsPair Holds items) (first_at stretches) (last_at stretches) order
-            (order_differs (map rect_of items) order sorted) (λ a within. are.upward (get_or order a 0) (in_items Holds symmetric rect_of items stretches start are order sorted a within))
+            swept_more Takes (near_in_band (map rect_of items) stretches start) (λ x. test_at (near_along_x reach) (map rect_of items) x n)
+            (IsPair Holds items) (first_at stretches) (last_at stretches) order
+            (order_differs (map rect_of items) order sorted)
+            (λ a within. are.upward (get_or order a 0) (in_items Holds symmetric rect_of items stretches start are order sorted a within))
             (near_between_bands Holds symmetric rect_of items stretches start are order sorted)
             (pairs_near Holds symmetric rect_of items stretches start are)
             (λ x y is_near. shared stretches x y (near_split (map rect_of items) stretches start x y is_near).0)
@@ -283,7 +316,8 @@ module _ {Sink : Type 0} (Takes : Sink → ℕ × ℕ → Sink → Type 0) {Item
             let same = reach_if_shared Holds symmetric rect_of items stretches start are x n x_in n_in split.0 in
             let test : test_at (near_along_x (reach_at stretches start n)) (map rect_of items) x n ≡ true = rw same at split.1 in
             rw reach_is test)
-            (begun_in bands) (passing_in bands) (begun_in bands_after) (passing_in bands_after) (met bands (first_at stretches n) (last_at stretches n - first_at stretches n))
+            (begun_in bands) (passing_in bands) (begun_in bands_after) (passing_in bands_after)
+            (met bands (first_at stretches n) (last_at stretches n - first_at stretches n))
             so_far.found later between after so_far.swept
             (visited_by (λ x. test_at (near_along_x reach) (map rect_of items) x n) (first_at stretches n) (last_at stretches n) n bands bands_after visited)
             (are_met bands (first_at stretches n) (last_at stretches n) (are.upward n n_in)) turned;
@@ -293,7 +327,8 @@ module _ {Sink : Type 0} (Takes : Sink → ℕ × ℕ → Sink → Type 0) {Item
 
   -- after the last one
   pub found_all : (bands : List Waiting) (tests : ℕ) (before after : Sink)
-      → FoundTo Takes (near_in_band (map rect_of items) stretches start) (IsPair Holds items) stretches order (length order) bands tests before after → TookPairs Takes Holds items tests before after
+      → FoundTo Takes (near_in_band (map rect_of items) stretches start) (IsPair Holds items) stretches order (length order) bands tests before after
+      → TookPairs Takes Holds items tests before after
   found_all bands tests before after to =
       let swept = to.swept in
       let numbers = rw (length-map items rect_of) at sorted.numbers in

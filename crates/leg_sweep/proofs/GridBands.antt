@@ -30,10 +30,6 @@ module _ (grid : List LayerBands) where
   bands_within layer within = sum_by_more_le (λ (bands : LayerBands). bands.count) grid layer no_bands within
 
 module _ (reach_of : ℕ → ℕ) (spans : List LayerSpan) where
-  -- no layers yet
-  pub grid_none : IsGrid reach_of 0 spans []
-  grid_none = record { many = refl; each = λ layer below. absurd (omega arith); few = omega arith }
-
   -- one more layer
   pub grid_more : (layers : ℕ) (grid : List LayerBands) (bands : LayerBands) → IsGrid reach_of layers spans grid → layers < length spans
       → AreBandsOf (span_at spans layers) (sum_by (λ bands. bands.count) grid) (reach_of layers) bands → IsGrid reach_of (layers + 1) spans (grid ++ bands ∷ [])
@@ -48,7 +44,8 @@ module _ (reach_of : ℕ → ℕ) (spans : List LayerSpan) where
               rw (take-append-le layer grid (bands ∷ []) (omega arith), get_or_append_left grid (bands ∷ []) no_bands layer there) (so_far.each layer earlier)
           | inr last ↦
               let here : layer ≡ layers = omega arith in
-              let all : take layers (grid ++ bands ∷ []) ≡ grid = take-append-le layers grid (bands ∷ []) (omega (arith, so_far.many)) ∙ take_all layers grid (omega (arith, so_far.many)) in
+              let all : take layers (grid ++ bands ∷ []) ≡ grid =
+              take-append-le layers grid (bands ∷ []) (omega (arith, so_far.many)) ∙ take_all layers grid (omega (arith, so_far.many)) in
               rw (here, all, get_or_push grid bands no_bands layers so_far.many) new
         ];
         few = omega (arith, so_far.few, new.few, more, sum_by_push count grid bands);
@@ -70,10 +67,6 @@ empty_more bands count reach empty k =
     ]
 
 module _ (reach_of : ℕ → ℕ) (grid : List LayerBands) where
-  -- no bands yet
-  pub bands_none : AreBandsBelow reach_of grid 0 []
-  bands_none = record { many = refl; each = λ layer k below low high. absurd (omega arith); empty = λ k. refl }
-
   -- the bands of one more layer
   pub bands_more : (layers : ℕ) (bands : List Waiting) → AreBandsBelow reach_of grid layers bands → layers < length grid
       → AreBandsBelow reach_of grid (layers + 1) (bands ++ replicate (bands_at grid layers).count (empty_band (reach_of layers)))
@@ -92,7 +85,11 @@ module _ (reach_of : ℕ → ℕ) (grid : List LayerBands) where
               let here : layer ≡ layers = omega arith in
               let from : length bands ≤ k = omega (arith, so_far.many, rw here at low) in
               let to : k - length bands < count = omega (arith, so_far.many, rw here at high) in
-              rw (here, get_or-append_right bands more (length bands) k none refl from, get_or-replicate count (k - length bands) (empty_band (reach_of layers)) none to) refl
+              rw (
+                here,
+                get_or-append_right bands more (length bands) k none refl from,
+                get_or-replicate count (k - length bands) (empty_band (reach_of layers)) none to,
+              ) refl
         ];
         empty = empty_more bands count (reach_of layers) so_far.empty;
       }

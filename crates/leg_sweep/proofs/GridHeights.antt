@@ -1,8 +1,8 @@
 -- Heights above the lowest coordinate, and how many bands they come to.
 use Rattle.std.proofs.Common.{◌≡◌, ℕ, zero, suc, ◌+◌, ◌-◌, ◌*◌, ◌/◌, ◌<◌, ◌≤◌, min, max, ℤ, ◌<ℤ◌, ap, arith}
 use Rattle.std.proofs.lemmas.Int.{ints}
-use Rattle.std.proofs.lemmas.Nat.{le-div, mul-le, div_below}
-use Rattle.std.proofs.Math.Nat.{div-mul-le_self, mul-div-le, lt-mul-div-succ, div-le_of_le-mul, mul-le-mul_left}
+use Rattle.std.proofs.lemmas.Nat.{le-div, div_below}
+use Rattle.std.proofs.Math.Nat.{div-mul-le_self, mul-div-le, lt-mul-div-succ, mul-le-mul_left}
 use Rattle.leg_geom.specs.declared.limits.TheConstants.{COORDINATE_LIMIT}
 use Rattle.leg_geom.specs.Plane.{IsCoordinate}
 use Rattle.leg_geom.specs.Gap.{gap_between}
@@ -19,7 +19,8 @@ pub height_small : (y : ℤ) → IsCoordinate y → height_of y ≤ 2 * COORDINA
 height_small y is = omega (arith, ints)
 
 -- what begins within the gap above a top edge
-height_near : (bottom top low high : ℤ) (reach : ℕ) → IsCoordinate top → IsCoordinate low → low <ℤ high → gap_between bottom top low high ≤ reach → height_of low ≤ height_of top + reach
+height_near : (bottom top low high : ℤ) (reach : ℕ) → IsCoordinate top → IsCoordinate low → low <ℤ high → gap_between bottom top low high ≤ reach
+    → height_of low ≤ height_of top + reach
 height_near bottom top low high reach is_top is_low long near = grind (arith, ints)
 
 -- the same where the reach is cut off at the greatest height
@@ -31,17 +32,13 @@ height_within bottom top low high reach is_top is_low long near =
     omega (arith, far, small)
 
 -- bands as high as an item on average and the reach have room for as many items with the reach
-pub room_for_all : (total count largest reach height : ℕ) → total ≤ count * largest → total / max count 1 + 1 + reach ≤ height → total + count * reach ≤ count * height
+pub room_for_all : (total count largest reach height : ℕ) → total ≤ count * largest → total / max count 1 + 1 + reach ≤ height
+    → total + count * reach ≤ count * height
 room_for_all total zero largest reach height small tall = omega arith
 room_for_all total (suc count) largest reach height small tall =
     let some : max (suc count) 1 ≡ suc count = omega arith in
     let average : total / suc count + 1 + reach ≤ height = rw some at tall in
     omega (arith, lt-mul-div-succ total {b = suc count} (omega arith), mul-le-mul_left (suc count) average)
-
--- an average is no more than the largest
-pub average_small : (total count largest : ℕ) → total ≤ count * largest → total / max count 1 ≤ largest
-average_small total count largest small =
-    div-le_of_le-mul (max count 1) (omega (arith, small, mul-le count largest (max count 1) largest (omega arith) (omega arith)))
 
 -- a height above the so-many-th part leaves no more than so many bands
 pub parts_few : (spread parts height : ℕ) → 0 < parts → spread / parts + 1 ≤ height → spread / height < parts
@@ -49,7 +46,8 @@ parts_few spread parts height some tall =
     div_below spread height parts (omega arith) (omega (arith, lt-mul-div-succ spread some, mul-le-mul_left parts tall))
 
 -- what an item takes of the bands in which it stands
-pub bands_taken : (height low bottom top reach last : ℕ) → 0 < height → low ≤ bottom → bottom ≤ top → last ≤ (top + reach - low) / height → (bottom - low) / height ≤ last
+pub bands_taken : (height low bottom top reach last : ℕ) → 0 < height → low ≤ bottom → bottom ≤ top → last ≤ (top + reach - low) / height
+    → (bottom - low) / height ≤ last
     → height * (last + 1 - (bottom - low) / height) ≤ 2 * height + (top - bottom + reach)
 bands_taken height low bottom top reach last some above up high order =
     let first : ℕ = (bottom - low) / height in

@@ -36,7 +36,8 @@ abbrev entries_of : Stretch → ℕ
 entries_of stretch = stretch.last + 1 - stretch.first
 
 -- what it takes of the bands' height
-stretch_taken : (bands : LayerBands) (rect : RectModel) → IsRect rect → BeginsIn bands rect → bands.height * entries_of (stretch_in bands rect) ≤ 2 * bands.height + (rect_height rect + bands.reach)
+stretch_taken : (bands : LayerBands) (rect : RectModel) → IsRect rect → BeginsIn bands rect
+    → bands.height * entries_of (stretch_in bands rect) ≤ 2 * bands.height + (rect_height rect + bands.reach)
 stretch_taken bands rect is begins =
     let bottom : ℕ = height_of rect.y1 in
     let top : ℕ = height_of rect.y2 in
@@ -46,7 +47,8 @@ stretch_taken bands rect is begins =
     let below = begins.below in
     let up = quotient_rises bands.height (bottom - bands.low) (top + bands.reach - bands.low) begins.tall (omega (arith, rise)) in
     let same : bands.first + last + 1 - (bands.first + first) ≡ last + 1 - first = omega arith in
-    rw same (bands_taken bands.height bands.low bottom top bands.reach last begins.tall begins.above (omega (arith, rise)) (omega arith) (omega (arith, up, below)))
+    rw same (bands_taken bands.height bands.low bottom top bands.reach last begins.tall begins.above (omega (arith, rise)) (omega arith)
+    (omega (arith, up, below)))
 
 -- the item with a number, in the bands of its layer
 pub record IsPlaced {Item : Type 0} (layer_of : Item → ℕ) (items : List Item) (grid : List LayerBands) (x : ℕ) (stretch : Stretch) : Type 0 where
@@ -59,7 +61,8 @@ pub record IsPlaced {Item : Type 0} (layer_of : Item → ℕ) (items : List Item
 pub has_item : {Item : Type 0} (items : List Item) (x : ℕ) (a : Item) → slice_get items x ≡ Some a → Contains items a
 has_item items x a got = (x, slice_get_within items x a got, get_or_from_slice_get items x a a got)
 
-module _ {Item : Type 0} (rect_of : Item → RectModel) (layer_of : Item → ℕ) (reach_of : ℕ → ℕ) (layers : ℕ) (items : List Item) (spans : List LayerSpan) (grid : List LayerBands)
+module _ {Item : Type 0} (rect_of : Item → RectModel) (layer_of : Item → ℕ) (reach_of : ℕ → ℕ) (layers : ℕ) (items : List Item) (spans : List LayerSpan)
+    (grid : List LayerBands)
     (are_spans : AreSpans rect_of layer_of layers items spans) (is_grid : IsGrid reach_of layers spans grid) (few : length items < 2 ^ 32) where
   pub layer_within : (a : Item) → Contains items a → layer_of a < layers
   layer_within a has = All-contains (λ b. layer_of b < layers) items a are_spans.layered has
@@ -102,7 +105,8 @@ module _ {Item : Type 0} (rect_of : Item → RectModel) (layer_of : Item → ℕ
 
   -- the items of a layer stand in three bands at most, on average
   entries_on_layer : (layer : ℕ) → layer < layers
-      → sum_by (on_layer layer_of (λ a. entries_of (stretch_in (bands_at grid (layer_of a)) (rect_of a))) layer) items ≤ 3 * count_by (λ a. eqb (layer_of a) layer) items
+      → sum_by (on_layer layer_of (λ a. entries_of (stretch_in (bands_at grid (layer_of a)) (rect_of a))) layer) items ≤ 3 * count_by
+      (λ a. eqb (layer_of a) layer) items
   entries_on_layer layer within =
       let own : LayerBands = bands_at grid layer in
       let entries : Item → ℕ = λ (a : Item). entries_of (stretch_in (bands_at grid (layer_of a)) (rect_of a)) in
@@ -118,7 +122,8 @@ module _ {Item : Type 0} (rect_of : Item → RectModel) (layer_of : Item → ℕ
     pub stretch_is : (x : ℕ) (a : Item) → slice_get items x ≡ Some a → stretch_at stretches x ≡ stretch_in (bands_at grid (layer_of a)) (rect_of a)
     stretch_is x a got =
         let stretch_of : Item → Stretch = λ (b : Item). stretch_in (bands_at grid (layer_of b)) (rect_of b) in
-        rw are_stretches (get_or_from_slice_get (map stretch_of items) x (stretch_of a) (record { first = 0; last = 0 }) (slice_get-map stretch_of items x ∙ ap (λ o. option_map stretch_of o) got))
+        rw are_stretches (get_or_from_slice_get (map stretch_of items) x (stretch_of a) (record { first = 0; last = 0 })
+        (slice_get-map stretch_of items x ∙ ap (λ o. option_map stretch_of o) got))
 
     pub many_stretches : length stretches ≡ length items
     many_stretches = rw are_stretches (length-map items (λ (a : Item). stretch_in (bands_at grid (layer_of a)) (rect_of a)))
@@ -144,6 +149,7 @@ module _ {Item : Type 0} (rect_of : Item → RectModel) (layer_of : Item → ℕ
     few_entries =
         let stretch_of : Item → Stretch = λ (a : Item). stretch_in (bands_at grid (layer_of a)) (rect_of a) in
         let places = rw many_stretches at (sum_by_places entries_of stretches (record { first = 0; last = 0 })) in
-        let by_items : sum_by entries_of stretches ≡ sum_by (λ a. entries_of (stretch_of a)) items = rw are_stretches (sum_by-map entries_of stretch_of items) in
+        let by_items : sum_by entries_of stretches ≡ sum_by (λ a. entries_of (stretch_of a)) items =
+        rw are_stretches (sum_by-map entries_of stretch_of items) in
         let thrice = sum_thrice layer_of (λ a. entries_of (stretch_of a)) items layers are_spans.layered entries_on_layer in
         omega (arith, places, by_items, thrice)

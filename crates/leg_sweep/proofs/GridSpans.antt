@@ -1,9 +1,8 @@
 -- What the items on each layer span, one item after the other.
-use Rattle.std.proofs.Common.{◌≡◌, ◌≢◌, ℕ, ◌<◌, ◌≤◌, min, max, true, false, cond, eqb, List, [], ◌∷◌, ◌++◌, length, set, replicate, inl, inr, refl, sym, ◌∙◌, arith}
+use Rattle.std.proofs.Common.{◌≡◌, ◌≢◌, ℕ, ◌<◌, ◌≤◌, min, max, true, false, cond, eqb, List, [], ◌∷◌, ◌++◌, length, set, inl, inr, refl, sym, ◌∙◌, arith}
 use Rattle.std.proofs.lemmas.Bool.{cases_eq, eq-eqb, ne_eqb}
-use Rattle.std.proofs.lemmas.List.{length-set, length-replicate, length_push, get_or-replicate, get_or-set_same, get_or-set_other}
-use Rattle.std.proofs.lemmas.List.Elements.{All-nil, All-push, All-weaker}
-use Rattle.std.proofs.lemmas.List.Folds.{sum_by-replicate}
+use Rattle.std.proofs.lemmas.List.{length-set, length_push, get_or-set_same, get_or-set_other}
+use Rattle.std.proofs.lemmas.List.Elements.{All-push, All-weaker}
 use Rattle.std.proofs.lemmas.List.Sums.{sum_by_push, sum_by-set}
 use Rattle.leg_geom.specs.Plane.{RectModel, IsRect}
 use Rattle.leg_sweep.specs.declared.grid.LayerSpan.{LayerSpan}
@@ -20,15 +19,6 @@ small_more span rect is small =
     record { total = omega (arith, top, total); highest = omega (arith, bottom, highest) }
 
 module _ {Item : Type 0} (rect_of : Item → RectModel) (layer_of : Item → ℕ) where
-  span_none : (layer : ℕ) → IsSpan rect_of layer_of [] layer no_span
-  span_none layer = record {
-    count = refl;
-    total = refl;
-    lowest = All-nil (λ a. layer_of a ≡ layer → no_span.lowest ≤ height_of (rect_of a).y1);
-    highest = All-nil (λ a. layer_of a ≡ layer → height_of (rect_of a).y1 ≤ no_span.highest);
-    small = record { total = omega arith; highest = omega arith };
-  }
-
   module _ (items : List Item) (a : Item) (layer : ℕ) (span : LayerSpan) (so_far : IsSpan rect_of layer_of items layer span) where
     -- one more item on the layer
     span_here : IsRect (rect_of a) → layer_of a ≡ layer → IsSpan rect_of layer_of (items ++ a ∷ []) layer (span_with span (rect_of a))
@@ -42,12 +32,14 @@ module _ {Item : Type 0} (rect_of : Item → RectModel) (layer_of : Item → ℕ
           total = omega (arith, added, so_far.total);
           lowest =
               All-push (λ b. layer_of b ≡ layer → min span.lowest bottom ≤ height_of (rect_of b).y1) items a
-              (All-weaker (λ b. layer_of b ≡ layer → span.lowest ≤ height_of (rect_of b).y1) (λ b. layer_of b ≡ layer → min span.lowest bottom ≤ height_of (rect_of b).y1)
+              (All-weaker (λ b. layer_of b ≡ layer → span.lowest ≤ height_of (rect_of b).y1)
+              (λ b. layer_of b ≡ layer → min span.lowest bottom ≤ height_of (rect_of b).y1)
               (λ b old there. omega (arith, old there)) items so_far.lowest)
               (λ there. omega arith);
           highest =
               All-push (λ b. layer_of b ≡ layer → height_of (rect_of b).y1 ≤ max span.highest bottom) items a
-              (All-weaker (λ b. layer_of b ≡ layer → height_of (rect_of b).y1 ≤ span.highest) (λ b. layer_of b ≡ layer → height_of (rect_of b).y1 ≤ max span.highest bottom)
+              (All-weaker (λ b. layer_of b ≡ layer → height_of (rect_of b).y1 ≤ span.highest)
+              (λ b. layer_of b ≡ layer → height_of (rect_of b).y1 ≤ max span.highest bottom)
               (λ b old there. omega (arith, old there)) items so_far.highest)
               (λ there. omega arith);
           small = small_more span (rect_of a) is so_far.small;
@@ -67,18 +59,9 @@ module _ {Item : Type 0} (rect_of : Item → RectModel) (layer_of : Item → ℕ
           small = so_far.small;
         }
 
-  -- no items yet
-  pub spans_none : (layers : ℕ) → AreSpans rect_of layer_of layers [] (replicate layers no_span)
-  spans_none layers = record {
-    many = length-replicate layers no_span;
-    proper = All-nil (λ a. IsRect (rect_of a));
-    layered = All-nil (λ a. layer_of a < layers);
-    each = λ layer below. rw (get_or-replicate layers layer no_span no_span below) (span_none layer);
-    all = omega (arith, sum_by-replicate (λ (span : LayerSpan). span.count) layers no_span);
-  }
-
   -- one more item
-  pub spans_more : (layers : ℕ) (items : List Item) (spans : List LayerSpan) (a : Item) → AreSpans rect_of layer_of layers items spans → IsRect (rect_of a) → layer_of a < layers
+  pub spans_more : (layers : ℕ) (items : List Item) (spans : List LayerSpan) (a : Item) → AreSpans rect_of layer_of layers items spans → IsRect (rect_of a)
+      → layer_of a < layers
       → AreSpans rect_of layer_of layers (items ++ a ∷ []) (set spans (layer_of a) (span_with (span_at spans (layer_of a)) (rect_of a)))
   spans_more layers items spans a so_far is below =
       let here : ℕ = layer_of a in

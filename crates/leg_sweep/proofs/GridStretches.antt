@@ -19,7 +19,8 @@ use Rattle.leg_sweep.proofs.GridBands.{bands_rise}
 use Rattle.leg_sweep.proofs.GridPlaces.{IsPlaced, layer_within, proper_of, begins_at, stretch_is, has_item, many_stretches, placed}
 
 -- a rectangle begins in no higher band than another one within the reach ends
-stretches_meet : (bands : LayerBands) (a b : RectModel) (reach : ℕ) → IsRect a → IsRect b → BeginsIn bands b → bands.reach ≡ min reach (2 * COORDINATE_LIMIT) → y_gap a b ≤ reach
+stretches_meet : (bands : LayerBands) (a b : RectModel) (reach : ℕ) → IsRect a → IsRect b → BeginsIn bands b → bands.reach ≡ min reach (2 * COORDINATE_LIMIT)
+    → y_gap a b ≤ reach
     → (stretch_in bands b).first ≤ (stretch_in bands a).last
 stretches_meet bands a b reach is_a is_b begins within near =
     let far = height_within a.y1 a.y2 b.y1 b.y2 reach is_a.y2 is_b.y1 is_b.high near in
@@ -27,7 +28,8 @@ stretches_meet bands a b reach is_a is_b begins within near =
     let below = begins.below in
     omega (arith, up, below)
 
-module _ {Item : Type 0} (rect_of : Item → RectModel) (layer_of : Item → ℕ) (reach_of : ℕ → ℕ) (layers : ℕ) (items : List Item) (spans : List LayerSpan) (grid : List LayerBands)
+module _ {Item : Type 0} (rect_of : Item → RectModel) (layer_of : Item → ℕ) (reach_of : ℕ → ℕ) (layers : ℕ) (items : List Item) (spans : List LayerSpan)
+    (grid : List LayerBands)
     (are_spans : AreSpans rect_of layer_of layers items spans) (is_grid : IsGrid reach_of layers spans grid) (few : length items < 2 ^ 32)
     (stretches : List Stretch) (are_stretches : stretches ≡ map (λ a. stretch_in (bands_at grid (layer_of a)) (rect_of a)) items)
     (bands : List Waiting) (are_bands : AreBandsBelow reach_of grid layers bands) where
@@ -47,7 +49,8 @@ module _ {Item : Type 0} (rect_of : Item → RectModel) (layer_of : Item → ℕ
   stretch_placed = placed rect_of layer_of reach_of layers items spans grid are_spans is_grid few stretches are_stretches
 
   -- the bands of an item have its layer's reach
-  band_reach : (x k : ℕ) (p : IsPlaced layer_of items grid x (stretch_at stretches x)) → (stretch_at stretches x).first ≤ k → k ≤ (stretch_at stretches x).last → (waiting_at bands k).reach ≡ reach_of (layer_of p.item)
+  band_reach : (x k : ℕ) (p : IsPlaced layer_of items grid x (stretch_at stretches x)) → (stretch_at stretches x).first ≤ k
+      → k ≤ (stretch_at stretches x).last → (waiting_at bands k).reach ≡ reach_of (layer_of p.item)
   band_reach x k p low high =
       let layer : ℕ = layer_of p.item in
       let within : layer < layers = omega (arith, is_grid.many, p.within) in
@@ -61,7 +64,8 @@ module _ {Item : Type 0} (rect_of : Item → RectModel) (layer_of : Item → ℕ
   layer_read x a got = get_or_from_slice_get (map layer_of items) x (layer_of a) 0 (slice_get-map layer_of items x ∙ ap (λ o. option_map layer_of o) got)
 
   -- an item on a lower layer than another one stands in lower bands
-  layers_apart : (x y : ℕ) (p : IsPlaced layer_of items grid x (stretch_at stretches x)) (q : IsPlaced layer_of items grid y (stretch_at stretches y)) → layer_of p.item < layer_of q.item
+  layers_apart : (x y : ℕ) (p : IsPlaced layer_of items grid x (stretch_at stretches x)) (q : IsPlaced layer_of items grid y (stretch_at stretches y))
+      → layer_of p.item < layer_of q.item
       → (stretch_at stretches x).last < (stretch_at stretches y).first
   layers_apart x y p q lower =
       let low : ℕ = layer_of p.item in
@@ -71,9 +75,11 @@ module _ {Item : Type 0} (rect_of : Item → RectModel) (layer_of : Item → ℕ
       let rise = bands_rise grid low high lower (omega (arith, q.within)) in
       omega (arith, first_low, first_high, rise, p.among.high, q.among.low)
 
-  same_layer : (x y : ℕ) (p : IsPlaced layer_of items grid x (stretch_at stretches x)) (q : IsPlaced layer_of items grid y (stretch_at stretches y)) → share_band stretches x y ≡ true → layer_of p.item ≡ layer_of q.item
+  same_layer : (x y : ℕ) (p : IsPlaced layer_of items grid x (stretch_at stretches x)) (q : IsPlaced layer_of items grid y (stretch_at stretches y))
+      → share_band stretches x y ≡ true → layer_of p.item ≡ layer_of q.item
   same_layer x y p q share =
-      let both = and_parts (leb (stretch_at stretches x).first (stretch_at stretches y).last) (leb (stretch_at stretches y).first (stretch_at stretches x).last) share in
+      let both =
+      and_parts (leb (stretch_at stretches x).first (stretch_at stretches y).last) (leb (stretch_at stretches y).first (stretch_at stretches x).last) share in
       let x_first = leb-true (stretch_at stretches x).first (stretch_at stretches y).last both.0 in
       let y_first = leb-true (stretch_at stretches y).first (stretch_at stretches x).last both.1 in
       elim (cases_order (layer_of p.item) (layer_of q.item)) [
@@ -97,9 +103,11 @@ module _ {Item : Type 0} (rect_of : Item → RectModel) (layer_of : Item → ℕ
   }
 
   module _ (Holds : Item → Item → Type 0) (layered : (a b : Item) → Holds a b → layer_of a ≡ layer_of b)
-      (near : (a b : Item) → Holds a b → (x_gap (rect_of a) (rect_of b) ≤ reach_of (layer_of a)) × (y_gap (rect_of a) (rect_of b) ≤ reach_of (layer_of a))) where
+      (near : (a b : Item) → Holds a b → (x_gap (rect_of a) (rect_of b) ≤ reach_of (layer_of a))
+      × (y_gap (rect_of a) (rect_of b) ≤ reach_of (layer_of a))) where
     -- the two items of a pair stand in a common band
-    pair_meets : (p : ℕ × ℕ) → IsPair Holds items p → ((stretch_at stretches p.0).first ≤ (stretch_at stretches p.1).last) × ((stretch_at stretches p.1).first ≤ (stretch_at stretches p.0).last)
+    pair_meets : (p : ℕ × ℕ) → IsPair Holds items p
+        → ((stretch_at stretches p.0).first ≤ (stretch_at stretches p.1).last) × ((stretch_at stretches p.1).first ≤ (stretch_at stretches p.0).last)
     pair_meets p pair =
         let a : Item = pair.a in
         let b : Item = pair.b in

@@ -40,7 +40,8 @@ module _ {Item : Type 0} (layer_of : Item → ℕ) where
       let nothing : on_layers_below f 0 a ≡ 0 = ap (λ below. cond below (f a) 0) (le-ltb (layer_of a) 0 (omega arith)) in
       omega (arith, sum_by-cons (on_layers_below f 0) a items, nothing, below_none f items)
 
-  below_more : (f : Item → ℕ) (layer : ℕ) (items : List Item) → sum_by (on_layers_below f (suc layer)) items ≡ sum_by (on_layers_below f layer) items + sum_by (on_layer f layer) items
+  below_more : (f : Item → ℕ) (layer : ℕ) (items : List Item)
+      → sum_by (on_layers_below f (suc layer)) items ≡ sum_by (on_layers_below f layer) items + sum_by (on_layer f layer) items
   below_more f layer [] = refl
   below_more f layer (a ∷ items) =
       omega (
@@ -55,7 +56,8 @@ module _ {Item : Type 0} (layer_of : Item → ℕ) where
   below_all : (f : Item → ℕ) (layers : ℕ) (items : List Item) → All (λ a. layer_of a < layers) items → sum_by (on_layers_below f layers) items ≡ sum_by f items
   below_all f layers [] all = refl
   below_all f layers (a ∷ items) all =
-      let whole : on_layers_below f layers a ≡ f a = ap (λ below. cond below (f a) 0) (lt-ltb (layer_of a) layers (All-head (λ b. layer_of b < layers) a items all)) in
+      let whole : on_layers_below f layers a ≡ f a =
+      ap (λ below. cond below (f a) 0) (lt-ltb (layer_of a) layers (All-head (λ b. layer_of b < layers) a items all)) in
       omega (
         arith,
         sum_by-cons (on_layers_below f layers) a items,
@@ -65,7 +67,8 @@ module _ {Item : Type 0} (layer_of : Item → ℕ) where
       )
 
   -- a function that comes to three an item on each of the layers below
-  below_thrice : (f : Item → ℕ) (items : List Item) (layers : ℕ) → ((layer : ℕ) → layer < layers → sum_by (on_layer f layer) items ≤ 3 * sum_by (on_layer (λ _. 1) layer) items)
+  below_thrice : (f : Item → ℕ) (items : List Item) (layers : ℕ)
+      → ((layer : ℕ) → layer < layers → sum_by (on_layer f layer) items ≤ 3 * sum_by (on_layer (λ _. 1) layer) items)
       → sum_by (on_layers_below f layers) items ≤ 3 * sum_by (on_layers_below (λ _. 1) layers) items
   below_thrice f items zero each = omega (arith, below_none f items)
   below_thrice f items (suc layers) each =
@@ -93,7 +96,8 @@ sums_more : (height reach e c t es cs ts es' cs' ts' : ℕ) → es' ≡ e + es �
     → height * es ≤ (2 * height + reach) * cs + ts → height * es' ≤ (2 * height + reach) * cs' + ts'
 sums_more height reach e c t es cs ts es' cs' ts' es_is cs_is ts_is here so_far = rw (es_is, cs_is, ts_is) (omega (arith, here, so_far))
 
-taken_here : (here : Bool) (height reach e t : ℕ) → (here ≡ true → height * e ≤ 2 * height + (t + reach)) → height * cond here e 0 ≤ (2 * height + reach) * cond here 1 0 + cond here t 0
+taken_here : (here : Bool) (height reach e t : ℕ) → (here ≡ true → height * e ≤ 2 * height + (t + reach))
+    → height * cond here e 0 ≤ (2 * height + reach) * cond here 1 0 + cond here t 0
 taken_here true height reach e t taken = omega (arith, taken refl)
 taken_here false height reach e t taken = omega arith
 
@@ -103,7 +107,8 @@ module _ {Item : Type 0} (layer_of : Item → ℕ) (layer height reach : ℕ) (e
 
   -- what the items of a layer take of its bands
   layer_taken : (items : List Item) → All Takes items
-      → height * sum_by (on_layer layer_of entries layer) items ≤ (2 * height + reach) * count_by (λ a. eqb (layer_of a) layer) items + sum_by (on_layer layer_of tall layer) items
+      → height * sum_by (on_layer layer_of entries layer) items ≤ (2 * height + reach) * count_by (λ a. eqb (layer_of a) layer) items + sum_by
+      (on_layer layer_of tall layer) items
   layer_taken [] each = omega arith
   layer_taken (a ∷ items) each =
       let here : Takes a = All-head Takes a items each in
@@ -117,7 +122,8 @@ module _ {Item : Type 0} (layer_of : Item → ℕ) (layer height reach : ℕ) (e
 
   -- three bands an item where the bands have room for all items with the reach
   pub layer_thrice : (items : List Item) (count total : ℕ) → All Takes items → 0 < height → count ≡ count_by (λ a. eqb (layer_of a) layer) items
-      → total ≡ sum_by (on_layer layer_of tall layer) items → total + count * reach ≤ count * height → sum_by (on_layer layer_of entries layer) items ≤ 3 * count_by (λ a. eqb (layer_of a) layer) items
+      → total ≡ sum_by (on_layer layer_of tall layer) items → total + count * reach ≤ count * height
+      → sum_by (on_layer layer_of entries layer) items ≤ 3 * count_by (λ a. eqb (layer_of a) layer) items
   layer_thrice items count total each some count_is total_is room =
       let taken = rw (← count_is, ← total_is) at (layer_taken items each) in
       rw (← count_is) (le_of_mul-le-mul_left {k = height} (omega (arith, taken, room)) some)

@@ -30,22 +30,27 @@ get_last (x ∷ xs) rect = get_last xs rect
 -- a node is right where others come behind its rectangle
 right_before : (xs ys : List RectModel) (bounds : Bounds) (content : Content) → IsRightAt xs bounds content → IsRightAt (xs ++ ys) bounds content
 right_before xs ys bounds (Group members) right = right
-right_before xs ys bounds (Rect number) right = record { rect = right.rect; there = get_before xs ys number right.rect right.there; proper = right.proper; are = right.are }
+right_before xs ys bounds (Rect number) right =
+    record { rect = right.rect; there = get_before xs ys number right.rect right.there; proper = right.proper; are = right.are }
 
 rights_before : (xs ys : List RectModel) (nodes : List Node) → All (IsRight xs) nodes → All (IsRight (xs ++ ys)) nodes
 rights_before xs ys nodes right = All-weaker (IsRight xs) (IsRight (xs ++ ys)) (λ node is. right_before xs ys node.bounds node.content is) nodes right
 
 numbers_before : (xs ys : List Node) (number : ℕ) → Contains (numbers_of xs) number → Contains (numbers_of (xs ++ ys)) number
-numbers_before xs ys number has = rw (flat_map-append (λ (node : Node). number_in node.content) xs ys) (Contains-append_left (numbers_of xs) (numbers_of ys) number has)
+numbers_before xs ys number has =
+    rw (flat_map-append (λ (node : Node). number_in node.content) xs ys) (Contains-append_left (numbers_of xs) (numbers_of ys) number has)
 
 numbers_behind : (xs ys : List Node) (number : ℕ) → Contains (numbers_of ys) number → Contains (numbers_of (xs ++ ys)) number
-numbers_behind xs ys number has = rw (flat_map-append (λ (node : Node). number_in node.content) xs ys) (Contains-append_right (numbers_of xs) (numbers_of ys) number has)
+numbers_behind xs ys number has =
+    rw (flat_map-append (λ (node : Node). number_in node.content) xs ys) (Contains-append_right (numbers_of xs) (numbers_of ys) number has)
 
 -- the nodes of the first rectangles and those of the others
-nodes_joined : (rects : List RectModel) (first : ℕ) (front back : List Node) → first ≤ length rects → AreNodesFrom (take first rects) 0 front → AreNodesFrom rects first back → AreNodesFrom rects 0 (front ++ back)
+nodes_joined : (rects : List RectModel) (first : ℕ) (front back : List Node) → first ≤ length rects → AreNodesFrom (take first rects) 0 front
+    → AreNodesFrom rects first back → AreNodesFrom rects 0 (front ++ back)
 nodes_joined rects first front back within a b = record {
   forest = forest_append front back a.forest b.forest;
-  right = All-append (IsRight rects) front back (rw (take-append-drop first rects) at (rights_before (take first rects) (drop first rects) front a.right)) b.right;
+  right = All-append (IsRight rects) front back (rw (take-append-drop first rects) at
+      (rights_before (take first rects) (drop first rects) front a.right)) b.right;
   all = λ number low high. elim (cases_lt number first) [
     | inl early ↦ numbers_before front back number (a.all number low (rw (length-take-le first rects within) early))
     | inr late ↦ numbers_behind front back number (b.all number late high)
@@ -53,7 +58,8 @@ nodes_joined rects first front back within a b = record {
 }
 
 -- one more rectangle
-nodes_grown : (rects : List RectModel) (nodes : List Node) (rect : RectModel) (bounds : Bounds) → AreNodesFrom rects 0 nodes → bounds ≡ bounds_around rect 0 → IsRect rect
+nodes_grown : (rects : List RectModel) (nodes : List Node) (rect : RectModel) (bounds : Bounds) → AreNodesFrom rects 0 nodes → bounds ≡ bounds_around rect 0
+    → IsRect rect
     → AreNodesFrom (rects ++ rect ∷ []) 0 (nodes ++ (record { bounds = bounds; content = Rect (length rects) }) ∷ [])
 nodes_grown rects nodes rect bounds a is proper =
     let node : Node = record { bounds = bounds; content = Rect (length rects) } in
@@ -77,7 +83,8 @@ cut_grown rects more nodes others cut is = record {
   are = rw (take-append-le cut.rects rects more is.rects_in, take-append-le cut.nodes nodes others is.nodes_in) is.are;
 }
 
-pub index_grown : (rects : List RectModel) (nodes : List Node) (cuts : List Cut) (rect : RectModel) (bounds : Bounds) → IsIndex rects nodes cuts → length rects < 2 ^ 32 - 1 → bounds ≡ bounds_around rect 0 → IsRect rect
+pub index_grown : (rects : List RectModel) (nodes : List Node) (cuts : List Cut) (rect : RectModel) (bounds : Bounds) → IsIndex rects nodes cuts
+    → length rects < 2 ^ 32 - 1 → bounds ≡ bounds_around rect 0 → IsRect rect
     → IsIndex (rects ++ rect ∷ []) (nodes ++ (record { bounds = bounds; content = Rect (length rects) }) ∷ []) cuts
 index_grown rects nodes cuts rect bounds index room is proper =
     let node : Node = record { bounds = bounds; content = Rect (length rects) } in
@@ -85,7 +92,8 @@ index_grown rects nodes cuts rect bounds index room is proper =
       few = omega (arith, room, length-append rects (rect ∷ []));
       are = nodes_grown rects nodes rect bounds index.are is proper;
       some = index.some;
-      each = All-weaker (IsCut rects nodes) (IsCut (rects ++ rect ∷ []) (nodes ++ node ∷ [])) (λ cut at. cut_grown rects (rect ∷ []) nodes (node ∷ []) cut at) cuts index.each;
+      each = All-weaker (IsCut rects nodes) (IsCut (rects ++ rect ∷ []) (nodes ++ node ∷ []))
+          (λ cut at. cut_grown rects (rect ∷ []) nodes (node ∷ []) cut at) cuts index.each;
       rising = index.rising;
     }
 
@@ -107,7 +115,8 @@ module _ (rects : List RectModel) (nodes : List Node) (cuts : List Cut) (kept : 
   -- the cuts before it end no later
   earlier : (k : ℕ) → k < kept → (get_or cuts k cut).nodes ≤ cut.nodes
   earlier k below = elim (cases_lt k (kept - 1)) [
-    | inl before ↦ let rise = index.rising k (kept - 1) cut before (omega (arith, some, within)) in subst (λ (c : Cut). (get_or cuts k cut).nodes ≤ c.nodes) (sym at) rise
+    | inl before ↦ let rise = index.rising k (kept - 1) cut before (omega (arith, some, within)) in
+        subst (λ (c : Cut). (get_or cuts k cut).nodes ≤ c.nodes) (sym at) rise
     | inr last ↦ let same : k ≡ kept - 1 = omega (arith, last, below) in rw (same, ← at) (omega arith)
   ]
 
@@ -156,7 +165,9 @@ module _ (rects : List RectModel) (nodes : List Node) (cuts : List Cut) (kept : 
         few = index.few;
         are = all_nodes;
         some = omega (arith, length-append (take kept cuts) (whole ∷ []));
-        each = All-append (IsCut rects grouped) (take kept cuts) (whole ∷ []) kept_cuts_are (All-cons (IsCut rects grouped) whole [] whole_is_cut (All-nil (IsCut rects grouped)));
+        each = All-append (IsCut rects grouped) (take kept cuts) (whole ∷ []) kept_cuts_are
+            (All-cons (IsCut rects grouped) whole [] whole_is_cut (All-nil (IsCut rects grouped)));
         rising = AllPairs-append Low (take kept cuts) (whole ∷ []) kept_rise (λ i j d before below. absurd (omega arith))
-            (All-weaker (λ (c : Cut). c.nodes ≤ whole.nodes) (λ (c : Cut). All (Low c) (whole ∷ [])) (λ c low. All-cons (Low c) whole [] low (All-nil (Low c))) (take kept cuts) kept_are_low);
+            (All-weaker (λ (c : Cut). c.nodes ≤ whole.nodes) (λ (c : Cut). All (Low c) (whole ∷ []))
+            (λ c low. All-cons (Low c) whole [] low (All-nil (Low c))) (take kept cuts) kept_are_low);
       }

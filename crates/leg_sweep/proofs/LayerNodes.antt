@@ -26,11 +26,14 @@ keys_none layer_of layers = record {
 }
 
 -- the numbers on a layer, with the next one
-on_more : (layer_of : List ℕ) (layer bound : ℕ) → numbers_on layer_of layer (bound + 1) ≡ numbers_on layer_of layer bound ++ cond (is_on layer_of layer bound) (bound ∷ []) []
+on_more : (layer_of : List ℕ) (layer bound : ℕ) → numbers_on layer_of layer (bound + 1) ≡ numbers_on layer_of layer bound ++ cond (is_on layer_of layer bound)
+    (bound ∷ []) []
 on_more layer_of layer bound =
-    ap (λ ns. filter (is_on layer_of layer) ns) (range_more 0 bound bound (omega arith)) ∙ filter-append (is_on layer_of layer) (range_with_len 0 bound) (bound ∷ [])
+    ap (λ ns. filter (is_on layer_of layer) ns) (range_more 0 bound bound (omega arith))
+    ∙ filter-append (is_on layer_of layer) (range_with_len 0 bound) (bound ∷ [])
 
-on_this : (layer_of : List ℕ) (layer bound : ℕ) → get_or layer_of bound 0 ≡ layer → numbers_on layer_of layer (bound + 1) ≡ numbers_on layer_of layer bound ++ bound ∷ []
+on_this : (layer_of : List ℕ) (layer bound : ℕ) → get_or layer_of bound 0 ≡ layer
+    → numbers_on layer_of layer (bound + 1) ≡ numbers_on layer_of layer bound ++ bound ∷ []
 on_this layer_of layer bound is =
     let on : is_on layer_of layer bound ≡ true = eq-eqb _ _ is in
     on_more layer_of layer bound ∙ ap (λ b. numbers_on layer_of layer bound ++ cond b (bound ∷ []) []) on
@@ -41,14 +44,21 @@ on_other layer_of layer bound differs =
     on_more layer_of layer bound ∙ ap (λ b. numbers_on layer_of layer bound ++ cond b (bound ∷ []) []) off ∙ append-nil (numbers_on layer_of layer bound)
 
 -- the keys after one more
-pub keys_more : (layer_of : List ℕ) (layers bound here key : ℕ) (keys : List (List (ℕ × ℕ))) → AreKeysByLayer layer_of layers bound keys → get_or layer_of bound 0 ≡ here → here < layers
+pub keys_more : (layer_of : List ℕ) (layers bound here key : ℕ) (keys : List (List (ℕ × ℕ))) → AreKeysByLayer layer_of layers bound keys
+    → get_or layer_of bound 0 ≡ here → here < layers
     → AreKeysByLayer layer_of layers (bound + 1) (set keys here (get_or keys here [] ++ (key, bound) ∷ []))
 keys_more layer_of layers bound here key keys are is below =
     let grown : List (ℕ × ℕ) = get_or keys here [] ++ (key, bound) ∷ [] in
     record {
       many = length-set keys here grown ∙ are.many;
       each = λ layer within. elim (cases_eq layer here) [
-        | inl same ↦ rw (same, get_or-set_same keys here grown [] (omega (arith, are.many, below)), map-append (λ (k : ℕ × ℕ). k.1) (get_or keys here []) ((key, bound) ∷ []), are.each here below)
+        | inl same ↦
+            rw (
+              same,
+              get_or-set_same keys here grown [] (omega (arith, are.many, below)),
+              map-append (λ (k : ℕ × ℕ). k.1) (get_or keys here []) ((key, bound) ∷ []),
+              are.each here below,
+            )
             (sym (on_this layer_of here bound is))
         | inr other ↦ rw (get_or-set_other keys here layer grown [] other, on_other layer_of layer bound (λ e. other (sym e ∙ is))) (are.each layer within)
       ];
@@ -73,15 +83,18 @@ module _ (rects : List RectModel) (layer_of : List ℕ) (layers : ℕ) where
   }
 
   -- the keys of the next layer are those of rectangles
-  pub next_below : (done : List (List Node)) (next : List (ℕ × ℕ)) (left : List (List (ℕ × ℕ))) → NodesSoFar rects layer_of layers done (next ∷ left) → All (λ (key : ℕ × ℕ). key.1 < length rects) next
+  pub next_below : (done : List (List Node)) (next : List (ℕ × ℕ)) (left : List (List (ℕ × ℕ))) → NodesSoFar rects layer_of layers done (next ∷ left)
+      → All (λ (key : ℕ × ℕ). key.1 < length rects) next
   next_below done next left so_far k d below =
       let on = so_far.keys 0 (omega arith) in
       let numbers : All (λ (x : ℕ). x < length rects) (map (λ (key : ℕ × ℕ). key.1) next) =
-      rw on (All-from_contains (λ (x : ℕ). x < length rects) (numbers_on layer_of (length done + 0) (length rects)) (on_below layer_of (length done + 0) (length rects))) in
+      rw on (All-from_contains (λ (x : ℕ). x < length rects) (numbers_on layer_of (length done + 0) (length rects))
+      (on_below layer_of (length done + 0) (length rects))) in
       let count = length-map next (λ (key : ℕ × ℕ). key.1) in
       rw (← get_or-map (λ (key : ℕ × ℕ). key.1) next k d d.1 below) (numbers k d.1 (omega (arith, count, below)))
 
-  pub nodes_more : (done : List (List Node)) (next : List (ℕ × ℕ)) (left : List (List (ℕ × ℕ))) (nodes : List Node) → NodesSoFar rects layer_of layers done (next ∷ left)
+  pub nodes_more : (done : List (List Node)) (next : List (ℕ × ℕ)) (left : List (List (ℕ × ℕ))) (nodes : List Node)
+      → NodesSoFar rects layer_of layers done (next ∷ left)
       → AreNodesOf rects (map (λ (key : ℕ × ℕ). key.1) next) nodes → NodesSoFar rects layer_of layers (done ++ nodes ∷ []) left
   nodes_more done next left nodes so_far are =
       let longer = length_push done nodes in
@@ -99,5 +112,7 @@ module _ (rects : List RectModel) (layer_of : List ℕ) (layers : ℕ) where
             rw place (so_far.keys (suc k) (omega (arith, below)));
       }
 
-  pub nodes_all : (done : List (List Node)) (left : List (List (ℕ × ℕ))) → length left ≡ 0 → NodesSoFar rects layer_of layers done left → AreNodesByLayer rects layer_of layers done
-  nodes_all done left none so_far = record { many = omega (arith, none, so_far.count); each = λ layer below. so_far.nodes layer (omega (arith, none, so_far.count, below)) }
+  pub nodes_all : (done : List (List Node)) (left : List (List (ℕ × ℕ))) → length left ≡ 0 → NodesSoFar rects layer_of layers done left
+      → AreNodesByLayer rects layer_of layers done
+  nodes_all done left none so_far =
+      record { many = omega (arith, none, so_far.count); each = λ layer below. so_far.nodes layer (omega (arith, none, so_far.count, below)) }

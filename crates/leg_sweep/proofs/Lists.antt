@@ -69,7 +69,8 @@ module _ {X : Type 0} (R : X → X → Type 0) where
       (AllPairs-append xs ys (AllPairs-tail x xs first) second (All-tail (λ y. All (R y) ys) x xs between))
 
   -- the same where two facts tell the elements of the lists apart
-  pub AllPairs-append_by : (P Q : X → Type 0) → ((x y : X) → P x → Q y → R x y) → (xs ys : List X) → All P xs → All Q ys → AllPairs R xs → AllPairs R ys → AllPairs R (xs ++ ys)
+  pub AllPairs-append_by : (P Q : X → Type 0) → ((x y : X) → P x → Q y → R x y) → (xs ys : List X) → All P xs → All Q ys → AllPairs R xs → AllPairs R ys
+      → AllPairs R (xs ++ ys)
   AllPairs-append_by P Q apart xs ys each_x each_y first second =
       AllPairs-append xs ys first second
       (All-weaker P (λ x. All (R x) ys) (λ x p. All-weaker Q (R x) (λ y q. apart x y p q) ys each_y) xs each_x)
@@ -110,7 +111,8 @@ module _ {X : Type 0} (Less : X → X → Type 0) (irreflexive : (x : X) → Les
       ]
 
   -- two lists that rise and contain the same elements are equal
-  pub same_rising : (xs ys : List X) → AllPairs Less xs → AllPairs Less ys → ((x : X) → Contains xs x → Contains ys x) → ((x : X) → Contains ys x → Contains xs x) → xs ≡ ys
+  pub same_rising : (xs ys : List X) → AllPairs Less xs → AllPairs Less ys → ((x : X) → Contains xs x → Contains ys x)
+      → ((x : X) → Contains ys x → Contains xs x) → xs ≡ ys
   same_rising [] [] rise_x rise_y into back = refl
   same_rising [] (y ∷ ys) rise_x rise_y into back = absurd (Contains-nil y (back y (Contains-here y ys)))
   same_rising (x ∷ xs) [] rise_x rise_y into back = absurd (Contains-nil x (into x (Contains-here x xs)))

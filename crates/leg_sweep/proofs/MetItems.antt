@@ -42,7 +42,8 @@ visited_by narrow first last new before after visited = record {
 
 module _ (bands : List Waiting) (first : ℕ) where
   -- what is met began in one of the bands or passes through the first
-  pub met_each : (count x : ℕ) → Contains (met bands first count) x → ((k : ℕ) × (first ≤ k) × (k ≤ first + count) × Contains (begun_in bands k) x) ⊎ Contains (passing_in bands first) x
+  pub met_each : (count x : ℕ) → Contains (met bands first count) x
+      → ((k : ℕ) × (first ≤ k) × (k ≤ first + count) × Contains (begun_in bands k) x) ⊎ Contains (passing_in bands first) x
   met_each zero x c =
       elim (Contains-append_cases (begun_in bands first) (passing_in bands first) x c) [
         | inl begins ↦ inl (first, omega arith, omega arith, begins)
@@ -101,7 +102,8 @@ module _ (bands : List Waiting) (first : ℕ) where
         has_passing = λ x c. met_passing (last - first) x c;
       }
 
-  module _ (end : ℕ) (begun_apart : (k : ℕ) → first ≤ k → k ≤ end → AllPairs (λ x y. x ≢ y) (begun_in bands k)) (passing_apart : AllPairs (λ x y. x ≢ y) (passing_in bands first))
+  module _ (end : ℕ) (begun_apart : (k : ℕ) → first ≤ k → k ≤ end → AllPairs (λ x y. x ≢ y) (begun_in bands k))
+      (passing_apart : AllPairs (λ x y. x ≢ y) (passing_in bands first))
       (between : (j k x : ℕ) → first ≤ j → j < k → k ≤ end → Contains (begun_in bands j) x → Contains (begun_in bands k) x → ⊥)
       (from_passing : (k x : ℕ) → first ≤ k → k ≤ end → Contains (begun_in bands k) x → Contains (passing_in bands first) x → ⊥) where
     -- a later band's items weren't met before
@@ -118,7 +120,8 @@ module _ (bands : List Waiting) (first : ℕ) where
         AllPairs-append_by (λ x y. x ≢ y) (Contains (begun_in bands first)) (Contains (passing_in bands first))
         (λ x y begins passes same. from_passing first x (omega arith) (omega (arith, within)) begins (rw (sym same) at passes))
         (begun_in bands first) (passing_in bands first)
-        (All-from_contains (Contains (begun_in bands first)) (begun_in bands first) (λ x c. c)) (All-from_contains (Contains (passing_in bands first)) (passing_in bands first) (λ x c. c))
+        (All-from_contains (Contains (begun_in bands first)) (begun_in bands first) (λ x c. c))
+        (All-from_contains (Contains (passing_in bands first)) (passing_in bands first) (λ x c. c))
         (begun_apart first (omega arith) (omega (arith, within))) passing_apart
     met_apart (suc count) within =
         AllPairs-append_by (λ x y. x ≢ y) (Contains (met bands first count)) (Contains (begun_in bands (first + suc count)))
@@ -129,7 +132,8 @@ module _ (bands : List Waiting) (first : ℕ) where
         (met_apart count (omega (arith, within))) (begun_apart (first + suc count) (omega arith) within)
 
 -- of numbers that differ and are all in a list, no more pass a test than pass another one in the list, which holds where the first does
-pub count_by-le_within : (p q : ℕ → Bool) (xs ys : List ℕ) → AllPairs (λ x y. x ≢ y) xs → ((x : ℕ) → Contains xs x → p x ≡ true → Contains ys x × (q x ≡ true)) → count_by p xs ≤ count_by q ys
+pub count_by-le_within : (p q : ℕ → Bool) (xs ys : List ℕ) → AllPairs (λ x y. x ≢ y) xs
+    → ((x : ℕ) → Contains xs x → p x ≡ true → Contains ys x × (q x ≡ true)) → count_by p xs ≤ count_by q ys
 count_by-le_within p q xs ys apart inside =
     let kept = filter p xs in
     let differ = AllPairs-filter (λ x y. x ≢ y) p xs apart in
@@ -150,12 +154,14 @@ waiting_at-set_other bands number k band other = get_or-set_other bands number k
 
 -- how many items wait after a band became another one
 pub waiting_count-set : (bands : List Waiting) (number : ℕ) (band : Waiting) → number < length bands
-    → waiting_count (set bands number band) + (length (begun_in bands number) + length (passing_in bands number)) ≡ waiting_count bands + (length band.begun + length band.passing)
+    → waiting_count (set bands number band) + (length (begun_in bands number) + length (passing_in bands number)) ≡ waiting_count bands +
+    (length band.begun + length band.passing)
 waiting_count-set bands number band within = sum_by-set (λ (w : Waiting). length w.begun + length w.passing) bands number band (empty_band 0) within
 
 module _ (narrow : ℕ → Bool) (new : ℕ) (bands : List Waiting) (number : ℕ) (within : number < length bands) where
   -- how many items wait after a new one began in a band
-  pub count_begin : waiting_count (set bands number (after_begin narrow new (waiting_at bands number))) + length (met bands number 0) ≡ waiting_count bands + count_by narrow (met bands number 0) + 1
+  pub count_begin : waiting_count (set bands number (after_begin narrow new (waiting_at bands number))) + length
+      (met bands number 0) ≡ waiting_count bands + count_by narrow (met bands number 0) + 1
   count_begin =
       let band = waiting_at bands number in
       omega (
@@ -169,7 +175,8 @@ module _ (narrow : ℕ → Bool) (new : ℕ) (bands : List Waiting) (number : �
       )
 
   -- how many items wait after a new one passed through it
-  pub count_pass : waiting_count (set bands number (after_pass narrow new (waiting_at bands number))) + length (begun_in bands number) ≡ waiting_count bands + count_by narrow (begun_in bands number) + 1
+  pub count_pass : waiting_count (set bands number (after_pass narrow new (waiting_at bands number))) + length
+      (begun_in bands number) ≡ waiting_count bands + count_by narrow (begun_in bands number) + 1
   count_pass =
       let band = waiting_at bands number in
       omega (
@@ -192,7 +199,8 @@ module _ (narrow : ℕ → Bool) (new : ℕ) (bands : List Waiting) (number : �
       }
 
 -- a visit to one band more
-pub visited_more : (narrow : ℕ → Bool) (first last new : ℕ) (before bands : List Waiting) → first ≤ last → last + 1 < length before → AreVisited narrow first last new before bands
+pub visited_more : (narrow : ℕ → Bool) (first last new : ℕ) (before bands : List Waiting) → first ≤ last → last + 1 < length before
+    → AreVisited narrow first last new before bands
     → AreVisited narrow first (last + 1) new before (set bands (last + 1) (after_pass narrow new (waiting_at bands (last + 1))))
 visited_more narrow first last new before bands upward within visited =
     let here : waiting_at bands (last + 1) ≡ waiting_at before (last + 1) = visited.above (last + 1) (omega arith) in

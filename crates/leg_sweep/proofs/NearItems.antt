@@ -70,12 +70,19 @@ module _ {X : Type 0} where
         | inl (x, inside, there, is) ↦
             let grown = rw (is, next) at (sum_by_more (λ (y : X). cond (test y) 1 0) xs n x within) in
             let read : ◌≡◌ {A = ℕ} (cond (passes_at test xs n) 1 0) (cond (test x) 1 0) = ap (λ b. cond b 1 0) (passes_read test xs n x there) in
-            rw numbers (omega (arith, sum_by_push (λ (k : ℕ). cond (passes_at test xs k) 1 0) (range_with_len 0 n) n, count_at test xs n (omega (arith, few)), grown, read))
+            rw numbers (omega (
+              arith,
+              sum_by_push (λ (k : ℕ). cond (passes_at test xs k) 1 0) (range_with_len 0 n) n,
+              count_at test xs n (omega (arith, few)),
+              grown,
+              read,
+            ))
         | inr past ↦ absurd (omega (arith, past.0, within))
       ]
 
 -- an earlier item, near another one on its layer
-pub record IsEarlier {Item : Type 0} (rect_of : Item → RectModel) (layer_of : Item → ℕ) (reach_of : ℕ → ℕ) (items : List Item) (n : ℕ) (b : Item) (x : ℕ) : Type 0 where
+pub record IsEarlier {Item : Type 0} (rect_of : Item → RectModel) (layer_of : Item → ℕ) (reach_of : ℕ → ℕ) (items : List Item) (n : ℕ) (b : Item)
+    (x : ℕ) : Type 0 where
   pub item : Item
   pub there : slice_get items x ≡ Some item
   pub earlier : x < n
@@ -84,7 +91,8 @@ pub record IsEarlier {Item : Type 0} (rect_of : Item → RectModel) (layer_of : 
 module _ {Item : Type 0} (Holds : Item → Item → Type 0) (rect_of : Item → RectModel) (layer_of : Item → ℕ) (reach_of : ℕ → ℕ)
     (layered : (a b : Item) → Holds a b → layer_of a ≡ layer_of b)
     (law : (a b : Item) → Holds a b → (x_gap (rect_of a) (rect_of b) ≤ reach_of (layer_of a)) × (y_gap (rect_of a) (rect_of b) ≤ reach_of (layer_of a)))
-    (items : List Item) (rects : List RectModel) (cut : AreCut rect_of items rects) (layers : ℕ) (nodes : List (List Node)) (are : AreNodesByLayer rects (map layer_of items) layers nodes)
+    (items : List Item) (rects : List RectModel) (cut : AreCut rect_of items rects) (layers : ℕ) (nodes : List (List Node))
+    (are : AreNodesByLayer rects (map layer_of items) layers nodes)
     (n : ℕ) (b : Item) (b_at : slice_get items n ≡ Some b) (b_in : layer_of b < layers) where
   abbrev of_layer : List Node
   of_layer = get_or nodes (layer_of b) []
@@ -127,7 +135,8 @@ module _ {Item : Type 0} (Holds : Item → Item → Type 0) (rect_of : Item → 
   long : length rects ≡ length items
   long = ap length cut.are ∙ length-map items (λ (c : Item). cut_at cut.line (rect_of c))
 
-  near_from : (x : ℕ) (a : Item) → slice_get items x ≡ Some a → layer_of a ≡ layer_of b → IsNear rects (rect_numbered rects n) (reach_of (layer_of b)) x → near_on_layer rect_of layer_of reach_of a b ≡ true
+  near_from : (x : ℕ) (a : Item) → slice_get items x ≡ Some a → layer_of a ≡ layer_of b → IsNear rects (rect_numbered rects n) (reach_of (layer_of b)) x
+      → near_on_layer rect_of layer_of reach_of a b ≡ true
   near_from x a got same near =
       let other : near.other ≡ cut_at cut.line (rect_of a) = same_Some _ _ (sym near.there ∙ rect_at x a got) in
       let x_near : x_gap (rect_of a) (rect_of b) ≤ reach_of (layer_of a) = let g = rw other at near.x in rw same (omega (arith, g, x_gap_is x a got)) in
@@ -146,7 +155,12 @@ module _ {Item : Type 0} (Holds : Item → Item → Type 0) (rect_of : Item → 
       elim (slice_get_cases items x).1 [
         | inl (a, inside, there, is) ↦
             let same : layer_of a ≡ layer_of b = sym (layer_at x a there) ∙ eqb-true _ _ on.1 in
-            record { item = a; there = there; earlier = earlier; near = near_from x a there same (near_is rects (rect_numbered rects n) (reach_of (layer_of b)) x inner.1) }
+            record {
+              item = a;
+              there = there;
+              earlier = earlier;
+              near = near_from x a there same (near_is rects (rect_numbered rects n) (reach_of (layer_of b)) x inner.1);
+            }
         | inr past ↦ absurd (omega (arith, past.0, earlier, slice_get_within items n b b_at))
       ]
 
@@ -160,7 +174,14 @@ module _ {Item : Type 0} (Holds : Item → Item → Type 0) (rect_of : Item → 
       let listed = Contains-filter (is_on (map layer_of items) (layer_of b)) (range_with_len 0 (length rects)) x (below_number (length rects) x within) on in
       let in_nodes = Contains-permutation numbers (numbers_of of_layer) x on_layer_nodes.once listed in
       let gaps = rw same at (law a b holds) in
-      let near = is_near_passes rects (rect_numbered rects n) (reach_of (layer_of b)) x (record { other = cut_at cut.line (rect_of a); there = rect_at x a got; x = omega (arith, gaps.0, x_gap_is x a got); y = omega (arith, gaps.1, y_gap_is x a got) }) in
+      let near =
+      is_near_passes rects (rect_numbered rects n) (reach_of (layer_of b)) x
+      (record {
+        other = cut_at cut.line (rect_of a);
+        there = rect_at x a got;
+        x = omega (arith, gaps.0, x_gap_is x a got);
+        y = omega (arith, gaps.1, y_gap_is x a got);
+      }) in
       Contains-filter (λ y. ltb y n) (near_numbers rects (rect_numbered rects n) (reach_of (layer_of b)) of_layer) x
       (Contains-filter (is_near rects (rect_numbered rects n) (reach_of (layer_of b))) (numbers_of of_layer) x in_nodes near) (lt-ltb x n earlier)
 
@@ -169,7 +190,8 @@ module _ {Item : Type 0} (Holds : Item → Item → Type 0) (rect_of : Item → 
       let numbers = numbers_on (map layer_of items) (layer_of b) (length rects) in
       let start = AllPairs-filter (λ x y. x ≢ y) (is_on (map layer_of items) (layer_of b)) (range_with_len 0 (length rects)) (range_apart (length rects)) in
       AllPairs-filter (λ x y. x ≢ y) (λ y. ltb y n) (near_numbers rects (rect_numbered rects n) (reach_of (layer_of b)) of_layer)
-      (AllPairs-filter (λ x y. x ≢ y) (is_near rects (rect_numbered rects n) (reach_of (layer_of b))) (numbers_of of_layer) (apart_moved numbers (numbers_of of_layer) on_layer_nodes.once start))
+      (AllPairs-filter (λ x y. x ≢ y) (is_near rects (rect_numbered rects n) (reach_of (layer_of b))) (numbers_of of_layer)
+      (apart_moved numbers (numbers_of of_layer) on_layer_nodes.once start))
 
   -- the item can meet what is found
   pub found_can_meet : CanMeet Holds rect_of items (reach_of (layer_of b)) near_found n
@@ -198,7 +220,8 @@ module _ {Item : Type 0} (Holds : Item → Item → Type 0) (rect_of : Item → 
 
   -- so its pairs with what is found are those with all earlier items
   pub found_all_pairs : {Sink : Type 0} (Takes : Sink → ℕ × ℕ → Sink → Type 0) (tests later : ℕ) (before after : Sink) → tests ≤ later
-      → AreNewPairs Takes (IsPair Holds items) near_found n tests before after → AreNewPairs Takes (IsPair Holds items) (range_with_len 0 n) n later before after
+      → AreNewPairs Takes (IsPair Holds items) near_found n tests before after
+      → AreNewPairs Takes (IsPair Holds items) (range_with_len 0 n) n later before after
   found_all_pairs Takes tests later before after grown new = record {
     more = new.more;
     taken = new.taken;
@@ -215,7 +238,8 @@ module _ {Item : Type 0} (Holds : Item → Item → Type 0) (rect_of : Item → 
   }
 
 -- what the nodes of the item's layer give, as they were read
-pub found_read : (rects : List RectModel) (nodes : List (List Node)) (layer layer_is reach reach_is n : ℕ) (of_layer inside : List Node) (found : List ℕ) → layer ≡ layer_is → reach ≡ reach_is → layer < length nodes
+pub found_read : (rects : List RectModel) (nodes : List (List Node)) (layer layer_is reach reach_is n : ℕ) (of_layer inside : List Node) (found : List ℕ)
+    → layer ≡ layer_is → reach ≡ reach_is → layer < length nodes
     → of_layer ≡ get_or nodes layer of_layer → inside ≡ of_layer → found ≡ filter (λ x. ltb x n) (near_numbers rects (rect_numbered rects n) reach inside)
     → found ≡ filter (λ x. ltb x n) (near_numbers rects (rect_numbered rects n) reach_is (get_or nodes layer_is []))
 found_read rects nodes layer layer_is reach reach_is n of_layer inside found same_layer same_reach within read is found_is =
@@ -226,11 +250,14 @@ module _ {Item : Type 0} (rect_of : Item → RectModel) (items : List Item) (ord
   -- no item begins right of the last of the order
   pub left_of_last : All (λ a. (rect_of a).x1 ≤ℤ left_edge_at rect_of items (get_or order (length order - 1) 0)) items
   left_of_last k d within =
-      rw (← get_or-map rect_of items k d unit_square within) (last_furthest (map rect_of items) order sorted k (omega (arith, length-map items rect_of, within)))
+      rw (← get_or-map rect_of items k d unit_square within)
+      (last_furthest (map rect_of items) order sorted k (omega (arith, length-map items rect_of, within)))
 
-  pub all_cut : (rects : List RectModel) → rects ≡ map (λ a. cut_at (left_edge_at rect_of items (get_or order (length order - 1) 0)) (rect_of a)) items → AreCut rect_of items rects
+  pub all_cut : (rects : List RectModel) → rects ≡ map (λ a. cut_at (left_edge_at rect_of items (get_or order (length order - 1) 0)) (rect_of a)) items
+      → AreCut rect_of items rects
   all_cut rects are = record {
-    proper = λ k d within. rw (← get_or-map rect_of items k d unit_square within) (sorted.proper k unit_square (omega (arith, length-map items rect_of, within)));
+    proper =
+        λ k d within. rw (← get_or-map rect_of items k d unit_square within) (sorted.proper k unit_square (omega (arith, length-map items rect_of, within)));
     line = left_edge_at rect_of items (get_or order (length order - 1) 0);
     left = left_of_last;
     are = are;

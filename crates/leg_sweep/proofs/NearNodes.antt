@@ -69,7 +69,8 @@ number_below rects rect number there = elim (cases_lt number (length rects)) [
 ]
 
 -- the number of a node's rectangle is below the count
-content_below : (rects : List RectModel) (bounds : Bounds) (content : Content) → IsRightAt rects bounds content → All (λ number. number < length rects) (number_in content)
+content_below : (rects : List RectModel) (bounds : Bounds) (content : Content) → IsRightAt rects bounds content
+    → All (λ number. number < length rects) (number_in content)
 content_below rects bounds (Group members) right = λ k d within. absurd (omega arith)
 content_below rects bounds (Rect number) right = λ k d within. first k d (omega arith) where
   first : (k d : ℕ) → k ≡ 0 → get_or (number ∷ []) k d < length rects
@@ -95,7 +96,8 @@ module _ (rects : List RectModel) (rect : RectModel) (reach : ℕ) where
   pub near_of_nodes : (nodes : List Node) → AreNodesFrom rects 0 nodes → AreNear rects rect reach (near_numbers rects rect reach nodes)
   near_of_nodes nodes are = record {
     each = All-weaker (λ number. near number ≡ true) (IsNear rects rect reach) near_is (filter near (numbers_of nodes)) (filter_passes near (numbers_of nodes));
-    all = λ number is. Contains-filter near number (numbers_of nodes) (is_near_passes number is) (are.all number (omega arith) (number_below rects is.other number is.there));
+    all = λ number is. Contains-filter near number (numbers_of nodes) (is_near_passes number is)
+        (are.all number (omega arith) (number_below rects is.other number is.there));
   }
 
 module _ (rects : List RectModel) (w : Window) (is : IsWindow w) where
@@ -127,11 +129,13 @@ module _ (rects : List RectModel) (w : Window) (is : IsWindow w) where
         let y : y_gap w.rect right.rect ≤ w.reach = rw (← same) passes.y in
         true≢false (sym (near_meets right.rect right.proper x y) ∙ sym (ap (λ b. meet w.bounds b) right.are) ∙ far)
 
-  far_node : (node : Node) (nodes : List Node) → IsRight rects node → meet w.bounds node.bounds ≡ false → near_numbers rects w.rect w.reach (node ∷ nodes) ≡ near_numbers rects w.rect w.reach nodes
+  far_node : (node : Node) (nodes : List Node) → IsRight rects node → meet w.bounds node.bounds ≡ false
+      → near_numbers rects w.rect w.reach (node ∷ nodes) ≡ near_numbers rects w.rect w.reach nodes
   far_node node nodes right far = rw (filter-append in_window (number_in node.content) (numbers_of nodes), far_here node.bounds node.content right far) refl
 
   -- members of bounds that don't meet those of the window give nothing
-  far_members : (outer : Bounds) (n : ℕ) (nodes : List Node) → All (IsRight rects) nodes → All (λ node. IsWithin node.bounds outer) (take n nodes) → meet w.bounds outer ≡ false
+  far_members : (outer : Bounds) (n : ℕ) (nodes : List Node) → All (IsRight rects) nodes → All (λ node. IsWithin node.bounds outer) (take n nodes)
+      → meet w.bounds outer ≡ false
       → near_numbers rects w.rect w.reach nodes ≡ near_numbers rects w.rect w.reach (drop n nodes)
   far_members outer zero nodes right within far = refl
   far_members outer (suc n) [] right within far = refl
@@ -145,11 +149,13 @@ pub search_rest : (rects : List RectModel) (w : Window) (node : Node) (nodes : L
 search_rest rects w node nodes search = record { forest = search.forest.2; right = All-tail (IsRight rects) node nodes search.right; window = search.window }
 
 search_drop : (rects : List RectModel) (w : Window) (n : ℕ) (nodes : List Node) → IsSearch rects w nodes → IsSearch rects w (drop n nodes)
-search_drop rects w n nodes search = record { forest = forest_drop n nodes search.forest; right = All-drop (IsRight rects) n nodes search.right; window = search.window }
+search_drop rects w n nodes search =
+    record { forest = forest_drop n nodes search.forest; right = All-drop (IsRight rects) n nodes search.right; window = search.window }
 
 -- A group that can't reach into the window is passed over with its members.
 pub passed_over : (rects : List RectModel) (w : Window) (node : Node) (nodes : List Node) → IsSearch rects w (node ∷ nodes) → meet w.bounds node.bounds ≡ false
-    → (near_numbers rects w.rect w.reach (node ∷ nodes) ≡ near_numbers rects w.rect w.reach (drop (members_of node.content) nodes)) × IsSearch rects w (drop (members_of node.content) nodes)
+    → (near_numbers rects w.rect w.reach (node ∷ nodes) ≡ near_numbers rects w.rect w.reach (drop (members_of node.content) nodes))
+    × IsSearch rects w (drop (members_of node.content) nodes)
 passed_over rects w node nodes search far =
     let rest = search_rest rects w node nodes search in (
       far_node rects w search.window node nodes (All-head (IsRight rects) node nodes search.right) far
@@ -158,9 +164,11 @@ passed_over rects w node nodes search far =
     )
 
 -- the number of the first node's rectangle is below the count
-pub first_below : (rects : List RectModel) (w : Window) (node : Node) (nodes : List Node) → IsSearch rects w (node ∷ nodes) → All (λ number. number < length rects) (number_in node.content)
+pub first_below : (rects : List RectModel) (w : Window) (node : Node) (nodes : List Node) → IsSearch rects w (node ∷ nodes)
+    → All (λ number. number < length rects) (number_in node.content)
 first_below rects w node nodes search = content_below rects node.bounds node.content (All-head (IsRight rects) node nodes search.right)
 
 -- a node that gives nothing
-pub gives_nothing : (rects : List RectModel) (rect : RectModel) (reach : ℕ) (node : Node) (nodes : List Node) → filter (is_near rects rect reach) (number_in node.content) ≡ [] → near_numbers rects rect reach (node ∷ nodes) ≡ near_numbers rects rect reach nodes
+pub gives_nothing : (rects : List RectModel) (rect : RectModel) (reach : ℕ) (node : Node) (nodes : List Node)
+    → filter (is_near rects rect reach) (number_in node.content) ≡ [] → near_numbers rects rect reach (node ∷ nodes) ≡ near_numbers rects rect reach nodes
 gives_nothing rects rect reach node nodes none = rw (filter-append (is_near rects rect reach) (number_in node.content) (numbers_of nodes), none) refl

@@ -36,8 +36,10 @@ module _ (rects : List RectModel) (proper : All IsRect rects) where
 
   pub near_along_both_symmetric : (reach i j : ℕ) → test_at (near_along_both reach) rects i j ≡ test_at (near_along_both reach) rects j i
   near_along_both_symmetric reach i j =
-      let x : x_gap (rect_numbered rects i) (rect_numbered rects j) ≡ x_gap (rect_numbered rects j) (rect_numbered rects i) = x_gap_symmetric _ _ (rect_at_proper i) (rect_at_proper j) in
-      let y : y_gap (rect_numbered rects i) (rect_numbered rects j) ≡ y_gap (rect_numbered rects j) (rect_numbered rects i) = y_gap_symmetric _ _ (rect_at_proper i) (rect_at_proper j) in
+      let x : x_gap (rect_numbered rects i) (rect_numbered rects j) ≡ x_gap (rect_numbered rects j) (rect_numbered rects i) =
+      x_gap_symmetric _ _ (rect_at_proper i) (rect_at_proper j) in
+      let y : y_gap (rect_numbered rects i) (rect_numbered rects j) ≡ y_gap (rect_numbered rects j) (rect_numbered rects i) =
+      y_gap_symmetric _ _ (rect_at_proper i) (rect_at_proper j) in
       cc
 
   -- what is near the last of three from the left is near the middle one

@@ -3,7 +3,7 @@ use Rattle.std.proofs.Common.{◌≡◌, ℕ, ◌+◌, ◌-◌, ◌≤◌, ◌<�
 use Rattle.std.specs.List.{range_with_len}
 use Rattle.std.specs.Prelude.{IsPermutation}
 use Rattle.std.proofs.lemmas.Int.{ints}
-use Rattle.std.proofs.lemmas.List.{append-nil, drop_at, set_at, map-id, length-map, get_or-map}
+use Rattle.std.proofs.lemmas.List.{drop_at, set_at, map-id, length-map, get_or-map}
 use Rattle.std.proofs.lemmas.List.Concat.{flat_map-append}
 use Rattle.std.proofs.lemmas.List.Elements.{All-nil, All-cons, All-append, All-take, All-weaker}
 use Rattle.std.proofs.lemmas.List.FromFn.{map-range_with_len_more, length-range_with_len, get_or-range_with_len}
@@ -30,17 +30,6 @@ within_through a b c first second = record {
 }
 
 module _ (rects : List RectModel) where
-  -- no rectangles have no nodes
-  pub grouped_none : (bounds : Bounds) (before : List Node) → AreGrouped rects [] bounds before before
-  grouped_none bounds before = record {
-    nodes = [];
-    are = sym (append-nil before);
-    forest = tt;
-    right = All-nil (IsRight rects);
-    within = All-nil (λ (node : Node). IsWithin node.bounds bounds);
-    named = refl;
-  }
-
   -- one rectangle
   pub grouped_one : (bounds : Bounds) (number : ℕ) (before : List Node) → HasBoundsOf rects number bounds
       → AreGrouped rects (number ∷ []) bounds before (before ++ (record { bounds = bounds; content = Rect number }) ∷ [])
@@ -56,7 +45,8 @@ module _ (rects : List RectModel) where
       }
 
   -- some rectangles, and behind them others
-  pub grouped_both : (first second both : Bounds) (xs ys : List ℕ) (before between after : List Node) → AreGrouped rects xs first before between → AreGrouped rects ys second between after
+  pub grouped_both : (first second both : Bounds) (xs ys : List ℕ) (before between after : List Node) → AreGrouped rects xs first before between
+      → AreGrouped rects ys second between after
       → IsWithin first both → IsWithin second both → AreGrouped rects (xs ++ ys) both before after
   grouped_both first second both xs ys before between after a b in_first in_second = record {
     nodes = a.nodes ++ b.nodes;
@@ -64,18 +54,22 @@ module _ (rects : List RectModel) where
     forest = forest_append a.nodes b.nodes a.forest b.forest;
     right = All-append (IsRight rects) a.nodes b.nodes a.right b.right;
     within = All-append (λ (node : Node). IsWithin node.bounds both) a.nodes b.nodes
-        (All-weaker (λ (node : Node). IsWithin node.bounds first) (λ (node : Node). IsWithin node.bounds both) (λ node is. within_through node.bounds first both is in_first) a.nodes a.within)
-        (All-weaker (λ (node : Node). IsWithin node.bounds second) (λ (node : Node). IsWithin node.bounds both) (λ node is. within_through node.bounds second both is in_second) b.nodes b.within);
+        (All-weaker (λ (node : Node). IsWithin node.bounds first) (λ (node : Node). IsWithin node.bounds both)
+        (λ node is. within_through node.bounds first both is in_first) a.nodes a.within)
+        (All-weaker (λ (node : Node). IsWithin node.bounds second) (λ (node : Node). IsWithin node.bounds both)
+        (λ node is. within_through node.bounds second both is in_second) b.nodes b.within);
     named = rw (flat_map-append (λ (node : Node). number_in node.content) a.nodes b.nodes, a.named, b.named) refl;
   }
 
   -- the nodes of a group stand behind its own
-  pub members_within : (numbers : List ℕ) (bounds : Bounds) (before : List Node) (open_node : Node) (between : List Node) → AreGrouped rects numbers bounds (before ++ open_node ∷ []) between
+  pub members_within : (numbers : List ℕ) (bounds : Bounds) (before : List Node) (open_node : Node) (between : List Node)
+      → AreGrouped rects numbers bounds (before ++ open_node ∷ []) between
       → All (λ (node : Node). IsWithin node.bounds bounds) (drop (length before + 1) between)
   members_within numbers bounds before open_node between a =
       rw (a.are, drop_at (before ++ open_node ∷ []) a.nodes (length before + 1) (length-append before (open_node ∷ []))) a.within
 
-  pub grouped_closed : (numbers : List ℕ) (bounds : Bounds) (before : List Node) (open_node : Node) (between after : List Node) → AreGrouped rects numbers bounds (before ++ open_node ∷ []) between
+  pub grouped_closed : (numbers : List ℕ) (bounds : Bounds) (before : List Node) (open_node : Node) (between after : List Node)
+      → AreGrouped rects numbers bounds (before ++ open_node ∷ []) between
       → IsGrouped bounds (length before) between after → AreGrouped rects numbers bounds before after
   grouped_closed numbers bounds before open_node between after a g =
       let apart : between ≡ before ++ open_node ∷ a.nodes = a.are ∙ append_assoc before (open_node ∷ []) a.nodes in
@@ -94,7 +88,8 @@ module _ (rects : List RectModel) where
 -- one more number
 pub range_more : (first n number : ℕ) → first + n ≡ number → range_with_len first (n + 1) ≡ range_with_len first n ++ number ∷ []
 range_more first n number is =
-    sym (map-id (range_with_len first (n + 1))) ∙ map-range_with_len_more (λ (k : ℕ). k) first n number is ∙ ap (λ ks. ks ++ number ∷ []) (map-id (range_with_len first n))
+    sym (map-id (range_with_len first (n + 1))) ∙ map-range_with_len_more (λ (k : ℕ). k) first n number is
+    ∙ ap (λ ks. ks ++ number ∷ []) (map-id (range_with_len first n))
 
 -- the numbers from one on, below another
 pub in_range : (first end number : ℕ) → first ≤ number → number < end → Contains (range_with_len first (end - first)) number
@@ -121,7 +116,8 @@ nodes_are rects keys sorted bounds nodes moved a =
     }
 
 -- all numbers from one on have nodes
-pub nodes_from : (rects : List RectModel) (first : ℕ) (keys : List (ℕ × ℕ)) (nodes : List Node) → map (λ (key : ℕ × ℕ). key.1) keys ≡ range_with_len first (length rects - first)
+pub nodes_from : (rects : List RectModel) (first : ℕ) (keys : List (ℕ × ℕ)) (nodes : List Node)
+    → map (λ (key : ℕ × ℕ). key.1) keys ≡ range_with_len first (length rects - first)
     → AreNodesOf rects (map (λ (key : ℕ × ℕ). key.1) keys) nodes → AreNodesFrom rects first nodes
 nodes_from rects first keys nodes all are = record {
   forest = are.forest;
@@ -130,7 +126,8 @@ nodes_from rects first keys nodes all are = record {
 }
 
 -- the keys of numbers from one on speak of rectangles
-pub keys_below : (rects : List RectModel) (first : ℕ) (keys : List (ℕ × ℕ)) → first ≤ length rects → map (λ (key : ℕ × ℕ). key.1) keys ≡ range_with_len first (length rects - first)
+pub keys_below : (rects : List RectModel) (first : ℕ) (keys : List (ℕ × ℕ)) → first ≤ length rects
+    → map (λ (key : ℕ × ℕ). key.1) keys ≡ range_with_len first (length rects - first)
     → All (λ (key : ℕ × ℕ). key.1 < length rects) keys
 keys_below rects first keys within are k d below =
     let numbers : All (λ (number : ℕ). number < length rects) (map (λ (key : ℕ × ℕ). key.1) keys) = rw are (range_below first (length rects) within) in

@@ -16,7 +16,8 @@ use Rattle.leg_sweep.proofs.Places.{order_below}
 use Rattle.leg_sweep.proofs.Progress.{place_of}
 
 -- two things of an element, by its place
-read_both : {X Y Z : Type 0} (f : X → Y) (h : X → Z) (xs : List X) (k : ℕ) (d : Y) (e : Z) → ◌≡◌ {A = Y × Z} (get_or (map (λ x. (f x, h x)) xs) k (d, e)) (get_or (map f xs) k d, get_or (map h xs) k e)
+read_both : {X Y Z : Type 0} (f : X → Y) (h : X → Z) (xs : List X) (k : ℕ) (d : Y) (e : Z)
+    → ◌≡◌ {A = Y × Z} (get_or (map (λ x. (f x, h x)) xs) k (d, e)) (get_or (map f xs) k d, get_or (map h xs) k e)
 read_both f h [] k d e = refl
 read_both f h (x ∷ xs) zero d e = refl
 read_both f h (x ∷ xs) (suc k) d e = read_both f h xs k d e
@@ -25,7 +26,8 @@ read_both f h (x ∷ xs) (suc k) d e = read_both f h xs k d e
 abbrev on_one_layer : (ℕ → RectModel → RectModel → Bool) → (ℕ → ℕ) → RectModel × ℕ → RectModel × ℕ → Bool
 on_one_layer test reach_of p q = (p.1 == q.1) && test (reach_of p.1) p.0 q.0
 
-module _ (test : ℕ → RectModel → RectModel → Bool) (reach_of : ℕ → ℕ) (rects : List RectModel) (layers : List ℕ) (symmetric : (reach i j : ℕ) → test_at (test reach) rects i j ≡ test_at (test reach) rects j i) where
+module _ (test : ℕ → RectModel → RectModel → Bool) (reach_of : ℕ → ℕ) (rects : List RectModel) (layers : List ℕ)
+    (symmetric : (reach i j : ℕ) → test_at (test reach) rects i j ≡ test_at (test reach) rects j i) where
   one_way : (i j : ℕ) → on_one_layer test reach_of (rect_numbered rects i, get_or layers i 0) (rect_numbered rects j, get_or layers j 0) ≡ true
       → on_one_layer test reach_of (rect_numbered rects j, get_or layers j 0) (rect_numbered rects i, get_or layers i 0) ≡ true
   one_way i j passes =
@@ -39,9 +41,11 @@ module _ (test : ℕ → RectModel → RectModel → Bool) (reach_of : ℕ → �
   layer_symmetric i j = both_ways _ _ (one_way i j) (one_way j i)
 
 -- pairs that stand in a common band are no more than those on one layer
-pub on_layers : {Item : Type 0} (test : ℕ → RectModel → RectModel → Bool) (reach_of : ℕ → ℕ) (rect_of : Item → RectModel) (layer_of : Item → ℕ) (items : List Item)
+pub on_layers : {Item : Type 0} (test : ℕ → RectModel → RectModel → Bool) (reach_of : ℕ → ℕ) (rect_of : Item → RectModel) (layer_of : Item → ℕ)
+    (items : List Item)
     → ((reach i j : ℕ) → test_at (test reach) (map rect_of items) i j ≡ test_at (test reach) (map rect_of items) j i)
-    → (stretches : List Stretch) (bands : List Waiting) (order : List ℕ) → IsLeftToRight (map rect_of items) order → AreByLayer (map layer_of items) reach_of stretches bands
+    → (stretches : List Stretch) (bands : List Waiting) (order : List ℕ) → IsLeftToRight (map rect_of items) order
+    → AreByLayer (map layer_of items) reach_of stretches bands
     → count_pairs (λ x y. share_band stretches x y && test_at (test (reach_at stretches bands x)) (map rect_of items) x y) order
     ≤ count_pairs (λ a b. (layer_of a == layer_of b) && test (reach_of (layer_of a)) (rect_of a) (rect_of b)) items
 on_layers {Item} test reach_of rect_of layer_of items symmetric stretches bands order sorted by_layer =
@@ -53,7 +57,8 @@ on_layers {Item} test reach_of rect_of layer_of items symmetric stretches bands 
     let both : Item → RectModel × ℕ = λ a. (rect_of a, layer_of a) in
     let below : (x : ℕ) → Contains order x → x < length layers = λ x c.
     let place = place_of order x c in
-    let inside : get_or order place.0 0 < length layers = omega (arith, order_below rects order sorted place.0 place.1, length-map items rect_of, length-map items layer_of) in
+    let inside : get_or order place.0 0 < length layers =
+    omega (arith, order_below rects order sorted place.0 place.1, length-map items rect_of, length-map items layer_of) in
     rw place.2 at inside in
     let fewer = count_pairs-le (λ x y. share_band stretches x y && test_at (test (reach_at stretches bands x)) rects x y) by_number order
     (λ x y in_x in_y passes.
@@ -62,7 +67,8 @@ on_layers {Item} test reach_of rect_of layer_of items symmetric stretches bands 
     both_true (eq-eqb _ _ same) (rw (by_layer.reach x (below x in_x)) at split.1)) in
     let moved = count_pairs-IsPermutation by_number (layer_symmetric test reach_of rects layers symmetric) numbers order sorted.numbers in
     let listed : map both items ≡ map at numbers =
-    fill_by_all at (map both items) (length rects) (unit_square, 0) (length-map items both ∙ sym (length-map items rect_of)) (λ k within. read_both rect_of layer_of items k unit_square 0) in
+    fill_by_all at (map both items) (length rects) (unit_square, 0) (length-map items both ∙ sym (length-map items rect_of))
+    (λ k within. read_both rect_of layer_of items k unit_square 0) in
     let of_numbers = count_pairs-map (on_one_layer test reach_of) at numbers in
     let of_items = count_pairs-map (on_one_layer test reach_of) both items in
     let whole = ap (λ list. count_pairs (on_one_layer test reach_of) list) listed in

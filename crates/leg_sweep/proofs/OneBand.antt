@@ -45,7 +45,9 @@ module _ {Item : Type 0} (Holds : Item → Item → Type 0) (rect_of : Item → 
             let k_is : k ≡ 0 = omega (arith, high, last_is n x) in
             rw k_is (sym (reach_one n x reach));
         meet = λ p pair. (omega (arith, first_is n p.0), omega (arith, first_is n p.1));
-        in_reach = λ x y a b a_at b_at holds. subst (λ r. (x_gap (rect_of a) (rect_of b) ≤ r) × (y_gap (rect_of a) (rect_of b) ≤ r)) (sym (reach_one n x reach)) (near a b holds);
+        in_reach =
+            λ x y a b a_at b_at holds. subst (λ r. (x_gap (rect_of a) (rect_of b) ≤ r) × (y_gap (rect_of a) (rect_of b) ≤ r)) (sym (reach_one n x reach))
+            (near a b holds);
       }
 
 -- all stand in it once
@@ -54,14 +56,16 @@ one_entry n [] = refl
 one_entry n (x ∷ xs) = omega (arith, one_entry n xs, sum_by-cons (entries_at (replicate n lowest)) x xs, first_is n x, last_is n x)
 
 -- pairs that stand in it and are near
-pub one_near : (rects : List RectModel) (n reach : ℕ) (order : List ℕ) → count_pairs (near_in_band rects (replicate n lowest) (empty_band reach ∷ [])) order ≤ count_pairs (test_at (near_along_x reach) rects) order
+pub one_near : (rects : List RectModel) (n reach : ℕ) (order : List ℕ)
+    → count_pairs (near_in_band rects (replicate n lowest) (empty_band reach ∷ [])) order ≤ count_pairs (test_at (near_along_x reach) rects) order
 one_near rects n reach order =
     count_pairs-le (near_in_band rects (replicate n lowest) (empty_band reach ∷ [])) (test_at (near_along_x reach) rects) order
     (λ x y in_x in_y passes.
     let split = and_split (share_band (replicate n lowest) x y) _ passes in
     subst (λ r. test_at (near_along_x r) rects x y ≡ true) (reach_one n x reach) split.1)
 
-pub one_near_both : (rects : List RectModel) (n reach : ℕ) (order : List ℕ) → count_pairs (near_both_in_band rects (replicate n lowest) (empty_band reach ∷ [])) order ≤ count_pairs (test_at (near_along_both reach) rects) order
+pub one_near_both : (rects : List RectModel) (n reach : ℕ) (order : List ℕ)
+    → count_pairs (near_both_in_band rects (replicate n lowest) (empty_band reach ∷ [])) order ≤ count_pairs (test_at (near_along_both reach) rects) order
 one_near_both rects n reach order =
     count_pairs-le (near_both_in_band rects (replicate n lowest) (empty_band reach ∷ [])) (test_at (near_along_both reach) rects) order
     (λ x y in_x in_y passes.

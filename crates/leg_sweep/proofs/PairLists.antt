@@ -37,7 +37,8 @@ module _ {X : Type 0} (p : X → Bool) where
   places_rise : (xs : List X) → AllPairs (λ i j. i < j) (places p xs)
   places_rise [] = AllPairs-nil (λ i j. i < j)
   places_rise (x ∷ xs) =
-      let rest : AllPairs (λ i j. i < j) (map suc (places p xs)) = AllPairs-map (λ i j. i < j) (λ i j. i < j) suc (λ i j less. omega arith) (places p xs) (places_rise xs) in
+      let rest : AllPairs (λ i j. i < j) (map suc (places p xs)) =
+      AllPairs-map (λ i j. i < j) (λ i j. i < j) suc (λ i j less. omega arith) (places p xs) (places_rise xs) in
       let above : All (λ j. zero < j) (map suc (places p xs)) = All-map (λ j. zero < j) suc (places p xs) (λ k d within. omega arith) in
       elim (cases_Bool (p x)) [
         | inl passed ↦ rw passed (AllPairs-cons (λ i j. i < j) zero (map suc (places p xs)) above rest)
@@ -49,7 +50,8 @@ module _ {X : Type 0} (p : X → Bool) where
   places_pass (x ∷ xs) =
       let rest : All (PassesAt p (x ∷ xs)) (map suc (places p xs)) =
       All-map (PassesAt p (x ∷ xs)) suc (places p xs)
-      (All-weaker (PassesAt p xs) (λ j. PassesAt p (x ∷ xs) (suc j)) (λ j h. record { element = h.element; there = h.there; passes = h.passes }) (places p xs) (places_pass xs)) in
+      (All-weaker (PassesAt p xs) (λ j. PassesAt p (x ∷ xs) (suc j)) (λ j h. record { element = h.element; there = h.there; passes = h.passes }) (places p xs)
+      (places_pass xs)) in
       elim (cases_Bool (p x)) [
         | inl passed ↦ rw passed (All-cons (PassesAt p (x ∷ xs)) zero (map suc (places p xs)) (record { element = x; there = refl; passes = passed }) rest)
         | inr failed ↦ rw failed rest
@@ -62,7 +64,8 @@ module _ {X : Type 0} (p : X → Bool) where
       let passed : p x ≡ true = rw same h.passes in
       rw passed (Contains-here zero (map suc (places p xs)))
   places_all (x ∷ xs) (suc j) h =
-      let rest : Contains (map suc (places p xs)) (suc j) = Contains-map suc (places p xs) j (places_all xs j (record { element = h.element; there = h.there; passes = h.passes })) in
+      let rest : Contains (map suc (places p xs)) (suc j) =
+      Contains-map suc (places p xs) j (places_all xs j (record { element = h.element; there = h.there; passes = h.passes })) in
       elim (cases_Bool (p x)) [
         | inl passed ↦ rw passed (Contains-there zero (map suc (places p xs)) (suc j) rest)
         | inr failed ↦ rw failed rest
@@ -99,7 +102,8 @@ module _ {X : Type 0} (test : X → X → Bool) where
       (map (λ j. (zero, suc j)) found) (map (λ p. (suc p.0, suc p.1)) (pairs_of test xs))
       (All-map (λ p. p.0 ≡ zero) (λ j. (zero, suc j)) found (λ k d within. refl))
       (All-map (λ p. zero < p.0) (λ p. (suc p.0, suc p.1)) (pairs_of test xs) (λ k d within. omega arith))
-      (AllPairs-map (λ i j. i < j) Before (λ j. (zero, suc j)) (λ i j less. record { first = omega arith; second = λ same. omega arith }) found (places_rise (test x) xs))
+      (AllPairs-map (λ i j. i < j) Before (λ j. (zero, suc j)) (λ i j less. record { first = omega arith; second = λ same. omega arith }) found
+      (places_rise (test x) xs))
       (AllPairs-map Before Before (λ p. (suc p.0, suc p.1))
       (λ p q b. record { first = omega (arith, b.first); second = λ same. let even : p.0 ≡ q.0 = omega (arith, same) in omega (arith, b.second even) })
       (pairs_of test xs) (pairs_of_rise xs))
@@ -111,10 +115,12 @@ module _ {X : Type 0} (test : X → X → Bool) where
       All-append is_one (map (λ j. (zero, suc j)) (places (test x) xs)) (map (λ p. (suc p.0, suc p.1)) (pairs_of test xs))
       (All-map is_one (λ j. (zero, suc j)) (places (test x) xs)
       (All-weaker (PassesAt (test x) xs) (λ j. is_one (zero, suc j))
-      (λ j h. record { a = x; b = h.element; a_at = refl; b_at = h.there; in_order = omega arith; holds = h.passes }) (places (test x) xs) (places_pass (test x) xs)))
+      (λ j h. record { a = x; b = h.element; a_at = refl; b_at = h.there; in_order = omega arith; holds = h.passes }) (places (test x) xs)
+      (places_pass (test x) xs)))
       (All-map is_one (λ p. (suc p.0, suc p.1)) (pairs_of test xs)
       (All-weaker (IsPair (λ a b. IsTrue (test a b)) xs) (λ p. is_one (suc p.0, suc p.1))
-      (λ p h. record { a = h.a; b = h.b; a_at = h.a_at; b_at = h.b_at; in_order = omega (arith, h.in_order); holds = h.holds }) (pairs_of test xs) (pairs_of_each xs)))
+      (λ p h. record { a = h.a; b = h.b; a_at = h.a_at; b_at = h.b_at; in_order = omega (arith, h.in_order); holds = h.holds }) (pairs_of test xs)
+      (pairs_of_each xs)))
 
   pairs_of_all : (xs : List X) (p : ℕ × ℕ) → IsPair (λ a b. IsTrue (test a b)) xs p → Contains (pairs_of test xs) p
   pairs_of_all [] p h = absurd (none-some h.a h.a_at)
@@ -132,6 +138,7 @@ module _ {X : Type 0} (test : X → X → Bool) where
   -- whatever list has exactly these pairs is as long as the count
   pub count_is_length : (xs : List X) (found : List (ℕ × ℕ)) → ArePairs (λ a b. IsTrue (test a b)) xs found → length found ≡ count_pairs test xs
   count_is_length xs found are =
-      let listed : ArePairs (λ a b. IsTrue (test a b)) xs (pairs_of test xs) = record { increasing = pairs_of_rise xs; each = pairs_of_each xs; all = pairs_of_all xs } in
+      let listed : ArePairs (λ a b. IsTrue (test a b)) xs (pairs_of test xs) =
+      record { increasing = pairs_of_rise xs; each = pairs_of_each xs; all = pairs_of_all xs } in
       let same = ArePairs-unique (λ a b. IsTrue (test a b)) xs found (pairs_of test xs) are listed in
       ap length same ∙ pairs_of_count xs

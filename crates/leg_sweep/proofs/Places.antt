@@ -29,12 +29,15 @@ module _ (rects : List RectModel) (order : List ℕ) (sorted : IsLeftToRight rec
   order_differs a b below within = numbers_apart (length rects) order sorted.numbers a b below within
 
   -- what is near the last of three is near the middle one
-  pub order_between : (reach a b c : ℕ) → a ≤ b → b ≤ c → c < length order → test_at (near_along_x reach) rects (get_or order a 0) (get_or order c 0) ≡ true → test_at (near_along_x reach) rects (get_or order a 0) (get_or order b 0) ≡ true
+  pub order_between : (reach a b c : ℕ) → a ≤ b → b ≤ c → c < length order → test_at (near_along_x reach) rects (get_or order a 0) (get_or order c 0) ≡ true
+      → test_at (near_along_x reach) rects (get_or order a 0) (get_or order b 0) ≡ true
   order_between reach a b c first second within near =
-      near_between rects sorted.proper reach (get_or order a 0) (get_or order b 0) (get_or order c 0) (sorted.rising a b first (omega arith)) (sorted.rising b c second within) near
+      near_between rects sorted.proper reach (get_or order a 0) (get_or order b 0) (get_or order c 0) (sorted.rising a b first (omega arith))
+      (sorted.rising b c second within) near
 
   -- a count over the order is one over the rectangles
-  count_in_order : (test : RectModel → RectModel → Bool) → ((i j : ℕ) → test_at test rects i j ≡ test_at test rects j i) → count_pairs (test_at test rects) order ≡ count_pairs test rects
+  count_in_order : (test : RectModel → RectModel → Bool) → ((i j : ℕ) → test_at test rects i j ≡ test_at test rects j i)
+      → count_pairs (test_at test rects) order ≡ count_pairs test rects
   count_in_order test symmetric =
       let numbers = range_with_len 0 (length rects) in
       let filled : rects ≡ map (rect_numbered rects) numbers = fill_by_all (rect_numbered rects) rects (length rects) unit_square refl (λ k below. refl) in
@@ -53,11 +56,13 @@ module _ (rects : List RectModel) (order : List ℕ) (sorted : IsLeftToRight rec
   length_order = omega (arith, length_permutation (range_with_len 0 (length rects)) order sorted.numbers, length-range_with_len 0 (length rects))
 
 -- the looks at all items fit into a count
-pub looks_fit : (n start entries pairs met looks : ℕ) → n < 2 ^ 32 → start ≤ n → entries < 2 ^ 62 → pairs + pairs ≤ n * n → met ≤ n → looks ≤ start + entries + pairs → looks + met < 2 ^ 64
+pub looks_fit : (n start entries pairs met looks : ℕ) → n < 2 ^ 32 → start ≤ n → entries < 2 ^ 62 → pairs + pairs ≤ n * n → met ≤ n
+    → looks ≤ start + entries + pairs → looks + met < 2 ^ 64
 looks_fit n start entries pairs met looks few seen short half at_most so_far = omega (arith, half, mul-le n n 4294967295 4294967295 (omega arith) (omega arith))
 
 -- the last of the order begins furthest right
-pub last_furthest : (rects : List RectModel) (order : List ℕ) → IsLeftToRight rects order → (x : ℕ) → x < length rects → (rect_numbered rects x).x1 ≤ℤ (rect_numbered rects (get_or order (length order - 1) 0)).x1
+pub last_furthest : (rects : List RectModel) (order : List ℕ) → IsLeftToRight rects order → (x : ℕ) → x < length rects
+    → (rect_numbered rects x).x1 ≤ℤ (rect_numbered rects (get_or order (length order - 1) 0)).x1
 last_furthest rects order sorted x within =
     let place = place_of order x (numbers_contain order (length rects) x sorted.numbers within) in
     rw place.2 at (sorted.rising place.0 (length order - 1) (omega (arith, place.1)) (omega (arith, place.1)))

@@ -12,13 +12,16 @@ use Rattle.leg_sweep.proofs.Turns.{ordered_below, ordered_above}
 
 -- The items up to a place of the order are in. Those that wait in a band are of those, and stand in it; each item that is near
 -- one to come waits in all of its bands. The pairs of items that are in are found, each once.
-pub record SweptTo (near : ℕ → ℕ → Bool) (IsOne : ℕ × ℕ → Type 0) (first last : ℕ → ℕ) (order : List ℕ) (i : ℕ) (begun passing : ℕ → List ℕ) (found : List (ℕ × ℕ)) : Type 0 where
+pub record SweptTo (near : ℕ → ℕ → Bool) (IsOne : ℕ × ℕ → Type 0) (first last : ℕ → ℕ) (order : List ℕ) (i : ℕ) (begun passing : ℕ → List ℕ)
+    (found : List (ℕ × ℕ)) : Type 0 where
   pub begun_in : (k x : ℕ) → Contains (begun k) x → Contains (take i order) x × (first x ≡ k)
   pub passing_in : (k x : ℕ) → Contains (passing k) x → Contains (take i order) x × (first x < k) × (k ≤ last x)
   pub begun_apart : (k : ℕ) → AllPairs (λ x y. x ≢ y) (begun k)
   pub passing_apart : (k : ℕ) → AllPairs (λ x y. x ≢ y) (passing k)
-  pub begun_reached : (a b : ℕ) → a < i → i ≤ b → b < length order → near (get_or order a 0) (get_or order b 0) ≡ true → Contains (begun (first (get_or order a 0))) (get_or order a 0)
-  pub passing_reached : (a b k : ℕ) → a < i → i ≤ b → b < length order → near (get_or order a 0) (get_or order b 0) ≡ true → first (get_or order a 0) < k → k ≤ last (get_or order a 0) → Contains (passing k) (get_or order a 0)
+  pub begun_reached : (a b : ℕ) → a < i → i ≤ b → b < length order → near (get_or order a 0) (get_or order b 0) ≡ true
+      → Contains (begun (first (get_or order a 0))) (get_or order a 0)
+  pub passing_reached : (a b k : ℕ) → a < i → i ≤ b → b < length order → near (get_or order a 0) (get_or order b 0) ≡ true → first (get_or order a 0) < k
+      → k ≤ last (get_or order a 0) → Contains (passing k) (get_or order a 0)
   pub each : All IsOne found
   pub distinct : AllPairs (λ p q. p ≢ q) found
   pub within : All (λ p. Contains (take i order) p.0 × Contains (take i order) p.1) found
@@ -90,7 +93,8 @@ module _ (narrow : ℕ → Bool) (first last new : ℕ) (upward : first ≤ last
         | inr inside ↦ elim inside [
           | inl here ↦
               let old : Contains (begun first) x = rw here at c in
-              rw (here, visited.begun_first) (Contains-append_left (filter narrow (begun first)) (new ∷ []) x (Contains-filter narrow (begun first) x old (near (omega (arith, here)) (omega (arith, here, upward)))))
+              rw (here, visited.begun_first) (Contains-append_left (filter narrow (begun first)) (new ∷ []) x
+              (Contains-filter narrow (begun first) x old (near (omega (arith, here)) (omega (arith, here, upward)))))
           | inr through ↦ rw (visited.begun_through k through.0 through.1) (Contains-filter narrow (begun k) x c (near (omega (arith, through.0)) through.1))
         ]
       ]
@@ -114,7 +118,8 @@ module _ (narrow : ℕ → Bool) (first last new : ℕ) (upward : first ≤ last
   new_passing k above at_most = rw (visited.passing_through k above at_most) (Contains-push (passing k) new)
 
   -- the lists keep their items apart
-  begun_differ : ((k : ℕ) → AllPairs (λ x y. x ≢ y) (begun k)) → ((x : ℕ) → Contains (begun first) x → x ≢ new) → (k : ℕ) → AllPairs (λ x y. x ≢ y) (begun_after k)
+  begun_differ : ((k : ℕ) → AllPairs (λ x y. x ≢ y) (begun k)) → ((x : ℕ) → Contains (begun first) x → x ≢ new) → (k : ℕ)
+      → AllPairs (λ x y. x ≢ y) (begun_after k)
   begun_differ apart others k =
       elim (sides k) [
         | inl out ↦ rw (visited.begun_out k out) (apart k)
@@ -130,7 +135,8 @@ module _ (narrow : ℕ → Bool) (first last new : ℕ) (upward : first ≤ last
         ]
       ]
 
-  passing_differ : ((k : ℕ) → AllPairs (λ x y. x ≢ y) (passing k)) → ((k x : ℕ) → Contains (passing k) x → x ≢ new) → (k : ℕ) → AllPairs (λ x y. x ≢ y) (passing_after k)
+  passing_differ : ((k : ℕ) → AllPairs (λ x y. x ≢ y) (passing k)) → ((k x : ℕ) → Contains (passing k) x → x ≢ new) → (k : ℕ)
+      → AllPairs (λ x y. x ≢ y) (passing_after k)
   passing_differ apart others k =
       elim (sides k) [
         | inl out ↦ rw (visited.passing_out k out) (apart k)
@@ -145,11 +151,13 @@ module _ (narrow : ℕ → Bool) (first last new : ℕ) (upward : first ≤ last
         ]
       ]
 
-module _ {Sink : Type 0} (Takes : Sink → ℕ × ℕ → Sink → Type 0) (near : ℕ → ℕ → Bool) (narrow : ℕ → Bool) (IsOne : ℕ × ℕ → Type 0) (first last : ℕ → ℕ) (order : List ℕ)
+module _ {Sink : Type 0} (Takes : Sink → ℕ × ℕ → Sink → Type 0) (near : ℕ → ℕ → Bool) (narrow : ℕ → Bool) (IsOne : ℕ × ℕ → Type 0) (first last : ℕ → ℕ)
+    (order : List ℕ)
     (differ : (a b : ℕ) → a < b → b < length order → get_or order a 0 ≡ get_or order b 0 → ⊥)
     (upward : (a : ℕ) → a < length order → first (get_or order a 0) ≤ last (get_or order a 0))
     (between : (a b c : ℕ) → a ≤ b → b ≤ c → c < length order → near (get_or order a 0) (get_or order c 0) ≡ true
-    → first (get_or order a 0) ≤ last (get_or order b 0) → first (get_or order b 0) ≤ last (get_or order a 0) → near (get_or order a 0) (get_or order b 0) ≡ true)
+    → first (get_or order a 0) ≤ last (get_or order b 0) → first (get_or order b 0) ≤ last (get_or order a 0)
+    → near (get_or order a 0) (get_or order b 0) ≡ true)
     (close : (x y : ℕ) → IsOne (ordered x y) → near x y ≡ true)
     (common : (x y : ℕ) → near x y ≡ true → (first x ≤ last y) × (first y ≤ last x))
     (i : ℕ) (in_order : i < length order) (narrow_if : (a : ℕ) → a < i → near (get_or order a 0) (get_or order i 0) ≡ true → narrow (get_or order a 0) ≡ true)
@@ -243,7 +251,8 @@ module _ {Sink : Type 0} (Takes : Sink → ℕ × ℕ → Sink → Type 0) (near
           | inl earlier ↦
               let x = get_or order a 0 in
               stays_passing k x (so_far.passing_reached a b k earlier (omega arith) inside is_near above at_most)
-              (λ k_is. narrow_if a earlier (between a i b (omega arith) (omega arith) inside is_near (omega (arith, above, k_is, up)) (omega (arith, k_is, at_most))))
+              (λ k_is. narrow_if a earlier (between a i b (omega arith) (omega arith) inside is_near (omega (arith, above, k_is, up))
+              (omega (arith, k_is, at_most))))
           | inr here ↦
               let a_is : a ≡ i = omega arith in
               rw a_is (new_passing narrow (first n) (last n) n up begun passing begun_after passing_after visited k (rw a_is at above) (rw a_is at at_most))
@@ -258,14 +267,17 @@ module _ {Sink : Type 0} (Takes : Sink → ℕ × ℕ → Sink → Type 0) (near
         within =
             rw grown
             (All-append (λ p. Contains (done ++ n ∷ []) p.0 × Contains (done ++ n ∷ []) p.1) found turned.more
-            (All-weaker (λ p. Contains done p.0 × Contains done p.1) (λ p. Contains (done ++ n ∷ []) p.0 × Contains (done ++ n ∷ []) p.1) (λ p c. (wider p.0 c.0, wider p.1 c.1)) found so_far.within)
-            (All-weaker (λ p. (x : ℕ) × Contains met x × (p ≡ ordered x n)) (λ p. Contains (done ++ n ∷ []) p.0 × Contains (done ++ n ∷ []) p.1) named_within turned.more turned.named));
+            (All-weaker (λ p. Contains done p.0 × Contains done p.1) (λ p. Contains (done ++ n ∷ []) p.0 × Contains (done ++ n ∷ []) p.1)
+            (λ p c. (wider p.0 c.0, wider p.1 c.1)) found so_far.within)
+            (All-weaker (λ p. (x : ℕ) × Contains met x × (p ≡ ordered x n))
+            (λ p. Contains (done ++ n ∷ []) p.0 × Contains (done ++ n ∷ []) p.1) named_within turned.more turned.named));
         all = λ a b before_b below is_one. elim (cases_lt b i) [
           | inl earlier ↦ Contains-append_left found turned.more _ (so_far.all a b before_b earlier is_one)
           | inr here ↦
               let b_is : b ≡ i = omega arith in
               let one_new : IsOne (ordered (get_or order a 0) n) = rw b_is at is_one in
               rw b_is
-              (Contains-append_right found turned.more _ (turned.all (get_or order a 0) (meets_near a (omega arith) (close (get_or order a 0) n one_new)) one_new))
+              (Contains-append_right found turned.more _
+              (turned.all (get_or order a 0) (meets_near a (omega arith) (close (get_or order a 0) n one_new)) one_new))
         ];
       }

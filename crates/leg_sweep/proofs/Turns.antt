@@ -31,7 +31,8 @@ same_partner x y n same =
     let high : max x n ≡ max y n = ap (λ (p : ℕ × ℕ). p.1) same in
     omega arith
 
-module _ {Item : Type 0} (Holds : Item → Item → Type 0) (symmetric : (a b : Item) → Holds a b → Holds b a) (items : List Item) (x n : ℕ) (a b : Item) (a_at : slice_get items x ≡ Some a) (b_at : slice_get items n ≡ Some b) where
+module _ {Item : Type 0} (Holds : Item → Item → Type 0) (symmetric : (a b : Item) → Holds a b → Holds b a) (items : List Item) (x n : ℕ) (a b : Item)
+    (a_at : slice_get items x ≡ Some a) (b_at : slice_get items n ≡ Some b) where
   -- two items for which the rule holds are a pair
   pub pair_from_holds : x ≢ n → Holds a b → IsPair Holds items (ordered x n)
   pair_from_holds apart holds =
@@ -72,7 +73,8 @@ module _ {Sink : Type 0} (Takes : Sink → ℕ × ℕ → Sink → Type 0) (IsOn
   }
 
   -- one more waiting item, which makes no pair
-  pub new_pairs_skip : (done : List ℕ) (x tests later : ℕ) (after : Sink) → (IsOne (ordered x new) → ⊥) → tests ≤ later → AreNewPairs Takes IsOne done new tests before after → AreNewPairs Takes IsOne (done ++ x ∷ []) new later before after
+  pub new_pairs_skip : (done : List ℕ) (x tests later : ℕ) (after : Sink) → (IsOne (ordered x new) → ⊥) → tests ≤ later
+      → AreNewPairs Takes IsOne done new tests before after → AreNewPairs Takes IsOne (done ++ x ∷ []) new later before after
   new_pairs_skip done x tests later after is_none grown so_far = record {
     more = so_far.more;
     taken = so_far.taken;
@@ -89,7 +91,8 @@ module _ {Sink : Type 0} (Takes : Sink → ℕ × ℕ → Sink → Type 0) (IsOn
   }
 
   -- one more waiting item, which makes one
-  pub new_pairs_more : (done : List ℕ) (x tests : ℕ) (between after : Sink) → IsOne (ordered x new) → (Contains done x → ⊥) → Takes between (ordered x new) after → AreNewPairs Takes IsOne done new tests before between
+  pub new_pairs_more : (done : List ℕ) (x tests : ℕ) (between after : Sink) → IsOne (ordered x new) → (Contains done x → ⊥)
+      → Takes between (ordered x new) after → AreNewPairs Takes IsOne done new tests before between
       → AreNewPairs Takes IsOne (done ++ x ∷ []) new (tests + 1) before after
   new_pairs_more done x tests between after is_one not_done step so_far =
       let pair = ordered x new in
@@ -117,7 +120,8 @@ module _ {Sink : Type 0} (Takes : Sink → ℕ × ℕ → Sink → Type 0) (IsOn
 
   -- the pairs with the items of a list, and then with those of another one
   pub new_pairs_append : (first second : List ℕ) (tests later : ℕ) (between after : Sink) → ((x : ℕ) → Contains first x → Contains second x → ⊥)
-      → AreNewPairs Takes IsOne first new tests before between → AreNewPairs Takes IsOne second new later between after → AreNewPairs Takes IsOne (first ++ second) new (tests + later) before after
+      → AreNewPairs Takes IsOne first new tests before between → AreNewPairs Takes IsOne second new later between after
+      → AreNewPairs Takes IsOne (first ++ second) new (tests + later) before after
   new_pairs_append first second tests later between after differ a b = record {
     more = a.more ++ b.more;
     taken = takes_append Takes before a.more between b.more after a.taken b.taken;
@@ -147,7 +151,8 @@ module _ {Item : Type 0} (rect_of : Item → RectModel) (items : List Item) wher
   rect_of_read x a within read = get_or-map rect_of items x a unit_square within ∙ ap rect_of (sym read)
 
   -- a test of two items that were read
-  pub test_of_read : (test : RectModel → RectModel → Bool) (x y : ℕ) (a b : Item) → x < length items → y < length items → a ≡ get_or items x a → b ≡ get_or items y b
+  pub test_of_read : (test : RectModel → RectModel → Bool) (x y : ℕ) (a b : Item) → x < length items → y < length items → a ≡ get_or items x a
+      → b ≡ get_or items y b
       → test_at test (map rect_of items) x y ≡ test (rect_of a) (rect_of b)
   test_of_read test x y a b x_in y_in a_read b_read = rw (rect_of_read x a x_in a_read, rect_of_read y b y_in b_read)
 

@@ -19,7 +19,8 @@ Before-transitive p q r b c = record {
 }
 
 -- two lists that are the pairs of the same items for which the same holds
-pub ArePairs-unique : {Item : Type 0} (Holds : Item → Item → Type 0) (items : List Item) (found other : List (ℕ × ℕ)) → ArePairs Holds items found → ArePairs Holds items other → found ≡ other
+pub ArePairs-unique : {Item : Type 0} (Holds : Item → Item → Type 0) (items : List Item) (found other : List (ℕ × ℕ)) → ArePairs Holds items found
+    → ArePairs Holds items other → found ≡ other
 ArePairs-unique Holds items found other are others =
     same_rising Before Before-irreflexive Before-transitive found other are.increasing others.increasing
     (λ p c. others.all p (All-contains (IsPair Holds items) found p are.each c))

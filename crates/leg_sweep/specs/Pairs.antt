@@ -22,11 +22,13 @@ pub record HasPairs {Item : Type 0} (Holds : Item → Item → Type 0) (items : 
 -- A sink takes pairs one after another.
 pub data TakesAll {Sink : Type 0} (Takes : Sink → ℕ × ℕ → Sink → Type 0) (before : Sink) : List (ℕ × ℕ) → Sink → Type 0 where
   none : TakesAll Takes before [] before
-  more : {found : List (ℕ × ℕ)} {between after : Sink} {p : ℕ × ℕ} → TakesAll Takes before found between → Takes between p after → TakesAll Takes before (found ++ p ∷ []) after
+  more : {found : List (ℕ × ℕ)} {between after : Sink} {p : ℕ × ℕ} → TakesAll Takes before found between → Takes between p after
+      → TakesAll Takes before (found ++ p ∷ []) after
 
 -- A sink took exactly the pairs of items for which a rule holds, each once, in any order. They are no more than the tests that
 -- were made.
-pub record TookPairs {Sink Item : Type 0} (Takes : Sink → ℕ × ℕ → Sink → Type 0) (Holds : Item → Item → Type 0) (items : List Item) (tests : ℕ) (before after : Sink) : Type 0 where
+pub record TookPairs {Sink Item : Type 0} (Takes : Sink → ℕ × ℕ → Sink → Type 0) (Holds : Item → Item → Type 0) (items : List Item) (tests : ℕ)
+    (before after : Sink) : Type 0 where
   pub found : List (ℕ × ℕ)
   pub are : HasPairs Holds items found
   pub taken : TakesAll Takes before found after

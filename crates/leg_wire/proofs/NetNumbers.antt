@@ -1,14 +1,14 @@
 -- The numbers of the shapes of a net, and those of each net in lists.
-use Rattle.std.proofs.Common.{◌≡◌, ℕ, ◌+◌, ◌<◌, ◌≤◌, List, [], ◌∷◌, ◌++◌, length, get_or, set, take, drop, replicate, AllPairs, Contains, Some, slice_get, inl, inr, sym, ap, ◌∙◌, arith}
+use Rattle.std.proofs.Common.{◌≡◌, ℕ, ◌+◌, ◌<◌, ◌≤◌, List, [], ◌∷◌, ◌++◌, length, get_or, set, take, drop, AllPairs, Contains, Some, slice_get, inl, inr, sym, ap, ◌∙◌, arith}
 use Rattle.std.specs.List.Sorted.{IsStrictlyIncreasing}
 use Rattle.std.proofs.lemmas.Bool.{cases_eq, cases_lt}
-use Rattle.std.proofs.lemmas.List.{length-set, get_or-set_same, get_or-set_other, get_or-replicate, drop_all, take_all, append-nil}
+use Rattle.std.proofs.lemmas.List.{length-set, get_or-set_same, get_or-set_other, drop_all, take_all, append-nil}
 use Rattle.std.proofs.lemmas.List.Elements.{Contains-append_left, Contains-push, Contains-push_cases, Contains-get_or}
 use Rattle.std.proofs.lemmas.List.Quantifiers.{all_pairs_push}
 use Rattle.std.proofs.lemmas.Map.Keys.{sorted_from_strictly_increasing}
 use Rattle.std.proofs.lemmas.Map.Views.{length-le_from_below}
 use Rattle.std.proofs.lemmas.Option.{same_Some, slice_get_within}
-use Rattle.leg_sweep.proofs.Lists.{AllPairs-nil, All-from_contains, Contains-nil}
+use Rattle.leg_sweep.proofs.Lists.{All-from_contains}
 use Rattle.leg_rules.specs.declared.owner.Owner.TheVariants.{Net}
 use Rattle.leg_rules.specs.declared.shape.Shape.{Shape}
 use Rattle.leg_wire.specs.NetShapes.{IsOfNet, AreNumbersOf}
@@ -22,14 +22,6 @@ module _ (shapes : List Shape) where
     pub increasing : AllPairs (λ j k. j < k) numbers
     pub each : (k : ℕ) → Contains numbers k → (k < end) × IsOfNet shapes net k
     pub all : (k : ℕ) → k < end → IsOfNet shapes net k → Contains numbers k
-
-  -- no shape was looked at
-  pub below_none : (net : ℕ) → AreBelow net 0 []
-  below_none net = record {
-    increasing = AllPairs-nil (λ j k. j < k);
-    each = λ k has. absurd (Contains-nil k has);
-    all = λ k below is. absurd (let e : ⊥ = omega (arith, below) in e);
-  }
 
   module _ (net i : ℕ) (numbers : List ℕ) (done : AreBelow net i numbers) where
     -- one more shape, which is the net's

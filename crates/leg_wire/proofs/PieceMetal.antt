@@ -1,9 +1,8 @@
 -- The metal of a net's pieces, shape by shape.
 use Rattle.std.proofs.Common.{◌≡◌, ◌↔◌, ℕ, ◌≤◌, All, List, [], ◌∷◌, ◌++◌, length, Option, Some, None, Contains, slice_get, inl, inr, refl, sym, ap, ◌∙◌, arith}
 use Rattle.std.proofs.lemmas.List.{length_push}
-use Rattle.std.proofs.lemmas.List.Elements.{All-nil, All-push, All-contains, Contains-append_left, Contains-push, Contains-push_cases}
+use Rattle.std.proofs.lemmas.List.Elements.{All-push, All-contains, Contains-append_left, Contains-push, Contains-push_cases}
 use Rattle.std.proofs.lemmas.Option.{same_Some, none-some, slice_get_within, slice_get_read, get_or_from_slice_get}
-use Rattle.leg_sweep.proofs.Lists.{Contains-nil}
 use Rattle.leg_rules.specs.declared.owner.Owner.TheVariants.{Net}
 use Rattle.leg_rules.specs.declared.shape.Shape.{Shape}
 use Rattle.leg_rules.specs.Metal.Flat.{FlatModel}
@@ -27,15 +26,6 @@ module _ (flat : FlatModel) (net : ℕ) where
     pub all : (k : ℕ) (shape : Shape) (piece : PieceShape) → Contains numbers k → slice_get flat.shapes k ≡ Some shape → IsPieceShape flat net shape piece → Contains pieces piece
     pub few : length pieces ≤ length numbers
     pub whole : length pieces ≡ length numbers → All HasPiece numbers
-
-  -- no shape was looked at
-  pub among_none : AreAmong [] []
-  among_none = record {
-    each = λ piece has. absurd (Contains-nil piece has);
-    all = λ k shape piece has at is. absurd (Contains-nil k has);
-    few = omega arith;
-    whole = λ same. All-nil HasPiece;
-  }
 
   -- what a shape of the net says is what metal of a piece of it does
   module _ (count : ℕ) (counted : piece_count flat net ≡ count) (shape : Shape) (owner : shape.owner ≡ Net net) (piece : PieceShape) where

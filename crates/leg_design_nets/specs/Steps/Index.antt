@@ -24,7 +24,8 @@ pub record BegunNets : Type 0 where
 
 -- what is kept in addition to the entries gives their names, how many terminals and wires they have, and the entry of a
 -- terminal
-pub record IsIndexOf (nets : List NetModel) (lists : List (List Terminal)) (names : List (List ℕ)) (number : Terminal → Option ℕ) (terminals wires : ℕ) : Type 0 where
+pub record IsIndexOf (nets : List NetModel) (lists : List (List Terminal)) (names : List (List ℕ)) (number : Terminal → Option ℕ)
+    (terminals wires : ℕ) : Type 0 where
   pub named : names ≡ net_names nets
   pub indexed : IsNameIndex number lists
   pub listed : terminals ≡ terminal_count nets

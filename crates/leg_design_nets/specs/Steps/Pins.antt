@@ -38,12 +38,12 @@ abbrev pub numbers_under : NamedNumbers → List ℕ → List ℕ
 numbers_under table name = list_at table.lists (place_of name table.names)
 
 -- the place of the name by the table
-abbrev pub place_in : {S : Type 0} → HashMap (Bor (List ℕ)) ℕ S → List ℕ → Option ℕ
-place_in table name = get_by (λ key. bytes_eq name key.now) table
+abbrev pub place_in_table : {S : Type 0} → HashMap (Bor (List ℕ)) ℕ S → List ℕ → Option ℕ
+place_in_table table name = get_by (λ key. bytes_eq name key.now) table
 
 -- its place by the table of macro m
-abbrev pub place_at : {S : Type 0} → List (HashMap (Bor (List ℕ)) ℕ S) → ℕ → List ℕ → Option ℕ
-place_at tables m name = slice_get tables m >>= λ table. place_in table name
+abbrev pub place_in_tables : {S : Type 0} → List (HashMap (Bor (List ℕ)) ℕ S) → ℕ → List ℕ → Option ℕ
+place_in_tables tables m name = slice_get tables m >>= λ table. place_in_table table name
 
 -- the names of the pins of a macro that has these components; of one that has none they aren't asked for
 abbrev pub used_names : MasterModel → List ℕ → List (List ℕ)

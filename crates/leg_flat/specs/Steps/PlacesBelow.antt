@@ -23,9 +23,11 @@ abbrev pub new_among : List (Terminal × (ℕ × ℕ)) → List Terminal → Lis
 new_among placed terminals = filter (λ t. is_none (place_in placed t)) terminals
 
 -- those of the terminals that weren't in a net before came after the pieces of this net, and are known as such
-pub record ArePiecesAdded (net : ℕ) (terminals : List Terminal) (before : List (Terminal × (ℕ × ℕ))) (pieces : List Piece) (after : List (Terminal × (ℕ × ℕ))) (more : List Piece) : Type 0 where
+pub record ArePiecesAdded (net : ℕ) (terminals : List Terminal) (before : List (Terminal × (ℕ × ℕ))) (pieces : List Piece) (after : List (Terminal × (ℕ × ℕ)))
+    (more : List Piece) : Type 0 where
   pub grown : more ≡ pieces ++ map Term (new_among before terminals)
-  pub places : (terminal : Terminal) → place_in after terminal ≡ with_pieces (place_in before terminal) net (length pieces) (new_among before terminals) terminal
+  pub places : (terminal : Terminal) → place_in after terminal ≡ with_pieces (place_in before terminal) net (length pieces)
+      (new_among before terminals) terminal
 
 -- the first net below n that has the terminal, and which piece of it the terminal is
 unfoldable pub place_below : DesignModel → ℕ → Terminal → Option (ℕ × ℕ)

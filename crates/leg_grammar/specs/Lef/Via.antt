@@ -60,7 +60,8 @@ spoils statement =
 unfoldable pub via_part : RawLibraryModel → ViaParts → Words → Option ViaParts
 via_part library parts statement =
     if spoils statement then Some (record parts { is_spoilt = true })
-    else (if is_at (codes "LAYER") statement then (layer_of_via library statement >>= λ number. Some (record parts { drawn = record { on = Some number; shapes = parts.drawn.shapes } }))
+    else (if is_at (codes "LAYER") statement then
+    (layer_of_via library statement >>= λ number. Some (record parts { drawn = record { on = Some number; shapes = parts.drawn.shapes } }))
     else (if is_at (codes "RECT") statement then (drawn_rect library parts.drawn statement >>= λ drawn. Some (record parts { drawn = drawn }))
     else Some parts))
 

@@ -20,7 +20,7 @@ use Rattle.leg_legal.specs.Steps.TurnKeys.{numbers}
 -- component d stays, and is in the box
 pub record IsStayingIn (design : DesignModel) (d : ℕ) (box : RectModel) : Type 0 where
   pub stays : ¬ IsMovable design d
-  pub stands : HasBox design.library design d box
+  pub stands : HasBox design d box
 
 -- a component of a number below end does
 pub record IsStayingBelow (design : DesignModel) (end : ℕ) (box : RectModel) : Type 0 where

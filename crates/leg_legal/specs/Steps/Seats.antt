@@ -14,7 +14,7 @@ use Rattle.leg_rules.specs.Legalise.Preference.{IsNoWorse}
 use Rattle.leg_rules.specs.Legalise.Clear.{IsClear}
 use Rattle.leg_legal_sites.specs.Steps.FreeLists.{RowLists, AreFreeLists}
 use Rattle.leg_rules.specs.Legalise.Start.{start_of}
-use Rattle.leg_rules.specs.Legalise.Places.{orient_of, IsPlacedOn}
+use Rattle.leg_rules.specs.Legalise.Places.{orient_if_placed, IsPlacedOn}
 
 -- what component c asks: from its start, as many sites as its macro is wide, of its macro's site
 pub record IsWantedOf (design : DesignModel) (c : ℕ) (wanted : Wanted) : Type 0 where
@@ -31,7 +31,7 @@ pub record IsWantedOf (design : DesignModel) (c : ℕ) (wanted : Wanted) : Type 
   pub wide : master.size.width ≡ pos wanted.many *ℤ site.size.width
   pub site_width : wanted.site_width ≡ site.size.width
   pub start : wanted.start ≡ start_of design.die component.place
-  pub orient : wanted.orient ≡ orient_of component.place
+  pub orient : wanted.orient ≡ orient_if_placed component.place
   pub y_symmetric : wanted.y_symmetric ≡ master.y_symmetric
 
 -- with this place component c is at the position, and its box is clear of the boxes

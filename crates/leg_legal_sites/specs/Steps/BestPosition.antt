@@ -15,7 +15,8 @@ pub record AreReady (rows : List Row) (free : List (List Stretch)) (wanted : Wan
   pub lists : length free ≡ length rows
   pub some : 1 ≤ wanted.many
   pub wide : pos 1 ≤ℤ wanted.site_width
-  pub within : (number : ℕ) (row : Row) (stretches : List Stretch) → slice_get rows number ≡ Some row → row.site ≡ wanted.site → slice_get free number ≡ Some stretches → (k : ℕ) → IsFreeSite stretches k → IsCoordinate (row.at.x +ℤ pos k *ℤ wanted.site_width)
+  pub within : (number : ℕ) (row : Row) (stretches : List Stretch) → slice_get rows number ≡ Some row → row.site ≡ wanted.site
+      → slice_get free number ≡ Some stretches → (k : ℕ) → IsFreeSite stretches k → IsCoordinate (row.at.x +ℤ pos k *ℤ wanted.site_width)
 
 -- The component may be placed there: the row is one of its site, and the sites from the first on are free. Its distance is
 -- measured along both axes, from its start to the lower left corner of the first site.

@@ -46,7 +46,8 @@ pub record AreOfBoth (a b both : Bounds) : Type 0 where
 -- The new bounds bound free sites of each row of which the old ones bound them, that begins at the x of this one.
 abbrev pub DoBoundAlike : Bounds → Row → ExtentModel → List Stretch → Bounds → Type 0
 DoBoundAlike old row size free new =
-    (number : ℕ) (other : Row) → other.at.x ≡ row.at.x → IsCoordinate other.at.y → ((k : ℕ) → IsFreeSite free k → DoBoundSite old number other size k) → DoBound new number other size free
+    (number : ℕ) (other : Row) → other.at.x ≡ row.at.x → IsCoordinate other.at.y → ((k : ℕ) → IsFreeSite free k → DoBoundSite old number other size k)
+    → DoBound new number other size free
 
 -- the rectangle lies beside all that is bounded
 abbrev pub IsBeside : Bounds → RectModel → Type 0

@@ -5,7 +5,7 @@ use Rattle.leg_legal_sites.specs.declared.stretch.Stretch.{Stretch}
 use Rattle.leg_legal_sites.specs.declared.bounds.Bounds.{Bounds}
 use Rattle.leg_legal_sites.specs.declared.branch.Branch.{Branch}
 use Rattle.leg_legal_sites.specs.declared.row_keys.RowKey.{RowKey}
-use Rattle.leg_legal_sites.specs.Steps.FreeListSharing.{list_at, row_lists}
+use Rattle.leg_legal_sites.specs.Steps.FreeListSharing.{list_of_node, row_lists}
 use Rattle.leg_legal_sites.specs.Steps.TreeOfRows.{IsLeafBeneath}
 use Rattle.leg_legal_sites.specs.Steps.FreeLists.{DoFit}
 use Rattle.leg_legal_sites.specs.Steps.Bounds.{AreOfBoth}
@@ -15,7 +15,7 @@ pub record IsBranch (design : DesignModel) (order : List RowKey) (lists : List (
   pub first : 1 ≤ branch.node
   pub within : branch.node < 2 * length order
   pub owned : branch.owner < 2 * length order
-  pub owner : get_or lists branch.owner None ≡ list_at lists branch.node
+  pub owner : get_or lists branch.owner None ≡ list_of_node lists branch.node
   pub fits : (key : RowKey) → IsLeafBeneath order branch.node key → DoFit design (row_lists order lists) branch.bounds key.row
 
 -- a branch goes on to the node of this number: with the same owner, if that has a list, and with the node's own bounds, or those that both had

@@ -9,8 +9,8 @@ use Rattle.leg_legal_sites.specs.declared.stretch.Stretch.{Stretch}
 use Rattle.leg_rules.specs.Legalise.Clear.{IsClear}
 
 -- the free stretches have exactly the sites of the row that are clear
-abbrev pub IsKnown : Row → ExtentModel → RectModel → (RectModel → Type 0) → List Stretch → Type 0
-IsKnown row size die Taken free = (k : ℕ) → IsFreeSite free k ↔ ((pos k <ℤ row.count) × IsClear die Taken (site_box row size k))
+abbrev pub IsFreeList : Row → ExtentModel → RectModel → (RectModel → Type 0) → List Stretch → Type 0
+IsFreeList row size die Taken free = (k : ℕ) → IsFreeSite free k ↔ ((pos k <ℤ row.count) × IsClear die Taken (site_box row size k))
 
 -- no box is in the way
 abbrev pub NoneTaken : RectModel → Type 0

@@ -11,17 +11,17 @@ list_within (suc most) lists zero = None
 list_within (suc most) lists (suc n) = option_or (list_within most lists (suc n / 2)) (get_or lists (suc n) None)
 
 -- the list of the first node on the way down from the first node to this one that has a list
-abbrev pub list_at : List (Option (List Stretch)) → ℕ → Option (List Stretch)
-list_at lists node = list_within node lists node
+abbrev pub list_of_node : List (Option (List Stretch)) → ℕ → Option (List Stretch)
+list_of_node lists node = list_within node lists node
 
 -- the place of the key of the row of this number
-abbrev pub place_of : List RowKey → ℕ → ℕ
-place_of [] number = 0
-place_of (key ∷ keys) number = if nat_eq key.row number then 0 else suc (place_of keys number)
+abbrev pub place_of_row : List RowKey → ℕ → ℕ
+place_of_row [] number = 0
+place_of_row (key ∷ keys) number = if nat_eq key.row number then 0 else suc (place_of_row keys number)
 
 -- the free sites of the row of this number: those of the list for its leaf, and none where there is none
 abbrev pub row_list : List RowKey → List (Option (List Stretch)) → ℕ → List Stretch
-row_list order lists number = unwrap_or (list_at lists (length order + place_of order number)) []
+row_list order lists number = unwrap_or (list_of_node lists (length order + place_of_row order number)) []
 
 -- those of as many rows as this, from the one of a number on
 abbrev pub lists_from : List RowKey → List (Option (List Stretch)) → ℕ → ℕ → List (List Stretch)

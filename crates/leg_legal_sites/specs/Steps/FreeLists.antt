@@ -13,7 +13,7 @@ use Rattle.leg_legal_sites.specs.Steps.Stretches.{IsFreeSite}
 use Rattle.leg_legal_sites.specs.Steps.RowOrder.{IsRowOrder}
 use Rattle.leg_rules.specs.Legalise.Clear.{HasAllSquares}
 use Rattle.leg_legal_sites.specs.Steps.SiteBounds.{DoBound}
-use Rattle.leg_legal_sites.specs.Steps.ClearSites.{IsKnown}
+use Rattle.leg_legal_sites.specs.Steps.ClearSites.{IsFreeList}
 use Rattle.leg_legal_sites.specs.Steps.TreeOfRows.{AreNodes}
 
 -- a list of free stretches for each row, the keys of the rows, and the nodes of a tree over them
@@ -59,4 +59,5 @@ IsOfItsSite design wanted = (site : Site) → slice_get design.library.sites wan
 -- each row's list has exactly its sites that are clear of the boxes
 pub record AreFreeLists (design : DesignModel) (boxes : List RectModel) (free : RowLists) : Type 0 where
   pub rows : AreRowsOf design free
-  pub each : (number : ℕ) (row : Row) (site : Site) (list : List Stretch) → IsRowAt design number row site → slice_get free.lists number ≡ Some list → IsKnown row site.size design.die (Contains boxes) list
+  pub each : (number : ℕ) (row : Row) (site : Site) (list : List Stretch) → IsRowAt design number row site → slice_get free.lists number ≡ Some list
+      → IsFreeList row site.size design.die (Contains boxes) list

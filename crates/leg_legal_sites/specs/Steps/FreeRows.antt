@@ -8,14 +8,15 @@ use Rattle.leg_rules.specs.Placement.Sites.{site_box}
 use Rattle.leg_legal_sites.specs.declared.stretch.Stretch.{Stretch}
 use Rattle.leg_legal_sites.specs.declared.row_keys.RowKey.{RowKey}
 use Rattle.leg_legal_sites.specs.Steps.Stretches.{IsFreeSite}
-use Rattle.leg_legal_sites.specs.Steps.ClearSites.{IsKnown}
+use Rattle.leg_legal_sites.specs.Steps.ClearSites.{IsFreeList}
 use Rattle.leg_legal_sites.specs.Steps.FreeLists.{IsRowAt}
 use Rattle.leg_legal_sites.specs.Steps.TreeOfRows.{IsLeafBeneath}
 
 -- as many lists as this, each of which has exactly its row's sites in the die
 pub record AreInside (design : DesignModel) (end : ℕ) (lists : List (List Stretch)) : Type 0 where
   pub count : length lists ≡ end
-  pub each : (number : ℕ) (row : Row) (site : Site) (list : List Stretch) → IsRowAt design number row site → slice_get lists number ≡ Some list → IsKnown row site.size design.die (Contains []) list
+  pub each : (number : ℕ) (row : Row) (site : Site) (list : List Stretch) → IsRowAt design number row site → slice_get lists number ≡ Some list
+      → IsFreeList row site.size design.die (Contains []) list
 
 -- of the row of this number those of the free sites are left that share no unit square with the rectangle
 abbrev pub LosesMet : DesignModel → RectModel → ℕ → List Stretch → List Stretch → Type 0

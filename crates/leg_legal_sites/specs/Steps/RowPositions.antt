@@ -34,8 +34,10 @@ is_lower key wanted = nat_lt key.site wanted.site || ((key.site == wanted.site) 
 pub record IsSplitAt (order : List RowKey) (wanted : Wanted) (low high : ℕ) : Type 0 where
   pub in_order : low ≤ high
   pub within : high ≤ length order
-  pub lower : (k : ℕ) (key : RowKey) → k < low → slice_get order k ≡ Some key → (key.site < wanted.site) ⊎ ((key.site ≡ wanted.site) × (key.y ≤ℤ wanted.start.y))
-  pub upper : (k : ℕ) (key : RowKey) → high ≤ k → slice_get order k ≡ Some key → (wanted.site < key.site) ⊎ ((key.site ≡ wanted.site) × (wanted.start.y ≤ℤ key.y))
+  pub lower : (k : ℕ) (key : RowKey) → k < low → slice_get order k ≡ Some key
+      → (key.site < wanted.site) ⊎ ((key.site ≡ wanted.site) × (key.y ≤ℤ wanted.start.y))
+  pub upper : (k : ℕ) (key : RowKey) → high ≤ k → slice_get order k ≡ Some key
+      → (wanted.site < key.site) ⊎ ((key.site ≡ wanted.site) × (wanted.start.y ≤ℤ key.y))
 
 -- there is a position, and it is nearer than this
 abbrev pub IsNearerThan : Option Candidate → ℕ → Type 0
@@ -49,5 +51,6 @@ IsRowBeyond wanted best key = (key.site ≢ wanted.site) ⊎ IsNearerThan best (
 -- the place is next to those in between, or the rows on both sides of these have no better position than the best one
 abbrev pub IsNextPlace : List RowKey → Wanted → Option Candidate → ℕ → ℕ → Option ℕ → Type 0
 IsNextPlace order wanted best low high None =
-    ((key : RowKey) → 1 ≤ low → slice_get order (low - 1) ≡ Some key → IsRowBeyond wanted best key) × ((key : RowKey) → slice_get order high ≡ Some key → IsRowBeyond wanted best key)
+    ((key : RowKey) → 1 ≤ low → slice_get order (low - 1) ≡ Some key → IsRowBeyond wanted best key)
+    × ((key : RowKey) → slice_get order high ≡ Some key → IsRowBeyond wanted best key)
 IsNextPlace order wanted best low high (Some place) = ((place + 1 ≡ low) ⊎ (place ≡ high)) × (place < length order)

@@ -10,7 +10,7 @@ use Rattle.leg_rules.specs.Placement.Sites.{site_box}
 use Rattle.leg_legal_sites.specs.declared.bounds.Bounds.{Bounds}
 use Rattle.leg_legal_sites.specs.declared.row_keys.RowKey.{RowKey}
 use Rattle.leg_legal_sites.specs.Steps.Stretches.{IsFreeSite}
-use Rattle.leg_legal_sites.specs.Steps.ClearSites.{IsKnown}
+use Rattle.leg_legal_sites.specs.Steps.ClearSites.{IsFreeList}
 use Rattle.leg_legal_sites.specs.Steps.TreeOfRows.{IsLeafBeneath}
 use Rattle.leg_legal_sites.specs.Steps.FreeLists.{IsRowAt}
 use Rattle.leg_legal_sites.specs.Steps.FreeListSharing.{row_lists}
@@ -42,7 +42,7 @@ pub record AreLeafLists (design : DesignModel) (order : List RowKey) (end : ℕ)
   pub count : length lists ≡ length order + end
   pub above : (node : ℕ) → node < length order → get_or lists node None ≡ None
   pub each : (place : ℕ) (key : RowKey) (row : Row) (site : Site) → place < end → slice_get order place ≡ Some key → IsRowAt design key.row row site
-      → (list : List Stretch) × (get_or lists (length order + place) None ≡ Some list) × IsKnown row site.size design.die (Contains []) list
+      → (list : List Stretch) × (get_or lists (length order + place) None ≡ Some list) × IsFreeList row site.size design.die (Contains []) list
 
 -- both nodes below one have the same list, and the rows beneath it are alike
 pub record IsShareable (order : List RowKey) (lists : List (Option (List Stretch))) (node : ℕ) : Type 0 where
@@ -64,9 +64,11 @@ LosesShared rect row size old new = (k : ℕ) → IsFreeSite new k ↔ (IsFreeSi
 -- the rectangle meets each row beneath a node along y that lies within these bounds
 pub record IsMetAlongY (design : DesignModel) (rect : RectModel) (order : List RowKey) (node : ℕ) (bounds : Bounds) : Type 0 where
   pub high : bounds.high <ℤ rect.y2
-  pub low : (key : RowKey) (row : Row) (site : Site) → IsLeafBeneath order node key → IsRowAt design key.row row site → rect.y1 <ℤ (bounds.low +ℤ site.size.height)
+  pub low : (key : RowKey) (row : Row) (site : Site) → IsLeafBeneath order node key → IsRowAt design key.row row site
+      → rect.y1 <ℤ (bounds.low +ℤ site.size.height)
 
 -- the rows beneath a node lose the same sites: there is one, or they have one list together and the rectangle meets all of them along y
 abbrev pub IsMetThroughout : DesignModel → RectModel → List RowKey → List (Option (List Stretch)) → List Bounds → ℕ → Type 0
 IsMetThroughout design rect order lists nodes node =
-    (length order ≤ node) ⊎ ((IsSome (get_or lists node None)) × ((bounds : Bounds) → slice_get nodes node ≡ Some bounds → IsMetAlongY design rect order node bounds))
+    (length order ≤ node) ⊎ ((IsSome (get_or lists node None))
+    × ((bounds : Bounds) → slice_get nodes node ≡ Some bounds → IsMetAlongY design rect order node bounds))

@@ -17,10 +17,10 @@ abbrev pub rect_words : RectModel → Words
 rect_words rect = codes "RECT" ∷ corner_words rect
 
 -- - LAYER name or - PLACEMENT, and its rectangles
-abbrev pub blockage_entry : DesignModel → BlockageModel → Words
-blockage_entry design blockage =
+abbrev pub blockage_parts : DesignModel → BlockageModel → Words
+blockage_parts design blockage =
     codes "-" ∷ blocked_layer_words design blockage.layer ++ flat_map rect_words blockage.rects
 
 -- the same with its semicolon
 abbrev pub blockage_words : DesignModel → BlockageModel → Words
-blockage_words design blockage = blockage_entry design blockage ++ codes ";" ∷ []
+blockage_words design blockage = blockage_parts design blockage ++ codes ";" ∷ []

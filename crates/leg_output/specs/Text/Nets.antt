@@ -25,15 +25,15 @@ net_head design net =
     net.name ∷ flat_map (terminal_words design) net.terminals ++ clause_words (kept_clause (codes "USE") net.usage)
 
 -- The words of each wire: the first comes after + ROUTED, each other one after NEW.
-abbrev pub wiring_words : DesignModel → Bool → List Wire → List Words
-wiring_words design special [] = []
-wiring_words design special (wire ∷ wires) =
+abbrev pub wiring_lines : DesignModel → Bool → List Wire → List Words
+wiring_lines design special [] = []
+wiring_lines design special (wire ∷ wires) =
     (codes "+" ∷ codes "ROUTED" ∷ wire_words design special wire)
     ∷ map (λ other. codes "NEW" ∷ wire_words design special other) wires
 
 -- - name terminals + USE word wires
 abbrev pub net_said : DesignModel → Bool → NetModel → Words
-net_said design special net = codes "-" ∷ net_head design net ++ words_in_lines (wiring_words design special net.wires)
+net_said design special net = codes "-" ∷ net_head design net ++ words_in_lines (wiring_lines design special net.wires)
 
 -- the same with its semicolon
 abbrev pub net_words : DesignModel → Bool → NetModel → Words
@@ -46,4 +46,4 @@ wire_line words = codes "\n " ++ spaced words
 -- the words of the entry in several lines: each wire begins a new one, and the semicolon is on the last
 abbrev pub net_text : DesignModel → Bool → NetModel → List ℕ
 net_text design special net =
-    codes "-" ++ spaced (net_head design net) ++ flat_map wire_line (wiring_words design special net.wires) ++ codes " ;\n"
+    codes "-" ++ spaced (net_head design net) ++ flat_map wire_line (wiring_lines design special net.wires) ++ codes " ;\n"

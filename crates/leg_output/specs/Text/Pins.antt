@@ -8,14 +8,14 @@ use Rattle.leg_design_records.specs.Records.{DesignModel, PortModel, PinModel}
 use Rattle.leg_output.specs.Text.Clauses.{clause_words, kept_clause, shape_clause, placement_clause}
 
 -- where a port is, if it is placed
-abbrev pub port_place : Status → Option Place → List Words
-port_place status None = []
-port_place status (Some place) = placement_clause status (Some place) ∷ []
+abbrev pub port_place_lines : Status → Option Place → List Words
+port_place_lines status None = []
+port_place_lines status (Some place) = placement_clause status (Some place) ∷ []
 
 -- PORT, its rectangles, and its place
 abbrev pub port_clauses : DesignModel → PortModel → List Words
 port_clauses design port =
-    (codes "PORT" ∷ []) ∷ map (shape_clause (codes "LAYER") design) port.shapes ++ port_place port.status port.place
+    (codes "PORT" ∷ []) ∷ map (shape_clause (codes "LAYER") design) port.shapes ++ port_place_lines port.status port.place
 
 -- NET, DIRECTION and USE, where they were kept
 abbrev pub kept_clauses : PinModel → List Words

@@ -13,7 +13,7 @@ use Rattle.leg_design_records.specs.Wires.{default_extension}
 use Rattle.leg_design_records.specs.WellFormedNets.{written}
 use Rattle.leg_design_records.specs.Records.{DesignModel}
 use Rattle.leg_output.specs.Names.{layer_name}
-use Rattle.leg_rules.specs.Names.{via_numbered, via_name}
+use Rattle.leg_rules.specs.Names.{design_via, via_name}
 use Rattle.leg_output.specs.Text.Points.{spot_words}
 
 -- a number, where there is one
@@ -47,8 +47,8 @@ shapes_if_any None = []
 shapes_if_any (Some via) = via.shapes
 
 -- the lower routing layer of the via of this number
-abbrev pub layer_of_via : DesignModel → ℕ → ℕ
-layer_of_via design via = lowest_layer (shapes_if_any (via_numbered design via))
+abbrev pub lower_layer_of_via : DesignModel → ℕ → ℕ
+lower_layer_of_via design via = lowest_layer (shapes_if_any (design_via design via))
 
 -- layer width from to: a segment, with its extensions
 abbrev pub segment_words : DesignModel → Bool → ℕ → PointModel → PointModel → ℤ → ℤ → ℤ → Words
@@ -60,7 +60,7 @@ segment_words design special layer from to width ext_from ext_to =
 -- layer width ( x y ) name: a via, whose path begins on its lower layer and has no width
 abbrev pub via_wire_words : DesignModel → Bool → ℕ → PointModel → Words
 via_wire_words design special via at =
-    layer_name design (layer_of_via design via) ∷ width_words special (pos 0)
+    layer_name design (lower_layer_of_via design via) ∷ width_words special (pos 0)
     ++ spot_words at ++ via_name design via ∷ []
 
 -- layer ( x y ) RECT ( x1 y1 x2 y2 ): a rectangle, given from its point

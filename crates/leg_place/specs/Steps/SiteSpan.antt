@@ -44,7 +44,8 @@ covers a b = is_same_line a.line b.line && int_le a.left b.left && int_le b.righ
 
 -- the order of lines
 abbrev pub line_cmp : SiteLine → SiteLine → Ordering
-line_cmp a b = ordering_then (nat_cmp a.site b.site) (ordering_then (nat_cmp a.orient b.orient) (ordering_then (int_cmp a.bottom b.bottom) (int_cmp a.shift b.shift)))
+line_cmp a b =
+    ordering_then (nat_cmp a.site b.site) (ordering_then (nat_cmp a.orient b.orient) (ordering_then (int_cmp a.bottom b.bottom) (int_cmp a.shift b.shift)))
 
 -- the first span is of an earlier line, or of the same one and begins where the second does or to the left
 abbrev pub begins_by : SiteSpan → SiteSpan → Bool

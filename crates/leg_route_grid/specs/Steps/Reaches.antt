@@ -49,7 +49,8 @@ ReachesShape reach layer shape = shape.layer ≡ layer → ReachesAll reach shap
 pub record ReachesMetal (grid : GridModel) (k layer : ℕ) (reach : Option ℤ) : Type 0 where
   pub proper : IsReach reach
   pub line : (own : RoutingLayer) → slice_get grid.layers k ≡ Some own → own.number ≡ layer → Reaches reach (half own.width)
-  pub via : (via : ℕ) (said : ViaModel) (high : RoutingLayer) → slice_get grid.layers (k + 1) ≡ Some high → slice_get grid.vias k ≡ Some (Some via) → slice_get grid.design.library.vias via ≡ Some said
+  pub via : (via : ℕ) (said : ViaModel) (high : RoutingLayer) → slice_get grid.layers (k + 1) ≡ Some high → slice_get grid.vias k ≡ Some (Some via)
+      → slice_get grid.design.library.vias via ≡ Some said
       → All (ReachesShape reach layer) said.shapes
 
 -- metal on the layer of this number that lies farther apart than this along an axis keeps the spacing

@@ -66,7 +66,8 @@ pub record IsNeighbourNear (grid : GridModel) (starts ends : List SlotBox) (side
   pub further_across : bound_at grid starts a ≤ bound_at grid starts b + 1
 
 -- the same, seen from the other node
-pub turned_near : (grid : GridModel) (starts ends : List SlotBox) (side : Side) (a b : ℕ) → IsNeighbourNear grid starts ends side a b → IsNeighbourNear grid starts ends (opposite side) b a
+pub turned_near : (grid : GridModel) (starts ends : List SlotBox) (side : Side) (a b : ℕ) → IsNeighbourNear grid starts ends side a b
+    → IsNeighbourNear grid starts ends (opposite side) b a
 turned_near grid starts ends side a b near = record {
   beside = near.across;
   across = across_twice (λ (s : Side). IsNeighbourAt grid s a b) side near.beside;

@@ -18,7 +18,7 @@ IsSettled design done d = (¬ IsMovable design d) ⊎ Contains done d
 pub record HasSettled (design : DesignModel) (done : List ℕ) (box : RectModel) : Type 0 where
   pub d : ℕ
   pub settled : IsSettled design done d
-  pub stands : HasBox design.library design d box
+  pub stands : HasBox design d box
 
 -- the box is taken: a component will stay there, or it is a rectangle of a placement blockage
 abbrev pub IsTaken : DesignModel → List ℕ → RectModel → Type 0

@@ -13,8 +13,8 @@ use Rattle.leg_rules.specs.Legalise.Preference.{IsTurned}
 use Rattle.leg_rules.specs.Legalise.Start.{start_of, distance}
 
 -- the orientation that a component has
-abbrev pub orient_of : Option Place → Option Orient
-orient_of place = option_map (λ at. at.orient) place
+abbrev pub orient_if_placed : Option Place → Option Orient
+orient_if_placed place = option_map (λ at. at.orient) place
 
 -- an orientation is kept where it fits the row, and else becomes the row's; a component without one takes the row's
 abbrev pub Takes : Orient → Bool → Option Orient → Orient → Type 0
@@ -40,6 +40,6 @@ pub record IsPlacedOn (design : DesignModel) (c : ℕ) (position : Candidate) (p
   pub wide : master.size.width ≡ pos many *ℤ site.size.width
   pub within : pos (position.first + many) ≤ℤ row.count
   pub at : place.at ≡ record { x = row.at.x +ℤ pos position.first *ℤ site.size.width; y = row.at.y }
-  pub takes : Takes row.orient master.y_symmetric (orient_of component.place) place.orient
+  pub takes : Takes row.orient master.y_symmetric (orient_if_placed component.place) place.orient
   pub distance : position.distance ≡ distance place.at (start_of design.die component.place)
-  pub turned : IsTrue position.turned ↔ IsTurned row.orient master.y_symmetric (orient_of component.place)
+  pub turned : IsTrue position.turned ↔ IsTurned row.orient master.y_symmetric (orient_if_placed component.place)

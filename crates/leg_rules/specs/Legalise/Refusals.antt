@@ -26,13 +26,13 @@ ConcernsStaying design (TooNear a b) = ⊥
 ConcernsStaying design (OpenNet n k) = ⊥
 
 -- a violation of placement holds, and no component that moves can mend it
-pub record HoldsOfStaying (design : DesignModel) (fault : Fault) : Type 0 where
-  pub holds : IsPlacementViolation design.library design fault
+pub record IsStayingViolation (design : DesignModel) (fault : Fault) : Type 0 where
+  pub holds : IsPlacementViolation design fault
   pub staying : ConcernsStaying design fault
 
 -- no violation holds that concerns only components that stay
 abbrev pub NoneStaying : DesignModel → Type 0
-NoneStaying design = (fault : Fault) → ¬ HoldsOfStaying design fault
+NoneStaying design = (fault : Fault) → ¬ IsStayingViolation design fault
 
 -- a macro of this size is as high as a site of that size, and as wide as a number of them
 pub record FitsSites (site size : ExtentModel) : Type 0 where

@@ -16,4 +16,5 @@ pub record IsSameButForPlaces (before after : DesignModel) : Type 0 where
   pub rest : after ≡ record before { components = after.components }
   pub count : length after.components ≡ length before.components
   pub stays : (c : ℕ) → ¬ IsMovable before c → slice_get after.components c ≡ slice_get before.components c
-  pub moves : (c : ℕ) (old new : Component) → IsMovable before c → slice_get before.components c ≡ Some old → slice_get after.components c ≡ Some new → IsPlacedAnew old new
+  pub moves : (c : ℕ) (old new : Component) → IsMovable before c → slice_get before.components c ≡ Some old → slice_get after.components c ≡ Some new
+      → IsPlacedAnew old new

@@ -25,7 +25,7 @@ box_of library component = do
   Some (placed_box master.size place)
 
 -- component c of the design lies in this box
-pub record HasBox (library : LibraryModel) (design : DesignModel) (c : ℕ) (box : RectModel) : Type 0 where
+pub record HasBox (design : DesignModel) (c : ℕ) (box : RectModel) : Type 0 where
   pub component : Component
   pub there : slice_get design.components c ≡ Some component
-  pub placed : box_of library component ≡ Some box
+  pub placed : box_of design.library component ≡ Some box

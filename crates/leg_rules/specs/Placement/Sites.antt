@@ -44,13 +44,13 @@ pub record IsOnRow (library : LibraryModel) (master : MasterModel) (number : ℕ
   pub sites : IsOnSites row site.size (placed_box master.size place)
 
 -- component c is placed, its macro has a SITE, and it is on the sites of no row
-pub record IsOffSite (library : LibraryModel) (design : DesignModel) (c : ℕ) : Type 0 where
+pub record IsOffSite (design : DesignModel) (c : ℕ) : Type 0 where
   pub component : Component
   pub there : slice_get design.components c ≡ Some component
   pub place : Place
   pub placed : component.place ≡ Some place
   pub master : MasterModel
-  pub is_master : slice_get library.masters component.master ≡ Some master
+  pub is_master : slice_get design.library.masters component.master ≡ Some master
   pub number : ℕ
   pub site : master.site ≡ Some number
-  pub none : (row : Row) → Contains design.rows row → ¬ IsOnRow library master number place row
+  pub none : (row : Row) → Contains design.rows row → ¬ IsOnRow design.library master number place row

@@ -2,7 +2,6 @@
 -- rows, overlapping, and in a placement blockage. A component is the box of its macro, whose unit squares count.
 use Rattle.std.specs.Prelude.{◌≡◌, ℕ, ◌<◌, None, Some, Contains, slice_get}
 use Rattle.leg_geom.specs.Plane.{PointModel, RectModel, HasSquare, ShareSquare}
-use Rattle.leg_lib_records.specs.Records.{LibraryModel}
 use Rattle.leg_design_records.specs.Records.{DesignModel, placement_rects}
 use Rattle.leg_design_records.specs.Movable.{IsMovable}
 use Rattle.leg_design_records.specs.declared.records.Component.{Component}
@@ -18,39 +17,39 @@ pub record IsUnplaced (design : DesignModel) (c : ℕ) : Type 0 where
   pub unplaced : component.place ≡ None
 
 -- a unit square of the placed component c isn't one of the die
-pub record IsOutside (library : LibraryModel) (design : DesignModel) (c : ℕ) : Type 0 where
+pub record IsOutside (design : DesignModel) (c : ℕ) : Type 0 where
   pub box : RectModel
-  pub stands : HasBox library design c box
+  pub stands : HasBox design c box
   pub square : PointModel
   pub inside : HasSquare box square
   pub outside : ¬ HasSquare design.die square
 
 -- two placed components share a unit square; the lower number is given first
-pub record DoOverlap (library : LibraryModel) (design : DesignModel) (a b : ℕ) : Type 0 where
+pub record DoOverlap (design : DesignModel) (a b : ℕ) : Type 0 where
   pub in_order : a < b
   pub box_a : RectModel
   pub box_b : RectModel
-  pub stands_a : HasBox library design a box_a
-  pub stands_b : HasBox library design b box_b
+  pub stands_a : HasBox design a box_a
+  pub stands_b : HasBox design b box_b
   pub shared : ShareSquare box_a box_b
 
 -- component c, which may be moved, has a place where it shares a unit square with a rectangle of a placement blockage
-pub record IsBlocked (library : LibraryModel) (design : DesignModel) (c : ℕ) : Type 0 where
+pub record IsBlocked (design : DesignModel) (c : ℕ) : Type 0 where
   pub movable : IsMovable design c
   pub box : RectModel
-  pub stands : HasBox library design c box
+  pub stands : HasBox design c box
   pub rect : RectModel
   pub blocks : Contains (placement_rects design.blockages) rect
   pub shared : ShareSquare box rect
 
 -- a violation of placement holds
-pub data IsPlacementViolation (library : LibraryModel) (design : DesignModel) : Fault → Type 0 where
-  unplaced : {c : ℕ} → IsUnplaced design c → IsPlacementViolation library design (Unplaced c)
-  outside : {c : ℕ} → IsOutside library design c → IsPlacementViolation library design (Outside c)
-  off_site : {c : ℕ} → IsOffSite library design c → IsPlacementViolation library design (OffSite c)
-  overlap : {a b : ℕ} → DoOverlap library design a b → IsPlacementViolation library design (Overlap a b)
-  blocked : {c : ℕ} → IsBlocked library design c → IsPlacementViolation library design (Blocked c)
+pub data IsPlacementViolation (design : DesignModel) : Fault → Type 0 where
+  unplaced : {c : ℕ} → IsUnplaced design c → IsPlacementViolation design (Unplaced c)
+  outside : {c : ℕ} → IsOutside design c → IsPlacementViolation design (Outside c)
+  off_site : {c : ℕ} → IsOffSite design c → IsPlacementViolation design (OffSite c)
+  overlap : {a b : ℕ} → DoOverlap design a b → IsPlacementViolation design (Overlap a b)
+  blocked : {c : ℕ} → IsBlocked design c → IsPlacementViolation design (Blocked c)
 
 -- no violation of placement holds
 abbrev pub IsLegallyPlaced : DesignModel → Type 0
-IsLegallyPlaced design = (fault : Fault) → ¬ IsPlacementViolation design.library design fault
+IsLegallyPlaced design = (fault : Fault) → ¬ IsPlacementViolation design fault

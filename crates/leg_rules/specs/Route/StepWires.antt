@@ -13,16 +13,16 @@ use Rattle.leg_rules.specs.Route.Neighbours.{IsInLine, IsOver}
 abbrev pub half : ℤ → ℤ
 half width = halfway (pos 0) width
 
--- the square of this width about the point 0 0
+-- the square about the point 0 0 that reaches this far to each side
 abbrev pub square : ℤ → RectModel
-square width = record { x1 = pos 0 -ℤ half width; y1 = pos 0 -ℤ half width; x2 = half width; y2 = half width }
+square reach = record { x1 = pos 0 -ℤ reach; y1 = pos 0 -ℤ reach; x2 = reach; y2 = reach }
 
 -- a node adds the square of its layer's width
 pub record NodeAdds (design : DesignModel) (node : Node) (wire : Wire) : Type 0 where
   pub direction : Direction
   pub width : ℤ
   pub runs : Runs design.library node.layer direction width
-  pub is : wire ≡ Patch node.layer node.at (square width)
+  pub is : wire ≡ Patch node.layer node.at (square (half width))
 
 -- the segment of the layer's width from a to b, which reaches past both by half the width
 pub record IsLine (design : DesignModel) (a b : Node) (wire : Wire) : Type 0 where

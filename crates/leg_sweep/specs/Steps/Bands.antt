@@ -47,12 +47,15 @@ abbrev pub near_both_in_band : List RectModel → List Stretch → List Waiting 
 near_both_in_band rects stretches bands x y = share_band stretches x y && test_at (near_along_both (reach_at stretches bands x)) rects x y
 
 -- Each item is in bands of one reach. Two items for which the rule holds are in a common band, whose reach both gaps are within.
-pub record AreStretches {Item : Type 0} (Holds : Item → Item → Type 0) (rect_of : Item → RectModel) (items : List Item) (stretches : List Stretch) (bands : List Waiting) : Type 0 where
+pub record AreStretches {Item : Type 0} (Holds : Item → Item → Type 0) (rect_of : Item → RectModel) (items : List Item) (stretches : List Stretch)
+    (bands : List Waiting) : Type 0 where
   pub count : length stretches ≡ length items
   pub upward : (x : ℕ) → x < length items → (stretch_at stretches x).first ≤ (stretch_at stretches x).last
   pub there : (x : ℕ) → x < length items → (stretch_at stretches x).last < length bands
-  pub one_reach : (x k : ℕ) → x < length items → (stretch_at stretches x).first ≤ k → k ≤ (stretch_at stretches x).last → (waiting_at bands k).reach ≡ reach_at stretches bands x
-  pub meet : (p : ℕ × ℕ) → IsPair Holds items p → ((stretch_at stretches p.0).first ≤ (stretch_at stretches p.1).last) × ((stretch_at stretches p.1).first ≤ (stretch_at stretches p.0).last)
+  pub one_reach : (x k : ℕ) → x < length items → (stretch_at stretches x).first ≤ k → k ≤ (stretch_at stretches x).last
+      → (waiting_at bands k).reach ≡ reach_at stretches bands x
+  pub meet : (p : ℕ × ℕ) → IsPair Holds items p → ((stretch_at stretches p.0).first ≤ (stretch_at stretches p.1).last)
+      × ((stretch_at stretches p.1).first ≤ (stretch_at stretches p.0).last)
   pub in_reach : (x y : ℕ) → AreInReach Holds rect_of items (reach_at stretches bands x) x y
 
 -- what waits in a band after a new item began there
@@ -81,7 +84,8 @@ abbrev pub waiting_count : List Waiting → ℕ
 waiting_count bands = sum_by (λ band. length band.begun + length band.passing) bands
 
 -- A new item can visit the bands from the first to the last: it can meet those that wait there, none of which it would meet twice.
-pub record CanVisit {Item : Type 0} (Holds : Item → Item → Type 0) (rect_of : Item → RectModel) (items : List Item) (bands : List Waiting) (first last new : ℕ) : Type 0 where
+pub record CanVisit {Item : Type 0} (Holds : Item → Item → Type 0) (rect_of : Item → RectModel) (items : List Item) (bands : List Waiting)
+    (first last new : ℕ) : Type 0 where
   pub upward : first ≤ last
   pub there : last < length bands
   pub one_reach : (k : ℕ) → first ≤ k → k ≤ last → (waiting_at bands k).reach ≡ (waiting_at bands first).reach

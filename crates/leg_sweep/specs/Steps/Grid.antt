@@ -93,5 +93,6 @@ stretch_in bands rect = record {
 -- all bands of the first layers, in which no item waits
 pub record AreBandsBelow (reach_of : ℕ → ℕ) (grid : List LayerBands) (layers : ℕ) (bands : List Waiting) : Type 0 where
   pub many : length bands ≡ bands_below grid layers
-  pub each : (layer k : ℕ) → layer < layers → bands_below grid layer ≤ k → k < bands_below grid layer + (bands_at grid layer).count → waiting_at bands k ≡ empty_band (reach_of layer)
+  pub each : (layer k : ℕ) → layer < layers → bands_below grid layer ≤ k → k < bands_below grid layer + (bands_at grid layer).count
+      → waiting_at bands k ≡ empty_band (reach_of layer)
   pub empty : AreEmpty bands

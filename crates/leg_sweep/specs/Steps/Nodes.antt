@@ -17,7 +17,8 @@ members_of (Rect number) = 0
 -- Each node's members are among the nodes after it, and lie within its bounds.
 abbrev pub IsForest : List Node → Type 0
 IsForest [] = Unit {0}
-IsForest (node ∷ rest) = (members_of node.content ≤ length rest) × All (λ member. IsWithin member.bounds node.bounds) (take (members_of node.content) rest) × IsForest rest
+IsForest (node ∷ rest) =
+    (members_of node.content ≤ length rest) × All (λ member. IsWithin member.bounds node.bounds) (take (members_of node.content) rest) × IsForest rest
 
 -- the bounds are those of the rectangle with the number
 pub record HasBoundsOf (rects : List RectModel) (number : ℕ) (bounds : Bounds) : Type 0 where

@@ -40,10 +40,12 @@ pub record IsLeftToRight (rects : List RectModel) (order : List ℕ) : Type 0 wh
 -- If the rule holds of the items with these numbers, their gaps are within the reach.
 abbrev pub AreInReach : {Item : Type 0} → (Item → Item → Type 0) → (Item → RectModel) → List Item → ℕ → ℕ → ℕ → Type 0
 AreInReach {Item} Holds rect_of items reach x y =
-    (a b : Item) → slice_get items x ≡ Some a → slice_get items y ≡ Some b → Holds a b → (x_gap (rect_of a) (rect_of b) ≤ reach) × (y_gap (rect_of a) (rect_of b) ≤ reach)
+    (a b : Item) → slice_get items x ≡ Some a → slice_get items y ≡ Some b → Holds a b
+    → (x_gap (rect_of a) (rect_of b) ≤ reach) × (y_gap (rect_of a) (rect_of b) ≤ reach)
 
 -- waiting items, each once, and a new one that is none of them
-pub record CanMeet {Item : Type 0} (Holds : Item → Item → Type 0) (rect_of : Item → RectModel) (items : List Item) (reach : ℕ) (waiting : List ℕ) (new : ℕ) : Type 0 where
+pub record CanMeet {Item : Type 0} (Holds : Item → Item → Type 0) (rect_of : Item → RectModel) (items : List Item) (reach : ℕ) (waiting : List ℕ)
+    (new : ℕ) : Type 0 where
   pub new_in : new < length items
   pub waiting_in : All (λ x. x < length items) waiting
   pub others : All (λ x. x ≢ new) waiting
@@ -51,7 +53,8 @@ pub record CanMeet {Item : Type 0} (Holds : Item → Item → Type 0) (rect_of :
   pub in_reach : All (λ x. AreInReach Holds rect_of items reach x new) waiting
 
 -- The sink took the pairs that a new item makes with waiting ones, each once. They are no more than the tests that were made.
-pub record AreNewPairs {Sink : Type 0} (Takes : Sink → ℕ × ℕ → Sink → Type 0) (IsOne : ℕ × ℕ → Type 0) (waiting : List ℕ) (new tests : ℕ) (before after : Sink) : Type 0 where
+pub record AreNewPairs {Sink : Type 0} (Takes : Sink → ℕ × ℕ → Sink → Type 0) (IsOne : ℕ × ℕ → Type 0) (waiting : List ℕ) (new tests : ℕ)
+    (before after : Sink) : Type 0 where
   pub more : List (ℕ × ℕ)
   pub taken : TakesAll Takes before more after
   pub each : All IsOne more

@@ -24,7 +24,8 @@ fault_of Short = faults.Short
 fault_of TooNear = faults.TooNear
 
 -- the violation names one of the pairs, whose shapes pass the test
-pub record IsPairViolation (fault_of : ℕ → ℕ → Fault) (Test : Shape → Shape → Type 0) (shapes : List Shape) (pairs : List (ℕ × ℕ)) (fault : Fault) : Type 0 where
+pub record IsPairViolation (fault_of : ℕ → ℕ → Fault) (Test : Shape → Shape → Type 0) (shapes : List Shape) (pairs : List (ℕ × ℕ))
+    (fault : Fault) : Type 0 where
   pub p : ℕ × ℕ
   pub is : fault ≡ fault_of p.0 p.1
   pub among : Contains pairs p

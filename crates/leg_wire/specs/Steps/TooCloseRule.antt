@@ -38,7 +38,8 @@ AreClose-symmetric layers reach a b h = record {
   close = elim h.close [
     | inl s ↦ inl (SharePoint-symmetric a.rect b.rect s)
     | inr n ↦
-        let near : AreNearer (limit_at layers reach a.layer) b.rect a.rect = record { p = n.q; q = n.p; in_a = n.in_b; in_b = n.in_a; near = rw (square_distance-symmetric n.q n.p) n.near } in
+        let near : AreNearer (limit_at layers reach a.layer) b.rect a.rect =
+        record { p = n.q; q = n.p; in_a = n.in_b; in_b = n.in_a; near = rw (square_distance-symmetric n.q n.p) n.near } in
         inr (rw (← h.comparable.layer) near)
   ];
 }
@@ -63,7 +64,8 @@ AreCloserThan-gaps distance a b h =
     ]
 
 -- and so have shapes that are too close, within the spacing of their layer
-AreClose-near_limit : (layers : List Layer) (reach : ℕ) (a b : Shape) → AreClose layers reach a b → (x_gap a.rect b.rect ≤ limit_at layers reach a.layer) × (y_gap a.rect b.rect ≤ limit_at layers reach a.layer)
+AreClose-near_limit : (layers : List Layer) (reach : ℕ) (a b : Shape) → AreClose layers reach a b
+    → (x_gap a.rect b.rect ≤ limit_at layers reach a.layer) × (y_gap a.rect b.rect ≤ limit_at layers reach a.layer)
 AreClose-near_limit layers reach a b h = AreCloserThan-gaps (limit_at layers reach a.layer) a b h
 
 -- which is within the reach

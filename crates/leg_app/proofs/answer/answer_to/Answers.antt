@@ -17,5 +17,6 @@ returns-in-Err g c =
     let fault = c.in-Err.fault in
     let none = c.in-Err.ensures.none in
     ok_weaker _ _ c.refusal.result
-    (λ answer all. all lefs def (refuses_weaker {nothing = DenoteNoLibrary lefs def} {other = DenoteNothing lefs def} {much = ⊥} {more = ⊥} fault (nothing_under lefs def) (λ much. much) none) c.in-Err.ensures.units (master_of_none lefs def fault none))
+    (λ answer all. all lefs def (refuses_weaker {nothing = DenoteNoLibrary lefs def} {other = DenoteNothing lefs def} {much = ⊥} {more = ⊥} fault
+    (nothing_under lefs def) (λ much. much) none) c.in-Err.ensures.units (master_of_none lefs def fault none))
     c.refusal.ensures

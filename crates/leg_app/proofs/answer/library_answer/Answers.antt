@@ -6,7 +6,8 @@ use Rattle.leg_app.proofs.answer.library_answer.Goals as goal
 
 pub returns-in-Ok : goal.returns-in-Ok
 returns-in-Ok g c =
-    ok_weaker _ _ c.design_answer.result (λ answer all lefs just. all lefs c.args.def (say_under lefs c.args.def c.args.library.now c.in-Ok.design just c.in-Ok.ensures.found)) c.design_answer.ensures
+    ok_weaker _ _ c.design_answer.result (λ answer all lefs just. all lefs c.args.def
+    (say_under lefs c.args.def c.args.library.now c.in-Ok.design just c.in-Ok.ensures.found)) c.design_answer.ensures
 
 pub returns-in_ok-master-in-Err : goal.returns-in_ok-master-in-Err
 returns-in_ok-master-in-Err g c =
@@ -15,5 +16,6 @@ returns-in_ok-master-in-Err g c =
     (λ answer all lefs just. all lefs c.args.def
     (λ not_memory. no_design lefs c.args.def library just (c.in-Err.ensures.none (λ is. not_memory (c.behind_lefs.ensures.kind ∙ is))))
     tt
-    (λ not_memory other say. c.in_ok-master-in-Err.ensures ∙ (ap (λ l. needed_master l c.in-Err.fault.need) (sym (just.only other say)) ∙ ap (λ need. needed_master other need) (sym c.behind_lefs.ensures.need))))
+    (λ not_memory other say. c.in_ok-master-in-Err.ensures
+    ∙ (ap (λ l. needed_master l c.in-Err.fault.need) (sym (just.only other say)) ∙ ap (λ need. needed_master other need) (sym c.behind_lefs.ensures.need))))
     c.refusal.ensures

@@ -12,7 +12,9 @@ returns-in-Ok g c =
     let violations = checked.violations.items in
     ok_weaker _ _ c.listing.result
     (λ answer both lefs def say. record {
-      answer = listed_answer Check lefs def design.library design flat violations answer.status answer.text.items say c.in-Ok.ensures.flat c.in-Ok.ensures.list both.0;
+      answer =
+          listed_answer Check lefs def design.library design flat violations answer.status answer.text.items say c.in-Ok.ensures.flat
+          c.in-Ok.ensures.list both.0;
       explains = explains_listing design flat violations answer.status answer.reason answer.text.items _ both.1 both.0;
     })
     (ok_both _ _ c.listing.result (rw c.deref.ensures.value at c.listing.ensures.listed) c.listing.ensures.no_reason)

@@ -7,7 +7,12 @@ pub returns-in-Ok-clause-found : goal.returns-in-Ok-clause-found
 returns-in-Ok-clause-found g c =
     let design = c.in-Ok.design in
     ok_weaker _ _ c.violations_of.result
-    (λ found list lefs just. record { library = design.library; design = design; say = say_under lefs c.args.def c.args.library.now design just c.in-Ok.ensures.found; all = list })
+    (λ found list lefs just. record {
+      library = design.library;
+      design = design;
+      say = say_under lefs c.args.def c.args.library.now design just c.in-Ok.ensures.found;
+      all = list;
+    })
     c.violations_of.ensures.found
 
 pub returns-in-Ok-clause-refused : goal.returns-in-Ok-clause-refused
@@ -17,4 +22,5 @@ returns-in-Ok-clause-refused g c =
     c.violations_of.ensures.refused
 
 pub returns-in-Err-clause-refused : goal.returns-in-Err-clause-refused
-returns-in-Err-clause-refused g c = λ lefs just not_memory. no_design lefs c.args.def c.args.library.now just (c.in-Err.ensures.none (λ is. not_memory (c.behind_lefs.ensures.kind ∙ is)))
+returns-in-Err-clause-refused g c =
+    λ lefs just not_memory. no_design lefs c.args.def c.args.library.now just (c.in-Err.ensures.none (λ is. not_memory (c.behind_lefs.ensures.kind ∙ is)))

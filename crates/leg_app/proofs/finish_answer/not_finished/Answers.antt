@@ -46,7 +46,16 @@ pub returns-in_ok-text-in-Unfinished-clause-explains : goal.returns-in_ok-text-i
 returns-in_ok-text-in-Unfinished-clause-explains g c =
     let nets = c.as_slice-in-Unfinished.result.now in
     let lines = flat_map (unfinished_line c.args.design.now) nets in
-    rw c.unsolved-in-Unfinished.ensures (tt, (lines, length nets, c.in_ok-text-in-Unfinished.ensures ∙ in_one_row lines (codes "unfinished ") (decimal (length nets)) (codes "\n")), tt)
+    rw c.unsolved-in-Unfinished.ensures (
+      tt,
+      (
+        lines,
+        length nets,
+        c.in_ok-text-in-Unfinished.ensures
+            ∙ in_one_row lines (codes "unfinished ") (decimal (length nets)) (codes "\n"),
+      ),
+      tt,
+    )
 
 pub returns-in_ok-text-in-TooMany-clause-tells : goal.returns-in_ok-text-in-TooMany-clause-tells
 returns-in_ok-text-in-TooMany-clause-tells g c =

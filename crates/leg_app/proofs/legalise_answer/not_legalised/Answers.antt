@@ -9,9 +9,11 @@ returns-in_ok-text-in-FixedIllegal-clause-tells g c = λ refused.
 pub returns-in_ok-text-in-NoSite-clause-tells : goal.returns-in_ok-text-in-NoSite-clause-tells
 returns-in_ok-text-in-NoSite-clause-tells g c = λ refused.
     let why = rw c.in-NoSite.is at refused in
-    rw c.unsolved-in-NoSite.ensures (no_site why.0 why.1 why.2 (rw (c.as_slice-in-NoSite.ensures, c.in_ok-component-in-NoSite.ensures, c.component_name.ensures) at c.in_ok-text-in-NoSite.ensures))
+    rw c.unsolved-in-NoSite.ensures (no_site why.0 why.1 why.2
+    (rw (c.as_slice-in-NoSite.ensures, c.in_ok-component-in-NoSite.ensures, c.component_name.ensures) at c.in_ok-text-in-NoSite.ensures))
 
 pub returns-in_ok-text-in-NoRoom-clause-tells : goal.returns-in_ok-text-in-NoRoom-clause-tells
 returns-in_ok-text-in-NoRoom-clause-tells g c = λ refused.
     let why = rw c.in-NoRoom.is at refused in
-    rw c.unsolved-in-NoRoom.ensures (no_room why.0 why.1 why.2 (rw (c.as_slice-in-NoRoom.ensures, c.in_ok-component-in-NoRoom.ensures, c.component_name-in-NoRoom.ensures) at c.in_ok-text-in-NoRoom.ensures))
+    rw c.unsolved-in-NoRoom.ensures (no_room why.0 why.1 why.2
+    (rw (c.as_slice-in-NoRoom.ensures, c.in_ok-component-in-NoRoom.ensures, c.component_name-in-NoRoom.ensures) at c.in_ok-text-in-NoRoom.ensures))

@@ -23,6 +23,10 @@ loop-component-preserved g c =
 
 pub loop-component-init : goal.loop-component-init
 loop-component-init g c =
-    let first = ap iter_rest (ap zip_first c.into_iter-component-iterator.ensures.into_iter_gives ∙ c.zip-component-items.ensures.first) ∙ c.iter.ensures.rest ∙ c.components.ensures.is in
-    let second = ap (λ pairs. iter_rest (zip_second pairs)) c.into_iter-component-iterator.ensures.into_iter_gives ∙ c.zip-component-items.ensures.second.0 ∙ c.as_slice.ensures in
+    let first =
+    ap iter_rest (ap zip_first c.into_iter-component-iterator.ensures.into_iter_gives ∙ c.zip-component-items.ensures.first) ∙ c.iter.ensures.rest
+    ∙ c.components.ensures.is in
+    let second =
+    ap (λ pairs. iter_rest (zip_second pairs)) c.into_iter-component-iterator.ensures.into_iter_gives ∙ c.zip-component-items.ensures.second.0
+    ∙ c.as_slice.ensures in
     no_line_yet _ _ _ _ _ _ c.in_ok-text.ensures first second

@@ -17,7 +17,8 @@ returns-in_ok-text-in-GridTooLarge-clause-tells g c =
 pub returns-in_ok-text-in-Unroutable-clause-tells : goal.returns-in_ok-text-in-Unroutable-clause-tells
 returns-in_ok-text-in-Unroutable-clause-tells g c =
     let why = rw c.in-Unroutable.is at c.requires in
-    rw c.unsolved-in-Unroutable.ensures (unroutable why.1 why.2 (rw (c.as_slice-in-Unroutable.ensures, c.in_ok-net-in-Unroutable.ensures, c.net_name.ensures) at c.in_ok-text-in-Unroutable.ensures))
+    rw c.unsolved-in-Unroutable.ensures (unroutable why.1 why.2
+    (rw (c.as_slice-in-Unroutable.ensures, c.in_ok-net-in-Unroutable.ensures, c.net_name.ensures) at c.in_ok-text-in-Unroutable.ensures))
 
 pub returns-in_ok-text-in-TooMany-clause-tells : goal.returns-in_ok-text-in-TooMany-clause-tells
 returns-in_ok-text-in-TooMany-clause-tells g c =

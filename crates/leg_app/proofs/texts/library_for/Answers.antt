@@ -5,7 +5,8 @@ use Rattle.leg_app.proofs.Denotations.{no_units, no_scaled, only_scaled}
 use Rattle.leg_app.proofs.texts.library_for.Goals as goal
 
 pub returns-in-Err-clause-none : goal.returns-in-Err-clause-none
-returns-in-Err-clause-none g c = λ not_memory. no_units _ _ (says_nothing units_in c.args.def.now (c.in-Err.ensures.none (λ is. not_memory (c.behind_lefs.ensures.kind ∙ is))))
+returns-in-Err-clause-none g c =
+    λ not_memory. no_units _ _ (says_nothing units_in c.args.def.now (c.in-Err.ensures.none (λ is. not_memory (c.behind_lefs.ensures.kind ∙ is))))
 
 pub returns-in-Err-units-clause-none : goal.returns-in-Err-units-clause-none
 returns-in-Err-units-clause-none g c =

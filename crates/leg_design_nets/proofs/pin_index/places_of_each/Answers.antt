@@ -3,7 +3,7 @@ use Rattle.std.proofs.Common.{◌≡◌, ℕ, ◌<◌, ◌∷◌, [], List, leng
 use Rattle.std.proofs.lemmas.List.{get_or_default, take_all}
 use Rattle.leg_lex.specs.NameLookup.{place_of}
 use Rattle.leg_lib_records.specs.Records.{MasterModel}
-use Rattle.leg_design_nets.specs.Steps.Pins.{place_at, used_names, ArePinPlaces}
+use Rattle.leg_design_nets.specs.Steps.Pins.{place_in_tables, used_names, ArePinPlaces}
 use Rattle.leg_design_nets.proofs.PinTables.{pin_names, places_more}
 use Rattle.leg_design_nets.proofs.pin_index.places_of_each.Goals as goal
 
@@ -29,4 +29,4 @@ loop-m-preserved g c =
 pub returns : goal.returns
 returns g c =
     let masters = c.args.masters.now in
-    subst (λ (xs : List MasterModel). ArePinPlaces xs c.args.components.now (place_at c.loop-m.tables.items)) (take_all c.loop-m.m masters (omega arith)) c.loop-m.invariant.places
+    subst (λ (xs : List MasterModel). ArePinPlaces xs c.args.components.now (place_in_tables c.loop-m.tables.items)) (take_all c.loop-m.m masters (omega arith)) c.loop-m.invariant.places

@@ -11,7 +11,9 @@ use Rattle.leg_finish.proofs.finishing.add_all.Goals as goal
 
 pub totals_of-totals-requires : goal.totals_of-totals-requires
 totals_of-totals-requires g c =
-    let few = few_added c.args.design (map (λ wires. wires.items) c.args.lists.items) c.requires c.shapes_stay_as_many.ensures c.finished_design_is_same.ensures.wires c.design_is_sound.ensures.library c.design_is_sound.ensures.proper in
+    let few =
+    few_added c.args.design (map (λ wires. wires.items) c.args.lists.items) c.requires c.shapes_stay_as_many.ensures c.finished_design_is_same.ensures.wires
+    c.design_is_sound.ensures.library c.design_is_sound.ensures.proper in
     let same = sum_mapped c.args.lists.items (λ wires. wires.items) (λ (wires : List Wire). length wires) in
     rw c.deref.ensures.value (omega (arith, few, same))
 
@@ -20,7 +22,9 @@ with_all_wires-requires-clause-spelled g c =
     all_before c.args.lists.items (λ wires. wires.items) (All (IsWire c.args.design.library c.args.design.vias false)) c.requires.laid.spelled
 
 pub with_all_wires-requires-clause-few : goal.with_all_wires-requires-clause-few
-with_all_wires-requires-clause-few g c = few_wires c.args.design (map (λ wires. wires.items) c.args.lists.items) c.requires c.shapes_stay_as_many.ensures c.finished_design_is_same.ensures.wires c.design_is_sound.ensures.library c.design_is_sound.ensures.proper
+with_all_wires-requires-clause-few g c =
+    few_wires c.args.design (map (λ wires. wires.items) c.args.lists.items) c.requires c.shapes_stay_as_many.ensures c.finished_design_is_same.ensures.wires
+    c.design_is_sound.ensures.library c.design_is_sound.ensures.proper
 
 pub returns-in-Ok-clause-legal : goal.returns-in-Ok-clause-legal
 returns-in-Ok-clause-legal g c =
@@ -29,7 +33,8 @@ returns-in-Ok-clause-legal g c =
     let flat = c.every_design_has_a_flat.ensures in
     let proper : IsWellFormed (finished c.args.design lists) = rw is at c.design_is_sound-in-Ok.ensures.proper in
     let legal : IsLegal (finished c.args.design lists) =
-    legal_then c.args.design lists c.requires c.finished_design_is_legal.ensures c.placement_stays.ensures c.design_is_sound.ensures.proper proper c.shapes_stay_as_many.ensures flat.0 (rw is at flat.1) in
+    legal_then c.args.design lists c.requires c.finished_design_is_legal.ensures c.placement_stays.ensures c.design_is_sound.ensures.proper proper
+    c.shapes_stay_as_many.ensures flat.0 (rw is at flat.1) in
     rw is legal
 
 pub returns-in-Ok-clause-same : goal.returns-in-Ok-clause-same
@@ -49,7 +54,9 @@ returns-in-Ok-clause-totals g c =
     let same = sum_mapped c.args.lists.items (λ wires. wires.items) (λ (wires : List Wire). sum_by wire_length wires) in
     let same_vias = sum_mapped c.args.lists.items (λ wires. wires.items) (λ (wires : List Wire). count_by is_via wires) in
     rw c.in-Ok.ensures.added
-    (have_totals c.args.design lists c.totals_of-totals.result.length c.totals_of-totals.result.vias c.requires.laid.by_net.one_each (total ∙ sym same) (vias ∙ sym same_vias))
+    (have_totals c.args.design lists c.totals_of-totals.result.length c.totals_of-totals.result.vias c.requires.laid.by_net.one_each (total ∙ sym same)
+    (vias ∙ sym same_vias))
 
 pub returns-in-Ok-clause-few : goal.returns-in-Ok-clause-few
-returns-in-Ok-clause-few g c = rw c.in-Ok.ensures.added (few_shapes c.args.design (map (λ wires. wires.items) c.args.lists.items) c.requires c.shapes_stay_as_many.ensures)
+returns-in-Ok-clause-few g c =
+    rw c.in-Ok.ensures.added (few_shapes c.args.design (map (λ wires. wires.items) c.args.lists.items) c.requires c.shapes_stay_as_many.ensures)

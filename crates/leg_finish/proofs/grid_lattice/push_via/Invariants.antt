@@ -3,4 +3,5 @@ use Rattle.std.proofs.Common.{◌<◌, ℕ, All}
 use Rattle.leg_finish.proofs.grid_lattice.push_via.Given as goal
 
 abbrev pub invariant-loop-shape : goal.invariant-loop-shape
-invariant-loop-shape g l = (levels : ℕ) → l.level < levels → All (λ part. part.level < levels) l.fn.parts.items → All (λ part. part.level < levels) l.parts.items
+invariant-loop-shape g l =
+    (levels : ℕ) → l.level < levels → All (λ part. part.level < levels) l.fn.parts.items → All (λ part. part.level < levels) l.parts.items

@@ -26,10 +26,13 @@ loop-number-preserved g c =
     elim c.if-is_joined_as.branch [
       | then-is_joined_as+in_ok-add_slots_in w ↦
           rw (w.found-is, more)
-          (slots_more grid shapes meant (take i numbers) boxes slots done k shape there w.add_slots_in.new.found.boxes.items w.add_slots_in.new.found.slots.items
-          (c.is_joined_as.ensures.0 w.if-is_joined_as.true) w.in_ok-add_slots_in.ensures.added (rw w.in_ok-add_slots_in.was at (w.add_slots_in.ensures.within done.within))
+          (slots_more grid shapes meant (take i numbers) boxes slots done k shape there w.add_slots_in.new.found.boxes.items
+          w.add_slots_in.new.found.slots.items
+          (c.is_joined_as.ensures.0 w.if-is_joined_as.true) w.in_ok-add_slots_in.ensures.added
+          (rw w.in_ok-add_slots_in.was at (w.add_slots_in.ensures.within done.within))
           (rw w.in_ok-add_slots_in.was at (w.add_slots_in.ensures.boxed done.boxed)))
       | else-is_joined_as w ↦
           rw (w.found-is, more)
-          (slots_skip grid shapes meant (take i numbers) boxes slots done k shape there (λ has. true≢false (sym (c.is_joined_as.ensures.1 has) ∙ w.if-is_joined_as.false)))
+          (slots_skip grid shapes meant (take i numbers) boxes slots done k shape there
+          (λ has. true≢false (sym (c.is_joined_as.ensures.1 has) ∙ w.if-is_joined_as.false)))
     ]

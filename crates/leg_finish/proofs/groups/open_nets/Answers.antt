@@ -15,14 +15,16 @@ loop-shapes-init g c =
 
 pub push_if_open-requires-clause-shapes : goal.push_if_open-requires-clause-shapes
 push_if_open-requires-clause-shapes g c =
-    list_here c.args.flat.now c.loop-shapes.net (length c.args.design.now.nets) c.in-Some.shapes c.next.new.self.rest.items (rw c.in-Some.ensures.steps.0 at c.loop-shapes.invariant.lists)
+    list_here c.args.flat.now c.loop-shapes.net (length c.args.design.now.nets) c.in-Some.shapes c.next.new.self.rest.items
+    (rw c.in-Some.ensures.steps.0 at c.loop-shapes.invariant.lists)
 
 pub loop-shapes-preserved : goal.loop-shapes-preserved
 loop-shapes-preserved g c =
     let design = c.args.design.now in
     let net = c.loop-shapes.net in
     let more = c.next.new.self.rest.items in
-    let lists : AreListsFrom c.args.flat.now net (length design.nets) (c.in-Some.shapes ∷ more) = rw c.in-Some.ensures.steps.0 at c.loop-shapes.invariant.lists in
+    let lists : AreListsFrom c.args.flat.now net (length design.nets) (c.in-Some.shapes ∷ more) =
+    rw c.in-Some.ensures.steps.0 at c.loop-shapes.invariant.lists in
     let entry : net < length design.nets = let count = lists.count_is in omega (arith, count) in
     record {
       lists = lists_next c.args.flat.now net (length design.nets) c.in-Some.shapes more lists;
@@ -41,7 +43,9 @@ returns-clause-few g c =
     let rest = c.loop-shapes.shapes-iterator.rest in
     let none = c.in-None.ensures.steps.0 in
     let count = c.loop-shapes.invariant.lists.count_is in
-    let are = all_open c.args.design.now c.args.flat.now c.loop-shapes.net c.loop-shapes.found.items (omega (arith, none, rest.ok.0, count)) c.loop-shapes.invariant.found in
+    let are =
+    all_open c.args.design.now c.args.flat.now c.loop-shapes.net c.loop-shapes.found.items
+    (omega (arith, none, rest.ok.0, count)) c.loop-shapes.invariant.found in
     let open_ones = few_open c.args.design.now c.args.flat.now c.loop-shapes.found.items are in
     let entries = c.nets.ensures.proper.nets.few in
     omega (arith, open_ones, entries)

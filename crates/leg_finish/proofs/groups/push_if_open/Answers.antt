@@ -26,4 +26,8 @@ returns g c = λ design entry are.
     let any = rw c.deref.ensures.value at (c.is_open.ensures.0 yes) in
     rw c.in_ok-push.ensures.items
     (open_more c.args.net design flat c.args.found.now.items are _ refl
-    (record { is_open = open_by_firsts both design flat c.args.net firsts firsts_are entry any; shapes = c.requires.shapes; firsts = rw c.from_vec.ensures firsts_are }))
+    (record {
+      is_open = open_by_firsts both design flat c.args.net firsts firsts_are entry any;
+      shapes = c.requires.shapes;
+      firsts = rw c.from_vec.ensures firsts_are;
+    }))

@@ -16,6 +16,7 @@ loop-place-preserved g c =
     record {
       count = c.lay_net.ensures.count ∙ c.loop-place.invariant.count;
       laid = laid_next c.growth_goes_on.ensures c.more_wires_by_net.ensures design flat c.loop-place.flat c.lay_net.new.flat net.net
-          (map (λ wires. wires.items) c.loop-place.lists.items) (map (λ wires. wires.items) c.lay_net.new.lists.items) c.loop-place.invariant.laid with.is_open (c.in_ok-lay_net.ensures.laid yes);
+          (map (λ wires. wires.items) c.loop-place.lists.items)
+          (map (λ wires. wires.items) c.lay_net.new.lists.items) c.loop-place.invariant.laid with.is_open (c.in_ok-lay_net.ensures.laid yes);
       nets = c.in_ok-lay_net.ensures.nets yes ∙ c.loop-place.invariant.nets;
     }

@@ -38,10 +38,12 @@ loop-net-preserved g c =
 pub returns-in-Some : goal.returns-in-Some
 returns-in-Some g c =
     let found = rw (c.requires.of_design, c.in-Some.is) at c.in_ok-found.ensures.found in
-    first_of_all c.args.design.now c.args.flat.now c.args.nets.now c.requires.nets c.loop-net.net-index c.net-item.result c.loop-net-test.true c.net-item.is c.in-Some.piece c.loop-net.invariant.reached found
+    first_of_all c.args.design.now c.args.flat.now c.args.nets.now c.requires.nets c.loop-net.net-index c.net-item.result c.loop-net-test.true c.net-item.is
+    c.in-Some.piece c.loop-net.invariant.reached found
 
 pub returns : goal.returns
 returns g c =
     let nets = c.args.nets.now in
     let is_reached = λ (o : OpenNet g.row.A.Denot). IsReached c.args.design.now c.args.flat.now o in
-    all_reached c.args.design.now c.args.flat.now nets c.requires.nets (AllWithin-upto is_reached nets 0 c.loop-net.net-index _ c.loop-net-test.false c.loop-net.invariant.reached)
+    all_reached c.args.design.now c.args.flat.now nets c.requires.nets
+    (AllWithin-upto is_reached nets 0 c.loop-net.net-index _ c.loop-net-test.false c.loop-net.invariant.reached)

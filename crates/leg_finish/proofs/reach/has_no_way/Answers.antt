@@ -19,8 +19,10 @@ returns-clause-none g c =
     let sound = c.grid_is_sound.ensures.library in
     let told = c.requires.told in
     let found = rw (c.deref-3.ensures.value, c.deref-4.ensures.value) at c.in_ok-walk.ensures.found in
-    way_told grid flat net starts ends slots origin around (λ numbers is. law.shortest grid origin around flat slots net starts ends numbers proper sound told is)
-    (λ none. law.none grid origin around flat slots net starts ends proper sound told none) (λ v. v.items) c.in_ok-walk.walk c.is_none.result found c.is_none.ensures
+    way_told grid flat net starts ends slots origin around
+    (λ numbers is. law.shortest grid origin around flat slots net starts ends numbers proper sound told is)
+    (λ none. law.none grid origin around flat slots net starts ends proper sound told none)
+    (λ v. v.items) c.in_ok-walk.walk c.is_none.result found c.is_none.ensures
 
 pub returns-then-is_empty-clause-none : goal.returns-then-is_empty-clause-none
 returns-then-is_empty-clause-none g c =

@@ -8,11 +8,13 @@ use Rattle.leg_finish.proofs.reach.is_unreachable.Goals as goal
 
 pub group_slots-requires : goal.group_slots-requires
 group_slots-requires g c =
-    rw (c.shapes-shapes.ensures.is, c.as_slice-numbers.ensures) (numbers_within c.args.flat.now.shapes c.args.net.now.net c.args.net.now.shapes c.requires.is_open.shapes)
+    rw (c.shapes-shapes.ensures.is, c.as_slice-numbers.ensures)
+    (numbers_within c.args.flat.now.shapes c.args.net.now.net c.args.net.now.shapes c.requires.is_open.shapes)
 
 pub group_slots-requires-2 : goal.group_slots-requires-2
 group_slots-requires-2 g c =
-    rw (c.shapes-shapes.ensures.is, c.as_slice-numbers.ensures) (numbers_within c.args.flat.now.shapes c.args.net.now.net c.args.net.now.shapes c.requires.is_open.shapes)
+    rw (c.shapes-shapes.ensures.is, c.as_slice-numbers.ensures)
+    (numbers_within c.args.flat.now.shapes c.args.net.now.net c.args.net.now.shapes c.requires.is_open.shapes)
 
 pub returns-clause-unreachable : goal.returns-clause-unreachable
 returns-clause-unreachable g c =
@@ -34,7 +36,9 @@ returns-clause-unreachable g c =
     rw (c.shapes-shapes.ensures.is, c.as_slice-numbers.ensures, c.as_slice-firsts.ensures) at c.in_ok-starts.ensures in
     let to : AreSlotsOf grid flat.shapes (IsJoinedAs firsts first false) numbers far.boxes.items far.slots.items =
     rw (c.shapes-shapes.ensures.is, c.as_slice-numbers.ensures, c.as_slice-firsts.ensures) at c.in_ok-ends.ensures in
-    let same = same_way grid (λ n a b. law.apart grid n a b proper) (λ a is_node. law.some grid a proper is_node) flat net near.slots.items far.slots.items (MeetsJoinedTo flat net first)
+    let same =
+    same_way grid (λ n a b. law.apart grid n a b proper) (λ a is_node. law.some grid a proper is_node) flat net near.slots.items far.slots.items
+    (MeetsJoinedTo flat net first)
     (MeetsOthers flat net first) (starts_are flat net firsts is.firsts back onward first own numbers is.shapes grid near.boxes.items near.slots.items from)
     (ends_are flat net firsts is.firsts back onward first own numbers is.shapes grid far.boxes.items far.slots.items to) in
     let told = c.in_ok-none.ensures.none in (

@@ -10,6 +10,7 @@ loop-piece-preserved g c =
     let groups = c.loop-piece.groups.items in
     elim c.if-first-piece.branch [
       | then-first-piece+in_ok-group_of+in_ok-push w ↦
-          rw (w.groups-is, w.in_ok-push.ensures.items) (All-push (AreSlots (slot_total c.args.grid.now)) groups w.in_ok-group_of.field-0 c.loop-piece.invariant w.in_ok-group_of.ensures)
+          rw (w.groups-is, w.in_ok-push.ensures.items)
+          (All-push (AreSlots (slot_total c.args.grid.now)) groups w.in_ok-group_of.field-0 c.loop-piece.invariant w.in_ok-group_of.ensures)
       | else-first-piece w ↦ rw w.groups-is c.loop-piece.invariant
     ]

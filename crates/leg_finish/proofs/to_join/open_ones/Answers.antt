@@ -12,6 +12,7 @@ loop-number-preserved g c =
     let kept = c.loop-number.kept.items in
     elim c.if-admits.branch [
       | then-admits+in_ok-push w ↦
-          rw (w.kept-is, w.in_ok-push.ensures.items) (All-push within kept (get_or numbers i 0) c.loop-number.invariant (All-get_or within numbers i 0 c.loop-number-test.true c.requires))
+          rw (w.kept-is, w.in_ok-push.ensures.items)
+          (All-push within kept (get_or numbers i 0) c.loop-number.invariant (All-get_or within numbers i 0 c.loop-number-test.true c.requires))
       | else-admits w ↦ rw w.kept-is c.loop-number.invariant
     ]

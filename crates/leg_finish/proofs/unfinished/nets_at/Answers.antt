@@ -16,4 +16,5 @@ loop-place-preserved g c =
     let there : slice_get nets place ≡ Some one = slice_get_read nets (length nets) place one refl low c.index-nets-place.is in
     let same : one.net ≡ (get_or nets place one).net = rw (← c.index-nets-place.is) refl in
     let here : IsNetAt nets place (get_or nets place one).net = record { one = one; there = there; is = same } in
-    rw c.in_ok-push.ensures.items (all_zip_more (IsNetAt nets) places c.loop-place.numbers.items i place (get_or nets place one).net c.loop-place-test.true (get_or_default places i 0 place c.loop-place-test.true) c.loop-place.invariant here)
+    rw c.in_ok-push.ensures.items (all_zip_more (IsNetAt nets) places c.loop-place.numbers.items i place (get_or nets place one).net c.loop-place-test.true
+    (get_or_default places i 0 place c.loop-place-test.true) c.loop-place.invariant here)

@@ -11,7 +11,9 @@ invariant_of-result g c =
     let metal = metal_of c.args.design.now in
     let shapes = c.in_ok-shapes.shapes.items in
     record {
-      shapes = rw (same_length IsShapeOf metal shapes c.in_ok-shapes.ensures) at (counted_within (length metal) c.shape_count-count.result c.shape_count-count.ensures c.if-count-gt-PART_LIMIT.false);
+      shapes =
+          rw (same_length IsShapeOf metal shapes c.in_ok-shapes.ensures) at
+          (counted_within (length metal) c.shape_count-count.result c.shape_count-count.ensures c.if-count-gt-PART_LIMIT.false);
       nets = rw c.into_pieces.ensures c.in_ok-nets.ensures.nets;
       pieces = rw c.into_pieces.ensures c.in_ok-nets.ensures.pieces;
       of_nets = rw c.into_pieces.ensures (c.in_ok-nets.ensures.of_nets _);

@@ -9,7 +9,8 @@ use Rattle.leg_flat.proofs.metal.add_component.Goals as goal
 
 pub returns-in_default : goal.returns-in_default
 returns-in_default g c =
-    let none : slice_get c.args.design.now.library.masters c.args.component.now.master ≡ None = sym (rw c.in_default.is-1 at c.master_numbered-master.ensures) in
+    let none : slice_get c.args.design.now.library.masters c.args.component.now.master ≡ None =
+    sym (rw c.in_default.is-1 at c.master_numbered-master.ensures) in
     adds_same _ _ _ _ (no_master _ _ _ _ none) (adds_none c.args.shapes.now.items)
 
 pub returns-in_default-2 : goal.returns-in_default-2
@@ -17,17 +18,21 @@ returns-in_default-2 g c = adds_same _ _ _ _ (no_place _ _ _ _ c.in_default.is-0
 
 pub add_pins-requires-clause-within : goal.add_pins-requires-clause-within
 add_pins-requires-clause-within g c =
-    let there : slice_get c.args.design.now.library.masters c.args.component.now.master ≡ Some c.in-Some-Some.master.now = sym (rw c.in-Some-Some.is-1 at c.master_numbered-master.ensures) in
+    let there : slice_get c.args.design.now.library.masters c.args.component.now.master ≡ Some c.in-Some-Some.master.now =
+    sym (rw c.in-Some-Some.is-1 at c.master_numbered-master.ensures) in
     all_at IsSoundMaster c.args.design.now.library.masters c.args.component.now.master c.in-Some-Some.master.now there c.requires.sound.masters
 
 pub add_obstructions-requires-clause-within : goal.add_obstructions-requires-clause-within
 add_obstructions-requires-clause-within g c =
-    let there : slice_get c.args.design.now.library.masters c.args.component.now.master ≡ Some c.in-Some-Some.master.now = sym (rw c.in-Some-Some.is-1 at c.master_numbered-master.ensures) in
+    let there : slice_get c.args.design.now.library.masters c.args.component.now.master ≡ Some c.in-Some-Some.master.now =
+    sym (rw c.in-Some-Some.is-1 at c.master_numbered-master.ensures) in
     all_at IsSoundMaster c.args.design.now.library.masters c.args.component.now.master c.in-Some-Some.master.now there c.requires.sound.masters
 
 pub returns : goal.returns
 returns g c =
-    let there : slice_get c.args.design.now.library.masters c.args.component.now.master ≡ Some c.in-Some-Some.master.now = sym (rw c.in-Some-Some.is-1 at c.master_numbered-master.ensures) in
+    let there : slice_get c.args.design.now.library.masters c.args.component.now.master ≡ Some c.in-Some-Some.master.now =
+    sym (rw c.in-Some-Some.is-1 at c.master_numbered-master.ensures) in
     let of : master_of c.args.design.now c.args.number ≡ Some c.in-Some-Some.master.now = rw c.requires.there there in
     rw (c.in-Some-Some.is-0, there)
-    (on_ok c.add_obstructions.result _ _ (λ added. adds_both _ _ c.args.shapes.now.items _ c.add_obstructions.new.shapes.items (c.in_ok-add_pins.ensures c.args.design.now c.requires.nets of) added) c.add_obstructions.ensures)
+    (on_ok c.add_obstructions.result _ _ (λ added. adds_both _ _ c.args.shapes.now.items _ c.add_obstructions.new.shapes.items
+    (c.in_ok-add_pins.ensures c.args.design.now c.requires.nets of) added) c.add_obstructions.ensures)

@@ -19,9 +19,11 @@ loop-p-preserved g c =
     let there = read_at _ c.args.design.now.pins c.loop-p.p c.pin-item.result c.pins-pin-items.ensures.is c.loop-p-test.true c.pin-item.is in
     let ports : c.as_slice.result.now ≡ c.pin-item.result.ports = search rules in
     let belongs = c.of_design_pin-belongs.ensures c.args.design.now c.requires in
-    adds_at (design_pin_metal c.args.design.now) 0 c.args.design.now.pins c.args.shapes.now.items c.loop-p.p c.loop-p.p c.pin-item.result c.loop-p.shapes.items _ (sym (zero-add _)) there c.loop-p.invariant (rw (belongs, ports) at c.in_ok-add_ports.ensures)
+    adds_at (design_pin_metal c.args.design.now) 0 c.args.design.now.pins c.args.shapes.now.items c.loop-p.p c.loop-p.p c.pin-item.result
+    c.loop-p.shapes.items _ (sym (zero-add _)) there c.loop-p.invariant (rw (belongs, ports) at c.in_ok-add_ports.ensures)
 
 pub returns : goal.returns
 returns g c =
     let past = rw c.pins-pin-items.ensures.is at c.loop-p-test.false in
-    adds_all (design_pin_metal c.args.design.now) 0 c.args.design.now.pins c.args.shapes.now.items c.loop-p.p c.loop-p.shapes.items _ past (design_pins_walk _ _ _) c.loop-p.invariant
+    adds_all (design_pin_metal c.args.design.now) 0 c.args.design.now.pins c.args.shapes.now.items c.loop-p.p c.loop-p.shapes.items _ past
+    (design_pins_walk _ _ _) c.loop-p.invariant

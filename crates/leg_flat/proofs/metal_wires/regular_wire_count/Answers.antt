@@ -7,7 +7,8 @@ use Rattle.leg_flat.proofs.metal_wires.regular_wire_count.Goals as goal
 pub returns-in-Some : goal.returns-in-Some
 returns-in-Some g c =
     let net : NetModel = c.in-Some.net.now in
-    let there : slice_get c.nets.result.now c.args.n ≡ Some net = slice_get_read c.nets.result.now _ c.args.n net refl c.in-Some.ensures.lookup.3.0 c.in-Some.ensures.lookup.1 in
+    let there : slice_get c.nets.result.now c.args.n ≡ Some net =
+    slice_get_read c.nets.result.now _ c.args.n net refl c.in-Some.ensures.lookup.3.0 c.in-Some.ensures.lookup.1 in
     let entry : slice_get c.args.design.now.nets c.args.n ≡ Some net = rw (← c.nets.ensures.is) there in
     rw entry (ap length c.as_slice.ensures ∙ ap (λ (n : NetModel). length n.wires) c.net.view_is)
 

@@ -11,7 +11,8 @@ returns-then-number-of_library g c =
     let of_library = c.vias-of_library.ensures.is ∙ ap (λ (l : LibraryModel). l.vias) c.library.ensures.is in
     let h = c.get.ensures.lookup in
     record {
-      is = rw (← of_library, ← c.vias-of_design.ensures.is) (got_first c.vias-of_library.result.now c.vias-of_design.result.now c.args.number c.get.result c.if-number-of_library.true h.0 h.1);
+      is = rw (← of_library, ← c.vias-of_design.ensures.is)
+          (got_first c.vias-of_library.result.now c.vias-of_design.result.now c.args.number c.get.result c.if-number-of_library.true h.0 h.1);
       proper = c.vias-of_design.ensures.proper;
     }
 
@@ -20,6 +21,8 @@ returns-else-number-of_library g c =
     let of_library = c.vias-of_library.ensures.is ∙ ap (λ (l : LibraryModel). l.vias) c.library.ensures.is in
     let h = c.get-else-number-of_library.ensures.lookup in
     record {
-      is = rw (← of_library, ← c.vias-of_design.ensures.is) (got_second c.vias-of_library.result.now c.vias-of_design.result.now c.args.number c.get-else-number-of_library.result c.if-number-of_library.false h.0 h.1);
+      is = rw (← of_library, ← c.vias-of_design.ensures.is)
+          (got_second c.vias-of_library.result.now c.vias-of_design.result.now c.args.number c.get-else-number-of_library.result
+          c.if-number-of_library.false h.0 h.1);
       proper = c.vias-of_design.ensures.proper;
     }

@@ -7,11 +7,13 @@ pushed more before old x y is same made = cc
 
 pub returns-clause-pieces : goal.returns-clause-pieces
 returns-clause-pieces g c =
-    pushed _ c.nets.inside.pieces.items _ c.from_vec.result _ c.in_ok-push.ensures.items (ap (λ (n : NetsModel). n.pieces) c.nets.view_is) (c.from_vec.ensures ∙ c.in_ok-made.ensures.pieces)
+    pushed _ c.nets.inside.pieces.items _ c.from_vec.result _ c.in_ok-push.ensures.items (ap (λ (n : NetsModel). n.pieces) c.nets.view_is)
+    (c.from_vec.ensures ∙ c.in_ok-made.ensures.pieces)
 
 pub returns-clause-counts : goal.returns-clause-counts
 returns-clause-counts g c =
-    pushed _ c.nets.inside.counts.items _ c.in_ok-made.terminals _ c.in_ok-push-2.ensures.items (ap (λ (n : NetsModel). n.counts) c.nets.view_is) c.in_ok-made.ensures.count
+    pushed _ c.nets.inside.counts.items _ c.in_ok-made.terminals _ c.in_ok-push-2.ensures.items
+    (ap (λ (n : NetsModel). n.counts) c.nets.view_is) c.in_ok-made.ensures.count
 
 pub returns-clause-places : goal.returns-clause-places
 returns-clause-places g c = c.in_ok-made.ensures.places

@@ -6,4 +6,5 @@ use Rattle.leg_flat.proofs.nets.add_wires.Goals as goal
 
 pub loop-wire-preserved : goal.loop-wire-preserved
 loop-wire-preserved g c =
-    rw (c.in_ok-push.ensures.items, c.loop-wire.invariant, map-range_with_len_more Wire 0 c.loop-wire.wire c.loop-wire.wire (omega arith)) (append_assoc c.args.pieces.now.items (map Wire (range_with_len 0 c.loop-wire.wire)) (Wire c.loop-wire.wire ∷ []))
+    rw (c.in_ok-push.ensures.items, c.loop-wire.invariant, map-range_with_len_more Wire 0 c.loop-wire.wire c.loop-wire.wire (omega arith))
+    (append_assoc c.args.pieces.now.items (map Wire (range_with_len 0 c.loop-wire.wire)) (Wire c.loop-wire.wire ∷ []))

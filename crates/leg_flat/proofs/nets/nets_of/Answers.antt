@@ -6,7 +6,8 @@ use Rattle.leg_flat.proofs.nets.nets_of.Goals as goal
 pub loop-n-init : goal.loop-n-init
 loop-n-init g c = record {
   below =
-      nets_started c.args.design.now c.new-2.result.items c.new-3.result.items c.new-4.result c.in_ok-special.special.items c.new-2.ensures.items c.new-3.ensures.items c.new-4.ensures;
+      nets_started c.args.design.now c.new-2.result.items c.new-3.result.items c.new-4.result c.in_ok-special.special.items c.new-2.ensures.items
+      c.new-3.ensures.items c.new-4.ensures;
   special = rw c.in_ok-index.ensures at c.in_ok-special.ensures;
 }
 
@@ -25,7 +26,8 @@ loop-n-preserved g c =
 
 pub returns-clause-is : goal.returns-clause-is
 returns-clause-is g c =
-    let all : c.loop-n.n ≡ length c.args.design.now.nets + length c.args.design.now.special = omega (arith, ap length c.nets.ensures.is, ap length c.special.ensures.is, c.loop-n-test.false, c.loop-n.auto.n-end) in
+    let all : c.loop-n.n ≡ length c.args.design.now.nets + length c.args.design.now.special =
+    omega (arith, ap length c.nets.ensures.is, ap length c.special.ensures.is, c.loop-n-test.false, c.loop-n.auto.n-end) in
     nets_done c.args.design.now c.nets.ensures.proper.nets c.loop-n.n _ all c.loop-n.invariant.below c.loop-n.invariant.special
 
 pub returns-clause-nets : goal.returns-clause-nets

@@ -15,12 +15,14 @@ loop-each-init g c = none_moved _ _ c.requires.zero
 
 pub bounds-components-number : goal.bounds-components-number
 bounds-components-number g c =
-    let can : CanTake c.args.design.now c.each-item.result = can_take_next c.args.design.now c.args.taken.now c.loop-each.each-index c.each-item.result c.requires.can c.loop-each-test.true c.each-item.is in
+    let can : CanTake c.args.design.now c.each-item.result =
+    can_take_next c.args.design.now c.args.taken.now c.loop-each.each-index c.each-item.result c.requires.can c.loop-each-test.true c.each-item.is in
     omega (arith, can.number, ap length c.components.ensures.is)
 
 pub bounds-distances-number : goal.bounds-distances-number
 bounds-distances-number g c =
-    let can : CanTake c.args.design.now c.each-item.result = can_take_next c.args.design.now c.args.taken.now c.loop-each.each-index c.each-item.result c.requires.can c.loop-each-test.true c.each-item.is in
+    let can : CanTake c.args.design.now c.each-item.result =
+    can_take_next c.args.design.now c.args.taken.now c.loop-each.each-index c.each-item.result c.requires.can c.loop-each-test.true c.each-item.is in
     omega (arith, can.number, c.loop-each.invariant.count)
 
 pub loop-each-preserved : goal.loop-each-preserved
@@ -33,9 +35,13 @@ loop-each-preserved g c =
     let d = c.distance.result in
     let can : CanTake design next = can_take_next design taken i next c.requires.can c.loop-each-test.true c.each-item.is in
     let here : component ≡ get_or design.components next.number component = rw c.components.ensures.is at c.index-components-number.is in
-    let there : slice_get design.components next.number ≡ Some component = slice_get_read design.components (length design.components) next.number component refl can.number here in
-    let start : c.start_of-start.result ≡ start_of design.die component.place = c.start_of-start.ensures ∙ ap (λ (x : Component). start_of design.die x.place) (sym c.index-components-number.is) in
-    let is : d ≡ pos (distance next.place.at (start_of design.die component.place)) = c.distance.ensures.is ∙ ap (λ (s : PointModel). pos (distance next.place.at s)) start in
+    let there : slice_get design.components next.number ≡ Some component =
+    slice_get_read design.components (length design.components) next.number component refl can.number here in
+    let start : c.start_of-start.result ≡ start_of design.die component.place =
+    c.start_of-start.ensures ∙ ap (λ (x : Component). start_of design.die x.place) (sym c.index-components-number.is) in
+    let is : d ≡ pos (distance next.place.at (start_of design.die component.place)) =
+    c.distance.ensures.is ∙ ap (λ (s : PointModel). pos (distance next.place.at s)) start in
     let same : to_z w64 (of_z w64 d) ≡ d = kept d c.distance.ensures.within in
     rw (same, placed_next design taken i next c.loop-each-test.true c.each-item.is)
-    (one_more design (placed_all design (take i taken)) c.loop-each.distances next component d there is c.distance.ensures.within (same_count design (take i taken)) c.loop-each.invariant)
+    (one_more design (placed_all design (take i taken)) c.loop-each.distances next component d there is c.distance.ensures.within
+    (same_count design (take i taken)) c.loop-each.invariant)

@@ -11,7 +11,8 @@ returns-clause-chosen g c =
     let empty : length c.as_slice.result.now ≡ 0 = eqb-true (length c.as_slice.result.now) 0 (sym c.if-not-is_empty.ensures) in
     let none : c.in_ok-staying.staying.items ≡ [] = sym c.as_slice.ensures.value ∙ none_there c.as_slice.result.now empty in
     let staying = staying_from_none c.args.design.now c.in_ok-staying.staying.items c.in_ok-staying.ensures none in
-    IfOk-weaker c.take_all.result _ _ (λ taken r. chosen_run c.args.design.now taken.items c.requires.proper c.requires.sound staying c.requires.illegal r) c.take_all.ensures.run
+    IfOk-weaker c.take_all.result _ _ (λ taken r. chosen_run c.args.design.now taken.items c.requires.proper c.requires.sound staying c.requires.illegal r)
+    c.take_all.ensures.run
 
 pub returns-clause-refused : goal.returns-clause-refused
 returns-clause-refused g c =

@@ -47,7 +47,8 @@ place_in-requires-clause-within g c =
     let row_is : row ≡ cand.row = same_Some row cand.row (sym there ∙ cand.there) in
     let some = some_many design c.rows-rows.ensures.proper c.requires.c wanted c.requires.asks c.requires.boxes free c.requires.known in
     let number : IsNumber (cand.row.at.x +ℤ pos found.first *ℤ wanted.site_width) =
-    site_within design c.rows-rows.ensures.proper c.requires.c wanted c.requires.asks c.requires.boxes free c.requires.known found.row cand.row cand.there cand.same cand.stretches cand.known
+    site_within design c.rows-rows.ensures.proper c.requires.c wanted c.requires.asks c.requires.boxes free c.requires.known found.row cand.row cand.there
+    cand.same cand.stretches cand.known
     found.first (cand.sites found.first (omega arith) (omega (arith, some))) in
     rw row_is number
 
@@ -88,5 +89,6 @@ returns-in-Some-clause-position g c =
     let row_is : row ≡ cand.row = same_Some row cand.row (sym there ∙ cand.there) in
     let at : c.place_in.result.at ≡ record { x = cand.row.at.x +ℤ pos found.first *ℤ wanted.site_width; y = cand.row.at.y } =
     c.place_in.ensures.at ∙ ap (λ (r : Row). record { x = r.at.x +ℤ pos found.first *ℤ wanted.site_width; y = r.at.y }) row_is in
-    position_of design c.rows-rows.ensures.proper c.requires.c wanted c.requires.asks c.requires.boxes free c.requires.known found.row cand.row cand.there cand.same cand.stretches cand.known
+    position_of design c.rows-rows.ensures.proper c.requires.c wanted c.requires.asks c.requires.boxes free c.requires.known found.row cand.row cand.there
+    cand.same cand.stretches cand.known
     found.first cand.sites c.place_in.result at

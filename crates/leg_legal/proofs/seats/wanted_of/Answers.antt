@@ -1,7 +1,7 @@
 -- What the component, its macro and its site say.
 use Rattle.std.proofs.Common.{◌≡◌, ◌<◌, ◌/◌, length, slice_get, Some, unsigned_abs, refl, sym, ap, ◌∙◌}
 use Rattle.std.proofs.lemmas.Option.{slice_get_within, slice_get_read}
-use Rattle.leg_rules.specs.Legalise.Places.{orient_of}
+use Rattle.leg_rules.specs.Legalise.Places.{orient_if_placed}
 use Rattle.leg_design_records.proofs.ComponentMacro.{component_read, master_read}
 use Rattle.leg_legal.proofs.BestSeat.{site_inside, wanted_is}
 use Rattle.leg_legal.proofs.seats.wanted_of.Goals as goal
@@ -27,7 +27,8 @@ returns g c =
     let below_read : number < length c.sites.result.now = rw sites_are below in
     let is_site : slice_get design.library.sites number ≡ Some site =
     rw (← sites_are) (slice_get_read c.sites.result.now _ number site refl below_read c.index-sites-site_number.is) in
-    wanted_is design c.args.number m c.requires.suited component there master is_master number same site is_site c.wanted_with.ensures.area c.wanted_with.ensures.has_area
+    wanted_is design c.args.number m c.requires.suited component there master is_master number same site is_site c.wanted_with.ensures.area
+    c.wanted_with.ensures.has_area
     c.wanted_with.result
     (c.wanted_with.ensures.is
     ∙ (λ i. record {
@@ -35,6 +36,6 @@ returns g c =
       site = number;
       site_width = site.size.width;
       many = unsigned_abs master.size.width / unsigned_abs site.size.width;
-      orient = orient_of component.place;
+      orient = orient_if_placed component.place;
       y_symmetric = master.y_symmetric;
     }))

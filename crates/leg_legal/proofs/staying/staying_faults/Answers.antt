@@ -5,4 +5,4 @@ use Rattle.leg_legal.proofs.staying.staying_faults.Goals as goal
 pub returns : goal.returns
 returns g c =
     staying_list c.args.design.now c.in_ok-marks.marks.items c.in_ok-marks.ensures c.in_ok-faults.faults.items
-    (rw (c.deref.ensures.value, c.requires) at c.in_ok-faults.ensures)
+    (rw c.deref.ensures.value at c.in_ok-faults.ensures)

@@ -22,7 +22,8 @@ returns-in-Err-clause-refused g c =
     let key : TurnKey = get_or keys i (record { narrow = pos 0; x = pos 0; number = 0 }) in
     let is : key ≡ get_or keys i key = get_or_default keys i (record { narrow = pos 0; x = pos 0; number = 0 }) key within in
     let u = c.loop-i.invariant in
-    taking_fault_of c.args.design.now keys c.requires.order i key within is c.loop-i.taken.items c.loop-i.free u c.in-Err.fault (c.in-Err.ensures.refused u.known.boxes u.known.known)
+    taking_fault_of c.args.design.now keys c.requires.order i key within is c.loop-i.taken.items c.loop-i.free u c.in-Err.fault
+    (c.in-Err.ensures.refused u.known.boxes u.known.known)
 
 pub loop-i-preserved : goal.loop-i-preserved
 loop-i-preserved g c =
@@ -33,8 +34,10 @@ loop-i-preserved g c =
     let is : key ≡ get_or keys i key = get_or_default keys i (record { narrow = pos 0; x = pos 0; number = 0 }) key within in
     let u = c.loop-i.invariant in
     rw c.in_ok-push.ensures.items
-    (next_taken c.args.design.now keys c.requires.order i key within is c.loop-i.taken.items c.loop-i.free u c.in-Ok.place c.seat.new.free c.in-Ok.ensures.position
+    (next_taken c.args.design.now keys c.requires.order i key within is c.loop-i.taken.items c.loop-i.free u c.in-Ok.place c.seat.new.free
+    c.in-Ok.ensures.position
     (c.in-Ok.ensures.seated u.known.boxes u.known.known))
 
 pub returns-clause-taken : goal.returns-clause-taken
-returns-clause-taken g c = all_taken c.args.design.now c.args.keys.now c.requires.order c.loop-i.i c.loop-i.taken.items c.loop-i.free (omega arith) c.loop-i.invariant
+returns-clause-taken g c =
+    all_taken c.args.design.now c.args.keys.now c.requires.order c.loop-i.i c.loop-i.taken.items c.loop-i.free (omega arith) c.loop-i.invariant

@@ -8,7 +8,8 @@ use Rattle.leg_legal.proofs.turns.turn_key.Goals as goal
 
 pub overflow_cast-number : goal.overflow_cast-number
 overflow_cast-number g c =
-    let within : c.args.number < length c.args.design.now.components = slice_get_within c.args.design.now.components c.args.number c.requires.component c.requires.there in
+    let within : c.args.number < length c.args.design.now.components =
+    slice_get_within c.args.design.now.components c.args.number c.requires.component c.requires.there in
     let few : length c.args.design.now.components ≤ ENTRY_LIMIT = c.components.ensures.proper.components.few in
     omega (arith, within, few)
 

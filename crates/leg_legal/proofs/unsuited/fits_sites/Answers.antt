@@ -11,4 +11,5 @@ returns c =
     let high : size.height ≡ site.height = omega (arith, ints, c.height.ensures.is, c.height-2.ensures.is) in
     let first : c.unsigned_abs.result ≡ unsigned_abs size.width = omega (arith, ints, c.unsigned_abs.ensures.value, c.width.ensures.is) in
     let second : c.unsigned_abs-2.result ≡ unsigned_abs site.width = omega (arith, ints, c.unsigned_abs-2.ensures.value, c.width-2.ensures.is) in
-    fits_test site size c.width-2.ensures.proper.area c.width.ensures.proper.area (c.unsigned_abs.result % c.unsigned_abs-2.result) high (rw (first, second) refl)
+    fits_test site size c.width-2.ensures.proper.area c.width.ensures.proper.area (c.unsigned_abs.result % c.unsigned_abs-2.result) high
+    (rw (first, second) refl)

@@ -31,7 +31,8 @@ loop-row-preserved g c =
     let at : slice_get design.rows c.loop-row.row-index ≡ Some row =
     rw (← c.rows-row-items.ensures.is) (slice_get_read c.rows-row-items.result.now _ c.loop-row.row-index row refl (omega arith) c.row-item.is) in
     let is_row = all_at (IsRow design.library) design.rows c.loop-row.row-index row c.rows-row-items.ensures.proper.rows at in
-    marks_of_more design c.loop-row.row-index row at c.loop-row.marks.items c.loop-row.invariant (slice_get_within design.library.sites row.site is_row.site is_row.there)
+    marks_of_more design c.loop-row.row-index row at c.loop-row.marks.items c.loop-row.invariant
+    (slice_get_within design.library.sites row.site is_row.site is_row.there)
 
 pub returns : goal.returns
 returns g c =

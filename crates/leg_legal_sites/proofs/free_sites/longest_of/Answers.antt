@@ -12,7 +12,8 @@ none = record { from = 0; end = 0 }
 pub returns : goal.returns
 returns c =
     let all = c.loop-stretch-test.false in
-    measured c.args.stretches.now c.loop-stretch.longest c.requires (λ i d within. c.loop-stretch.invariant i (get_or c.args.stretches.now i d) (omega (arith, all, within)) (slice_get-get_or c.args.stretches.now i d within))
+    measured c.args.stretches.now c.loop-stretch.longest c.requires
+    (λ i d within. c.loop-stretch.invariant i (get_or c.args.stretches.now i d) (omega (arith, all, within)) (slice_get-get_or c.args.stretches.now i d within))
 
 pub loop-stretch-preserved : goal.loop-stretch-preserved
 loop-stretch-preserved c n s below at =

@@ -9,4 +9,6 @@ pub returns : goal.returns
 returns c =
     let order = c.args.order.now in
     let wanted = c.args.wanted.now in
-    split_from_point order wanted c.partition_point.result c.partition_point.ensures.bound (IsPartitionPoint-from_clause (λ key. is_lower key wanted) order _ c.partition_point.ensures.partitioned (lower_partitioned order wanted c.requires) (λ a r q k. search rules))
+    split_from_point order wanted c.partition_point.result c.partition_point.ensures.bound
+    (IsPartitionPoint-from_clause (λ key. is_lower key wanted) order _ c.partition_point.ensures.partitioned (lower_partitioned order wanted c.requires)
+    (λ a r q k. search rules))

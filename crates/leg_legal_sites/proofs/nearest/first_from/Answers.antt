@@ -10,7 +10,9 @@ use Rattle.leg_legal_sites.proofs.nearest.first_from.Goals as goal
 pub loop-i-init : goal.loop-i-init
 loop-i-init c =
     let free = c.args.free.now in
-    passed_none free c.args.many c.args.least _ c.requires.some (IsPartitionPoint-from_clause (λ s. nat_le s.end c.args.least) free _ c.partition_point-start.ensures.partitioned (ends_partitioned free c.args.least c.requires.stretches) (λ a r q k. search rules))
+    passed_none free c.args.many c.args.least _ c.requires.some
+    (IsPartitionPoint-from_clause (λ s. nat_le s.end c.args.least) free _ c.partition_point-start.ensures.partitioned
+    (ends_partitioned free c.args.least c.requires.stretches) (λ a r q k. search rules))
 
 pub returns-then-saturating_sub-many : goal.returns-then-saturating_sub-many
 returns-then-saturating_sub-many c =
@@ -20,7 +22,8 @@ returns-then-saturating_sub-many c =
     let within : i < length free = omega arith in
     let first : c.max-first.result ≡ max s.from c.args.least = c.max-first.ensures in
     let long : c.args.many ≤ s.end - max s.from c.args.least = omega arith in
-    rw first (first_found free c.args.many c.args.least i s c.requires.stretches c.requires.some (slice_get-get_or free i (record { from = 0; end = 0 }) within) long c.loop-i.invariant)
+    rw first (first_found free c.args.many c.args.least i s c.requires.stretches c.requires.some
+    (slice_get-get_or free i (record { from = 0; end = 0 }) within) long c.loop-i.invariant)
 
 pub loop-i-preserved : goal.loop-i-preserved
 loop-i-preserved c =

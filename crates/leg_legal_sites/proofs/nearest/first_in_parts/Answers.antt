@@ -9,7 +9,8 @@ returns-in-Some g c =
     let parts = c.args.parts.now in
     let i = c.loop-i.i in
     let at = slice_get_read parts _ i c.index-parts-i.result refl (omega arith) c.index-parts-i.is in
-    first_in_all parts c.requires.in_row c.args.many c.requires.some c.args.least i c.in-Some.first c.index-parts-i.result c.loop-i.invariant at c.in-Some.ensures
+    first_in_all parts c.requires.in_row c.args.many c.requires.some c.args.least i c.in-Some.first c.index-parts-i.result c.loop-i.invariant at
+    c.in-Some.ensures
 
 pub loop-i-preserved : goal.loop-i-preserved
 loop-i-preserved g c =

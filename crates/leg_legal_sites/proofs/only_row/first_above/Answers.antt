@@ -7,4 +7,6 @@ use Rattle.leg_legal_sites.proofs.only_row.first_above.Goals as goal
 pub returns : goal.returns
 returns c =
     let order = c.args.order.now in
-    upto_from_point order c.args.y c.partition_point.result (IsPartitionPoint-from_clause (λ key. int_le key.y c.args.y) order _ c.partition_point.ensures.partitioned (upto_partitioned order c.args.y c.requires) (λ a r q k. search rules))
+    upto_from_point order c.args.y c.partition_point.result
+    (IsPartitionPoint-from_clause (λ key. int_le key.y c.args.y) order _ c.partition_point.ensures.partitioned (upto_partitioned order c.args.y c.requires)
+    (λ a r q k. search rules))

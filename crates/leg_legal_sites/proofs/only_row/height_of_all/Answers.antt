@@ -18,7 +18,8 @@ bounds-rows-order g c = rw c.rows.ensures.is (key_within c.args.design.now.rows 
 
 pub offset_bounds-rows-order : goal.offset_bounds-rows-order
 offset_bounds-rows-order g c =
-    let below : (get_or c.args.order.now 0 nowhere).row < length c.rows.result.now = rw c.rows.ensures.is (key_within c.args.design.now.rows c.args.order.now 0 c.requires.order c.requires.some) in
+    let below : (get_or c.args.order.now 0 nowhere).row < length c.rows.result.now =
+    rw c.rows.ensures.is (key_within c.args.design.now.rows c.args.order.now 0 c.requires.order c.requires.some) in
     omega (arith, below)
 
 pub bounds-sites-row : goal.bounds-sites-row
@@ -27,7 +28,8 @@ bounds-sites-row g c =
     let number = (get_or c.args.order.now 0 nowhere).row in
     let row = c.index-rows-order.result in
     let below : number < length design.rows = key_within design.rows c.args.order.now 0 c.requires.order c.requires.some in
-    let at : slice_get design.rows number ≡ Some row = rw (← c.rows.ensures.is) (slice_get_read c.rows.result.now _ number row refl (rw c.rows.ensures.is below) c.index-rows-order.is) in
+    let at : slice_get design.rows number ≡ Some row =
+    rw (← c.rows.ensures.is) (slice_get_read c.rows.result.now _ number row refl (rw c.rows.ensures.is below) c.index-rows-order.is) in
     let is_row = of_all (IsRow design.library) design.rows number row c.rows.ensures.proper.rows at in
     let same : c.sites.result.now ≡ design.library.sites = c.sites.ensures ∙ ap (λ l. l.sites) c.library.ensures.is in
     rw same (slice_get_within design.library.sites row.site is_row.site is_row.there)
@@ -38,7 +40,8 @@ offset_bounds-sites-row g c =
     let number = (get_or c.args.order.now 0 nowhere).row in
     let row = c.index-rows-order.result in
     let below : number < length design.rows = key_within design.rows c.args.order.now 0 c.requires.order c.requires.some in
-    let at : slice_get design.rows number ≡ Some row = rw (← c.rows.ensures.is) (slice_get_read c.rows.result.now _ number row refl (rw c.rows.ensures.is below) c.index-rows-order.is) in
+    let at : slice_get design.rows number ≡ Some row =
+    rw (← c.rows.ensures.is) (slice_get_read c.rows.result.now _ number row refl (rw c.rows.ensures.is below) c.index-rows-order.is) in
     let is_row = of_all (IsRow design.library) design.rows number row c.rows.ensures.proper.rows at in
     let same : c.sites.result.now ≡ design.library.sites = c.sites.ensures ∙ ap (λ l. l.sites) c.library.ensures.is in
     let room : row.site < length c.sites.result.now = rw same (slice_get_within design.library.sites row.site is_row.site is_row.there) in
@@ -56,15 +59,18 @@ returns g c =
     let row : Row = c.index-rows-order.result in
     let site : Site = c.index-sites-row.result in
     let below : first.row < length design.rows = key_within design.rows order 0 c.requires.order some in
-    let at : slice_get design.rows first.row ≡ Some row = rw (← c.rows.ensures.is) (slice_get_read c.rows.result.now _ first.row row refl (rw c.rows.ensures.is below) c.index-rows-order.is) in
+    let at : slice_get design.rows first.row ≡ Some row =
+    rw (← c.rows.ensures.is) (slice_get_read c.rows.result.now _ first.row row refl (rw c.rows.ensures.is below) c.index-rows-order.is) in
     let is_row = of_all (IsRow design.library) design.rows first.row row c.rows.ensures.proper.rows at in
     let same : c.sites.result.now ≡ design.library.sites = c.sites.ensures ∙ ap (λ l. l.sites) c.library.ensures.is in
     let within : row.site < length c.sites.result.now = rw same (slice_get_within design.library.sites row.site is_row.site is_row.there) in
-    let sited : slice_get design.library.sites row.site ≡ Some site = rw (← same) (slice_get_read c.sites.result.now _ row.site site refl within c.index-sites-row.is) in
+    let sited : slice_get design.library.sites row.site ≡ Some site =
+    rw (← same) (slice_get_read c.sites.result.now _ row.site site refl within c.index-sites-row.is) in
     let is : IsRowAt design first.row row site = record { there = at; sited = sited } in
     let tall : c.height.result ≡ site.size.height = rw (← c.index-sites-row.is) at c.height.ensures.is in
     let height = c.height.ensures.proper.height in
     let h : IsCoordinate c.height.result = rw c.height.ensures.is (omega (arith, height)) in
     let high : IsCoordinate site.size.height = rw (← tall) h in
     let one : first.site ≡ last.site = c.if-order.false in
-    rw (coordinate_passed c.height.result h, tall) (all_so_high order c.requires.order.rising first last at_first at_last one design c.requires.order row site is high)
+    rw (coordinate_passed c.height.result h, tall)
+    (all_so_high order c.requires.order.rising first last at_first at_last one design c.requires.order row site is high)

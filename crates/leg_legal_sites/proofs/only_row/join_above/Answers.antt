@@ -9,4 +9,5 @@ loop-above-init c = joined_first c.args.order.now c.args.nodes.now c.args.node c
 pub loop-above-preserved : goal.loop-above-preserved
 loop-above-preserved c =
     let some : 1 ≤ c.loop-above.above = let test = c.loop-above-test.true in omega (arith, test) in
-    joined_higher c.args.order.now c.args.nodes.now c.loop-above.nodes c.loop-above.above c.joined-joined.result some c.joined-joined.ensures.this c.joined-joined.ensures.other c.loop-above.invariant
+    joined_higher c.args.order.now c.args.nodes.now c.loop-above.nodes c.loop-above.above c.joined-joined.result some c.joined-joined.ensures.this
+    c.joined-joined.ensures.other c.loop-above.invariant

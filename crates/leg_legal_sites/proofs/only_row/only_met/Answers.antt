@@ -11,7 +11,8 @@ pub overflow_sub-y1 : goal.overflow_sub-y1
 overflow_sub-y1 c =
     let h : IsCoordinate c.args.height = c.requires.height in
     let y : IsCoordinate c.y1.result = rw c.y1.ensures.is c.y1.ensures.proper.y1 in
-    rw (coordinate_passed c.y1.result y, coordinate_passed c.args.height h) (fits_signed_from_abs w64 (c.y1.result -ℤ c.args.height) (omega (arith, ints, y, h)))
+    rw (coordinate_passed c.y1.result y, coordinate_passed c.args.height h)
+    (fits_signed_from_abs w64 (c.y1.result -ℤ c.args.height) (omega (arith, ints, y, h)))
 
 pub returns : goal.returns
 returns c =
@@ -23,6 +24,8 @@ returns c =
     let y2 : IsCoordinate c.y2.result = rw c.y2.ensures.is c.y2.ensures.proper.y2 in
     let fits : FitsSigned w64 (c.y1.result -ℤ height) = fits_signed_from_abs w64 (c.y1.result -ℤ height) (omega (arith, ints, y, h)) in
     let bottom : ℤ = c.y1.result -ℤ height in
-    let lower : (k : ℕ) (key : RowKey) → k < c.first_above-place.result → slice_get order k ≡ Some key → key.y ≤ℤ bottom = rw (coordinate_passed c.y1.result y, coordinate_passed height h, to_z-of_z w64 bottom fits) at c.first_above-place.ensures in
-    let above : (key : RowKey) → slice_get order (c.first_above-place.result + 1) ≡ Some key → rect.y2 ≤ℤ key.y = rw (coordinate_passed c.y2.result y2, c.y2.ensures.is) at (c.is_at_or_above.ensures c.if-not-is_at_or_above.false) in
+    let lower : (k : ℕ) (key : RowKey) → k < c.first_above-place.result → slice_get order k ≡ Some key → key.y ≤ℤ bottom =
+    rw (coordinate_passed c.y1.result y, coordinate_passed height h, to_z-of_z w64 bottom fits) at c.first_above-place.ensures in
+    let above : (key : RowKey) → slice_get order (c.first_above-place.result + 1) ≡ Some key → rect.y2 ≤ℤ key.y =
+    rw (coordinate_passed c.y2.result y2, c.y2.ensures.is) at (c.is_at_or_above.ensures c.if-not-is_at_or_above.false) in
     only_between rect order height bottom c.first_above-place.result c.requires.rise (omega (arith, ints, c.y1.ensures.is)) c.if-place-order.false lower above

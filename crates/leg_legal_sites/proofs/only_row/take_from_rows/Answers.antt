@@ -11,9 +11,11 @@ returns g c =
     let order = c.args.order.now in
     let lists = c.take_at.new.lists in
     let height = c.in-Some.height in
-    let only : IsOnlyMet c.args.rect.now order height c.in-Some-only_met.place = rw (coordinate_passed height c.in-Some.ensures.within) at c.in-Some-only_met.ensures in
+    let only : IsOnlyMet c.args.rect.now order height c.in-Some-only_met.place =
+    rw (coordinate_passed height c.in-Some.ensures.within) at c.in-Some-only_met.ensures in
     record {
       shared = c.in_ok-take_at.ensures.shared;
       rows = c.join_above.ensures design (row_lists order lists) c.in_ok-take_at.ensures.rows;
-      taken = only_taken design c.args.rect.now order height c.in-Some-only_met.place (row_lists order c.args.lists.now) (row_lists order lists) c.requires.rows.order c.in-Some.ensures only c.in_ok-take_at.ensures.taken;
+      taken = only_taken design c.args.rect.now order height c.in-Some-only_met.place (row_lists order c.args.lists.now)
+          (row_lists order lists) c.requires.rows.order c.in-Some.ensures only c.in_ok-take_at.ensures.taken;
     }

@@ -36,7 +36,8 @@ returns g c =
     let at = slice_get_read parts _ i p refl within c.index_mut.ensures.value in
     let both : c.cut.new.self ++ c.in_ok-rest.rest ≡ p = c.in_ok-rest.ensures.ok in
     let are : AreFreeStretches p = c.in_ok-rest.ensures.apart in
-    let same : all_of c.insert.new.self.items ≡ all_of parts = ap all_of c.in_ok-insert.ensures.items ∙ cut_all parts i p c.cut.new.self c.in_ok-rest.rest at both in
+    let same : all_of c.insert.new.self.items ≡ all_of parts =
+    ap all_of c.in_ok-insert.ensures.items ∙ cut_all parts i p c.cut.new.self c.in_ok-rest.rest at both in
     record {
       kept = λ k. rw same (λ site. site, λ site. site);
       in_row = rw c.in_ok-insert.ensures.items (cut_in_row parts i p c.cut.new.self c.in_ok-rest.rest at both are c.requires.in_row);

@@ -10,7 +10,8 @@ loop-i-preserved g c =
     let parts = c.args.parts.now in
     let i = c.loop-i.i in
     let at = slice_get_read parts _ i c.index-parts-i.result refl (omega arith) c.index-parts-i.is in
-    span_more parts i c.index-parts-i.result at c.loop-i.ends c.ends.result c.joined_ends-ends.result c.loop-i.invariant c.ends.ensures c.joined_ends-ends.ensures
+    span_more parts i c.index-parts-i.result at c.loop-i.ends c.ends.result c.joined_ends-ends.result c.loop-i.invariant c.ends.ensures
+    c.joined_ends-ends.ensures
 
 pub returns : goal.returns
 returns g c =

@@ -9,14 +9,16 @@ loop-i-preserved-then-are_beside g c =
     let mid = c.loop-i.parts in
     let i = c.loop-i.i in
     let within : i < length mid = omega (arith, c.loop-i-test.true, c.loop-i.auto.parts) in
-    lost_beside c.args.from c.args.end i c.args.parts.now mid _ (slice_get-get_or mid i c.index-parts-i.result within) (c.are_beside.ensures c.if-are_beside.true) c.loop-i.invariant
+    lost_beside c.args.from c.args.end i c.args.parts.now mid _ (slice_get-get_or mid i c.index-parts-i.result within)
+    (c.are_beside.ensures c.if-are_beside.true) c.loop-i.invariant
 
 pub loop-i-preserved : goal.loop-i-preserved
 loop-i-preserved g c =
     let mid = c.loop-i.parts in
     let i = c.loop-i.i in
     let within : i < length mid = omega (arith, c.loop-i-test.true, c.loop-i.auto.parts) in
-    lost_more c.args.from c.args.end i c.args.parts.now mid _ c.take.new.self (slice_get-get_or mid i c.index-parts-i-in-loop-i.result within) c.in_ok-take.ensures.ok.sites c.loop-i.invariant
+    lost_more c.args.from c.args.end i c.args.parts.now mid _ c.take.new.self
+    (slice_get-get_or mid i c.index-parts-i-in-loop-i.result within) c.in_ok-take.ensures.ok.sites c.loop-i.invariant
 
 pub returns-in_err-take-clause-fewer : goal.returns-in_err-take-clause-fewer
 returns-in_err-take-clause-fewer g c =

@@ -16,6 +16,19 @@ returns-then-are_no_better g c =
     let place = c.requires.there in
     let there : slice_get nodes leaf ≡ Some bounds = slice_get-get_or nodes leaf nothing (omega (arith, count, place)) in
     best_kept c.args.design.now c.rows-rows.ensures.proper.rows (row_lists order c.args.lists.now) order c.args.wanted.now c.requires.ready c.requires.sized
-    leaf bounds c.args.best (λ key below. c.requires.rows.nodes.fit leaf bounds key (omega (arith, place)) there below) (c.are_no_better.ensures c.if-are_no_better.true) where
+    leaf bounds c.args.best (λ key below. c.requires.rows.nodes.fit leaf bounds key (omega (arith, place)) there below)
+    (c.are_no_better.ensures c.if-are_no_better.true) where
       nothing : Bounds
-      nothing = record { least_row = 0; least_site = 0; most_site = 0; low = pos 0; high = pos 0; top = pos 0; left = pos 0; right = pos 0; corner = pos 0; longest = 0 }
+      nothing =
+          record {
+            least_row = 0;
+            least_site = 0;
+            most_site = 0;
+            low = pos 0;
+            high = pos 0;
+            top = pos 0;
+            left = pos 0;
+            right = pos 0;
+            corner = pos 0;
+            longest = 0;
+          }

@@ -9,7 +9,8 @@ use Rattle.leg_legal_sites.proofs.row_search.best_of_row.Goals as goal
 
 pub returns-in_default : goal.returns-in_default
 returns-in_default g c rows free there known =
-    none_of_nothing rows free c.args.wanted.now c.args.number c.args.row.now [] there (known ∙ ap (λ o. Some (unwrap_or o [])) c.in_default.is) refl c.requires.some
+    none_of_nothing rows free c.args.wanted.now c.args.number c.args.row.now [] there
+    (known ∙ ap (λ o. Some (unwrap_or o [])) c.in_default.is) refl c.requires.some
 
 pub returns-then-row-wanted : goal.returns-then-row-wanted
 returns-then-row-wanted g c rows free there known =
@@ -25,7 +26,8 @@ nearest-requires-clause-within g c =
 pub returns-in_err-first : goal.returns-in_err-first
 returns-in_err-first g c rows free there known =
     let had : unwrap_or c.args.list.now [] ≡ all_of c.parts.result.now = ap (λ o. unwrap_or o []) c.in-Some.is ∙ sym c.parts.ensures.is in
-    rw c.from_residual.ensures (none_free rows free c.args.wanted.now c.args.number c.args.row.now (all_of c.parts.result.now) there (known ∙ ap Some had) c.in_err-first.ensures)
+    rw c.from_residual.ensures (none_free rows free c.args.wanted.now c.args.number c.args.row.now (all_of c.parts.result.now) there
+    (known ∙ ap Some had) c.in_err-first.ensures)
 
 pub x_away-requires-clause-within : goal.x_away-requires-clause-within
 x_away-requires-clause-within g c =
@@ -42,6 +44,9 @@ returns g c rows free there known =
     let wanted = c.args.wanted.now in
     let stretches = all_of c.parts.result.now in
     let had : unwrap_or c.args.list.now [] ≡ stretches = ap (λ o. unwrap_or o []) c.in-Some.is ∙ sym c.parts.ensures.is in
-    let least : IsLeastOf (x_away (pitch_in row wanted)) (AreFreeSites stretches wanted.many) c.in_ok-first.first = rw c.pitch_of-pitch.ensures.is at c.in_ok-first.ensures in
+    let least : IsLeastOf (x_away (pitch_in row wanted)) (AreFreeSites stretches wanted.many) c.in_ok-first.first =
+    rw c.pitch_of-pitch.ensures.is at c.in_ok-first.ensures in
     let x : c.x_away.result ≡ x_away (pitch_in row wanted) c.in_ok-first.first = rw c.pitch_of-pitch.ensures.is at c.x_away.ensures.is in
-    best_there rows free wanted c.args.number row stretches there (known ∙ ap Some had) (record { distance = c.x_away.result + c.y_away.result; turned = c.is_turned.result; row = c.args.number; first = c.in_ok-first.first }) refl c.if-row-wanted.false (rw (x, c.y_away.ensures.is) refl) c.is_turned.ensures least
+    best_there rows free wanted c.args.number row stretches there (known ∙ ap Some had)
+    (record { distance = c.x_away.result + c.y_away.result; turned = c.is_turned.result; row = c.args.number; first = c.in_ok-first.first }) refl
+    c.if-row-wanted.false (rw (x, c.y_away.ensures.is) refl) c.is_turned.ensures least

@@ -25,7 +25,8 @@ returns-else-bottom-y2 c =
     let rect = c.args.rect.now in
     let beside : ((row.at.y +ℤ size.height) ≤ℤ rect.y1) ⊎ (rect.y2 ≤ℤ row.at.y) =
     elim c.else-bottom-y2.branch [
-      | else-bottom-y2-via-then-bottom-y2+else-y1-top w ↦ inl (omega (arith, ints, w.if-y1-top.false, c.y-bottom.ensures.is, w.y1.ensures.is, c.height.ensures.is))
+      | else-bottom-y2-via-then-bottom-y2+else-y1-top w ↦
+          inl (omega (arith, ints, w.if-y1-top.false, c.y-bottom.ensures.is, w.y1.ensures.is, c.height.ensures.is))
       | else-bottom-y2-via-else-bottom-y2 w ↦ inr (omega (arith, ints, w.if-bottom-y2.false, c.y-bottom.ensures.is, c.y2.ensures.is))
     ] in
     none_met row size rect beside

@@ -21,9 +21,11 @@ of_row-requires-clause-within g c =
     let site = c.index-sites-row.result in
     let same : c.sites.result.now ≡ design.library.sites = c.sites.ensures ∙ ap (λ l. l.sites) c.library.ensures.is in
     let within : row.site < length c.sites.result.now = rw same (slice_get_within design.library.sites row.site is_row.site is_row.there) in
-    let there : slice_get design.library.sites row.site ≡ Some site = rw (← same) (slice_get_read c.sites.result.now _ row.site site refl within c.index-sites-row.is) in
+    let there : slice_get design.library.sites row.site ≡ Some site =
+    rw (← same) (slice_get_read c.sites.result.now _ row.site site refl within c.index-sites-row.is) in
     let extent : IsExtent site.size = rw (← c.index-sites-row.is) at c.height-height.ensures.proper in
-    rw (← c.index-sites-row.is) (within_die number row site.size extent.area design.die c.rows.ensures.proper.die (all_of c.args.parts.now) (c.requires.inside row site (record { there = at; sited = there })))
+    rw (← c.index-sites-row.is) (within_die number row site.size extent.area design.die c.rows.ensures.proper.die (all_of c.args.parts.now)
+    (c.requires.inside row site (record { there = at; sited = there })))
 
 pub returns : goal.returns
 returns g c =
@@ -36,6 +38,7 @@ returns g c =
     let site = c.index-sites-row.result in
     let same : c.sites.result.now ≡ design.library.sites = c.sites.ensures ∙ ap (λ l. l.sites) c.library.ensures.is in
     let within : row.site < length c.sites.result.now = rw same (slice_get_within design.library.sites row.site is_row.site is_row.there) in
-    let there : slice_get design.library.sites row.site ≡ Some site = rw (← same) (slice_get_read c.sites.result.now _ row.site site refl within c.index-sites-row.is) in
+    let there : slice_get design.library.sites row.site ≡ Some site =
+    rw (← same) (slice_get_read c.sites.result.now _ row.site site refl within c.index-sites-row.is) in
     let bound : DoBound c.of_row.result number row site.size (all_of c.args.parts.now) = rw (← c.index-sites-row.is) at c.of_row.ensures in
     λ other its is. let one = same_row design number row other site its (record { there = at; sited = there }) is in rw (one.0, one.1) bound

@@ -24,7 +24,8 @@ loop-node-preserved c =
     let right : Bounds = get_or nodes (2 * node + 1) none in
     let next : c.loop-node.node ≡ node + 1 = omega (arith, some) in
     let so_far : AreJoinedFrom c.args.leaves (node + 1) c.args.nodes.now nodes = rw next at c.loop-node.invariant in
-    joined_more c.args.leaves node c.args.nodes.now nodes c.joined.result left right (omega (arith, some, most)) (omega (arith, some)) (omega (arith, some, most, count, room))
+    joined_more c.args.leaves node c.args.nodes.now nodes c.joined.result left right (omega (arith, some, most)) (omega (arith, some))
+    (omega (arith, some, most, count, room))
     (slice_get-get_or nodes (2 * node) none (omega (arith, some, most, count, room)))
     (slice_get-get_or nodes (2 * node + 1) none (omega (arith, some, most, count, room)))
     c.joined.ensures.this c.joined.ensures.other so_far

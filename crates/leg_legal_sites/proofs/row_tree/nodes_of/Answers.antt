@@ -17,4 +17,5 @@ returns g c =
     let count : length new ≡ c.in_ok-nodes.nodes.len = omega (arith, long, kept) in
     let whole = take_at new (drop (length new) old) c.in_ok-nodes.nodes.len count in
     let joined : AreJoinedFrom (length c.args.order.now) 1 old new = rw c.as_mut_slice.ensures.value at c.join_upward.ensures in
-    rw whole (nodes_from_joined c.args.order.now (DoFit c.args.design.now (row_lists c.args.order.now c.args.lists.now)) (row_covered c.args.design.now (row_lists c.args.order.now c.args.lists.now)) old new c.in_ok-nodes.ensures joined)
+    rw whole (nodes_from_joined c.args.order.now (DoFit c.args.design.now (row_lists c.args.order.now c.args.lists.now))
+    (row_covered c.args.design.now (row_lists c.args.order.now c.args.lists.now)) old new c.in_ok-nodes.ensures joined)

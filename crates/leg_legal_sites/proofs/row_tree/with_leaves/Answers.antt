@@ -30,7 +30,8 @@ bounds_at-requires-clause-inside g c =
     let leaf : c.len-leaf.result ≡ length c.loop-key.nodes.items = search rules in
     let nodes = c.loop-key.invariant.count in
     let here : c.len-leaf.result ≡ length order + i = omega (arith, leaf, nodes) in
-    rw here (leaf_in_die c.args.design.now order c.requires.order c.args.lists.now c.requires.lists i (get_or order i nowhere) (slice_get-get_or order i nowhere (omega arith)))
+    rw here (leaf_in_die c.args.design.now order c.requires.order c.args.lists.now c.requires.lists i (get_or order i nowhere)
+    (slice_get-get_or order i nowhere (omega arith)))
 
 pub loop-key-preserved : goal.loop-key-preserved
 loop-key-preserved g c =
@@ -42,8 +43,11 @@ loop-key-preserved g c =
     let nodes = c.loop-key.invariant.count in
     let here : c.len-leaf.result ≡ length order + i = omega (arith, leaf, nodes) in
     let bound : DoBoundRow design c.bounds_at.result (get_or order i nowhere).row (own_list lists (length order + i)) = rw here at c.bounds_at.ensures in
-    let fits = leaf_fits design order c.requires.order lists c.requires.lists i (get_or order i nowhere) c.bounds_at.result (slice_get-get_or order i nowhere (omega arith)) bound in
-    rw c.in_ok-push.ensures.items (leaves_more order (DoFit design (row_lists order lists)) i (get_or order i nowhere) c.loop-key.nodes.items c.bounds_at.result (slice_get-get_or order i nowhere (omega arith)) fits c.loop-key.invariant)
+    let fits =
+    leaf_fits design order c.requires.order lists c.requires.lists i (get_or order i nowhere) c.bounds_at.result
+    (slice_get-get_or order i nowhere (omega arith)) bound in
+    rw c.in_ok-push.ensures.items (leaves_more order (DoFit design (row_lists order lists)) i
+    (get_or order i nowhere) c.loop-key.nodes.items c.bounds_at.result (slice_get-get_or order i nowhere (omega arith)) fits c.loop-key.invariant)
 
 pub returns : goal.returns
 returns g c =

@@ -18,6 +18,8 @@ returns g c =
     let site = c.index-sites-row.result in
     let same : c.sites.result.now ≡ design.library.sites = c.sites.ensures ∙ ap (λ l. l.sites) c.library.ensures.is in
     let within : row.site < length c.sites.result.now = rw same (slice_get_within design.library.sites row.site is_row.site is_row.there) in
-    let there : slice_get design.library.sites row.site ≡ Some site = rw (← same) (slice_get_read c.sites.result.now _ row.site site refl within c.index-sites-row.is) in
-    let inside : AreSitesInside row site.size design.die c.sites_inside-sites.result = rw (c.die.ensures.is, ← c.index-sites-row.is) at c.sites_inside-sites.ensures in
+    let there : slice_get design.library.sites row.site ≡ Some site =
+    rw (← same) (slice_get_read c.sites.result.now _ row.site site refl within c.index-sites-row.is) in
+    let inside : AreSitesInside row site.size design.die c.sites_inside-sites.result =
+    rw (c.die.ensures.is, ← c.index-sites-row.is) at c.sites_inside-sites.ensures in
     known_of_row c.new.result design number row site c.sites_inside-sites.result (record { there = at; sited = there }) inside c.new.ensures

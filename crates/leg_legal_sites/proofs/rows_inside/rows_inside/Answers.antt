@@ -15,7 +15,8 @@ pub loop-key-preserved : goal.loop-key-preserved
 loop-key-preserved g c =
     let order = c.args.order.now in
     let i = c.loop-key.key-index in
-    rw c.in_ok-push.ensures.items (leaf_more c.args.design.now order i (get_or order i nowhere) c.in_ok-list.list c.loop-key.lists.items (slice_get-get_or order i nowhere (omega arith)) c.in_ok-list.ensures c.loop-key.invariant)
+    rw c.in_ok-push.ensures.items (leaf_more c.args.design.now order i (get_or order i nowhere) c.in_ok-list.list c.loop-key.lists.items
+    (slice_get-get_or order i nowhere (omega arith)) c.in_ok-list.ensures c.loop-key.invariant)
 
 pub returns : goal.returns
 returns g c =

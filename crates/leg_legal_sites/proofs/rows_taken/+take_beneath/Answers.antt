@@ -5,7 +5,7 @@ use Rattle.std.proofs.lemmas.Option.{slice_get-get_or}
 use Rattle.leg_legal_sites.specs.declared.stretch.Stretch.{Stretch}
 use Rattle.leg_legal_sites.specs.declared.bounds.Bounds.{Bounds}
 use Rattle.leg_legal_sites.specs.Steps.FreeLists.{AreRowsOf}
-use Rattle.leg_legal_sites.specs.Steps.FreeListSharing.{list_at, row_lists}
+use Rattle.leg_legal_sites.specs.Steps.FreeListSharing.{list_of_node, row_lists}
 use Rattle.leg_legal_sites.specs.Steps.FreeRows.{AreTakenBeneath}
 use Rattle.leg_legal_sites.specs.Steps.SharedLists.{AreShared}
 use Rattle.leg_legal_sites.proofs.RowsTaken.{taken_beside, taken_both, rows_joined}
@@ -18,7 +18,9 @@ none = record { least_row = 0; least_site = 0; most_site = 0; low = pos 0; high 
 pub returns-then-is_beside-clause-taken : goal.returns-then-is_beside-clause-taken
 returns-then-is_beside-clause-taken g t c =
     let nodes = c.args.nodes.now in
-    taken_beside c.args.design.now c.args.rect.now c.args.order.now (row_lists c.args.order.now c.args.lists.now) nodes c.args.node (get_or nodes c.args.node none) c.requires.first c.requires.rows (slice_get-get_or nodes c.args.node none c.requires.there) (c.is_beside.ensures c.if-is_beside.true)
+    taken_beside c.args.design.now c.args.rect.now c.args.order.now (row_lists c.args.order.now c.args.lists.now) nodes c.args.node
+    (get_or nodes c.args.node none) c.requires.first c.requires.rows (slice_get-get_or nodes c.args.node none c.requires.there)
+    (c.is_beside.ensures c.if-is_beside.true)
 
 pub is_met_throughout-requires-clause-list : goal.is_met_throughout-requires-clause-list
 is_met_throughout-requires-clause-list g t c =
@@ -70,7 +72,8 @@ take_beneath-requires g t c =
     let node = c.args.node in
     let lists = c.hand_down.new.lists in
     let P : List (List Stretch) → Type 0 = λ l. AreRowsOf c.args.design.now (record { lists = l; order = order; nodes = c.hand_down.new.nodes }) in
-    let rows : AreRowsOf c.args.design.now (record { lists = row_lists order lists; order = order; nodes = c.hand_down.new.nodes }) = subst P (sym c.in_ok-hand_down.ensures.same) (c.in_ok-hand_down.ensures.rows c.args.design.now c.requires.rows) in
+    let rows : AreRowsOf c.args.design.now (record { lists = row_lists order lists; order = order; nodes = c.hand_down.new.nodes }) =
+    subst P (sym c.in_ok-hand_down.ensures.same) (c.in_ok-hand_down.ensures.rows c.args.design.now c.requires.rows) in
     let shared : AreShared order lists = c.in_ok-hand_down.ensures.shared in
     let count = rows.nodes.count in
     let before = c.requires.rows.nodes.count in
@@ -81,7 +84,7 @@ take_beneath-requires g t c =
     ] in
     let first : 1 ≤ 2 * node = omega (arith, some) in
     let there : 2 * node < length c.hand_down.new.nodes = omega (arith, inner, count) in
-    let alone : list_at lists (2 * node / 2) ≡ None = ap (list_at lists) (half_of_left node) ∙ c.in_ok-hand_down.ensures.none in
+    let alone : list_of_node lists (2 * node / 2) ≡ None = ap (list_of_node lists) (half_of_left node) ∙ c.in_ok-hand_down.ensures.none in
     let fewer : length c.hand_down.new.nodes - 2 * node < length c.args.nodes.now - node = omega (arith, some, inner, count, before) in
     search (rules, rows, shared, first, there, alone, fewer)
 
@@ -90,7 +93,8 @@ take_beneath-requires-2 g t c =
     let order = c.args.order.now in
     let node = c.args.node in
     let lists = c.take_beneath.new.lists in
-    let rows : AreRowsOf c.args.design.now (record { lists = row_lists order lists; order = order; nodes = c.take_beneath.new.nodes }) = c.in_ok-take_beneath.ensures.rows in
+    let rows : AreRowsOf c.args.design.now (record { lists = row_lists order lists; order = order; nodes = c.take_beneath.new.nodes }) =
+    c.in_ok-take_beneath.ensures.rows in
     let shared : AreShared order lists = c.in_ok-take_beneath.ensures.shared in
     let count = rows.nodes.count in
     let before = c.requires.rows.nodes.count in
@@ -101,8 +105,8 @@ take_beneath-requires-2 g t c =
     ] in
     let first : 1 ≤ 2 * node + 1 = omega arith in
     let there : 2 * node + 1 < length c.take_beneath.new.nodes = omega (arith, inner, count) in
-    let above : list_at lists node ≡ None = ap (list_at lists) (sym (half_of_left node)) ∙ c.in_ok-take_beneath.ensures.alone in
-    let alone : list_at lists ((2 * node + 1) / 2) ≡ None = ap (list_at lists) (half_of_right node) ∙ above in
+    let above : list_of_node lists node ≡ None = ap (list_of_node lists) (sym (half_of_left node)) ∙ c.in_ok-take_beneath.ensures.alone in
+    let alone : list_of_node lists ((2 * node + 1) / 2) ≡ None = ap (list_of_node lists) (half_of_right node) ∙ above in
     let fewer : length c.take_beneath.new.nodes - (2 * node + 1) < length c.args.nodes.now - node = omega (arith, some, inner, count, before) in
     search (rules, rows, shared, first, there, alone, fewer)
 
@@ -122,11 +126,14 @@ returns g t c =
     ] in
     let P : List (List Stretch) → Type 0 = λ l. AreTakenBeneath design rect order (2 * node) l (row_lists order c.take_beneath.new.lists) in
     let first = subst P c.in_ok-hand_down.ensures.same c.in_ok-take_beneath.ensures.taken in
-    let above : list_at lists node ≡ None = ap (list_at lists) (sym (half_of_right node)) ∙ c.in_ok-take_beneath-2.ensures.alone in
+    let above : list_of_node lists node ≡ None = ap (list_of_node lists) (sym (half_of_right node)) ∙ c.in_ok-take_beneath-2.ensures.alone in
     record {
       shared = c.in_ok-take_beneath-2.ensures.shared;
-      rows = rows_joined design rect order (row_lists order lists) nodes node c.joined.result (get_or nodes (2 * node) none) (get_or nodes (2 * node + 1) none) c.requires.first inner
-          (slice_get-get_or nodes (2 * node) none (omega (arith, inner, count))) (slice_get-get_or nodes (2 * node + 1) none (omega (arith, inner, count))) c.joined.ensures.this c.joined.ensures.other rows;
-      taken = taken_both design rect order node (row_lists order c.args.lists.now) (row_lists order c.take_beneath.new.lists) (row_lists order lists) inner first c.in_ok-take_beneath-2.ensures.taken;
+      rows = rows_joined design rect order (row_lists order lists) nodes node c.joined.result (get_or nodes (2 * node) none)
+          (get_or nodes (2 * node + 1) none) c.requires.first inner
+          (slice_get-get_or nodes (2 * node) none (omega (arith, inner, count)))
+          (slice_get-get_or nodes (2 * node + 1) none (omega (arith, inner, count))) c.joined.ensures.this c.joined.ensures.other rows;
+      taken = taken_both design rect order node (row_lists order c.args.lists.now) (row_lists order c.take_beneath.new.lists)
+          (row_lists order lists) inner first c.in_ok-take_beneath-2.ensures.taken;
       alone = none_above lists (node / 2) node c.requires.first refl above;
     }

@@ -16,7 +16,8 @@ returns-in_default-clause-none g c =
     let lists = c.args.lists.now in
     let node = c.args.node in
     let left = c.requires.left in
-    own_is lists (node / 2) node c.requires.first refl c.requires.alone ∙ get_or_default lists node None c.index-lists-node.result (omega (arith, left)) ∙ c.in_default.is
+    own_is lists (node / 2) node c.requires.first refl c.requires.alone ∙ get_or_default lists node None c.index-lists-node.result (omega (arith, left))
+    ∙ c.in_default.is
 
 pub returns : goal.returns
 returns g c =
@@ -33,16 +34,22 @@ returns g c =
     let had : get_or lists node None ≡ Some list = get_or_default lists node None c.index-lists-node.result within ∙ c.in-Some.is in
     let copy : c.in_ok-copy.copy ≡ list = c.in_ok-copy.ensures in
     let gone : c.take-list.new.self ≡ None = c.take-list.ensures.after in
-    let taken : c.take-list.result ≡ Some list = c.take-list.ensures.value ∙ get_or-set_other lists (2 * node + 1) node (Some c.in_ok-copy.copy) c.index-lists-node-3.result (λ same. omega (arith, same)) ∙ get_or_default lists node c.index-lists-node-3.result None within ∙ had in
+    let taken : c.take-list.result ≡ Some list =
+    c.take-list.ensures.value ∙ get_or-set_other lists (2 * node + 1) node (Some c.in_ok-copy.copy) c.index-lists-node-3.result (λ same. omega (arith, same))
+    ∙ get_or_default lists node c.index-lists-node-3.result None within ∙ had in
     let mid = set nodes (2 * node) c.within.result in
     let long : length mid ≡ length nodes = length-set nodes (2 * node) c.within.result in
     record {
       shared = rw (copy, gone, taken) (handed_shared order node first inner list lists c.requires.shared c.requires.alone had);
       same = rw (copy, gone, taken) (handed_same order node first inner list lists c.requires.shared c.requires.alone had);
       rows = λ design rows.
-          rows_narrowed design order (row_lists order lists) mid node (2 * node + 1) (get_or mid (2 * node + 1) none) (get_or mid node none) c.within-2.result first (inr refl)
-          (slice_get-get_or mid (2 * node + 1) none (omega (arith, long, count, inner))) (slice_get-get_or mid node none (omega (arith, long, count, inner))) c.within-2.ensures
-          (rows_narrowed design order (row_lists order lists) nodes node (2 * node) (get_or nodes (2 * node) none) (get_or nodes node none) c.within.result first (inl refl)
-          (slice_get-get_or nodes (2 * node) none (omega (arith, count, inner))) (slice_get-get_or nodes node none (omega (arith, count, inner))) c.within.ensures rows);
+          rows_narrowed design order (row_lists order lists) mid node (2 * node + 1) (get_or mid (2 * node + 1) none)
+          (get_or mid node none) c.within-2.result first (inr refl)
+          (slice_get-get_or mid (2 * node + 1) none (omega (arith, long, count, inner)))
+          (slice_get-get_or mid node none (omega (arith, long, count, inner))) c.within-2.ensures
+          (rows_narrowed design order (row_lists order lists) nodes node (2 * node) (get_or nodes (2 * node) none)
+          (get_or nodes node none) c.within.result first (inl refl)
+          (slice_get-get_or nodes (2 * node) none (omega (arith, count, inner)))
+          (slice_get-get_or nodes node none (omega (arith, count, inner))) c.within.ensures rows);
       none = rw (copy, gone, taken) (handed_none order node first inner list lists c.requires.shared c.requires.alone had);
     }

@@ -13,8 +13,10 @@ loop-above-preserved g c =
     let above = c.loop-above.above in
     let so_far = c.loop-above.invariant in
     let some : 1 ≤ above = let test = c.loop-above-test.true in omega (arith, test) in
-    let has : c.is_some.result ≡ is_some (get_or lists above None) = node_has lists above so_far.before c.index-lists-above.result c.is_some.result (c.is_some.ensures ∙ ap is_some c.index-lists-above.is) in
+    let has : c.is_some.result ≡ is_some (get_or lists above None) =
+    node_has lists above so_far.before c.index-lists-above.result c.is_some.result (c.is_some.ensures ∙ ap is_some c.index-lists-above.is) in
     alone_higher lists c.args.node above some (sym has ∙ c.if-is_some.false) so_far
 
 pub returns : goal.returns
-returns g c is = let none : c.loop-above.above ≡ 0 = let test = c.loop-above-test.false in omega (arith, test) in alone_found c.args.lists.now c.args.node c.loop-above.above none c.loop-above.invariant
+returns g c is = let none : c.loop-above.above ≡ 0 = let test = c.loop-above-test.false in omega (arith, test) in
+    alone_found c.args.lists.now c.args.node c.loop-above.above none c.loop-above.invariant

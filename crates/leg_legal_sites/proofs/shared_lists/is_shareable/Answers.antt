@@ -17,11 +17,15 @@ returns-then-a-b-2 g c same =
     let a_passed : to_z w64 (of_z w64 a.x) ≡ a.x = search rules in
     let b_passed : to_z w64 (of_z w64 b.x) ≡ b.x = search rules in
     let x : a.x ≡ b.x = sym a_passed ∙ ap (to_z w64) c.if-a-b-2.true.0 ∙ b_passed in
-    let left : get_or lists (2 * node) None ≡ Some c.in-Some.left = node_read lists (2 * node) (omega (arith, inner, count)) c.index-lists-node.result c.index-lists-node.is ∙ c.in-Some.is in
-    let right : get_or lists (2 * node + 1) None ≡ Some c.in-Some-lists.right = node_read lists (2 * node + 1) (omega (arith, inner, count)) c.index-lists-node-2.result c.index-lists-node-2.is ∙ c.in-Some-lists.is in
+    let left : get_or lists (2 * node) None ≡ Some c.in-Some.left =
+    node_read lists (2 * node) (omega (arith, inner, count)) c.index-lists-node.result c.index-lists-node.is ∙ c.in-Some.is in
+    let right : get_or lists (2 * node + 1) None ≡ Some c.in-Some-lists.right =
+    node_read lists (2 * node + 1) (omega (arith, inner, count)) c.index-lists-node-2.result c.index-lists-node-2.is ∙ c.in-Some-lists.is in
     record {
       list = c.in-Some.left;
       left = left;
       right = right ∙ ap Some (sym (c.is_same.ensures same));
-      alike = alike_both order node a b inner (c.requires.shared.alike (2 * node) c.in-Some.left (omega (arith, first)) left) (c.requires.shared.alike (2 * node + 1) c.in-Some-lists.right (omega arith) right) c.key_beneath-a.ensures c.key_beneath-b.ensures x c.if-a-b-2.true.1;
+      alike = alike_both order node a b inner (c.requires.shared.alike (2 * node) c.in-Some.left (omega (arith, first)) left)
+          (c.requires.shared.alike (2 * node + 1) c.in-Some-lists.right (omega arith) right) c.key_beneath-a.ensures c.key_beneath-b.ensures x
+          c.if-a-b-2.true.1;
     }

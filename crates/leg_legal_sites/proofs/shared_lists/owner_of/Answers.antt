@@ -15,7 +15,8 @@ loop-above-preserved g c =
     let above = c.loop-above.above in
     let so_far = c.loop-above.invariant in
     let some : 1 ≤ above = let test = c.loop-above-test.true in omega (arith, test) in
-    let has : c.is_some.result ≡ is_some (get_or lists above None) = node_has lists above so_far.before c.index-lists-above.result c.is_some.result (c.is_some.ensures ∙ ap is_some c.index-lists-above.is) in
+    let has : c.is_some.result ≡ is_some (get_or lists above None) =
+    node_has lists above so_far.before c.index-lists-above.result c.is_some.result (c.is_some.ensures ∙ ap is_some c.index-lists-above.is) in
     elim c.if-is_some.branch [
       | then-is_some w ↦ rw (w.owner-is) (owner_higher lists node c.loop-above.owner above some (sym has ∙ w.if-is_some.true) so_far)
       | else-is_some w ↦ rw (w.owner-is) (owner_stays lists node c.loop-above.owner above some (sym has ∙ w.if-is_some.false) so_far)

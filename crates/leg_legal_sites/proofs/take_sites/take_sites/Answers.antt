@@ -10,7 +10,8 @@ use Rattle.leg_legal_sites.proofs.take_sites.take_sites.Goals as goal
 pub returns-then-last-first-clause-ok : goal.returns-then-last-first-clause-ok
 returns-then-last-first-clause-ok g c =
     let free = c.args.stretches.now.items in
-    let cut : IsCutAt free c.args.from c.args.end c.cut_points-first.result.0 c.cut_points-first.result.1 = rw c.as_slice.ensures.value at c.cut_points-first.ensures.cut in
+    let cut : IsCutAt free c.args.from c.args.end c.cut_points-first.result.0 c.cut_points-first.result.1 =
+    rw c.as_slice.ensures.value at c.cut_points-first.ensures.cut in
     without_unmet free c.args.from c.args.end _ _ c.requires cut c.if-last-first.true
 
 pub returns-then-has_sites-2-clause-ok : goal.returns-then-has_sites-2-clause-ok
@@ -29,7 +30,8 @@ returns-then-has_sites-2-clause-ok g c =
     let one : first + 1 ≡ last = c.if-first-last.true in
     let l : nat_lt a.from c.args.from ≡ true = sym c.has_sites.ensures ∙ c.if-has_sites.true in
     let r : nat_lt c.args.end b.end ≡ true = sym c.has_sites-then-has_sites.ensures ∙ c.if-has_sites-2.true in
-    on_ok_weaker c.split.result (without_both free c.args.from c.args.end first last c.requires cut c.if-end-from.false met a b at_a at_b one l r c.split.new.stretches.items) c.split.ensures.ok
+    on_ok_weaker c.split.result (without_both free c.args.from c.args.end first last c.requires cut c.if-end-from.false met a b at_a at_b one l r
+    c.split.new.stretches.items) c.split.ensures.ok
 
 pub returns-else-first-last-clause-ok : goal.returns-else-first-last-clause-ok
 returns-else-first-last-clause-ok g c =

@@ -13,7 +13,9 @@ returns-in_err-layer_at-clause-ok g c = IfOk-from_err _ _ c.from_residual.ensure
 pub returns-in_err-layer_at-clause-none : goal.returns-in_err-layer_at-clause-none
 returns-in_err-layer_at-clause-none g c =
     let p = err_from_is_err_and c.from_residual.result c.from_residual.ensures.1 in
-    rw (p.1, p.2, ← c.as_slice-layer-items.ensures.is) (λ not_memory. pair_none (IsLayerAt c.args.n) c.as_slice-layer-items.result.now c.loop-layer.layer-index c.layer-item.result c.loop-layer-test.true c.layer-item.is c.in_err-layer_at.ensures.none)
+    rw (p.1, p.2, ← c.as_slice-layer-items.ensures.is)
+    (λ not_memory. pair_none (IsLayerAt c.args.n) c.as_slice-layer-items.result.now c.loop-layer.layer-index c.layer-item.result c.loop-layer-test.true
+    c.layer-item.is c.in_err-layer_at.ensures.none)
 
 pub returns-in_err-layer_at-clause-nameless : goal.returns-in_err-layer_at-clause-nameless
 returns-in_err-layer_at-clause-nameless g c =
@@ -48,11 +50,14 @@ returns-in_err-with_items-clause-nameless g c =
 
 pub loop-layer-preserved : goal.loop-layer-preserved
 loop-layer-preserved g c =
-    rw c.in_ok-push.ensures.items (pair_more (IsLayerAt c.args.n) c.as_slice-layer-items.result.now c.loop-layer.layers.items c.loop-layer.layer-index c.layer-item.result c.in_ok-layer_at.field-0 c.loop-layer-test.true c.layer-item.is c.loop-layer.invariant c.in_ok-layer_at.ensures.ok)
+    rw c.in_ok-push.ensures.items (pair_more (IsLayerAt c.args.n) c.as_slice-layer-items.result.now c.loop-layer.layers.items c.loop-layer.layer-index
+    c.layer-item.result c.in_ok-layer_at.field-0 c.loop-layer-test.true c.layer-item.is c.loop-layer.invariant c.in_ok-layer_at.ensures.ok)
 
 pub with_items-requires-clause-named : goal.with_items-requires-clause-named
 with_items-requires-clause-named g c =
-    let all : OneForOne (IsLayerAt c.args.n) c.as_slice-layer-items.result.now c.loop-layer.layers.items = pair_all (IsLayerAt c.args.n) c.as_slice-layer-items.result.now c.loop-layer.layers.items c.loop-layer.layer-index c.loop-layer-test.false c.loop-layer.invariant in
+    let all : OneForOne (IsLayerAt c.args.n) c.as_slice-layer-items.result.now c.loop-layer.layers.items =
+    pair_all (IsLayerAt c.args.n) c.as_slice-layer-items.result.now c.loop-layer.layers.items c.loop-layer.layer-index c.loop-layer-test.false
+    c.loop-layer.invariant in
     layers_named c.args.n c.args.raw.now c.loop-layer.layers.items (rw c.as_slice-layer-items.ensures.is at all)
 
 pub with_items-requires-clause-few : goal.with_items-requires-clause-few
@@ -60,5 +65,7 @@ with_items-requires-clause-few g c = tt
 
 pub returns-clause-ok : goal.returns-clause-ok
 returns-clause-ok g c =
-    let all : OneForOne (IsLayerAt c.args.n) c.as_slice-layer-items.result.now c.loop-layer.layers.items = pair_all (IsLayerAt c.args.n) c.as_slice-layer-items.result.now c.loop-layer.layers.items c.loop-layer.layer-index c.loop-layer-test.false c.loop-layer.invariant in
+    let all : OneForOne (IsLayerAt c.args.n) c.as_slice-layer-items.result.now c.loop-layer.layers.items =
+    pair_all (IsLayerAt c.args.n) c.as_slice-layer-items.result.now c.loop-layer.layers.items c.loop-layer.layer-index c.loop-layer-test.false
+    c.loop-layer.invariant in
     rw c.in_ok-with_items.ensures (rw c.as_slice-layer-items.ensures.is at all)

@@ -13,7 +13,9 @@ returns-in_err-site_at-clause-ok g c = IfOk-from_err _ _ c.from_residual.ensures
 pub returns-in_err-site_at-clause-none : goal.returns-in_err-site_at-clause-none
 returns-in_err-site_at-clause-none g c =
     let p = err_from_is_err_and c.from_residual.result c.from_residual.ensures.1 in
-    rw (p.1, p.2, ← c.as_slice-site-items.ensures.is) (λ not_memory. pair_none (IsSiteAt c.args.n) c.as_slice-site-items.result.now c.loop-site.site-index c.site-item.result c.loop-site-test.true c.site-item.is c.in_err-site_at.ensures.none)
+    rw (p.1, p.2, ← c.as_slice-site-items.ensures.is)
+    (λ not_memory. pair_none (IsSiteAt c.args.n) c.as_slice-site-items.result.now c.loop-site.site-index c.site-item.result c.loop-site-test.true
+    c.site-item.is c.in_err-site_at.ensures.none)
 
 pub returns-in_err-site_at-clause-nameless : goal.returns-in_err-site_at-clause-nameless
 returns-in_err-site_at-clause-nameless g c =
@@ -48,11 +50,13 @@ returns-in_err-with_items-clause-nameless g c =
 
 pub loop-site-preserved : goal.loop-site-preserved
 loop-site-preserved g c =
-    rw c.in_ok-push.ensures.items (pair_more (IsSiteAt c.args.n) c.as_slice-site-items.result.now c.loop-site.sites.items c.loop-site.site-index c.site-item.result c.in_ok-site_at.field-0 c.loop-site-test.true c.site-item.is c.loop-site.invariant c.in_ok-site_at.ensures.ok)
+    rw c.in_ok-push.ensures.items (pair_more (IsSiteAt c.args.n) c.as_slice-site-items.result.now c.loop-site.sites.items c.loop-site.site-index
+    c.site-item.result c.in_ok-site_at.field-0 c.loop-site-test.true c.site-item.is c.loop-site.invariant c.in_ok-site_at.ensures.ok)
 
 pub with_items-requires-clause-named : goal.with_items-requires-clause-named
 with_items-requires-clause-named g c =
-    let all : OneForOne (IsSiteAt c.args.n) c.as_slice-site-items.result.now c.loop-site.sites.items = pair_all (IsSiteAt c.args.n) c.as_slice-site-items.result.now c.loop-site.sites.items c.loop-site.site-index c.loop-site-test.false c.loop-site.invariant in
+    let all : OneForOne (IsSiteAt c.args.n) c.as_slice-site-items.result.now c.loop-site.sites.items =
+    pair_all (IsSiteAt c.args.n) c.as_slice-site-items.result.now c.loop-site.sites.items c.loop-site.site-index c.loop-site-test.false c.loop-site.invariant in
     sites_named c.args.n c.args.raw.now c.loop-site.sites.items (rw c.as_slice-site-items.ensures.is at all)
 
 pub with_items-requires-clause-few : goal.with_items-requires-clause-few
@@ -60,5 +64,6 @@ with_items-requires-clause-few g c = tt
 
 pub returns-clause-ok : goal.returns-clause-ok
 returns-clause-ok g c =
-    let all : OneForOne (IsSiteAt c.args.n) c.as_slice-site-items.result.now c.loop-site.sites.items = pair_all (IsSiteAt c.args.n) c.as_slice-site-items.result.now c.loop-site.sites.items c.loop-site.site-index c.loop-site-test.false c.loop-site.invariant in
+    let all : OneForOne (IsSiteAt c.args.n) c.as_slice-site-items.result.now c.loop-site.sites.items =
+    pair_all (IsSiteAt c.args.n) c.as_slice-site-items.result.now c.loop-site.sites.items c.loop-site.site-index c.loop-site-test.false c.loop-site.invariant in
     rw c.in_ok-with_items.ensures (rw c.as_slice-site-items.ensures.is at all)

@@ -13,7 +13,9 @@ returns-in_err-master_at-clause-ok g c = IfOk-from_err _ _ c.from_residual.ensur
 pub returns-in_err-master_at-clause-none : goal.returns-in_err-master_at-clause-none
 returns-in_err-master_at-clause-none g c =
     let p = err_from_is_err_and c.from_residual.result c.from_residual.ensures.1 in
-    rw (p.1, p.2, ← c.as_slice-master-items.ensures.is) (λ not_memory. pair_none (IsMasterAt c.args.n) c.as_slice-master-items.result.now c.loop-master.master-index c.master-item.result c.loop-master-test.true c.master-item.is (c.in_err-master_at.ensures.none not_memory))
+    rw (p.1, p.2, ← c.as_slice-master-items.ensures.is)
+    (λ not_memory. pair_none (IsMasterAt c.args.n) c.as_slice-master-items.result.now c.loop-master.master-index c.master-item.result c.loop-master-test.true
+    c.master-item.is (c.in_err-master_at.ensures.none not_memory))
 
 pub returns-in_err-master_at-clause-nameless : goal.returns-in_err-master_at-clause-nameless
 returns-in_err-master_at-clause-nameless g c =
@@ -48,11 +50,14 @@ returns-in_err-with_items-clause-nameless g c =
 
 pub loop-master-preserved : goal.loop-master-preserved
 loop-master-preserved g c =
-    rw c.in_ok-push.ensures.items (pair_more (IsMasterAt c.args.n) c.as_slice-master-items.result.now c.loop-master.masters.items c.loop-master.master-index c.master-item.result c.in_ok-master_at.field-0 c.loop-master-test.true c.master-item.is c.loop-master.invariant c.in_ok-master_at.ensures.ok)
+    rw c.in_ok-push.ensures.items (pair_more (IsMasterAt c.args.n) c.as_slice-master-items.result.now c.loop-master.masters.items c.loop-master.master-index
+    c.master-item.result c.in_ok-master_at.field-0 c.loop-master-test.true c.master-item.is c.loop-master.invariant c.in_ok-master_at.ensures.ok)
 
 pub with_items-requires-clause-named : goal.with_items-requires-clause-named
 with_items-requires-clause-named g c =
-    let all : OneForOne (IsMasterAt c.args.n) c.as_slice-master-items.result.now c.loop-master.masters.items = pair_all (IsMasterAt c.args.n) c.as_slice-master-items.result.now c.loop-master.masters.items c.loop-master.master-index c.loop-master-test.false c.loop-master.invariant in
+    let all : OneForOne (IsMasterAt c.args.n) c.as_slice-master-items.result.now c.loop-master.masters.items =
+    pair_all (IsMasterAt c.args.n) c.as_slice-master-items.result.now c.loop-master.masters.items c.loop-master.master-index c.loop-master-test.false
+    c.loop-master.invariant in
     masters_named c.args.n c.args.raw.now c.loop-master.masters.items (rw c.as_slice-master-items.ensures.is at all)
 
 pub with_items-requires-clause-few : goal.with_items-requires-clause-few
@@ -60,5 +65,7 @@ with_items-requires-clause-few g c = tt
 
 pub returns-clause-ok : goal.returns-clause-ok
 returns-clause-ok g c =
-    let all : OneForOne (IsMasterAt c.args.n) c.as_slice-master-items.result.now c.loop-master.masters.items = pair_all (IsMasterAt c.args.n) c.as_slice-master-items.result.now c.loop-master.masters.items c.loop-master.master-index c.loop-master-test.false c.loop-master.invariant in
+    let all : OneForOne (IsMasterAt c.args.n) c.as_slice-master-items.result.now c.loop-master.masters.items =
+    pair_all (IsMasterAt c.args.n) c.as_slice-master-items.result.now c.loop-master.masters.items c.loop-master.master-index c.loop-master-test.false
+    c.loop-master.invariant in
     rw c.in_ok-with_items.ensures (rw c.as_slice-master-items.ensures.is at all)

@@ -12,7 +12,8 @@ returns-in_err-pin_at-clause-ok g c = IfOk-from_err _ _ c.from_residual.ensures.
 pub returns-in_err-pin_at-clause-none : goal.returns-in_err-pin_at-clause-none
 returns-in_err-pin_at-clause-none g c =
     let p = err_from_is_err_and c.from_residual.result c.from_residual.ensures.1 in
-    rw (p.1, p.2) (λ not_memory. pair_none (IsPinAt c.args.n c.args.shift.now) c.args.raw.now c.loop-pin.pin-index c.pin-item.result c.loop-pin-test.true c.pin-item.is (c.in_err-pin_at.ensures.none not_memory))
+    rw (p.1, p.2) (λ not_memory. pair_none (IsPinAt c.args.n c.args.shift.now) c.args.raw.now c.loop-pin.pin-index c.pin-item.result c.loop-pin-test.true
+    c.pin-item.is (c.in_err-pin_at.ensures.none not_memory))
 
 pub returns-in_err-push-clause-ok : goal.returns-in_err-push-clause-ok
 returns-in_err-push-clause-ok g c = IfOk-from_err _ _ c.from_residual-in_err-push.ensures.0
@@ -24,8 +25,10 @@ returns-in_err-push-clause-none g c =
 
 pub loop-pin-preserved : goal.loop-pin-preserved
 loop-pin-preserved g c =
-    rw c.in_ok-push.ensures.items (pair_more (IsPinAt c.args.n c.args.shift.now) c.args.raw.now c.loop-pin.pins.items c.loop-pin.pin-index c.pin-item.result c.in_ok-pin_at.field-0 c.loop-pin-test.true c.pin-item.is c.loop-pin.invariant c.in_ok-pin_at.ensures.ok)
+    rw c.in_ok-push.ensures.items (pair_more (IsPinAt c.args.n c.args.shift.now) c.args.raw.now c.loop-pin.pins.items c.loop-pin.pin-index c.pin-item.result
+    c.in_ok-pin_at.field-0 c.loop-pin-test.true c.pin-item.is c.loop-pin.invariant c.in_ok-pin_at.ensures.ok)
 
 pub returns-clause-ok : goal.returns-clause-ok
 returns-clause-ok g c =
-    rw c.from_vec.ensures (pair_all (IsPinAt c.args.n c.args.shift.now) c.args.raw.now c.loop-pin.pins.items c.loop-pin.pin-index c.loop-pin-test.false c.loop-pin.invariant)
+    rw c.from_vec.ensures (pair_all (IsPinAt c.args.n c.args.shift.now) c.args.raw.now c.loop-pin.pins.items c.loop-pin.pin-index c.loop-pin-test.false
+    c.loop-pin.invariant)

@@ -12,7 +12,8 @@ returns-in_err-shape_at-clause-ok g c = IfOk-from_err _ _ c.from_residual.ensure
 pub returns-in_err-shape_at-clause-none : goal.returns-in_err-shape_at-clause-none
 returns-in_err-shape_at-clause-none g c =
     let p = err_from_is_err_and c.from_residual.result c.from_residual.ensures.1 in
-    rw (p.1, p.2) (λ not_memory. pair_none (IsShapeAt c.args.n c.args.shift.now) c.args.raw.now c.loop-shape.shape-index c.shape-item.result c.loop-shape-test.true c.shape-item.is c.in_err-shape_at.ensures.none)
+    rw (p.1, p.2) (λ not_memory. pair_none (IsShapeAt c.args.n c.args.shift.now) c.args.raw.now c.loop-shape.shape-index c.shape-item.result
+    c.loop-shape-test.true c.shape-item.is c.in_err-shape_at.ensures.none)
 
 pub returns-in_err-push-clause-ok : goal.returns-in_err-push-clause-ok
 returns-in_err-push-clause-ok g c = IfOk-from_err _ _ c.from_residual-in_err-push.ensures.0
@@ -24,8 +25,10 @@ returns-in_err-push-clause-none g c =
 
 pub loop-shape-preserved : goal.loop-shape-preserved
 loop-shape-preserved g c =
-    rw c.in_ok-push.ensures.items (pair_more (IsShapeAt c.args.n c.args.shift.now) c.args.raw.now c.loop-shape.shapes.items c.loop-shape.shape-index c.shape-item.result c.in_ok-shape_at.field-0 c.loop-shape-test.true c.shape-item.is c.loop-shape.invariant c.in_ok-shape_at.ensures.ok)
+    rw c.in_ok-push.ensures.items (pair_more (IsShapeAt c.args.n c.args.shift.now) c.args.raw.now c.loop-shape.shapes.items c.loop-shape.shape-index
+    c.shape-item.result c.in_ok-shape_at.field-0 c.loop-shape-test.true c.shape-item.is c.loop-shape.invariant c.in_ok-shape_at.ensures.ok)
 
 pub returns-clause-ok : goal.returns-clause-ok
 returns-clause-ok g c =
-    rw c.from_vec.ensures (pair_all (IsShapeAt c.args.n c.args.shift.now) c.args.raw.now c.loop-shape.shapes.items c.loop-shape.shape-index c.loop-shape-test.false c.loop-shape.invariant)
+    rw c.from_vec.ensures (pair_all (IsShapeAt c.args.n c.args.shift.now) c.args.raw.now c.loop-shape.shapes.items c.loop-shape.shape-index
+    c.loop-shape-test.false c.loop-shape.invariant)

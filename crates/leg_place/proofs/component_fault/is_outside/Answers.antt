@@ -14,7 +14,7 @@ returns-in-Some g c =
     let there : slice_get design.components c.args.number ≡ Some component =
     rw (← c.components.ensures.is) (slice_get_read c.components.result.now _ c.args.number component refl within c.index-components-number.is) in
     let test : IsTrue c.contains.result ↔ HasAllPoints design.die c.in-Some.rect = rw c.die.ensures.is at c.contains.ensures in
-    IsOutside-test design.library design c.args.number component there c.in-Some.rect _ (rw c.library.ensures.is at c.in-Some.ensures.is) c.in-Some.ensures.proper test
+    IsOutside-test design c.args.number component there c.in-Some.rect _ (rw c.library.ensures.is at c.in-Some.ensures.is) c.in-Some.ensures.proper test
 
 pub returns-in-None : goal.returns-in-None
 returns-in-None g c =
@@ -23,4 +23,4 @@ returns-in-None g c =
     let within : c.args.number < length c.components.result.now = rw c.components.ensures.is c.requires in
     let there : slice_get design.components c.args.number ≡ Some component =
     rw (← c.components.ensures.is) (slice_get_read c.components.result.now _ c.args.number component refl within c.index-components-number.is) in
-    (λ t. absurd (false≢true t), λ out. absurd (IsOutside-unplaced design.library design c.args.number component there (rw c.library.ensures.is at c.in-None.ensures.is) out))
+    (λ t. absurd (false≢true t), λ out. absurd (IsOutside-unplaced design c.args.number component there (rw c.library.ensures.is at c.in-None.ensures.is) out))

@@ -4,4 +4,4 @@ use Rattle.leg_place.proofs.faults.place_faults_among.Goals as goal
 
 pub returns : goal.returns
 returns g c =
-    rw c.requires (listing_whole c.args.design.now.library c.args.design.now c.args.marks.now c.push_each-4.new.found.items c.in_ok-push_each-4.ensures)
+    listing_whole c.args.design.now c.args.marks.now c.push_each-4.new.found.items c.in_ok-push_each-4.ensures

@@ -4,4 +4,4 @@ use Rattle.leg_place.proofs.ComponentFaults.{number_of_kind}
 use Rattle.leg_place.proofs.faults.push_each.Given as goal
 
 abbrev pub invariant-loop-i : goal.invariant-loop-i
-invariant-loop-i g l = IsListBefore l.design.library l.design l.marks (number_of_kind l.kind) l.i l.found.items
+invariant-loop-i g l = IsListBefore l.design l.marks (number_of_kind l.kind) l.i l.found.items

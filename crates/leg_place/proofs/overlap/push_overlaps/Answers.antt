@@ -20,4 +20,4 @@ returns g c =
     let are : ArePairs Share boxes pairs = rw (c.deref-a-items.ensures.value, ← c.deref.ensures.value) c.in_ok-overlaps.ensures.pairs in
     let all = take_all c.loop-a.a-index pairs (omega arith) in
     rw (c.loop-a.invariant, all)
-    (listing_Overlap_end c.args.design.now.library c.args.design.now c.args.marks.now c.args.found.now.items c.requires boxes c.in_ok-boxes.ensures.boxes pairs are)
+    (listing_Overlap_end c.args.design.now c.args.marks.now c.args.found.now.items c.requires boxes c.in_ok-boxes.ensures.boxes pairs are)

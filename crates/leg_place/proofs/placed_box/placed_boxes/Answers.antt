@@ -12,8 +12,8 @@ loop-i-preserved g c =
     elim c.match-marked_box.branch [
       | in-Some+in_ok-push w ↦
           rw (w.boxes-is, w.in_ok-push.ensures.items) (
-            boxes_more design.library design c.args.marks.now c.loop-i.i w.in-Some.rect boxes w.in-Some.ensures c.loop-i.invariant.0,
+            boxes_more design c.args.marks.now c.loop-i.i w.in-Some.rect boxes w.in-Some.ensures c.loop-i.invariant.0,
             omega (arith, length_push boxes (record { component = c.loop-i.i; rect = w.in-Some.rect })),
           )
-      | in_default w ↦ rw w.boxes-is (boxes_skip design.library design c.args.marks.now c.loop-i.i boxes w.in_default.ensures c.loop-i.invariant.0, omega arith)
+      | in_default w ↦ rw w.boxes-is (boxes_skip design c.args.marks.now c.loop-i.i boxes w.in_default.ensures c.loop-i.invariant.0, omega arith)
     ]

@@ -18,9 +18,12 @@ loop-row-preserved g c =
     let site = c.index-sites-row.result in
     let same : c.sites.result.now ≡ design.library.sites = c.sites.ensures ∙ ap (λ l. l.sites) c.library.ensures.is in
     let within : row.site < length c.sites.result.now = rw same (slice_get_within design.library.sites row.site is_row.site is_row.there) in
-    let there : slice_get design.library.sites row.site ≡ Some site = rw (← same) (slice_get_read c.sites.result.now _ row.site site refl within c.index-sites-row.is) in
-    let span : IsRowSpan design.library row c.new.result = record { site = site; there = there; is = rw (c.row_rect.ensures, ← c.index-sites-row.is) at c.new.ensures } in
+    let there : slice_get design.library.sites row.site ≡ Some site =
+    rw (← same) (slice_get_read c.sites.result.now _ row.site site refl within c.index-sites-row.is) in
+    let span : IsRowSpan design.library row c.new.result =
+    record { site = site; there = there; is = rw (c.row_rect.ensures, ← c.index-sites-row.is) at c.new.ensures } in
     rw c.in_ok-push.ensures.items (spans_more design.library design.rows c.loop-row.spans.items i row c.new.result at is_row.some span c.loop-row.invariant)
 
 pub returns : goal.returns
-returns g c = let last : c.loop-row.row-index ≡ length c.args.design.now.rows = rw (← c.rows-row-items.ensures.is) (omega arith) in rw (← last) c.loop-row.invariant
+returns g c = let last : c.loop-row.row-index ≡ length c.args.design.now.rows = rw (← c.rows-row-items.ensures.is) (omega arith) in
+    rw (← last) c.loop-row.invariant

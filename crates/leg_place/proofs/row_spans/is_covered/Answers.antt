@@ -11,7 +11,9 @@ pub returns-then-end-gt0 : goal.returns-then-end-gt0
 returns-then-end-gt0 c =
     let spans = c.args.spans.now in
     let wanted = c.args.wanted.now in
-    let point = IsPartitionPoint-from_clause (λ (span : SiteSpan). begins_by span wanted) spans _ c.partition_point-end.ensures.partitioned (begins_partitioned spans wanted c.requires) (λ a r q k. search rules) in (
+    let point =
+    IsPartitionPoint-from_clause (λ (span : SiteSpan). begins_by span wanted) spans _ c.partition_point-end.ensures.partitioned
+    (begins_partitioned spans wanted c.requires) (λ a r q k. search rules) in (
       λ t. (last_covering spans wanted c.requires _ point c.partition_point-end.ensures.bound c.if-end-gt0.true _).0 (sym c.covers.ensures ∙ t),
       λ covered. c.covers.ensures ∙ (last_covering spans wanted c.requires _ point c.partition_point-end.ensures.bound c.if-end-gt0.true _).1 covered,
     )
@@ -20,5 +22,9 @@ pub returns-else-end-gt0 : goal.returns-else-end-gt0
 returns-else-end-gt0 c =
     let spans = c.args.spans.now in
     let wanted = c.args.wanted.now in
-    let point = IsPartitionPoint-from_clause (λ (span : SiteSpan). begins_by span wanted) spans _ c.partition_point-end.ensures.partitioned (begins_partitioned spans wanted c.requires) (λ a r q k. search rules) in
-    (λ t. absurd (omega (arith, c.if-end-gt0.false, ltb-true 0 c.partition_point-end.result t)), λ covered. absurd (omega (arith, c.if-end-gt0.false, some_begin spans wanted c.requires _ point c.partition_point-end.ensures.bound covered)))
+    let point =
+    IsPartitionPoint-from_clause (λ (span : SiteSpan). begins_by span wanted) spans _ c.partition_point-end.ensures.partitioned
+    (begins_partitioned spans wanted c.requires) (λ a r q k. search rules) in (
+      λ t. absurd (omega (arith, c.if-end-gt0.false, ltb-true 0 c.partition_point-end.result t)),
+      λ covered. absurd (omega (arith, c.if-end-gt0.false, some_begin spans wanted c.requires _ point c.partition_point-end.ensures.bound covered)),
+    )

@@ -28,7 +28,10 @@ found : (r : Option RectModel) (box : RectModel) → SomeIff r (IsRect box) box 
 found None box told proper = absurd (told proper)
 found (Some s) box told proper = rw told.1 refl
 
-row_found : (row : Row) (size : ExtentModel) (r : Option RectModel) → IsPosition row.at → pos 1 ≤ℤ row.count → IsNumber row.count → IsNumber (row.at.x +ℤ row.count *ℤ size.width) → IsExtent size → SomeIff r (IsRect (computed_box row.at.x row.at.y row.count size.width size.height)) (computed_box row.at.x row.at.y row.count size.width size.height) → r ≡ Some (row_box row size)
+row_found : (row : Row) (size : ExtentModel) (r : Option RectModel) → IsPosition row.at → pos 1 ≤ℤ row.count → IsNumber row.count
+    → IsNumber (row.at.x +ℤ row.count *ℤ size.width) → IsExtent size
+    → SomeIff r (IsRect (computed_box row.at.x row.at.y row.count size.width size.height)) (computed_box row.at.x row.at.y row.count size.width size.height)
+    → r ≡ Some (row_box row size)
 row_found row size r at some few end extent told =
     let left = to_z-of_z w64 row.at.x (number_fits row.at.x at.x) in
     let bottom = to_z-of_z w64 row.at.y (number_fits row.at.y at.y) in
@@ -48,7 +51,8 @@ unwrap-requires c =
     let row = c.args.row.now in
     let size = c.args.size.now in
     let told = rw (c.x-left.ensures.is, c.y-bottom.ensures.is, c.width.ensures.is, c.height.ensures.is) at c.new.ensures in
-    some_found c.new.result (row_box row size) (row_found row size c.new.result c.requires.at c.requires.some c.requires.few c.requires.end c.width.ensures.proper told)
+    some_found c.new.result (row_box row size) (row_found row size c.new.result c.requires.at c.requires.some c.requires.few c.requires.end
+    c.width.ensures.proper told)
 
 pub returns : goal.returns
 returns c =

@@ -21,7 +21,8 @@ returns-in-Some-site g c =
     let is_master : slice_get design.library.masters component.master ≡ Some master =
     rw (← masters_are) (slice_get_read c.masters.result.now _ component.master master refl below_read c.index-masters-component.is) in
     let site : master.site ≡ Some c.in-Some-site.site = sym (ap (λ m. m.site) c.master.view_is) ∙ c.in-Some-site.is in
-    off_site_test design c.args.number component there master is_master c.in-Some.place c.in-Some-site.site c.is_on_some_row.result c.in-Some.is site c.is_on_some_row.ensures
+    off_site_test design c.args.number component there master is_master c.in-Some.place c.in-Some-site.site c.is_on_some_row.result c.in-Some.is site
+    c.is_on_some_row.ensures
 
 pub returns-in-None : goal.returns-in-None
 returns-in-None g c =
@@ -35,5 +36,8 @@ returns-in-None g c =
     let masters_are : c.masters.result.now ≡ design.library.masters = c.masters.ensures.is ∙ ap (λ library. library.masters) c.library.ensures.is in
     let below_read : component.master < length c.masters.result.now = rw masters_are below in
     let is_master : slice_get design.library.masters component.master ≡ Some master =
-    rw (← masters_are) (slice_get_read c.masters.result.now _ component.master master refl below_read c.index-masters-component.is) in
-    (λ t. absurd (false≢true t), λ off. absurd (on_no_site design c.args.number component there master is_master (sym (ap (λ m. m.site) c.master.view_is) ∙ c.in-None.is) off))
+    rw (← masters_are) (slice_get_read c.masters.result.now _ component.master master refl below_read c.index-masters-component.is) in (
+      λ t. absurd (false≢true t),
+      λ off. absurd (on_no_site design c.args.number component there master is_master
+          (sym (ap (λ m. m.site) c.master.view_is) ∙ c.in-None.is) off),
+    )

@@ -15,7 +15,8 @@ returns-then-is_whole g c =
     let site = c.in-Some.site.now in
     let lookup = c.in-Some.ensures.lookup in
     let sites_are : c.sites.result.now ≡ design.library.sites = c.sites.ensures ∙ ap (λ l. l.sites) c.library.ensures.is in
-    let there : slice_get design.library.sites c.args.number ≡ Some site = rw (← sites_are) (slice_get_read c.sites.result.now _ c.args.number site refl lookup.3.0 lookup.1) in
+    let there : slice_get design.library.sites c.args.number ≡ Some site =
+    rw (← sites_are) (slice_get_read c.sites.result.now _ c.args.number site refl lookup.3.0 lookup.1) in
     let size_is : c.master.inside.size ≡ master.size = ap (λ m. m.size) c.master.view_is in
     let symmetric_is : c.master.inside.y_symmetric ≡ master.y_symmetric = ap (λ m. m.y_symmetric) c.master.view_is in
     let box_is : c.placed_size-rect.result ≡ placed_box master.size place = c.placed_size-rect.ensures.is ∙ ap (λ size. placed_box size place) size_is in
@@ -37,7 +38,8 @@ returns-else-is_whole g c =
     let site = c.in-Some.site.now in
     let lookup = c.in-Some.ensures.lookup in
     let sites_are : c.sites.result.now ≡ design.library.sites = c.sites.ensures ∙ ap (λ l. l.sites) c.library.ensures.is in
-    let there : slice_get design.library.sites c.args.number ≡ Some site = rw (← sites_are) (slice_get_read c.sites.result.now _ c.args.number site refl lookup.3.0 lookup.1) in
+    let there : slice_get design.library.sites c.args.number ≡ Some site =
+    rw (← sites_are) (slice_get_read c.sites.result.now _ c.args.number site refl lookup.3.0 lookup.1) in
     let size_is : c.master.inside.size ≡ master.size = ap (λ m. m.size) c.master.view_is in
     let box_is : c.placed_size-rect.result ≡ placed_box master.size place = c.placed_size-rect.ensures.is ∙ ap (λ size. placed_box size place) size_is in
     let rect = c.placed_size-rect.ensures.proper in

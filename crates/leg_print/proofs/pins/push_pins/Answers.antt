@@ -9,5 +9,6 @@ pub returns : goal.returns
 returns g c =
     let design = c.args.design.now in
     on_ok_weaker c.push_section_end.result (λ last.
-    section_pushed (codes "PINS") (λ pin. line (pin_words design pin)) c.args.pins.now c.loop-pin.pin-index _ c.push_section_start.new.text.items c.loop-pin.text.items _
+    section_pushed (codes "PINS") (λ pin. line (pin_words design pin)) c.args.pins.now c.loop-pin.pin-index _ c.push_section_start.new.text.items
+    c.loop-pin.text.items _
     (search rules) c.in_ok-push_section_start.ensures c.loop-pin.invariant c.loop-pin-test.false last) c.push_section_end.ensures

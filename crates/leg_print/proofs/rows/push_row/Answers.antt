@@ -13,5 +13,6 @@ returns g c =
     let row = c.args.row.now in
     on_ok_weaker c.push_end.result (λ last.
     entry_pushed _ c.push_start.new.text.items c.push_words.new.text.items _ (codes "ROW") (row.name ∷ site_name design row.site ∷ [])
-    (signed_decimal row.at.x ∷ signed_decimal row.at.y ∷ orient_word row.orient ∷ codes "DO" ∷ signed_decimal row.count ∷ codes "BY" ∷ codes "1" ∷ codes "STEP" ∷ signed_decimal (width_of_site design row.site) ∷ codes "0" ∷ [])
+    (signed_decimal row.at.x ∷ signed_decimal row.at.y ∷ orient_word row.orient ∷ codes "DO" ∷ signed_decimal
+    row.count ∷ codes "BY" ∷ codes "1" ∷ codes "STEP" ∷ signed_decimal (width_of_site design row.site) ∷ codes "0" ∷ [])
     (search rules) (search rules) last) c.push_end.ensures

@@ -9,5 +9,6 @@ pub returns : goal.returns
 returns g c =
     let design = c.args.design.now in
     on_ok_weaker c.push_section_end.result (λ last.
-    section_pushed (codes "VIAS") (λ via. line (via_words design via)) c.args.vias.now c.loop-via.via-index _ c.push_section_start.new.text.items c.loop-via.text.items _
+    section_pushed (codes "VIAS") (λ via. line (via_words design via)) c.args.vias.now c.loop-via.via-index _ c.push_section_start.new.text.items
+    c.loop-via.text.items _
     (search rules) c.in_ok-push_section_start.ensures c.loop-via.invariant c.loop-via-test.false last) c.push_section_end.ensures

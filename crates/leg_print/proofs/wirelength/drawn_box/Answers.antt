@@ -12,9 +12,11 @@ loop-shape-preserved c =
     let before = rw (width, height) at c.loop-shape.invariant in
     let one = rw (width, height) at c.shape_box.ensures in
     rw (width, height, c.joined-bounds.ensures)
-    (one_more Shape (IsOfShape c.args.place.now (record { width = c.args.width; height = c.args.height })) c.args.shapes.now c.loop-shape.shape-index c.shape-item.result c.loop-shape.bounds (Some c.shape_box.result) c.loop-shape-test.true c.shape-item.is before one)
+    (one_more Shape (IsOfShape c.args.place.now (record { width = c.args.width; height = c.args.height })) c.args.shapes.now c.loop-shape.shape-index
+    c.shape-item.result c.loop-shape.bounds (Some c.shape_box.result) c.loop-shape-test.true c.shape-item.is before one)
 
 pub returns : goal.returns
 returns c =
     let before = rw (to_z-of_z w64 c.args.width c.ranges.width, to_z-of_z w64 c.args.height c.ranges.height) at c.loop-shape.invariant in
-    all_taken Shape (IsOfShape c.args.place.now (record { width = c.args.width; height = c.args.height })) c.args.shapes.now c.loop-shape.shape-index c.loop-shape.bounds c.loop-shape-test.false before
+    all_taken Shape (IsOfShape c.args.place.now (record { width = c.args.width; height = c.args.height })) c.args.shapes.now c.loop-shape.shape-index
+    c.loop-shape.bounds c.loop-shape-test.false before

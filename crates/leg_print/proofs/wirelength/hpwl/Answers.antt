@@ -9,7 +9,9 @@ pub loop-net-preserved : goal.loop-net-preserved
 loop-net-preserved g c =
     let there = read_at _ c.args.design.now.nets c.loop-net.net-index c.net-item.result c.nets-net-items.ensures.is c.loop-net-test.true c.net-item.is in
     record {
-      lengths = one_more_length c.args.design.now c.loop-net.net-index c.loop-net.total c.net_length-total.result c.loop-net.invariant.lengths (c.net_length-total.ensures.is c.loop-net.net-index there);
+      lengths =
+          one_more_length c.args.design.now c.loop-net.net-index c.loop-net.total c.net_length-total.result c.loop-net.invariant.lengths
+          (c.net_length-total.ensures.is c.loop-net.net-index there);
       small = omega arith;
     }
 

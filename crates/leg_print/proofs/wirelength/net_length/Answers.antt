@@ -12,7 +12,8 @@ returns-in-Some-clause-is g c n there =
     let special = rw (c.special_terminals.ensures, named) at c.centres_box-special.ensures in
     record {
       box = Some c.in-Some.bounds;
-      least = same_box c.args.design.now n _ (Some c.in-Some.bounds) (sym c.in-Some.ensures) (net_least c.args.design.now n net c.centres_box-regular.result c.centres_box-special.result there regular special);
+      least = same_box c.args.design.now n _ (Some c.in-Some.bounds) (sym c.in-Some.ensures)
+          (net_least c.args.design.now n net c.centres_box-regular.result c.centres_box-special.result there regular special);
       is = c.half_perimeter.ensures.is;
     }
 
@@ -25,6 +26,7 @@ returns-in-None-clause-is g c n there =
     let special = rw (c.special_terminals.ensures, named) at c.centres_box-special.ensures in
     record {
       box = None;
-      least = same_box c.args.design.now n _ None (sym c.in-None.ensures) (net_least c.args.design.now n net c.centres_box-regular.result c.centres_box-special.result there regular special);
+      least = same_box c.args.design.now n _ None (sym c.in-None.ensures)
+          (net_least c.args.design.now n net c.centres_box-regular.result c.centres_box-special.result there regular special);
       is = refl;
     }

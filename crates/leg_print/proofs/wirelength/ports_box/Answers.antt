@@ -6,7 +6,8 @@ use Rattle.leg_print.proofs.wirelength.ports_box.Goals as goal
 pub loop-port-preserved : goal.loop-port-preserved
 loop-port-preserved g c =
     rw c.joined-bounds.ensures
-    (one_more PortModel IsOfPort c.args.ports.now c.loop-port.port-index c.port-item.result c.loop-port.bounds c.port_box.result c.loop-port-test.true c.port-item.is c.loop-port.invariant c.port_box.ensures)
+    (one_more PortModel IsOfPort c.args.ports.now c.loop-port.port-index c.port-item.result c.loop-port.bounds c.port_box.result c.loop-port-test.true
+    c.port-item.is c.loop-port.invariant c.port_box.ensures)
 
 pub returns : goal.returns
 returns g c = all_taken PortModel IsOfPort c.args.ports.now c.loop-port.port-index c.loop-port.bounds c.loop-port-test.false c.loop-port.invariant

@@ -4,4 +4,5 @@ use Rattle.leg_print_laws.proofs.Whole.{text_says}
 use Rattle.leg_print_laws.proofs.laws.printed_design_is_read_again.Goals as goal
 
 pub returns : goal.returns
-returns g c = λ one fits. text_says c.args.design.now (subst IsSound c.library-library.ensures.is c.layers-layers.ensures.proper) c.die-die.ensures.proper one fits
+returns g c =
+    λ one fits. text_says c.args.design.now (subst IsSound c.library-library.ensures.is c.layers-layers.ensures.proper) c.die-die.ensures.proper one fits

@@ -14,7 +14,8 @@ use Rattle.leg_route_grid.proofs.added.add_on_layer.Goals as goal
 
 pub returns-in_default : goal.returns-in_default
 returns-in_default g c =
-    none_reached c.args.grid.now c.args.shape.now c.grid_is_sound.ensures.proper c.grid_is_sound.ensures.library c.args.k None c.in_default.ensures true true (all_along c.args.grid.now c.args.k c.args.shape.now.layer) c.args.slots.now refl
+    none_reached c.args.grid.now c.args.shape.now c.grid_is_sound.ensures.proper c.grid_is_sound.ensures.library c.args.k None c.in_default.ensures true true
+    (all_along c.args.grid.now c.args.k c.args.shape.now.layer) c.args.slots.now refl
 
 pub places_near-columns-requires-clause-rising : goal.places_near-columns-requires-clause-rising
 places_near-columns-requires-clause-rising g c = rw c.xs.ensures.is c.xs.ensures.proper.xs_are.increasing
@@ -42,16 +43,27 @@ returns g c =
     let along : AreAlong grid c.args.k shape.layer along_x along_y = record {
       x = λ l there number direction.
           let same : l ≡ own = same_Some l own (sym there ∙ c.layer_at-own.ensures.is) in
-          c.steps_along-along_x.ensures.1 (sym (ap (λ (l : RoutingLayer). l.number) same) ∙ number, sym (ap (λ (l : RoutingLayer). l.direction) same) ∙ direction);
+          c.steps_along-along_x.ensures.1 (
+            sym (ap (λ (l : RoutingLayer). l.number) same) ∙ number,
+            sym (ap (λ (l : RoutingLayer). l.direction) same)
+                ∙ direction,
+          );
       y = λ l there number direction.
           let same : l ≡ own = same_Some l own (sym there ∙ c.layer_at-own.ensures.is) in
-          c.steps_along-along_y.ensures.1 (sym (ap (λ (l : RoutingLayer). l.number) same) ∙ number, sym (ap (λ (l : RoutingLayer). l.direction) same) ∙ direction);
+          c.steps_along-along_y.ensures.1 (
+            sym (ap (λ (l : RoutingLayer). l.number) same) ∙ number,
+            sym (ap (λ (l : RoutingLayer). l.direction) same)
+                ∙ direction,
+          );
     } in
-    let layers : c.layers.result.now ≡ grid.design.library.layers = c.layers.ensures.is ∙ ap (λ (l : LibraryModel). l.layers) c.library.ensures.is ∙ ap (λ (d : DesignModel). d.library.layers) (sym c.requires.of_design) in
+    let layers : c.layers.result.now ≡ grid.design.library.layers =
+    c.layers.ensures.is ∙ ap (λ (l : LibraryModel). l.layers) c.library.ensures.is ∙ ap (λ (d : DesignModel). d.library.layers) (sym c.requires.of_design) in
     let reach_is : to_z w64 (of_z w64 reach) ≡ reach = to_z-of_z w64 reach (distance_fits reach c.in-Some.ensures.proper) in
-    let far_is : c.far_on-far.result ≡ (reach +ℤ pos clear) = rw reach_is at c.far_on-far.ensures.is ∙ ap (λ (ls : List Layer). reach +ℤ pos (clear_at ls shape.layer)) layers in
+    let far_is : c.far_on-far.result ≡ (reach +ℤ pos clear) =
+    rw reach_is at c.far_on-far.ensures.is ∙ ap (λ (ls : List Layer). reach +ℤ pos (clear_at ls shape.layer)) layers in
     let far_fits = far_fits c.far_on-far.result c.far_on-far.ensures.proper in
-    let columns : ArePlacesNear grid.xs along_x (rect.x1 -ℤ (reach +ℤ pos clear)) (rect.x2 +ℤ (reach +ℤ pos clear)) c.places_near-columns.result.0 c.places_near-columns.result.1 =
+    let columns : ArePlacesNear grid.xs along_x (rect.x1 -ℤ (reach +ℤ pos clear))
+    (rect.x2 +ℤ (reach +ℤ pos clear)) c.places_near-columns.result.0 c.places_near-columns.result.1 =
     rw (
       c.xs.ensures.is,
       c.x1.ensures.is,
@@ -61,7 +73,8 @@ returns g c =
       to_z-of_z w64 c.far_on-far.result far_fits,
       far_is,
     ) at c.places_near-columns.ensures in
-    let rows : ArePlacesNear grid.ys along_y (rect.y1 -ℤ (reach +ℤ pos clear)) (rect.y2 +ℤ (reach +ℤ pos clear)) c.places_near-rows.result.0 c.places_near-rows.result.1 =
+    let rows : ArePlacesNear grid.ys along_y (rect.y1 -ℤ (reach +ℤ pos clear))
+    (rect.y2 +ℤ (reach +ℤ pos clear)) c.places_near-rows.result.0 c.places_near-rows.result.1 =
     rw (
       c.ys.ensures.is,
       c.y1.ensures.is,
@@ -71,5 +84,6 @@ returns g c =
       to_z-of_z w64 c.far_on-far.result far_fits,
       far_is,
     ) at c.places_near-rows.ensures in
-    rows_told grid shape c.grid_is_sound.ensures.proper c.grid_is_sound.ensures.library c.args.k (Some reach) c.in-Some.ensures along_x along_y along reach c.places_near-columns.result.0 c.places_near-columns.result.1
+    rows_told grid shape c.grid_is_sound.ensures.proper c.grid_is_sound.ensures.library c.args.k
+    (Some reach) c.in-Some.ensures along_x along_y along reach c.places_near-columns.result.0 c.places_near-columns.result.1
     c.places_near-rows.result.0 c.places_near-rows.result.1 refl columns rows c.args.slots.now c.add_in_rows.new.slots c.add_in_rows.ensures

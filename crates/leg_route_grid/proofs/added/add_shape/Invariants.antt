@@ -5,4 +5,5 @@ use Rattle.leg_route_grid.specs.Steps.AccessUpdates.{AreAccessAfter, IsSlotOnLay
 use Rattle.leg_route_grid.proofs.added.add_shape.Given as goal
 
 abbrev pub invariant-loop-k : goal.invariant-loop-k
-invariant-loop-k g l = AreAccessAfter l.grid l.shape (IsSlotAmong (IsSlotOnLayer l.grid) l.first l.k) l.fn.slots l.slots × ((j : ℕ) → l.first ≤ j → j < l.k → j < l.end)
+invariant-loop-k g l =
+    AreAccessAfter l.grid l.shape (IsSlotAmong (IsSlotOnLayer l.grid) l.first l.k) l.fn.slots l.slots × ((j : ℕ) → l.first ≤ j → j < l.k → j < l.end)

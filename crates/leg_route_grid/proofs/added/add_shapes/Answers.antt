@@ -17,4 +17,5 @@ loop-k-preserved g c = record {
 
 pub returns-clause-told : goal.returns-clause-told
 returns-clause-told g c before told flat are =
-    c.loop-k.invariant.told before told flat (are ∙ ap (λ (shapes : List Shape). before ++ shapes) (sym (take_all c.loop-k.k c.args.shapes.now c.loop-k-test.false)))
+    c.loop-k.invariant.told before told flat (are ∙ ap (λ (shapes : List Shape). before ++ shapes)
+    (sym (take_all c.loop-k.k c.args.shapes.now c.loop-k-test.false)))

@@ -7,7 +7,8 @@ use Rattle.leg_route_grid.proofs.added.add_unless_again.Goals as goal
 pub returns-then-is_again-clause-told : goal.returns-then-is_again-clause-told
 returns-then-is_again-clause-told g c before tells flat are =
     let shape = some_at c.args.shapes.now c.args.k c.requires.within in
-    told_again c.args.grid.now c.args.shapes.now c.args.k shape.value shape.there before flat are c.grid_is_sound.ensures.proper (c.is_again.ensures shape.value shape.there c.if-is_again.true) c.args.slots.now
+    told_again c.args.grid.now c.args.shapes.now c.args.k shape.value shape.there before flat are c.grid_is_sound.ensures.proper
+    (c.is_again.ensures shape.value shape.there c.if-is_again.true) c.args.slots.now
     (tells (without_it c.args.grid.now c.args.shapes.now c.args.k shape.value shape.there before flat are) refl)
 
 pub returns-clause-told : goal.returns-clause-told

@@ -7,7 +7,8 @@ loop-number-init g c = none_told_yet c.args.grid.now c.in_ok-slots.slots.items c
 
 pub loop-number-preserved : goal.loop-number-preserved
 loop-number-preserved g c =
-    rw c.in_ok-push.ensures.items (one_slot_more c.args.grid.now c.loop-number.number c.loop-number.slots.items c.bare_slot.result c.loop-number.invariant c.bare_slot.ensures)
+    rw c.in_ok-push.ensures.items (one_slot_more c.args.grid.now c.loop-number.number c.loop-number.slots.items c.bare_slot.result c.loop-number.invariant
+    c.bare_slot.ensures)
 
 pub returns : goal.returns
 returns g c flat bare = record {

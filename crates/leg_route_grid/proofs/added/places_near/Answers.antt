@@ -20,7 +20,8 @@ returns-then-back c =
       to_z-of_z w64 (high +ℤ far) (high_fits high far c.requires.high is_far),
     ) at c.places_within-first.ensures in
     rw c.if-back.true
-    (places_before values true (low -ℤ far) (high +ℤ far) c.places_within-first.result.0 c.places_within-first.result.1 c.saturating_sub.result places (place_before c.places_within-first.result.0 c.saturating_sub.result c.saturating_sub.ensures))
+    (places_before values true (low -ℤ far) (high +ℤ far) c.places_within-first.result.0 c.places_within-first.result.1 c.saturating_sub.result places
+    (place_before c.places_within-first.result.0 c.saturating_sub.result c.saturating_sub.ensures))
 
 pub returns-else-back : goal.returns-else-back
 returns-else-back c =
@@ -38,4 +39,5 @@ returns-else-back c =
       to_z-of_z w64 (high +ℤ far) (high_fits high far c.requires.high is_far),
     ) at c.places_within-first.ensures in
     rw c.if-back.false
-    (places_before values false (low -ℤ far) (high +ℤ far) c.places_within-first.result.0 c.places_within-first.result.1 c.places_within-first.result.0 places (inl (omega arith)))
+    (places_before values false (low -ℤ far) (high +ℤ far) c.places_within-first.result.0 c.places_within-first.result.1 c.places_within-first.result.0 places
+    (inl (omega arith)))

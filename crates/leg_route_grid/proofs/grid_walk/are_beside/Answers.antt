@@ -50,24 +50,30 @@ returns-then-is_to-5 g c =
     let n = c.args.number in
     let to = c.args.to in
     let two : IsTrue c.if-is_to.value ↔ Two grid n to = elim c.if-is_to.branch [
-      | then-is_to w ↦ first_found (IsNeighbourAt grid West n to) (IsNeighbourAt grid East n to) c.is_to.result c.if-is_to.value c.is_to.ensures w.if-is_to.true w.value-is
+      | then-is_to w ↦
+          first_found (IsNeighbourAt grid West n to) (IsNeighbourAt grid East n to) c.is_to.result c.if-is_to.value c.is_to.ensures w.if-is_to.true w.value-is
       | else-is_to w ↦
-          second_found (IsNeighbourAt grid West n to) (IsNeighbourAt grid East n to) c.is_to.result w.is_to-else-is_to.result c.if-is_to.value c.is_to.ensures w.if-is_to.false w.is_to-else-is_to.ensures w.value-is
+          second_found (IsNeighbourAt grid West n to)
+          (IsNeighbourAt grid East n to) c.is_to.result w.is_to-else-is_to.result c.if-is_to.value c.is_to.ensures w.if-is_to.false
+          w.is_to-else-is_to.ensures w.value-is
     ] in
     let three : IsTrue c.if-is_to-2.value ↔ Three grid n to = elim c.if-is_to-2.branch [
       | then-is_to-2 w ↦ first_found (Two grid n to) (IsNeighbourAt grid South n to) c.if-is_to.value c.if-is_to-2.value two w.if-is_to-2.true w.value-is
       | else-is_to-2 w ↦
-          second_found (Two grid n to) (IsNeighbourAt grid South n to) c.if-is_to.value w.is_to-else-is_to-2.result c.if-is_to-2.value two w.if-is_to-2.false w.is_to-else-is_to-2.ensures w.value-is
+          second_found (Two grid n to) (IsNeighbourAt grid South n to) c.if-is_to.value w.is_to-else-is_to-2.result c.if-is_to-2.value two w.if-is_to-2.false
+          w.is_to-else-is_to-2.ensures w.value-is
     ] in
     let four : IsTrue c.if-is_to-3.value ↔ Four grid n to = elim c.if-is_to-3.branch [
       | then-is_to-3 w ↦ first_found (Three grid n to) (IsNeighbourAt grid North n to) c.if-is_to-2.value c.if-is_to-3.value three w.if-is_to-3.true w.value-is
       | else-is_to-3 w ↦
-          second_found (Three grid n to) (IsNeighbourAt grid North n to) c.if-is_to-2.value w.is_to-else-is_to-3.result c.if-is_to-3.value three w.if-is_to-3.false w.is_to-else-is_to-3.ensures w.value-is
+          second_found (Three grid n to) (IsNeighbourAt grid North n to) c.if-is_to-2.value w.is_to-else-is_to-3.result c.if-is_to-3.value three
+          w.if-is_to-3.false w.is_to-else-is_to-3.ensures w.value-is
     ] in
     let five : IsTrue c.if-is_to-4.value ↔ Five grid n to = elim c.if-is_to-4.branch [
       | then-is_to-4 w ↦ first_found (Four grid n to) (IsNeighbourAt grid Below n to) c.if-is_to-3.value c.if-is_to-4.value four w.if-is_to-4.true w.value-is
       | else-is_to-4 w ↦
-          second_found (Four grid n to) (IsNeighbourAt grid Below n to) c.if-is_to-3.value w.is_to-else-is_to-4.result c.if-is_to-4.value four w.if-is_to-4.false w.is_to-else-is_to-4.ensures w.value-is
+          second_found (Four grid n to) (IsNeighbourAt grid Below n to) c.if-is_to-3.value w.is_to-else-is_to-4.result c.if-is_to-4.value four
+          w.if-is_to-4.false w.is_to-else-is_to-4.ensures w.value-is
     ] in
     (λ is. on_five grid n to (five.0 is), λ any. c.if-is_to-5.true)
 
@@ -77,24 +83,30 @@ returns-else-is_to-5 g c =
     let n = c.args.number in
     let to = c.args.to in
     let two : IsTrue c.if-is_to.value ↔ Two grid n to = elim c.if-is_to.branch [
-      | then-is_to w ↦ first_found (IsNeighbourAt grid West n to) (IsNeighbourAt grid East n to) c.is_to.result c.if-is_to.value c.is_to.ensures w.if-is_to.true w.value-is
+      | then-is_to w ↦
+          first_found (IsNeighbourAt grid West n to) (IsNeighbourAt grid East n to) c.is_to.result c.if-is_to.value c.is_to.ensures w.if-is_to.true w.value-is
       | else-is_to w ↦
-          second_found (IsNeighbourAt grid West n to) (IsNeighbourAt grid East n to) c.is_to.result w.is_to-else-is_to.result c.if-is_to.value c.is_to.ensures w.if-is_to.false w.is_to-else-is_to.ensures w.value-is
+          second_found (IsNeighbourAt grid West n to)
+          (IsNeighbourAt grid East n to) c.is_to.result w.is_to-else-is_to.result c.if-is_to.value c.is_to.ensures w.if-is_to.false
+          w.is_to-else-is_to.ensures w.value-is
     ] in
     let three : IsTrue c.if-is_to-2.value ↔ Three grid n to = elim c.if-is_to-2.branch [
       | then-is_to-2 w ↦ first_found (Two grid n to) (IsNeighbourAt grid South n to) c.if-is_to.value c.if-is_to-2.value two w.if-is_to-2.true w.value-is
       | else-is_to-2 w ↦
-          second_found (Two grid n to) (IsNeighbourAt grid South n to) c.if-is_to.value w.is_to-else-is_to-2.result c.if-is_to-2.value two w.if-is_to-2.false w.is_to-else-is_to-2.ensures w.value-is
+          second_found (Two grid n to) (IsNeighbourAt grid South n to) c.if-is_to.value w.is_to-else-is_to-2.result c.if-is_to-2.value two w.if-is_to-2.false
+          w.is_to-else-is_to-2.ensures w.value-is
     ] in
     let four : IsTrue c.if-is_to-3.value ↔ Four grid n to = elim c.if-is_to-3.branch [
       | then-is_to-3 w ↦ first_found (Three grid n to) (IsNeighbourAt grid North n to) c.if-is_to-2.value c.if-is_to-3.value three w.if-is_to-3.true w.value-is
       | else-is_to-3 w ↦
-          second_found (Three grid n to) (IsNeighbourAt grid North n to) c.if-is_to-2.value w.is_to-else-is_to-3.result c.if-is_to-3.value three w.if-is_to-3.false w.is_to-else-is_to-3.ensures w.value-is
+          second_found (Three grid n to) (IsNeighbourAt grid North n to) c.if-is_to-2.value w.is_to-else-is_to-3.result c.if-is_to-3.value three
+          w.if-is_to-3.false w.is_to-else-is_to-3.ensures w.value-is
     ] in
     let five : IsTrue c.if-is_to-4.value ↔ Five grid n to = elim c.if-is_to-4.branch [
       | then-is_to-4 w ↦ first_found (Four grid n to) (IsNeighbourAt grid Below n to) c.if-is_to-3.value c.if-is_to-4.value four w.if-is_to-4.true w.value-is
       | else-is_to-4 w ↦
-          second_found (Four grid n to) (IsNeighbourAt grid Below n to) c.if-is_to-3.value w.is_to-else-is_to-4.result c.if-is_to-4.value four w.if-is_to-4.false w.is_to-else-is_to-4.ensures w.value-is
+          second_found (Four grid n to) (IsNeighbourAt grid Below n to) c.if-is_to-3.value w.is_to-else-is_to-4.result c.if-is_to-4.value four
+          w.if-is_to-4.false w.is_to-else-is_to-4.ensures w.value-is
     ] in (
       λ is. (Above, c.is_to-else-is_to-5.ensures.0 is),
       λ any. elim (one_of_six grid n to any.0 any.1) [

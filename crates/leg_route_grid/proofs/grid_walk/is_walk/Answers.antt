@@ -11,23 +11,27 @@ returns-then-is_empty-clause-is g c = (
   λ walk.
       let some : 0 < length c.args.numbers.now = some_of c.args.grid.now c.args.numbers.now walk in
       elim c.then-is_empty.branch [
-        | then-is_empty-via-then-is_empty w ↦ absurd (let none : length c.args.numbers.now ≡ 0 = grind (arith, nat_tests, c.is_empty.ensures, w.if-is_empty.true) in omega (arith, some, none))
+        | then-is_empty-via-then-is_empty w ↦
+            absurd (let none : length c.args.numbers.now ≡ 0 = grind (arith, nat_tests, c.is_empty.ensures, w.if-is_empty.true) in omega (arith, some, none))
         | then-is_empty-via-else-is_empty+then-not-has_node_of w ↦
-            w.if-not-has_node_of.ensures.is.1 ((upto_of c.args.grid.now c.args.numbers.now walk).each 0 (get_or c.args.numbers.now 0 0) some (slice_get-get_or c.args.numbers.now 0 0 some))
+            w.if-not-has_node_of.ensures.is.1 ((upto_of c.args.grid.now c.args.numbers.now walk).each 0 (get_or c.args.numbers.now 0 0) some
+            (slice_get-get_or c.args.numbers.now 0 0 some))
       ],
 )
 
 pub loop-k-init : goal.loop-k-init
 loop-k-init g c =
     let some : 0 < length c.args.numbers.now = grind (arith, nat_tests, c.is_empty.ensures, c.if-is_empty.false) in
-    walk_begun c.args.grid.now c.args.numbers.now (get_or c.args.numbers.now 0 0) (slice_get-get_or c.args.numbers.now 0 0 some) (c.if-not-has_node_of.ensures.is.0 refl)
+    walk_begun c.args.grid.now c.args.numbers.now (get_or c.args.numbers.now 0 0) (slice_get-get_or c.args.numbers.now 0 0 some)
+    (c.if-not-has_node_of.ensures.is.0 refl)
 
 pub are_beside-requires : goal.are_beside-requires
 are_beside-requires g c =
     let k = c.loop-k.k in
     let some : 1 ≤ k = c.loop-k.auto.k in
     let below : k < length c.args.numbers.now = c.loop-k-test.true in
-    upto_within_at c.args.grid.now c.args.numbers.now k (k - 1) (get_or c.args.numbers.now (k - 1) 0) c.loop-k.invariant (omega (arith, some)) (slice_get-get_or c.args.numbers.now (k - 1) 0 (omega (arith, some, below)))
+    upto_within_at c.args.grid.now c.args.numbers.now k (k - 1) (get_or c.args.numbers.now (k - 1) 0) c.loop-k.invariant (omega (arith, some))
+    (slice_get-get_or c.args.numbers.now (k - 1) 0 (omega (arith, some, below)))
 
 pub returns-then-not-are_beside-clause-is : goal.returns-then-not-are_beside-clause-is
 returns-then-not-are_beside-clause-is g c =
@@ -46,7 +50,8 @@ loop-k-preserved g c =
     let k = c.loop-k.k in
     let some : 1 ≤ k = c.loop-k.auto.k in
     let below : k < length c.args.numbers.now = c.loop-k-test.true in
-    walk_on c.args.grid.now c.args.numbers.now k (get_or c.args.numbers.now (k - 1) 0) (get_or c.args.numbers.now k 0) (omega (arith, some)) (slice_get-get_or c.args.numbers.now (k - 1) 0 (omega (arith, some, below)))
+    walk_on c.args.grid.now c.args.numbers.now k (get_or c.args.numbers.now (k - 1) 0) (get_or c.args.numbers.now k 0) (omega (arith, some))
+    (slice_get-get_or c.args.numbers.now (k - 1) 0 (omega (arith, some, below)))
     (slice_get-get_or c.args.numbers.now k 0 below) (c.if-not-are_beside.ensures.0 refl) c.loop-k.invariant
 
 pub returns-clause-is : goal.returns-clause-is

@@ -6,7 +6,8 @@ returns-clause-shortest c grid origin around flat slots net starts finish number
     next_walk_at grid origin around flat slots net is_grid sound told starts finish first last numbers walk
 
 pub returns-clause-none : goal.returns-clause-none
-returns-clause-none c grid origin around flat slots net starts finish is_grid sound told first last none = no_walk_at grid origin around flat slots net is_grid sound told starts finish first last none
+returns-clause-none c grid origin around flat slots net starts finish is_grid sound told first last none =
+    no_walk_at grid origin around flat slots net is_grid sound told starts finish first last none
 
 pub returns-clause-within : goal.returns-clause-within
 returns-clause-within c grid origin around slots net starts finish numbers count walk = walk_below grid slots count net walk.walk

@@ -16,15 +16,20 @@ some_layer = record { number = 0; direction = Horizontal; width = pos 0 }
 pub returns-then-place-layers : goal.returns-then-place-layers
 returns-then-place-layers c =
     let layers = c.args.layers.now in
-    let is_point : IsPartitionPoint (λ (own : RoutingLayer). ltb own.number c.args.number ≡ true) (λ (own : RoutingLayer). ltb own.number c.args.number ≡ false) layers c.partition_point-place.result =
-    IsPartitionPoint-from_clause (λ (own : RoutingLayer). ltb own.number c.args.number) layers _ c.partition_point-place.ensures.partitioned (below_first layers c.requires c.args.number) (λ a r q k. search rules) in
+    let is_point : IsPartitionPoint (λ (own : RoutingLayer). ltb own.number c.args.number ≡ true)
+    (λ (own : RoutingLayer). ltb own.number c.args.number ≡ false) layers c.partition_point-place.result =
+    IsPartitionPoint-from_clause (λ (own : RoutingLayer). ltb own.number c.args.number) layers _ c.partition_point-place.ensures.partitioned
+    (below_first layers c.requires c.args.number) (λ a r q k. search rules) in
     no_layer layers c.args.number c.partition_point-place.result c.requires is_point
     (λ own there is. let within = slice_get_within layers c.partition_point-place.result own there in omega (arith, within, c.if-place-layers.true))
 
 pub returns-else-own-number : goal.returns-else-own-number
 returns-else-own-number c =
     let layers = c.args.layers.now in
-    let is_point : IsPartitionPoint (λ (own : RoutingLayer). ltb own.number c.args.number ≡ true) (λ (own : RoutingLayer). ltb own.number c.args.number ≡ false) layers c.partition_point-place.result =
-    IsPartitionPoint-from_clause (λ (own : RoutingLayer). ltb own.number c.args.number) layers _ c.partition_point-place.ensures.partitioned (below_first layers c.requires c.args.number) (λ a r q k. search rules) in
+    let is_point : IsPartitionPoint (λ (own : RoutingLayer). ltb own.number c.args.number ≡ true)
+    (λ (own : RoutingLayer). ltb own.number c.args.number ≡ false) layers c.partition_point-place.result =
+    IsPartitionPoint-from_clause (λ (own : RoutingLayer). ltb own.number c.args.number) layers _ c.partition_point-place.ensures.partitioned
+    (below_first layers c.requires c.args.number) (λ a r q k. search rules) in
     no_layer layers c.args.number c.partition_point-place.result c.requires is_point
-    (λ own there is. c.if-own-number.false (ap (λ (l : RoutingLayer). l.number) (get_or_from_slice_get layers c.partition_point-place.result own some_layer there) ∙ is))
+    (λ own there is. c.if-own-number.false (ap (λ (l : RoutingLayer). l.number)
+    (get_or_from_slice_get layers c.partition_point-place.result own some_layer there) ∙ is))

@@ -14,7 +14,8 @@ pub returns-in-Some : goal.returns-in-Some
 returns-in-Some g c net =
     let grid = c.args.grid.now in
     let to = some_there (IsNeighbourAt grid Above c.args.number) c.beside.result c.if-is_none.ensures c.beside.ensures.is in
-    up_answer grid c.beside.ensures.proper c.args.number to.0 c.slot-slot.result c.slot-slot.ensures.is to.1 c.node.result c.in-Some.via c.node.ensures.is c.in-Some.ensures.is c.args.design.now c.requires.of_design (alone c.args.shape.now) net
+    up_answer grid c.beside.ensures.proper c.args.number to.0 c.slot-slot.result c.slot-slot.ensures.is to.1 c.node.result c.in-Some.via c.node.ensures.is
+    c.in-Some.ensures.is c.args.design.now c.requires.of_design (alone c.args.shape.now) net
     (Admits c.via_beside.result net) (λ said there. c.via_beside.ensures said there net)
 
 pub returns-in-None : goal.returns-in-None

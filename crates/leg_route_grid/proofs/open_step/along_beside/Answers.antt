@@ -14,7 +14,8 @@ returns-in_default g c net = (
 
 pub strip_beside-requires-clause-stretch : goal.strip_beside-requires-clause-stretch
 strip_beside-requires-clause-stretch g c =
-    next_stretch c.args.grid.now c.in-Some.ensures.proper c.args.number c.in-Some.next c.node-a.result c.node-b.result c.node-a.ensures.is c.node-b.ensures.is c.in-Some.ensures.is
+    next_stretch c.args.grid.now c.in-Some.ensures.proper c.args.number c.in-Some.next c.node-a.result c.node-b.result c.node-a.ensures.is c.node-b.ensures.is
+    c.in-Some.ensures.is
 
 pub returns : goal.returns
 returns g c net =
@@ -27,4 +28,5 @@ returns g c net =
     let runs = c.width_at.ensures.is a c.node-a.ensures.is in
     let Denotes : ℤ → Type 0 = λ w. Admits c.strip_beside.result net ↔ IsOpenWire design flat net (line_of design flat net a b w) in
     let says = subst Denotes (to_z-of_z w64 width fits) (c.strip_beside.ensures.forth net) in
-    along_answer c.args.grid.now c.in-Some.ensures.proper c.args.number c.in-Some.next a b c.node-a.ensures.is c.node-b.ensures.is design c.requires.of_design flat net (Admits c.strip_beside.result net) runs.0 width runs.1 c.in-Some.ensures.is says
+    along_answer c.args.grid.now c.in-Some.ensures.proper c.args.number c.in-Some.next a b c.node-a.ensures.is c.node-b.ensures.is design c.requires.of_design
+    flat net (Admits c.strip_beside.result net) runs.0 width runs.1 c.in-Some.ensures.is says

@@ -15,8 +15,10 @@ returns g c =
     let len : length c.layers-layers.result.now ≡ length layers = ap length is in
     let is_grid = c.layers-layers.ensures.proper in
     let bound : point ≤ length layers = rw is at c.partition_point-above.ensures.bound in
-    let is_point : IsPartitionPoint (λ (own : RoutingLayer). ltb own.number c.args.layer ≡ true) (λ (own : RoutingLayer). ltb own.number c.args.layer ≡ false) layers point =
-    IsPartitionPoint-from_clause (λ (own : RoutingLayer). ltb own.number c.args.layer) layers _ (rw is at c.partition_point-above.ensures.partitioned) (below_first layers is_grid.layers_are.increasing c.args.layer) (λ a r q k. search rules) in
+    let is_point : IsPartitionPoint (λ (own : RoutingLayer). ltb own.number c.args.layer ≡ true)
+    (λ (own : RoutingLayer). ltb own.number c.args.layer ≡ false) layers point =
+    IsPartitionPoint-from_clause (λ (own : RoutingLayer). ltb own.number c.args.layer) layers _ (rw is at c.partition_point-above.ensures.partitioned)
+    (below_first layers is_grid.layers_are.increasing c.args.layer) (λ a r q k. search rules) in
     let end : (c.if-above-layers.end ≤ length layers) × ((c.if-above-layers.end ≡ point + 1) ⊎ (c.if-above-layers.end ≡ length layers)) =
     elim c.if-above-layers.branch [
       | then-above-layers w ↦ let less = w.if-above-layers.true in (omega (arith, less, len, w.end-is), inl (omega (arith, w.end-is)))

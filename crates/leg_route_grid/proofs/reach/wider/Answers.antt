@@ -13,7 +13,8 @@ record IsWidest (u l b r t m : ℤ) : Type 0 where
   pub right : r ≤ℤ m
   pub top : t ≤ℤ m
 
-all : (c : goal.After-max-4) → IsWidest c.unwrap_or-reach.result (pos 0 -ℤ c.args.rect.now.x1) (pos 0 -ℤ c.args.rect.now.y1) c.args.rect.now.x2 c.args.rect.now.y2 (to_z w64 (of_z w64 c.max-4.result))
+all : (c : goal.After-max-4) → IsWidest c.unwrap_or-reach.result (pos 0 -ℤ c.args.rect.now.x1)
+    (pos 0 -ℤ c.args.rect.now.y1) c.args.rect.now.x2 c.args.rect.now.y2 (to_z w64 (of_z w64 c.max-4.result))
 all c =
     let r = c.args.rect.now in
     let x1 = c.requires.rect.x1 in
@@ -30,10 +31,14 @@ all c =
     let b_fits = number_fits (pos 0 -ℤ r.y1) bottom in
     let u = begun_distance c.args.reach c.unwrap_or-reach.result c.unwrap_or-reach.ensures c.requires.proper in
     let u_fits = distance_fits c.unwrap_or-reach.result u in
-    let e1 = rw (c.x1-left.ensures.is, to_z-of_z w64 c.unwrap_or-reach.result u_fits, to_z-of_z w64 r.x1 x1_fits, to_z-of_z w64 (pos 0 -ℤ r.x1) l_fits) at c.max.ensures.value in
+    let e1 =
+    rw (c.x1-left.ensures.is, to_z-of_z w64 c.unwrap_or-reach.result u_fits, to_z-of_z w64 r.x1 x1_fits, to_z-of_z w64 (pos 0 -ℤ r.x1) l_fits) at
+    c.max.ensures.value in
     let m1 = widened c.unwrap_or-reach.result (pos 0 -ℤ r.x1) c.max.result u left e1 in
     let m1_fits = distance_fits c.max.result m1.distance in
-    let e2 = rw (c.y1-bottom.ensures.is, to_z-of_z w64 c.max.result m1_fits, to_z-of_z w64 r.y1 y1_fits, to_z-of_z w64 (pos 0 -ℤ r.y1) b_fits) at c.max-2.ensures.value in
+    let e2 =
+    rw (c.y1-bottom.ensures.is, to_z-of_z w64 c.max.result m1_fits, to_z-of_z w64 r.y1 y1_fits, to_z-of_z w64 (pos 0 -ℤ r.y1) b_fits) at
+    c.max-2.ensures.value in
     let m2 = widened c.max.result (pos 0 -ℤ r.y1) c.max-2.result m1.distance bottom e2 in
     let m2_fits = distance_fits c.max-2.result m2.distance in
     let e3 = rw (c.x2.ensures.is, to_z-of_z w64 c.max-2.result m2_fits, to_z-of_z w64 r.x2 x2_fits) at c.max-3.ensures.value in

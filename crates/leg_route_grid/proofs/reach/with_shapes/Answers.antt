@@ -11,7 +11,8 @@ loop-shape-preserved c =
     let wider = c.with_shape-reach.ensures.wider in (
       c.with_shape-reach.ensures.proper,
       wider_then c.args.reach c.loop-shape.reach c.with_shape-reach.result c.loop-shape.invariant.1 wider,
-      (all_and_more (ReachesShape c.with_shape-reach.result c.args.layer) c.args.shapes.now c.loop-shape.shape-index c.shape-item.result c.loop-shape-test.true (sym c.shape-item.is)).1
+      (all_and_more (ReachesShape c.with_shape-reach.result c.args.layer) c.args.shapes.now c.loop-shape.shape-index c.shape-item.result
+          c.loop-shape-test.true (sym c.shape-item.is)).1
           (wider_shapes c.loop-shape.reach c.with_shape-reach.result c.args.layer _ wider c.loop-shape.invariant.2, c.with_shape-reach.ensures.all),
     )
 

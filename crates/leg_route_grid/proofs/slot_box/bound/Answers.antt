@@ -9,7 +9,9 @@ pub outside-requires : goal.outside-requires
 outside-requires g c =
     let hull = get_or c.args.hulls.now (c.boxes.before - 1) no_hull in
     let is = hull_before c.args.boxes.now c.args.hulls.now c.boxes.before c.requires.hulls (omega (arith, c.boxes-test.true)) c.boxes.invariant.within in
-    let small : slot_bound hull.ends c.slot-slot.result ≤ 50331648 = hull_small c.args.boxes.now (c.boxes.before - 1) hull is (omega (arith, c.boxes-test.true, c.boxes.invariant.within)) c.args.grid.now c.args.number c.slot-slot.result
+    let small : slot_bound hull.ends c.slot-slot.result ≤ 50331648 =
+    hull_small c.args.boxes.now (c.boxes.before - 1) hull is
+    (omega (arith, c.boxes-test.true, c.boxes.invariant.within)) c.args.grid.now c.args.number c.slot-slot.result
     c.slot-slot.ensures.proper c.requires.boxes c.slot-slot.ensures.is in
     omega (arith, small)
 
@@ -39,7 +41,8 @@ boxes-preserved-then-outside-least g c =
     record {
       within = omega (arith, within);
       least = nearest_past boxes slot c.args.most c.boxes.least before hull.count (omega (arith, room, some)) within
-          (λ j from below. let upto : slot_bound hull.ends slot ≤ slot_bound (get_or boxes j nowhere) slot = hull_upto boxes (before - 1) hull is (omega (arith, some, within)) slot j (omega (arith, below)) (omega (arith, from, some)) in omega (arith, upto, far))
+          (λ j from below. let upto : slot_bound hull.ends slot ≤ slot_bound (get_or boxes j nowhere) slot = hull_upto boxes (before - 1) hull is
+          (omega (arith, some, within)) slot j (omega (arith, below)) (omega (arith, from, some)) in omega (arith, upto, far))
           c.boxes.invariant.least;
     }
 
@@ -47,7 +50,9 @@ pub outside-requires-else-outside-least : goal.outside-requires-else-outside-lea
 outside-requires-else-outside-least g c =
     let last = c.boxes.before - 1 in
     let within : last < length c.args.boxes.now = omega (arith, c.boxes-test.true, c.boxes.invariant.within) in
-    let small : slot_bound (get_or c.args.boxes.now last nowhere) c.slot-slot.result ≤ 50331648 = bound_small c.args.grid.now (get_or c.args.boxes.now last nowhere) c.args.number c.slot-slot.result c.slot-slot.ensures.proper (c.requires.boxes last nowhere within) c.slot-slot.ensures.is in
+    let small : slot_bound (get_or c.args.boxes.now last nowhere) c.slot-slot.result ≤ 50331648 =
+    bound_small c.args.grid.now (get_or c.args.boxes.now last nowhere) c.args.number c.slot-slot.result c.slot-slot.ensures.proper
+    (c.requires.boxes last nowhere within) c.slot-slot.ensures.is in
     omega (arith, small)
 
 pub returns : goal.returns

@@ -13,7 +13,8 @@ use Rattle.leg_route_grid.proofs.slots_in.add_slots_in.Goals as goal
 
 pub returns-in_default-clause-added : goal.returns-in_default-clause-added
 returns-in_default-clause-added g c =
-    none_on_layer c.args.grid.now c.layers.ensures.proper c.args.layer c.args.rect.now c.args.found.now.slots.items (rw c.layers.ensures.is at c.in_default.ensures)
+    none_on_layer c.args.grid.now c.layers.ensures.proper c.args.layer c.args.rect.now c.args.found.now.slots.items
+    (rw c.layers.ensures.is at c.in_default.ensures)
 
 pub places_within-columns-requires : goal.places_within-columns-requires
 places_within-columns-requires g c = rw c.xs.ensures.is c.xs.ensures.proper.xs_are.increasing
@@ -30,7 +31,8 @@ add_rows_once-requires-clause-layer g c =
 on : (g : Over) (c : goal.In_ok-add_rows_once g) → IsRoutingLayerAt c.args.grid.now.layers c.args.layer c.in-Some.k
 on g c = rw c.layers.ensures.is at c.in-Some.ensures
 
-columns : (g : Over) (c : goal.In_ok-add_rows_once g) → ArePlaces c.args.grid.now.xs c.args.rect.now.x1 c.args.rect.now.x2 c.places_within-columns.result.0 c.places_within-columns.result.1
+columns : (g : Over) (c : goal.In_ok-add_rows_once g)
+    → ArePlaces c.args.grid.now.xs c.args.rect.now.x1 c.args.rect.now.x2 c.places_within-columns.result.0 c.places_within-columns.result.1
 columns g c =
     let rect = c.args.rect.now in
     let is_rect = c.x1.ensures.proper in
@@ -40,7 +42,8 @@ columns g c =
     let x2_fits : FitsSigned w64 rect.x2 = fits_signed_from_abs w64 rect.x2 (omega (arith, x2_in)) in
     rw (c.xs.ensures.is, c.x1.ensures.is, c.x2.ensures.is, to_z-of_z w64 rect.x1 x1_fits, to_z-of_z w64 rect.x2 x2_fits) at c.places_within-columns.ensures
 
-rows : (g : Over) (c : goal.In_ok-add_rows_once g) → ArePlaces c.args.grid.now.ys c.args.rect.now.y1 c.args.rect.now.y2 c.places_within-rows.result.0 c.places_within-rows.result.1
+rows : (g : Over) (c : goal.In_ok-add_rows_once g)
+    → ArePlaces c.args.grid.now.ys c.args.rect.now.y1 c.args.rect.now.y2 c.places_within-rows.result.0 c.places_within-rows.result.1
 rows g c =
     let rect = c.args.rect.now in
     let is_rect = c.x1.ensures.proper in
@@ -51,9 +54,11 @@ rows g c =
     rw (c.ys.ensures.is, c.y1.ensures.is, c.y2.ensures.is, to_z-of_z w64 rect.y1 y1_fits, to_z-of_z w64 rect.y2 y2_fits) at c.places_within-rows.ensures
 
 -- the numbers have got those of the slots in the rectangle
-got : (g : Over) (c : goal.In_ok-add_rows_once g) → HaveGot (IsOneOf (IsNumberOf c.args.grid.now) (LiesInRect c.args.layer c.args.rect.now)) c.args.found.now.slots.items c.add_rows_once.new.slots.items
+got : (g : Over) (c : goal.In_ok-add_rows_once g) → HaveGot
+    (IsOneOf (IsNumberOf c.args.grid.now) (LiesInRect c.args.layer c.args.rect.now)) c.args.found.now.slots.items c.add_rows_once.new.slots.items
 got g c =
-    all_in_rect c.args.grid.now c.layers.ensures.proper c.args.layer c.args.rect.now c.in-Some.k c.places_within-columns.result.0 c.places_within-columns.result.1 c.places_within-rows.result.0 c.places_within-rows.result.1
+    all_in_rect c.args.grid.now c.layers.ensures.proper c.args.layer c.args.rect.now c.in-Some.k c.places_within-columns.result.0
+    c.places_within-columns.result.1 c.places_within-rows.result.0 c.places_within-rows.result.1
     (on g c) (columns g c) (rows g c) c.args.found.now.slots.items c.add_rows_once.new.slots.items c.in_ok-add_rows_once.ensures
 
 pub returns-clause-added : goal.returns-clause-added
@@ -61,13 +66,17 @@ returns-clause-added g c = got g c
 
 pub returns-clause-boxes : goal.returns-clause-boxes
 returns-clause-boxes g c =
-    new_boxes c.args.grid.now c.layers.ensures.proper c.args.layer c.args.rect.now c.in-Some.k c.places_within-columns.result.0 c.places_within-columns.result.1 c.places_within-rows.result.0 c.places_within-rows.result.1
+    new_boxes c.args.grid.now c.layers.ensures.proper c.args.layer c.args.rect.now c.in-Some.k c.places_within-columns.result.0
+    c.places_within-columns.result.1 c.places_within-rows.result.0 c.places_within-rows.result.1
     (on g c) (columns g c) (rows g c) c.args.found.now.boxes.items c.add_box.new.boxes.items c.in_ok-add_box.ensures
 
 pub returns-clause-within : goal.returns-clause-within
-returns-clause-within g c = all_below c.args.grid.now (LiesInRect c.args.layer c.args.rect.now) c.args.found.now.slots.items c.add_rows_once.new.slots.items (got g c)
+returns-clause-within g c =
+    all_below c.args.grid.now (LiesInRect c.args.layer c.args.rect.now) c.args.found.now.slots.items c.add_rows_once.new.slots.items (got g c)
 
 pub returns-clause-boxed : goal.returns-clause-boxed
 returns-clause-boxed g c boxed =
-    still_boxed c.args.grid.now c.layers.ensures.proper c.args.layer c.args.rect.now c.in-Some.k c.places_within-columns.result.0 c.places_within-columns.result.1 c.places_within-rows.result.0 c.places_within-rows.result.1
-    (on g c) (columns g c) (rows g c) c.args.found.now.boxes.items c.add_box.new.boxes.items c.in_ok-add_box.ensures c.args.found.now.slots.items c.add_rows_once.new.slots.items (got g c) boxed
+    still_boxed c.args.grid.now c.layers.ensures.proper c.args.layer c.args.rect.now c.in-Some.k c.places_within-columns.result.0
+    c.places_within-columns.result.1 c.places_within-rows.result.0 c.places_within-rows.result.1
+    (on g c) (columns g c) (rows g c) c.args.found.now.boxes.items c.add_box.new.boxes.items c.in_ok-add_box.ensures c.args.found.now.slots.items
+    c.add_rows_once.new.slots.items (got g c) boxed

@@ -8,5 +8,7 @@ pub returns : goal.returns
 returns c =
     let values = c.args.values.now in
     places_from_points values c.args.low c.args.high c.partition_point-first.result c.partition_point-end.result c.partition_point-end.ensures.bound
-    (IsPartitionPoint-from_clause (λ z. int_lt z c.args.low) values _ c.partition_point-first.ensures.partitioned (below_first values c.requires c.args.low) (λ a r q k. search rules))
-    (IsPartitionPoint-from_clause (λ z. int_le z c.args.high) values _ c.partition_point-end.ensures.partitioned (upto_first values c.requires c.args.high) (λ a r q k. search rules))
+    (IsPartitionPoint-from_clause (λ z. int_lt z c.args.low) values _ c.partition_point-first.ensures.partitioned (below_first values c.requires c.args.low)
+    (λ a r q k. search rules))
+    (IsPartitionPoint-from_clause (λ z. int_le z c.args.high) values _ c.partition_point-end.ensures.partitioned (upto_first values c.requires c.args.high)
+    (λ a r q k. search rules))

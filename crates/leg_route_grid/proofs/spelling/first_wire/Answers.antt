@@ -27,10 +27,13 @@ returns-then-stays_on_layer-clause-begins g c =
     let nodes = c.args.nodes.now in
     let from : slice_get nodes 0 ≡ Some c.index-nodes-0.result = slice_get_read nodes (length nodes) 0 _ refl (omega arith) c.index-nodes-0.is in
     let next : slice_get nodes 1 ≡ Some c.index-nodes-1.result = slice_get_read nodes (length nodes) 1 _ refl c.requires.many c.index-nodes-1.is in
-    let last : slice_get nodes c.run_length-steps.result ≡ Some c.index-nodes-steps.result = slice_get_read nodes (length nodes) c.run_length-steps.result _ refl c.run_length-steps.ensures.within c.index-nodes-steps.is in
+    let last : slice_get nodes c.run_length-steps.result ≡ Some c.index-nodes-steps.result =
+    slice_get_read nodes (length nodes) c.run_length-steps.result _ refl c.run_length-steps.ensures.within c.index-nodes-steps.is in
     let on : IsOnLayer c.side_of-side.result = c.if-stays_on_layer.ensures.0 refl in
     let first = first_any c.args.design.now nodes c.requires.walk _ _ from next c.side_of-side.result c.side_of-side.ensures in
-    let run = along_run c.args.design.now c.side_of-side.result nodes c.run_length-steps.result _ _ on c.run_length-steps.ensures.some c.run_length-steps.ensures.within c.requires.walk c.run_length-steps.ensures.run first from last in
+    let run =
+    along_run c.args.design.now c.side_of-side.result nodes c.run_length-steps.result _ _ on c.run_length-steps.ensures.some c.run_length-steps.ensures.within
+    c.requires.walk c.run_length-steps.ensures.run first from last in
     run.begins c.segment.result c.segment.ensures
 
 pub returns-then-stays_on_layer-clause-spelled : goal.returns-then-stays_on_layer-clause-spelled
@@ -38,11 +41,15 @@ returns-then-stays_on_layer-clause-spelled g c =
     let nodes = c.args.nodes.now in
     let from : slice_get nodes 0 ≡ Some c.index-nodes-0.result = slice_get_read nodes (length nodes) 0 _ refl (omega arith) c.index-nodes-0.is in
     let next : slice_get nodes 1 ≡ Some c.index-nodes-1.result = slice_get_read nodes (length nodes) 1 _ refl c.requires.many c.index-nodes-1.is in
-    let last : slice_get nodes c.run_length-steps.result ≡ Some c.index-nodes-steps.result = slice_get_read nodes (length nodes) c.run_length-steps.result _ refl c.run_length-steps.ensures.within c.index-nodes-steps.is in
+    let last : slice_get nodes c.run_length-steps.result ≡ Some c.index-nodes-steps.result =
+    slice_get_read nodes (length nodes) c.run_length-steps.result _ refl c.run_length-steps.ensures.within c.index-nodes-steps.is in
     let on : IsOnLayer c.side_of-side.result = c.if-stays_on_layer.ensures.0 refl in
     let first = first_any c.args.design.now nodes c.requires.walk _ _ from next c.side_of-side.result c.side_of-side.ensures in
-    let run = along_run c.args.design.now c.side_of-side.result nodes c.run_length-steps.result _ _ on c.run_length-steps.ensures.some c.run_length-steps.ensures.within c.requires.walk c.run_length-steps.ensures.run first from last in
-    line_is_wire c.args.design.now c.index-nodes-0.result c.segment.result (node_position c.args.design.now _ c.is_proper.ensures (c.requires.walk.each 0 _ from)) c.side_of-side.result c.index-nodes-steps.result
+    let run =
+    along_run c.args.design.now c.side_of-side.result nodes c.run_length-steps.result _ _ on c.run_length-steps.ensures.some c.run_length-steps.ensures.within
+    c.requires.walk c.run_length-steps.ensures.run first from last in
+    line_is_wire c.args.design.now c.index-nodes-0.result c.segment.result
+    (node_position c.args.design.now _ c.is_proper.ensures (c.requires.walk.each 0 _ from)) c.side_of-side.result c.index-nodes-steps.result
     (node_position c.args.design.now _ c.is_proper.ensures (c.requires.walk.each c.run_length-steps.result _ last)) on run.due_is c.segment.ensures
 
 pub returns-else-stays_on_layer-clause-begins : goal.returns-else-stays_on_layer-clause-begins
@@ -50,10 +57,13 @@ returns-else-stays_on_layer-clause-begins g c =
     let nodes = c.args.nodes.now in
     let from : slice_get nodes 0 ≡ Some c.index-nodes-0.result = slice_get_read nodes (length nodes) 0 _ refl (omega arith) c.index-nodes-0.is in
     let next : slice_get nodes 1 ≡ Some c.index-nodes-1.result = slice_get_read nodes (length nodes) 1 _ refl c.requires.many c.index-nodes-1.is in
-    through_step c.args.design.now nodes c.index-nodes-0.result c.index-nodes-1.result c.via_step.result from next (rw c.requires.of_design at c.via_step.ensures)
+    through_step c.args.design.now nodes c.index-nodes-0.result c.index-nodes-1.result c.via_step.result from next
+    (rw c.requires.of_design at c.via_step.ensures)
 
 pub returns-else-stays_on_layer-clause-spelled : goal.returns-else-stays_on_layer-clause-spelled
 returns-else-stays_on_layer-clause-spelled g c =
     let nodes = c.args.nodes.now in
     let from : slice_get nodes 0 ≡ Some c.index-nodes-0.result = slice_get_read nodes (length nodes) 0 _ refl (omega arith) c.index-nodes-0.is in
-    via_is_wire c.args.design.now c.index-nodes-0.result c.via_step.result (node_position c.args.design.now _ c.is_proper.ensures (c.requires.walk.each 0 _ from)) c.index-nodes-1.result (rw c.requires.of_design at c.via_step.ensures)
+    via_is_wire c.args.design.now c.index-nodes-0.result c.via_step.result
+    (node_position c.args.design.now _ c.is_proper.ensures (c.requires.walk.each 0 _ from)) c.index-nodes-1.result
+    (rw c.requires.of_design at c.via_step.ensures)

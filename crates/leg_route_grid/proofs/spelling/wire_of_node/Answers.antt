@@ -15,4 +15,5 @@ returns-clause-spelled g c =
     let items : c.push.new.self.items ≡ c.patch.result ∷ [] = c.in_ok-push.ensures.items ∙ ap (λ l. l ++ c.patch.result ∷ []) c.new-wires.ensures.items in
     let none : All (IsWire c.args.design.now.library c.args.design.now.vias false) [] = λ k d below. absurd (omega (arith, below)) in
     rw items (All-push (IsWire c.args.design.now.library c.args.design.now.vias false) [] c.patch.result none
-    (patch_is_wire c.args.design.now c.args.node.now c.patch.result (node_position c.args.design.now c.args.node.now c.is_proper.ensures c.requires) c.patch.ensures.proper c.patch.ensures.adds))
+    (patch_is_wire c.args.design.now c.args.node.now c.patch.result
+    (node_position c.args.design.now c.args.node.now c.is_proper.ensures c.requires) c.patch.ensures.proper c.patch.ensures.adds))

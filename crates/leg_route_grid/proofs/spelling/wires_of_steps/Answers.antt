@@ -10,8 +10,11 @@ loop-rest-preserved g c =
     let rest : c.after-rest.result.now ≡ drop c.first_wire-wire.result.1 c.loop-rest.rest.now = c.after-rest.ensures in
     rw rest (record {
       walk = rest_walks c.args.design.now c.loop-rest.rest.now c.first_wire-wire.result.1 c.first_wire-wire.ensures.within c.loop-rest.invariant.walk;
-      begun = begun_more c.args.design.now c.args.nodes.now c.loop-rest.rest.now c.loop-rest.wires.items c.push.new.self.items c.first_wire-wire.result.0 c.first_wire-wire.result.1 c.in_ok-push.ensures.items c.loop-rest.invariant.begun c.first_wire-wire.ensures.begins;
-      spelled = rw c.in_ok-push.ensures.items (All-push (IsWire c.args.design.now.library c.args.design.now.vias false) c.loop-rest.wires.items c.first_wire-wire.result.0 c.loop-rest.invariant.spelled c.first_wire-wire.ensures.spelled);
+      begun = begun_more c.args.design.now c.args.nodes.now c.loop-rest.rest.now c.loop-rest.wires.items c.push.new.self.items c.first_wire-wire.result.0
+          c.first_wire-wire.result.1 c.in_ok-push.ensures.items c.loop-rest.invariant.begun c.first_wire-wire.ensures.begins;
+      spelled =
+          rw c.in_ok-push.ensures.items (All-push (IsWire c.args.design.now.library c.args.design.now.vias false) c.loop-rest.wires.items
+          c.first_wire-wire.result.0 c.loop-rest.invariant.spelled c.first_wire-wire.ensures.spelled);
     })
 
 pub returns-clause-wires : goal.returns-clause-wires

@@ -6,7 +6,8 @@ use Rattle.leg_route_grid.proofs.strip.strip.Goals as goal
 
 pub unwrap-requires : goal.unwrap-requires
 unwrap-requires c =
-    is_made _ (ends c.reach-left.result.0 c.reach-left.result.1) (ends c.reach-bottom.result.0 c.reach-bottom.result.1) c.reach-left.ensures.span c.reach-bottom.ensures.span c.new.ensures
+    is_made _ (ends c.reach-left.result.0 c.reach-left.result.1)
+    (ends c.reach-bottom.result.0 c.reach-bottom.result.1) c.reach-left.ensures.span c.reach-bottom.ensures.span c.new.ensures
 
 pub returns : goal.returns
 returns c =
@@ -17,5 +18,6 @@ returns c =
     let right = rw (kept c.x-2.result high.x c.x-2.ensures.is c.x-2.ensures.within.x, width) at c.reach-left.ensures.high in
     let bottom = rw (kept c.y.result low.y c.y.ensures.is c.y.ensures.within.y, width) at c.reach-bottom.ensures.low in
     let top = rw (kept c.y-2.result high.y c.y-2.ensures.is c.y-2.ensures.within.y, width) at c.reach-bottom.ensures.high in
-    made_is _ _ (ends c.reach-left.result.0 c.reach-left.result.1) (ends c.reach-bottom.result.0 c.reach-bottom.result.1) c.reach-left.ensures.span c.reach-bottom.ensures.span c.new.ensures c.unwrap.ensures
+    made_is _ _ (ends c.reach-left.result.0 c.reach-left.result.1)
+    (ends c.reach-bottom.result.0 c.reach-bottom.result.1) c.reach-left.ensures.span c.reach-bottom.ensures.span c.new.ensures c.unwrap.ensures
     ∙ same_strip low high c.args.width c.reach-left.result.0 c.reach-bottom.result.0 c.reach-left.result.1 c.reach-bottom.result.1 left bottom right top

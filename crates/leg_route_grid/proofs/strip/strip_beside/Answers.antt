@@ -16,8 +16,10 @@ returns-clause-forth g c net =
     let clean = rw c.library.ensures.is at (c.access_beside.ensures net) in
     let is = c.strip-metal.ensures ∙ ap (strip_of low high) (to_z-of_z w64 width c.ranges.width) in
     let points = points_forth low high width c.requires.width c.strip-metal.result is c.requires.stretch in (
-      λ admits. clean_is_open c.args.design.now flat net c.args.layer (Line low high width (half width) (half width)) c.strip-metal.result points (clean.0 admits),
-      λ is_open. clean.1 (open_is_clean c.args.design.now flat net c.args.layer (Line low high width (half width) (half width)) c.strip-metal.result points is_open),
+      λ admits. clean_is_open c.args.design.now flat net c.args.layer (Line low high width (half width) (half width)) c.strip-metal.result points
+          (clean.0 admits),
+      λ is_open. clean.1 (open_is_clean c.args.design.now flat net c.args.layer
+          (Line low high width (half width) (half width)) c.strip-metal.result points is_open),
     )
 
 pub returns-clause-back : goal.returns-clause-back
@@ -29,6 +31,8 @@ returns-clause-back g c net =
     let clean = rw c.library.ensures.is at (c.access_beside.ensures net) in
     let is = c.strip-metal.ensures ∙ ap (strip_of low high) (to_z-of_z w64 width c.ranges.width) in
     let points = points_back low high width c.requires.width c.strip-metal.result is c.requires.stretch in (
-      λ admits. clean_is_open c.args.design.now flat net c.args.layer (Line high low width (half width) (half width)) c.strip-metal.result points (clean.0 admits),
-      λ is_open. clean.1 (open_is_clean c.args.design.now flat net c.args.layer (Line high low width (half width) (half width)) c.strip-metal.result points is_open),
+      λ admits. clean_is_open c.args.design.now flat net c.args.layer (Line high low width (half width) (half width)) c.strip-metal.result points
+          (clean.0 admits),
+      λ is_open. clean.1 (open_is_clean c.args.design.now flat net c.args.layer
+          (Line high low width (half width) (half width)) c.strip-metal.result points is_open),
     )

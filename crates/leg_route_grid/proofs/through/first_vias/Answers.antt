@@ -11,7 +11,8 @@ use Rattle.leg_route_grid.proofs.through.first_vias.Goals.{in-Some, in_default}
 
 pub index_mut-requires : goal.index_mut-requires
 index_mut-requires g c =
-    let here : JoinsAt c.args.library.now c.args.layers.now c.args.only_default c.via-item.result c.in-Some.place = (c.in-Some.ensures c.in-Some.place).0 refl in
+    let here : JoinsAt c.args.library.now c.args.layers.now c.args.only_default c.via-item.result c.in-Some.place =
+    (c.in-Some.ensures c.in-Some.place).0 refl in
     let within = slice_get_within c.args.layers.now c.in-Some.place here.low here.at_low in
     let whole : c.loop-number.firsts.len ≡ length c.loop-number.firsts.items = c.loop-number.firsts.ok.0 in
     omega (arith, within, whole, c.loop-number.invariant.count)
@@ -33,11 +34,15 @@ loop-number-preserved g c =
           let low = slice_get_within layers place here.low here.at_low in
           let within : place < length firsts = omega (arith, low, c.loop-number.invariant.count) in
           let old : w.index_mut.result.now ≡ get_or firsts place None = get_or_read firsts place w.index_mut.result.now within w.index_mut.ensures.value None in
-          let new : w.note_via.new.first ≡ Some (unwrap_or (get_or firsts place None) number) = w.note_via.ensures ∙ ap (λ (o : Option ℕ). Some (unwrap_or o number)) old in
+          let new : w.note_via.new.first ≡ Some (unwrap_or (get_or firsts place None) number) =
+          w.note_via.ensures ∙ ap (λ (o : Option ℕ). Some (unwrap_or o number)) old in
           rw (w.firsts-is, new) (via_noted library layers only_default number via there firsts c.loop-number.invariant place within here only)
       | in_default w ↦
-          rw w.firsts-is (via_skipped library layers only_default number via there firsts c.loop-number.invariant (λ k at. none-some k (sym w.in_default.is ∙ (c.place_joined.ensures k).1 at)))
+          rw w.firsts-is (via_skipped library layers only_default number via there firsts c.loop-number.invariant
+          (λ k at. none-some k (sym w.in_default.is ∙ (c.place_joined.ensures k).1 at)))
     ]
 
 pub returns : goal.returns
-returns g c = all_noted c.args.library.now c.args.layers.now c.args.only_default c.loop-number.number c.loop-number.firsts.items (rw c.vias-via-items.ensures.is at c.loop-number-test.false) c.loop-number.invariant
+returns g c =
+    all_noted c.args.library.now c.args.layers.now c.args.only_default c.loop-number.number c.loop-number.firsts.items
+    (rw c.vias-via-items.ensures.is at c.loop-number-test.false) c.loop-number.invariant

@@ -10,8 +10,12 @@ returns-then-via g c =
     let both = rw shapes at c.use_both.ensures in
     let of = c.requires.of in
     let routing = c.requires.routing in (
-      λ is. let on = both.0 is in joins_by_shapes c.args.library.now c.args.low c.args.high c.args.via.now of routing c.good_vias_join_layers.ensures.joined good on.0 on.1,
-      λ joins. both.1 (low_shape c.args.library.now c.args.low c.args.high c.args.via.now of routing joins, high_shape c.args.library.now c.args.low c.args.high c.args.via.now of routing joins),
+      λ is. let on = both.0 is in
+          joins_by_shapes c.args.library.now c.args.low c.args.high c.args.via.now of routing c.good_vias_join_layers.ensures.joined good on.0 on.1,
+      λ joins. both.1 (
+        low_shape c.args.library.now c.args.low c.args.high c.args.via.now of routing joins,
+        high_shape c.args.library.now c.args.low c.args.high c.args.via.now of routing joins,
+      ),
     )
 
 pub returns-else-via : goal.returns-else-via

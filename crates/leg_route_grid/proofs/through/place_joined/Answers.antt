@@ -16,8 +16,10 @@ returns-in_err-place g c =
     let via = c.args.via.now in
     let shapes : c.as_slice.result.now ≡ via.shapes = c.as_slice.ensures ∙ ap (λ (v : ViaModel). v.shapes) c.via.view_is in
     let said = rw shapes at c.in_ok-lowest.ensures in
-    joins_none c.args.library.now c.args.layers.now c.requires.are via c.args.only_default c.in_ok-lowest.lowest said.0 said.1 c.from_residual-in_err-place.result c.from_residual-in_err-place.ensures
-    (λ k at. c.in_err-place.ensures k (joins_lowest c.args.library.now c.args.layers.now c.requires.are via c.args.only_default c.in_ok-lowest.lowest said.0 said.1 k at))
+    joins_none c.args.library.now c.args.layers.now c.requires.are via c.args.only_default c.in_ok-lowest.lowest said.0 said.1
+    c.from_residual-in_err-place.result c.from_residual-in_err-place.ensures
+    (λ k at. c.in_err-place.ensures k (joins_lowest c.args.library.now c.args.layers.now c.requires.are via c.args.only_default c.in_ok-lowest.lowest said.0
+    said.1 k at))
 
 pub overflow_add-place : goal.overflow_add-place
 overflow_add-place g c =
@@ -31,7 +33,8 @@ returns-then-place-layers g c =
     let shapes : c.as_slice.result.now ≡ via.shapes = c.as_slice.ensures ∙ ap (λ (v : ViaModel). v.shapes) c.via.view_is in
     let said = rw shapes at c.in_ok-lowest.ensures in
     joins_none c.args.library.now c.args.layers.now c.requires.are via c.args.only_default c.in_ok-lowest.lowest said.0 said.1 None refl
-    (none_above c.args.library.now c.args.layers.now c.requires.are via c.args.only_default c.in_ok-lowest.lowest said.0 said.1 c.in_ok-place.place c.in_ok-place.ensures c.if-place-layers.true)
+    (none_above c.args.library.now c.args.layers.now c.requires.are via c.args.only_default c.in_ok-lowest.lowest said.0 said.1 c.in_ok-place.place
+    c.in_ok-place.ensures c.if-place-layers.true)
 
 pub joins_as-requires-clause-routing : goal.joins_as-requires-clause-routing
 joins_as-requires-clause-routing g c = next_layers c.args.library.now c.args.layers.now c.in_ok-place.place _ _ c.requires.are c.if-place-layers.false
@@ -62,6 +65,7 @@ returns-else-joins_as g c =
     let above : place + 1 < length layers = c.if-place-layers.false in
     joins_none c.args.library.now layers c.requires.are via c.args.only_default c.in_ok-lowest.lowest said.0 said.1 None refl
     (λ k at. true≢false (sym (c.joins_as.ensures.1
-    (joined_at c.args.library.now layers c.requires.are via c.args.only_default c.in_ok-lowest.lowest said.0 said.1 place c.in_ok-place.ensures (get_or layers place some_layer) (get_or layers (place + 1) some_layer)
+    (joined_at c.args.library.now layers c.requires.are via c.args.only_default c.in_ok-lowest.lowest said.0 said.1 place c.in_ok-place.ensures
+    (get_or layers place some_layer) (get_or layers (place + 1) some_layer)
     (slice_get-get_or layers place some_layer (omega (arith, above))) (slice_get-get_or layers (place + 1) some_layer above) k at))
     ∙ c.if-joins_as.false))

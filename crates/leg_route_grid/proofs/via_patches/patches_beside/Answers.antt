@@ -7,7 +7,9 @@ use Rattle.leg_route_grid.proofs.via_patches.patches_beside.Goals as goal
 
 pub loop-patch-preserved : goal.loop-patch-preserved
 loop-patch-preserved g c net =
-    let more = all_and_more (IsOpenShape c.args.design.now (alone c.args.shape.now) net c.args.at.now) c.args.patches.now c.loop-patch.patch-index c.patch-item.result c.loop-patch-test.true (sym c.patch-item.is) in
+    let more =
+    all_and_more (IsOpenShape c.args.design.now (alone c.args.shape.now) net c.args.at.now) c.args.patches.now c.loop-patch.patch-index c.patch-item.result
+    c.loop-patch-test.true (sym c.patch-item.is) in
     let before = c.loop-patch.invariant net in
     let one = c.patch_beside.ensures net in
     let both = c.and-access.ensures net in (
@@ -17,5 +19,6 @@ loop-patch-preserved g c net =
 
 pub returns : goal.returns
 returns g c net =
-    let P : List Shape → Type 0 = λ patches. Admits c.loop-patch.access net ↔ All (IsOpenShape c.args.design.now (alone c.args.shape.now) net c.args.at.now) patches in
+    let P : List Shape → Type 0 =
+    λ patches. Admits c.loop-patch.access net ↔ All (IsOpenShape c.args.design.now (alone c.args.shape.now) net c.args.at.now) patches in
     subst P (take_all c.loop-patch.patch-index c.args.patches.now c.loop-patch-test.false) (c.loop-patch.invariant net)

@@ -7,4 +7,6 @@ use Rattle.leg_route_grid.specs.Steps.AccessTable.{AdmitsJust}
 use Rattle.leg_route_grid.proofs.via_patches.patches_beside.Given as goal
 
 abbrev pub invariant-loop-patch : goal.invariant-loop-patch
-invariant-loop-patch g l = AdmitsJust l.access (λ (net : ℕ). All (λ (patch : Shape). IsOpenWire l.design (alone l.shape) net (Patch patch.layer l.at patch.rect)) (take l.patch-index l.patches))
+invariant-loop-patch g l =
+    AdmitsJust l.access (λ (net : ℕ). All (λ (patch : Shape). IsOpenWire l.design (alone l.shape) net (Patch patch.layer l.at patch.rect))
+    (take l.patch-index l.patches))

@@ -19,7 +19,8 @@ sweep-requires-clause-entries g c =
     let items = c.args.items.now in
     let order = c.in_ok-order.order.items in
     let stretches = c.in_ok-stretches.stretches.items in
-    let moved = sum_by-IsPermutation (entries_at stretches) (range_with_len 0 (length items)) order (rw (length-map items rect_of) at c.in_ok-order.ensures.numbers) in
+    let moved =
+    sum_by-IsPermutation (entries_at stretches) (range_with_len 0 (length items)) order (rw (length-map items rect_of) at c.in_ok-order.ensures.numbers) in
     let few : sum_by (entries_at stretches) order < 2 ^ 62 = omega (arith, moved, c.in_ok-stretches.ensures.entries, c.requires.few) in
     rw (c.deref-3.ensures.value, c.deref-2.ensures.value) few
 
@@ -32,7 +33,8 @@ returns-clause-few_tests g c =
     let rects = map (rule.rect_of fixed) items in
     let order = c.in_ok-order.order.items in
     let sorted = c.in_ok-order.ensures in
-    let tests = rw (c.are_crowded.ensures.same, c.deref-3.ensures.value, c.deref_mut.ensures.value, c.deref-2.ensures.value) at c.in_ok-sweep.ensures.few_tests in
+    let tests =
+    rw (c.are_crowded.ensures.same, c.deref-3.ensures.value, c.deref_mut.ensures.value, c.deref-2.ensures.value) at c.in_ok-sweep.ensures.few_tests in
     let fewer =
     on_layers near_along_both (layered.layer_reach_of fixed) (rule.rect_of fixed) (layered.layer_of fixed) items (near_along_both_symmetric rects sorted.proper)
     c.in_ok-stretches.stretches.items c.in_ok-stretches.bands.items order sorted c.in_ok-stretches.ensures.layers in
@@ -48,8 +50,10 @@ returns-clause-few_looks g c =
     let order = c.in_ok-order.order.items in
     let sorted = c.in_ok-order.ensures in
     let stretches = c.in_ok-stretches.stretches.items in
-    let looks = rw (c.are_crowded.ensures.same, c.deref-3.ensures.value, c.deref_mut.ensures.value, c.deref-2.ensures.value) at c.in_ok-sweep.ensures.few_looks in
-    let moved = sum_by-IsPermutation (entries_at stretches) (range_with_len 0 (length items)) order (rw (length-map items (rule.rect_of fixed)) at sorted.numbers) in
+    let looks =
+    rw (c.are_crowded.ensures.same, c.deref-3.ensures.value, c.deref_mut.ensures.value, c.deref-2.ensures.value) at c.in_ok-sweep.ensures.few_looks in
+    let moved =
+    sum_by-IsPermutation (entries_at stretches) (range_with_len 0 (length items)) order (rw (length-map items (rule.rect_of fixed)) at sorted.numbers) in
     let fewer =
     on_layers near_along_x (layered.layer_reach_of fixed) (rule.rect_of fixed) (layered.layer_of fixed) items (near_along_x_symmetric rects sorted.proper)
     stretches c.in_ok-stretches.bands.items order sorted c.in_ok-stretches.ensures.layers in

@@ -19,8 +19,10 @@ unwrap-requires g c =
     let x2 : c.max-right.result ≡ (cut_at line rect).x2 =
     let gap : c.gaps-gap.result.0 ≡ pos (x_gap rect other) = c.gaps-gap.ensures.x in
     let edge = rw c.gaps-gap.ensures.same at c.left.ensures.is in
-    edge_told c.max-right.result c.left-left.result c.left.result c.gaps-gap.result.0 rect other x1 edge gap is other_is c.requires.right c.max-right.ensures.value in
-    sides_made c.new.result _ _ _ _ (cut_at line rect) (kept _ rect.x1 x1 is.x1) (kept _ rect.y1 y1 is.y1) (kept _ _ x2 cut_is.x2) (kept _ rect.y2 y2 is.y2) cut_is c.new.ensures
+    edge_told c.max-right.result c.left-left.result c.left.result c.gaps-gap.result.0 rect other x1 edge gap is other_is c.requires.right
+    c.max-right.ensures.value in
+    sides_made c.new.result _ _ _ _ (cut_at line rect) (kept _ rect.x1 x1 is.x1) (kept _ rect.y1 y1 is.y1) (kept _ _ x2 cut_is.x2)
+    (kept _ rect.y2 y2 is.y2) cut_is c.new.ensures
 
 pub returns-clause-cut : goal.returns-clause-cut
 returns-clause-cut g c =
@@ -37,5 +39,7 @@ returns-clause-cut g c =
     let x2 : c.max-right.result ≡ (cut_at line rect).x2 =
     let gap : c.gaps-gap.result.0 ≡ pos (x_gap rect other) = c.gaps-gap.ensures.x in
     let edge = rw c.gaps-gap.ensures.same at c.left.ensures.is in
-    edge_told c.max-right.result c.left-left.result c.left.result c.gaps-gap.result.0 rect other x1 edge gap is other_is c.requires.right c.max-right.ensures.value in
-    sides_are c.new.result _ _ _ _ (cut_at line rect) c.unwrap.result (kept _ rect.x1 x1 is.x1) (kept _ rect.y1 y1 is.y1) (kept _ _ x2 cut_is.x2) (kept _ rect.y2 y2 is.y2) c.new.ensures c.unwrap.ensures
+    edge_told c.max-right.result c.left-left.result c.left.result c.gaps-gap.result.0 rect other x1 edge gap is other_is c.requires.right
+    c.max-right.ensures.value in
+    sides_are c.new.result _ _ _ _ (cut_at line rect) c.unwrap.result (kept _ rect.x1 x1 is.x1) (kept _ rect.y1 y1 is.y1) (kept _ _ x2 cut_is.x2)
+    (kept _ rect.y2 y2 is.y2) c.new.ensures c.unwrap.ensures

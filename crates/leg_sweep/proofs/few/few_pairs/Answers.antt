@@ -46,4 +46,5 @@ pub returns-clause-pairs : goal.returns-clause-pairs
 returns-clause-pairs g c =
     let rule = g.R.PairRule in
     let end : c.loop-new.new ≡ length c.args.items.now = omega arith in
-    found_below_all g.S.PairSink.Takes (rule.Holds (rule.fixed c.args.rule.now)) c.args.items.now (rule.tests_of c.loop-new.rule) c.args.sink.now c.loop-new.sink (rw end at c.loop-new.invariant.found)
+    found_below_all g.S.PairSink.Takes (rule.Holds (rule.fixed c.args.rule.now)) c.args.items.now
+    (rule.tests_of c.loop-new.rule) c.args.sink.now c.loop-new.sink (rw end at c.loop-new.invariant.found)

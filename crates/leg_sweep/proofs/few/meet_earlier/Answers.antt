@@ -16,7 +16,8 @@ loop-other-init g c =
     let tests : ℕ = g.R.PairRule.tests_of c.args.rule.now in
     let none : tests - tests ≡ 0 = omega arith in
     record {
-      found = rw none (new_pairs_none g.S.PairSink.Takes (IsPair (g.R.PairRule.Holds (g.R.PairRule.fixed c.args.rule.now)) c.args.items.now) c.args.new c.args.sink.now);
+      found = rw none (new_pairs_none g.S.PairSink.Takes
+          (IsPair (g.R.PairRule.Holds (g.R.PairRule.fixed c.args.rule.now)) c.args.items.now) c.args.new c.args.sink.now);
       tests = omega arith;
       looks = omega arith;
       counts = c.requires.counts;
@@ -49,7 +50,9 @@ loop-other-preserved g c =
     let answer = rw so_far.same at told.answer in
     let tests_now = rw so_far.same at told.tests in
     let looks_now = rw so_far.same at told.looks in
-    let at_most = cond_both (layered.layer_of fixed a == layered.layer_of fixed b) (near_along_both (layered.layer_reach_of fixed (layered.layer_of fixed a)) (rule.rect_of fixed a) (rule.rect_of fixed b)) in
+    let at_most =
+    cond_both (layered.layer_of fixed a == layered.layer_of fixed b)
+    (near_along_both (layered.layer_reach_of fixed (layered.layer_of fixed a)) (rule.rect_of fixed a) (rule.rect_of fixed b)) in
     let one_more = rw (← c.index-items-other.is) at (sum_by_more (λ x. cond (near x b) 1 0) items i a within) in
     let grown = numbers_more i in
     record {
@@ -61,11 +64,15 @@ loop-other-preserved g c =
             let not_done : Contains (range_with_len 0 i) i → ⊥ = λ k. omega (arith, number_below i i k) in
             rw (w.sink-is, grown, one)
             (new_pairs_more g.S.PairSink.Takes (IsPair holds items) new before (range_with_len 0 i) i (was - start) c.loop-other.sink _
-            (pair_from_holds holds (g.met.R.PairRule.symmetric fixed) items i new a b a_at b_at apart (answer.0 w.if-ask_on_layer.true)) not_done took so_far.found)
+            (pair_from_holds holds (g.met.R.PairRule.symmetric fixed) items i new a b a_at b_at apart (answer.0 w.if-ask_on_layer.true)) not_done took
+            so_far.found)
         | else-ask_on_layer w ↦
-            let no_pair : IsPair holds items (ordered i new) → ⊥ = λ p. both_ways c.ask_on_layer.result w.if-ask_on_layer.false (answer.1 (holds_from_pair holds (g.met.R.PairRule.symmetric fixed) items i new a b a_at b_at p)) in
+            let no_pair : IsPair holds items (ordered i new) → ⊥ =
+            λ p. both_ways c.ask_on_layer.result w.if-ask_on_layer.false
+            (answer.1 (holds_from_pair holds (g.met.R.PairRule.symmetric fixed) items i new a b a_at b_at p)) in
             rw (w.sink-is, grown)
-            (new_pairs_skip g.S.PairSink.Takes (IsPair holds items) new before (range_with_len 0 i) i (was - start) (now - start) c.loop-other.sink no_pair (omega (arith, tests_now)) so_far.found)
+            (new_pairs_skip g.S.PairSink.Takes (IsPair holds items) new before (range_with_len 0 i) i (was - start) (now - start) c.loop-other.sink no_pair
+            (omega (arith, tests_now)) so_far.found)
       ];
       tests = omega (arith, so_far.tests, tests_now, one_more);
       looks = omega (arith, so_far.looks, looks_now, cond_once (layered.layer_of fixed a == layered.layer_of fixed b));

@@ -13,7 +13,8 @@ invariant-loop-other g l =
     let sink = g.S.PairSink in
     let fixed = rule.fixed l.fn.rule in
     let near = near_on_layer (rule.rect_of fixed) (layered.layer_of fixed) (layered.layer_reach_of fixed) in record {
-      found : AreNewPairs sink.Takes (IsPair (rule.Holds fixed) l.items) (range_with_len 0 l.other) l.new (rule.tests_of l.rule - rule.tests_of l.fn.rule) l.fn.sink l.sink;
+      found : AreNewPairs sink.Takes (IsPair (rule.Holds fixed) l.items) (range_with_len 0 l.other) l.new
+          (rule.tests_of l.rule - rule.tests_of l.fn.rule) l.fn.sink l.sink;
       tests : rule.tests_of l.rule ≡ rule.tests_of l.fn.rule + count_by (λ x. near x l.item) (take l.other l.items);
       looks : rule.looks_of l.rule ≤ rule.looks_of l.fn.rule + l.other;
       counts : rule.tests_of l.rule ≤ rule.looks_of l.rule;

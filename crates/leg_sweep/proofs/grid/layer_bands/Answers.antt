@@ -10,7 +10,9 @@ use Rattle.leg_sweep.proofs.grid.layer_bands.Goals as goal
 pub overflow_add-first : goal.overflow_add-first
 overflow_add-first g c =
     let so_far = c.loop-layer.invariant in
-    let room = sum_by_more_le (λ (span : LayerSpan). span.count) c.args.spans.now c.loop-layer.layer (record { count = 0; total = 0; lowest = 0; highest = 0 }) (omega arith) in
+    let room =
+    sum_by_more_le (λ (span : LayerSpan). span.count) c.args.spans.now c.loop-layer.layer (record { count = 0; total = 0; lowest = 0; highest = 0 })
+    (omega arith) in
     omega (arith, room, so_far.next, so_far.so_far.few, c.bands_of-bands.ensures.few, c.requires.few)
 
 pub loop-layer-preserved : goal.loop-layer-preserved

@@ -19,7 +19,8 @@ loop-item-preserved g c =
     let layer : c.layer-layer.result ≡ layer_of a = c.layer-layer.ensures.is in
     let below : layer_of a < g.R.LayeredRule.layers_of fixed = rw (← layer) c.layer-layer.ensures.below in
     let in_spans : c.layer-layer.result < length spans = omega (arith, so_far.many, c.layer-layer.ensures.below) in
-    let old : c.index.result.now ≡ span_at spans c.layer-layer.result = get_or_read spans c.layer-layer.result c.index.result.now in_spans c.index.ensures no_span in
+    let old : c.index.result.now ≡ span_at spans c.layer-layer.result =
+    get_or_read spans c.layer-layer.result c.index.result.now in_spans c.index.ensures no_span in
     let new : c.with_item.result ≡ span_with (span_at spans (layer_of a)) (rect_of a) = rw (← layer, ← old) c.with_item.ensures.is in
     rw (grown, new, layer) (spans_more rect_of layer_of (g.R.LayeredRule.layers_of fixed) (take i items) spans a so_far c.with_item.ensures.proper below)
 

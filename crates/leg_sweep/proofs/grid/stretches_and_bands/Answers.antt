@@ -17,7 +17,8 @@ item_stretches-requires-clause-begin g c =
     let are_spans = c.in_ok-spans.ensures in
     let is_grid = rw (c.deref.ensures.value, are_spans.many) at c.in_ok-grid.ensures in
     rw c.deref-2.ensures.value
-    (all_begin (g.R.PairRule.rect_of fixed) (layered.layer_of fixed) (layered.layer_reach_of fixed) (layered.layers_of fixed) c.args.items.now c.in_ok-spans.spans.items c.in_ok-grid.grid.items
+    (all_begin (g.R.PairRule.rect_of fixed) (layered.layer_of fixed) (layered.layer_reach_of fixed)
+    (layered.layers_of fixed) c.args.items.now c.in_ok-spans.spans.items c.in_ok-grid.grid.items
     are_spans is_grid c.requires.few)
 
 pub returns-clause-stretches : goal.returns-clause-stretches
@@ -28,7 +29,8 @@ returns-clause-stretches g c =
     let is_grid = rw (c.deref.ensures.value, are_spans.many) at c.in_ok-grid.ensures in
     let are_stretches = rw c.deref-2.ensures.value at c.in_ok-stretches.ensures in
     let are_bands = rw (c.deref-3.ensures.value, is_grid.many) at c.in_ok-bands.ensures in
-    bands_are_stretches (g.R.PairRule.rect_of fixed) (layered.layer_of fixed) (layered.layer_reach_of fixed) (layered.layers_of fixed) c.args.items.now c.in_ok-spans.spans.items c.in_ok-grid.grid.items
+    bands_are_stretches (g.R.PairRule.rect_of fixed) (layered.layer_of fixed) (layered.layer_reach_of fixed)
+    (layered.layers_of fixed) c.args.items.now c.in_ok-spans.spans.items c.in_ok-grid.grid.items
     are_spans is_grid c.requires.few c.in_ok-stretches.stretches.items are_stretches c.in_ok-bands.bands.items are_bands
     (g.R.PairRule.Holds fixed) (g.met.R.LayeredRule.layered fixed) (g.met.R.LayeredRule.near_on_layer fixed)
 
@@ -39,7 +41,8 @@ returns-clause-entries g c =
     let are_spans = c.in_ok-spans.ensures in
     let is_grid = rw (c.deref.ensures.value, are_spans.many) at c.in_ok-grid.ensures in
     let are_stretches = rw c.deref-2.ensures.value at c.in_ok-stretches.ensures in
-    few_entries (g.R.PairRule.rect_of fixed) (layered.layer_of fixed) (layered.layer_reach_of fixed) (layered.layers_of fixed) c.args.items.now c.in_ok-spans.spans.items c.in_ok-grid.grid.items
+    few_entries (g.R.PairRule.rect_of fixed) (layered.layer_of fixed) (layered.layer_reach_of fixed)
+    (layered.layers_of fixed) c.args.items.now c.in_ok-spans.spans.items c.in_ok-grid.grid.items
     are_spans is_grid c.requires.few c.in_ok-stretches.stretches.items are_stretches
 
 pub returns-clause-layers : goal.returns-clause-layers
@@ -50,5 +53,6 @@ returns-clause-layers g c =
     let is_grid = rw (c.deref.ensures.value, are_spans.many) at c.in_ok-grid.ensures in
     let are_stretches = rw c.deref-2.ensures.value at c.in_ok-stretches.ensures in
     let are_bands = rw (c.deref-3.ensures.value, is_grid.many) at c.in_ok-bands.ensures in
-    bands_by_layer (g.R.PairRule.rect_of fixed) (layered.layer_of fixed) (layered.layer_reach_of fixed) (layered.layers_of fixed) c.args.items.now c.in_ok-spans.spans.items c.in_ok-grid.grid.items
+    bands_by_layer (g.R.PairRule.rect_of fixed) (layered.layer_of fixed) (layered.layer_reach_of fixed)
+    (layered.layers_of fixed) c.args.items.now c.in_ok-spans.spans.items c.in_ok-grid.grid.items
     are_spans is_grid c.requires.few c.in_ok-stretches.stretches.items are_stretches c.in_ok-bands.bands.items are_bands

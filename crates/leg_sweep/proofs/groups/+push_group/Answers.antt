@@ -7,7 +7,8 @@ use Rattle.leg_sweep.specs.Steps.Nodes.{AreGrouped}
 use Rattle.leg_sweep.proofs.NodeGroups.{grouped_both, grouped_closed, members_within}
 use Rattle.leg_sweep.proofs.groups.+push_group.Goals as goal
 
-longer : (rects : List RectModel) (numbers : List ℕ) (bounds : Bounds) (before after : List Node) → AreGrouped rects numbers bounds before after → length before ≤ length after
+longer : (rects : List RectModel) (numbers : List ℕ) (bounds : Bounds) (before after : List Node) → AreGrouped rects numbers bounds before after
+    → length before ≤ length after
 longer rects numbers bounds before after group = let is = group.are in omega (arith, ap length is, length-append before group.nodes)
 
 in_front : (before after : List Node) (node : Node) → length (before ++ node ∷ []) ≤ length after → length before < length after
@@ -42,7 +43,9 @@ close_group-requires-2-clause-within g t c =
     let at : c.len-at.result ≡ length before = search rules in
     let opened = before ++ c.empty_group.result ∷ [] in
     let front : AreGrouped rects (map (λ (k : ℕ × ℕ). k.1) c.split_at.result.0.now) c.in_ok-first.first opened first = rw pushed at c.in_ok-first.ensures in
-    let both = grouped_both rects c.in_ok-first.first c.in_ok-second.second bounds _ _ opened first second front c.in_ok-second.ensures c.joined-bounds.ensures.first c.joined-bounds.ensures.second in
+    let both =
+    grouped_both rects c.in_ok-first.first c.in_ok-second.second bounds _ _ opened first second front c.in_ok-second.ensures c.joined-bounds.ensures.first
+    c.joined-bounds.ensures.second in
     rw (c.deref_mut-2.ensures.value, at) (members_within rects _ bounds before c.empty_group.result second both)
 
 pub returns : goal.returns
@@ -58,9 +61,12 @@ returns g t c =
     let at : c.len-at.result ≡ length before = search rules in
     let opened = before ++ c.empty_group.result ∷ [] in
     let front : AreGrouped rects (map (λ (k : ℕ × ℕ). k.1) c.split_at.result.0.now) c.in_ok-first.first opened first = rw pushed at c.in_ok-first.ensures in
-    let both = grouped_both rects c.in_ok-first.first c.in_ok-second.second bounds _ _ opened first second front c.in_ok-second.ensures c.joined-bounds.ensures.first c.joined-bounds.ensures.second in
+    let both =
+    grouped_both rects c.in_ok-first.first c.in_ok-second.second bounds _ _ opened first second front c.in_ok-second.ensures c.joined-bounds.ensures.first
+    c.joined-bounds.ensures.second in
     let whole_keys : keys ≡ c.split_at.result.0.now ++ c.split_at.result.1.now = c.split_at.ensures.by_index.0 in
-    let numbers : AreGrouped rects (map (λ (k : ℕ × ℕ). k.1) keys) bounds opened second = rw (whole_keys, map-append (λ (k : ℕ × ℕ). k.1) c.split_at.result.0.now c.split_at.result.1.now) both in
+    let numbers : AreGrouped rects (map (λ (k : ℕ × ℕ). k.1) keys) bounds opened second =
+    rw (whole_keys, map-append (λ (k : ℕ × ℕ). k.1) c.split_at.result.0.now c.split_at.result.1.now) both in
     let count : length after ≡ c.push_group-2.new.nodes.len = omega arith in
     let whole = take_at after (drop (length after) second) c.push_group-2.new.nodes.len count in
     let closed = rw (c.deref_mut-2.ensures.value, at) at c.close_group-2.ensures in
@@ -102,5 +108,6 @@ close_group-requires-2-clause-there g t c =
     let at : c.len-at.result ≡ length before = search rules in
     let opened = before ++ c.empty_group.result ∷ [] in
     let front : AreGrouped rects (map (λ (k : ℕ × ℕ). k.1) c.split_at.result.0.now) c.in_ok-first.first opened first = rw pushed at c.in_ok-first.ensures in
-    let grown = through (length opened) (length first) (length second) (longer rects _ _ opened first front) (longer rects _ _ first second c.in_ok-second.ensures) in
+    let grown =
+    through (length opened) (length first) (length second) (longer rects _ _ opened first front) (longer rects _ _ first second c.in_ok-second.ensures) in
     rw (c.deref_mut-2.ensures.value, at) (in_front before second c.empty_group.result grown)

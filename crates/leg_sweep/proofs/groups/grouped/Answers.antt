@@ -11,6 +11,7 @@ pub returns : goal.returns
 returns g c =
     let rects = c.args.rects.now in
     let keys = c.in_ok-keys.keys.items in
-    IfOk-weaker c.nodes_of.result (λ nodes. AreNodesOf rects (map (λ (key : ℕ × ℕ). key.1) keys) nodes.items) (λ nodes. AreNodesFrom rects c.args.first nodes.items)
+    IfOk-weaker c.nodes_of.result (λ nodes. AreNodesOf rects (map (λ (key : ℕ × ℕ). key.1) keys) nodes.items)
+    (λ nodes. AreNodesFrom rects c.args.first nodes.items)
     (λ nodes are. nodes_from rects c.args.first keys nodes.items c.in_ok-keys.ensures are)
     c.nodes_of.ensures

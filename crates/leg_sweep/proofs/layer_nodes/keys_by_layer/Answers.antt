@@ -21,8 +21,11 @@ loop-number-preserved g c =
     let number : ℕ = c.loop-number.number in
     let a = c.index-items-number.result in
     let within : number < length items = omega arith in
-    let here : get_or (map layer_of items) number 0 ≡ c.layer.result = get_or-map layer_of items number a 0 within ∙ ap layer_of (sym c.index-items-number.is) ∙ sym c.layer.ensures.is in
-    let more = keys_more (map layer_of items) (layered.layers_of fixed) number c.layer.result c.curve_key.result c.loop-number.layers.items c.loop-number.invariant here c.layer.ensures.below in
+    let here : get_or (map layer_of items) number 0 ≡ c.layer.result =
+    get_or-map layer_of items number a 0 within ∙ ap layer_of (sym c.index-items-number.is) ∙ sym c.layer.ensures.is in
+    let more =
+    keys_more (map layer_of items) (layered.layers_of fixed) number c.layer.result c.curve_key.result c.loop-number.layers.items c.loop-number.invariant here
+    c.layer.ensures.below in
     let pushed = rw c.deref_mut.ensures.value at c.in_ok-push_key.ensures in
     let count : length c.push_key.new.layers ≡ c.loop-number.layers.len = omega arith in
     let whole = take_at c.push_key.new.layers (drop (length c.push_key.new.layers) c.loop-number.layers.items) c.loop-number.layers.len count in

@@ -21,7 +21,8 @@ loop-node-preserved-then-not-can_meet c =
     })
 
 pub near_in-requires : goal.near_in-requires
-near_in-requires c = first_below c.args.rects.now c.args.window.now c.in-Some.node.now c.in-Some.rest.now (rw (c.in-Some.ensures.cases.0) at c.loop-node.invariant.search)
+near_in-requires c =
+    first_below c.args.rects.now c.args.window.now c.in-Some.node.now c.in-Some.rest.now (rw (c.in-Some.ensures.cases.0) at c.loop-node.invariant.search)
 
 pub returns-in-Some-near_in-clause-search : goal.returns-in-Some-near_in-clause-search
 returns-in-Some-near_in-clause-search c =

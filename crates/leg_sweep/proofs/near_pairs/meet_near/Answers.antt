@@ -10,7 +10,8 @@ use Rattle.leg_sweep.proofs.NearItems.{found_read, found_can_meet, found_few, fo
 use Rattle.leg_sweep.proofs.near_pairs.meet_near.Goals as goal
 
 -- the nodes of the layer that was read
-read_nodes : (nodes : List (List Node)) (layer : ℕ) (of_layer inside : List Node) → layer < length nodes → of_layer ≡ get_or nodes layer of_layer → inside ≡ of_layer → inside ≡ get_or nodes layer []
+read_nodes : (nodes : List (List Node)) (layer : ℕ) (of_layer inside : List Node) → layer < length nodes → of_layer ≡ get_or nodes layer of_layer
+    → inside ≡ of_layer → inside ≡ get_or nodes layer []
 read_nodes nodes layer of_layer inside within read is = is ∙ get_or_read nodes layer of_layer within read []
 
 pub near_before-requires-clause-forest : goal.near_before-requires-clause-forest
@@ -45,10 +46,14 @@ meet_waiting-requires-clause-can g c =
     let layer_is : c.layer-layer.result ≡ layer_of b = c.layer-layer.ensures.is in
     let b_in : layer_of b < layered.layers_of fixed = rw (← layer_is) c.layer-layer.ensures.below in
     let reach_is : c.layer_reach-reach.result ≡ reach_of (layer_of b) = rw (← layer_is) c.layer_reach-reach.ensures in
-    let read = found_read rects nodes c.layer-layer.result (layer_of b) c.layer_reach-reach.result (reach_of (layer_of b)) n c.index-layers-layer.result c.deref.result.now c.near_before.new.near.items layer_is reach_is
-    (omega (arith, c.requires.layers.many, c.layer-layer.ensures.below)) c.index-layers-layer.is (c.deref.ensures.value ∙ c.of_layer.view_is) c.in_ok-near_before.ensures in
+    let read =
+    found_read rects nodes c.layer-layer.result (layer_of b) c.layer_reach-reach.result
+    (reach_of (layer_of b)) n c.index-layers-layer.result c.deref.result.now c.near_before.new.near.items layer_is reach_is
+    (omega (arith, c.requires.layers.many, c.layer-layer.ensures.below)) c.index-layers-layer.is
+    (c.deref.ensures.value ∙ c.of_layer.view_is) c.in_ok-near_before.ensures in
     rw (read, reach_is)
-    (found_can_meet (rule.Holds fixed) (rule.rect_of fixed) layer_of reach_of (g.met.R.LayeredRule.layered fixed) (g.met.R.LayeredRule.near_on_layer fixed) items rects c.requires.cut (layered.layers_of fixed) nodes c.requires.layers n b b_at b_in)
+    (found_can_meet (rule.Holds fixed) (rule.rect_of fixed) layer_of reach_of (g.met.R.LayeredRule.layered fixed)
+    (g.met.R.LayeredRule.near_on_layer fixed) items rects c.requires.cut (layered.layers_of fixed) nodes c.requires.layers n b b_at b_in)
 
 pub meet_waiting-requires-clause-looks : goal.meet_waiting-requires-clause-looks
 meet_waiting-requires-clause-looks g c =
@@ -66,9 +71,14 @@ meet_waiting-requires-clause-looks g c =
     let layer_is : c.layer-layer.result ≡ layer_of b = c.layer-layer.ensures.is in
     let b_in : layer_of b < layered.layers_of fixed = rw (← layer_is) c.layer-layer.ensures.below in
     let reach_is : c.layer_reach-reach.result ≡ reach_of (layer_of b) = rw (← layer_is) c.layer_reach-reach.ensures in
-    let read = found_read rects nodes c.layer-layer.result (layer_of b) c.layer_reach-reach.result (reach_of (layer_of b)) n c.index-layers-layer.result c.deref.result.now c.near_before.new.near.items layer_is reach_is
-    (omega (arith, c.requires.layers.many, c.layer-layer.ensures.below)) c.index-layers-layer.is (c.deref.ensures.value ∙ c.of_layer.view_is) c.in_ok-near_before.ensures in
-    let few = found_few (rule.Holds fixed) (rule.rect_of fixed) layer_of reach_of (g.met.R.LayeredRule.layered fixed) (g.met.R.LayeredRule.near_on_layer fixed) items rects c.requires.cut (layered.layers_of fixed) nodes c.requires.layers n b b_at b_in in
+    let read =
+    found_read rects nodes c.layer-layer.result (layer_of b) c.layer_reach-reach.result
+    (reach_of (layer_of b)) n c.index-layers-layer.result c.deref.result.now c.near_before.new.near.items layer_is reach_is
+    (omega (arith, c.requires.layers.many, c.layer-layer.ensures.below)) c.index-layers-layer.is
+    (c.deref.ensures.value ∙ c.of_layer.view_is) c.in_ok-near_before.ensures in
+    let few =
+    found_few (rule.Holds fixed) (rule.rect_of fixed) layer_of reach_of (g.met.R.LayeredRule.layered fixed)
+    (g.met.R.LayeredRule.near_on_layer fixed) items rects c.requires.cut (layered.layers_of fixed) nodes c.requires.layers n b b_at b_in in
     let near_few = rw (← read) at few in
     let taken = count_by-le-length (λ a. near_on_layer (rule.rect_of fixed) layer_of reach_of a b) (take n items) in
     omega (arith, near_few, taken, length-take-le n items (omega arith), c.requires.looks)
@@ -89,17 +99,23 @@ returns-clause-found g c =
     let layer_is : c.layer-layer.result ≡ layer_of b = c.layer-layer.ensures.is in
     let b_in : layer_of b < layered.layers_of fixed = rw (← layer_is) c.layer-layer.ensures.below in
     let reach_is : c.layer_reach-reach.result ≡ reach_of (layer_of b) = rw (← layer_is) c.layer_reach-reach.ensures in
-    let read = found_read rects nodes c.layer-layer.result (layer_of b) c.layer_reach-reach.result (reach_of (layer_of b)) n c.index-layers-layer.result c.deref.result.now c.near_before.new.near.items layer_is reach_is
-    (omega (arith, c.requires.layers.many, c.layer-layer.ensures.below)) c.index-layers-layer.is (c.deref.ensures.value ∙ c.of_layer.view_is) c.in_ok-near_before.ensures in
+    let read =
+    found_read rects nodes c.layer-layer.result (layer_of b) c.layer_reach-reach.result
+    (reach_of (layer_of b)) n c.index-layers-layer.result c.deref.result.now c.near_before.new.near.items layer_is reach_is
+    (omega (arith, c.requires.layers.many, c.layer-layer.ensures.below)) c.index-layers-layer.is
+    (c.deref.ensures.value ∙ c.of_layer.view_is) c.in_ok-near_before.ensures in
     let tests = c.in_ok-meet_waiting.ensures.tests in
     let new = rw read at c.in_ok-meet_waiting.ensures.found in
-    found_all_pairs (rule.Holds fixed) (rule.rect_of fixed) layer_of reach_of (g.met.R.LayeredRule.layered fixed) (g.met.R.LayeredRule.near_on_layer fixed) items rects c.requires.cut (layered.layers_of fixed) nodes c.requires.layers n b b_at b_in
-    g.S.PairSink.Takes _ (rule.tests_of c.meet_waiting.new.rule - rule.tests_of c.args.rule.now) c.args.sink.now c.meet_waiting.new.sink (rw (← read) (omega (arith, tests))) new
+    found_all_pairs (rule.Holds fixed) (rule.rect_of fixed) layer_of reach_of (g.met.R.LayeredRule.layered fixed)
+    (g.met.R.LayeredRule.near_on_layer fixed) items rects c.requires.cut (layered.layers_of fixed) nodes c.requires.layers n b b_at b_in
+    g.S.PairSink.Takes _ (rule.tests_of c.meet_waiting.new.rule - rule.tests_of c.args.rule.now) c.args.sink.now c.meet_waiting.new.sink
+    (rw (← read) (omega (arith, tests))) new
 
 pub returns-clause-more : goal.returns-clause-more
 returns-clause-more g c =
     let rule = g.R.PairRule in
-    let counted = λ (x : ℕ). test_at (near_along_both c.layer_reach-reach.result) (map (rule.rect_of (rule.fixed c.args.rule.now)) c.args.items.now) x c.args.new in
+    let counted =
+    λ (x : ℕ). test_at (near_along_both c.layer_reach-reach.result) (map (rule.rect_of (rule.fixed c.args.rule.now)) c.args.items.now) x c.args.new in
     omega (arith, c.in_ok-meet_waiting.ensures.tests, c.in_ok-meet_waiting.ensures.looks, count_by-le-length counted c.near_before.new.near.items)
 
 pub returns-clause-looks : goal.returns-clause-looks
@@ -118,9 +134,14 @@ returns-clause-looks g c =
     let layer_is : c.layer-layer.result ≡ layer_of b = c.layer-layer.ensures.is in
     let b_in : layer_of b < layered.layers_of fixed = rw (← layer_is) c.layer-layer.ensures.below in
     let reach_is : c.layer_reach-reach.result ≡ reach_of (layer_of b) = rw (← layer_is) c.layer_reach-reach.ensures in
-    let read = found_read rects nodes c.layer-layer.result (layer_of b) c.layer_reach-reach.result (reach_of (layer_of b)) n c.index-layers-layer.result c.deref.result.now c.near_before.new.near.items layer_is reach_is
-    (omega (arith, c.requires.layers.many, c.layer-layer.ensures.below)) c.index-layers-layer.is (c.deref.ensures.value ∙ c.of_layer.view_is) c.in_ok-near_before.ensures in
-    let few = found_few (rule.Holds fixed) (rule.rect_of fixed) layer_of reach_of (g.met.R.LayeredRule.layered fixed) (g.met.R.LayeredRule.near_on_layer fixed) items rects c.requires.cut (layered.layers_of fixed) nodes c.requires.layers n b b_at b_in in
+    let read =
+    found_read rects nodes c.layer-layer.result (layer_of b) c.layer_reach-reach.result
+    (reach_of (layer_of b)) n c.index-layers-layer.result c.deref.result.now c.near_before.new.near.items layer_is reach_is
+    (omega (arith, c.requires.layers.many, c.layer-layer.ensures.below)) c.index-layers-layer.is
+    (c.deref.ensures.value ∙ c.of_layer.view_is) c.in_ok-near_before.ensures in
+    let few =
+    found_few (rule.Holds fixed) (rule.rect_of fixed) layer_of reach_of (g.met.R.LayeredRule.layered fixed)
+    (g.met.R.LayeredRule.near_on_layer fixed) items rects c.requires.cut (layered.layers_of fixed) nodes c.requires.layers n b b_at b_in in
     let near_few = rw (← read) at few in
     let more = pairs_more (near_on_layer (rule.rect_of fixed) layer_of reach_of) items n b c.requires.there c.index-items-new.is in
     omega (arith, near_few, more, c.in_ok-meet_waiting.ensures.looks)

@@ -75,7 +75,8 @@ meet_near-requires-clause-looks g c =
     let half = count_pairs_square near (take i items) in
     let taken = length-take-le i items (omega arith) in
     let square = mul-le (length (take i items)) (length (take i items)) n n (omega (arith, taken)) (omega (arith, taken)) in
-    pairs_fit n (count_pairs near (take i items)) (rule.looks_of c.loop-new.rule) (rule.looks_of c.cut_rects.new.rule) i c.requires.few (omega (arith, half, square))
+    pairs_fit n (count_pairs near (take i items)) (rule.looks_of c.loop-new.rule) (rule.looks_of c.cut_rects.new.rule) i c.requires.few
+    (omega (arith, half, square))
     (omega (arith, c.in_ok-rects.ensures.looks, c.requires.seen)) c.loop-new.invariant.looks (omega arith)
 
 pub loop-new-preserved : goal.loop-new-preserved
@@ -106,4 +107,5 @@ pub returns-clause-pairs : goal.returns-clause-pairs
 returns-clause-pairs g c =
     let rule = g.R.PairRule in
     let end : c.loop-new.new ≡ length c.args.items.now = omega arith in
-    found_below_all g.S.PairSink.Takes (rule.Holds (rule.fixed c.args.rule.now)) c.args.items.now (rule.tests_of c.loop-new.rule) c.args.sink.now c.loop-new.sink (rw end at c.loop-new.invariant.found)
+    found_below_all g.S.PairSink.Takes (rule.Holds (rule.fixed c.args.rule.now)) c.args.items.now
+    (rule.tests_of c.loop-new.rule) c.args.sink.now c.loop-new.sink (rw end at c.loop-new.invariant.found)

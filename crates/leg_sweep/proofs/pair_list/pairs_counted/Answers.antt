@@ -23,13 +23,15 @@ sweep-requires-clause-entries g c =
     let order = c.in_ok-order.order.items in
     let all = length_order (map rect_of c.args.items.now) order c.in_ok-order.ensures in
     let n : ℕ = length c.args.items.now in
-    let few : sum_by (entries_at (replicate n lowest)) order < 2 ^ 62 = omega (arith, one_entry n order, all, length-map c.args.items.now rect_of, c.requires.few) in
+    let few : sum_by (entries_at (replicate n lowest)) order < 2 ^ 62 =
+    omega (arith, one_entry n order, all, length-map c.args.items.now rect_of, c.requires.few) in
     rw (c.deref-2.ensures.value, c.in_ok-stretches.ensures, c.deref.ensures.value) few
 
 pub returns-clause-tests : goal.returns-clause-tests
 returns-clause-tests g c =
     let took = c.in_ok-sweep.ensures.pairs in
-    let listed : c.sweep.new.sink.items ≡ took.found = rw c.new-pairs.ensures.items at (takes_listed _ (λ v. v.items) (λ s t p h. h) _ took.found _ took.taken) in
+    let listed : c.sweep.new.sink.items ≡ took.found =
+    rw c.new-pairs.ensures.items at (takes_listed _ (λ v. v.items) (λ s t p h. h) _ took.found _ took.taken) in
     let enough : length c.sweep.new.sink.items ≤ g.R.PairRule.tests_of c.sweep.new.rule = rw listed took.enough in
     rw c.sort_pairs.ensures.count enough
 
@@ -39,8 +41,15 @@ returns-clause-few_tests g c =
     let fixed = rule.fixed c.args.rule.now in
     let rects = map (rule.rect_of fixed) c.args.items.now in
     let order = c.in_ok-order.order.items in
-    let tests = rw (c.deref-2.ensures.value, c.in_ok-stretches.ensures, c.deref_mut.ensures.value, c.in_ok-bands.ensures, c.reach_of.ensures, c.deref.ensures.value) at c.in_ok-sweep.ensures.few_tests in
-    omega (arith, tests, one_near_both rects (length c.args.items.now) (rule.reach_of fixed) order, both_in_order rects order c.in_ok-order.ensures (rule.reach_of fixed))
+    let tests =
+    rw (c.deref-2.ensures.value, c.in_ok-stretches.ensures, c.deref_mut.ensures.value, c.in_ok-bands.ensures, c.reach_of.ensures, c.deref.ensures.value) at
+    c.in_ok-sweep.ensures.few_tests in
+    omega (
+      arith,
+      tests,
+      one_near_both rects (length c.args.items.now) (rule.reach_of fixed) order,
+      both_in_order rects order c.in_ok-order.ensures (rule.reach_of fixed),
+    )
 
 pub returns-clause-few_looks : goal.returns-clause-few_looks
 returns-clause-few_looks g c =
@@ -49,8 +58,19 @@ returns-clause-few_looks g c =
     let rects = map (rule.rect_of fixed) c.args.items.now in
     let order = c.in_ok-order.order.items in
     let unseen = c.requires.unseen in
-    let looks = rw (c.deref-2.ensures.value, c.in_ok-stretches.ensures, c.deref_mut.ensures.value, c.in_ok-bands.ensures, c.reach_of.ensures, c.deref.ensures.value) at c.in_ok-sweep.ensures.few_looks in
-    omega (arith, looks, unseen, one_entry (length c.args.items.now) order, one_near rects (length c.args.items.now) (rule.reach_of fixed) order, near_in_order rects order c.in_ok-order.ensures (rule.reach_of fixed), length_order rects order c.in_ok-order.ensures, length-map c.args.items.now (rule.rect_of fixed))
+    let looks =
+    rw (c.deref-2.ensures.value, c.in_ok-stretches.ensures, c.deref_mut.ensures.value, c.in_ok-bands.ensures, c.reach_of.ensures, c.deref.ensures.value) at
+    c.in_ok-sweep.ensures.few_looks in
+    omega (
+      arith,
+      looks,
+      unseen,
+      one_entry (length c.args.items.now) order,
+      one_near rects (length c.args.items.now) (rule.reach_of fixed) order,
+      near_in_order rects order c.in_ok-order.ensures (rule.reach_of fixed),
+      length_order rects order c.in_ok-order.ensures,
+      length-map c.args.items.now (rule.rect_of fixed),
+    )
 
 pub returns-clause-pairs : goal.returns-clause-pairs
 returns-clause-pairs g c =
@@ -58,6 +78,7 @@ returns-clause-pairs g c =
     let fixed = rule.fixed c.args.rule.now in
     let items = c.args.items.now in
     let took = c.in_ok-sweep.ensures.pairs in
-    let listed : c.sweep.new.sink.items ≡ took.found = rw c.new-pairs.ensures.items at (takes_listed _ (λ v. v.items) (λ s t p h. h) _ took.found _ took.taken) in
+    let listed : c.sweep.new.sink.items ≡ took.found =
+    rw c.new-pairs.ensures.items at (takes_listed _ (λ v. v.items) (λ s t p h. h) _ took.found _ took.taken) in
     pairs_from_sort (rule.Holds fixed) items c.sweep.new.sink.items c.sort_pairs.new.pairs.items (rw listed took.are)
     c.sort_pairs.ensures.moved c.sort_pairs.ensures.sorted

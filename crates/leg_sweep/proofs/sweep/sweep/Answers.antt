@@ -16,16 +16,20 @@ use Rattle.leg_sweep.proofs.sweep.sweep.Goals as goal
 pub stretches_in_order-requires : goal.stretches_in_order-requires
 stretches_in_order-requires g c =
     let rect_of = g.R.PairRule.rect_of (g.R.PairRule.fixed c.args.rule.now) in
-    all_have_stretches (map rect_of c.args.items.now) c.args.stretches.now c.args.order.now c.requires.order (omega (arith, length-map c.args.items.now rect_of, c.requires.stretches.count))
+    all_have_stretches (map rect_of c.args.items.now) c.args.stretches.now c.args.order.now c.requires.order
+    (omega (arith, length-map c.args.items.now rect_of, c.requires.stretches.count))
 
 pub visit-requires-clause-can : goal.visit-requires-clause-can
 visit-requires-clause-can g c =
     let rule = g.R.PairRule in
     let fixed = rule.fixed c.args.rule.now in
     let so_far = c.loop-i.invariant in
-    let is = in_order_is c.args.stretches.now c.args.order.now c.in_ok-in_order.in_order.items c.loop-i.i c.index.result.now c.in_ok-in_order.ensures (omega arith) c.index.ensures in
+    let is =
+    in_order_is c.args.stretches.now c.args.order.now c.in_ok-in_order.in_order.items c.loop-i.i c.index.result.now c.in_ok-in_order.ensures
+    (omega arith) c.index.ensures in
     rw (so_far.same, is)
-    (can_visit (rule.Holds fixed) (g.met.R.PairRule.symmetric fixed) (rule.rect_of fixed) c.args.items.now c.args.stretches.now c.args.bands.now c.requires.stretches c.args.order.now c.requires.order
+    (can_visit (rule.Holds fixed) (g.met.R.PairRule.symmetric fixed)
+    (rule.rect_of fixed) c.args.items.now c.args.stretches.now c.args.bands.now c.requires.stretches c.args.order.now c.requires.order
     c.loop-i.i (omega arith) c.loop-i.bands so_far.found.found so_far.found.swept so_far.reaches so_far.count)
 
 pub visit-requires-clause-looks : goal.visit-requires-clause-looks
@@ -41,7 +45,9 @@ visit-requires-clause-looks g c =
     let near = near_in_band rects stretches c.args.bands.now in
     let so_far = c.loop-i.invariant in
     let within : i < length order = omega arith in
-    let few = met_few (rule.Holds fixed) (g.met.R.PairRule.symmetric fixed) (rule.rect_of fixed) items stretches c.args.bands.now c.requires.stretches order c.requires.order
+    let few =
+    met_few (rule.Holds fixed) (g.met.R.PairRule.symmetric fixed)
+    (rule.rect_of fixed) items stretches c.args.bands.now c.requires.stretches order c.requires.order
     i within c.loop-i.bands so_far.found.found so_far.found.swept so_far.reaches so_far.count in
     let all = length_order rects order c.requires.order in
     let n : ℕ = length items in
@@ -51,7 +57,8 @@ visit-requires-clause-looks g c =
     let square = mul-le (length (take i order)) (length (take i order)) n n (omega (arith, taken, short)) (omega (arith, taken, short)) in
     let is = in_order_is stretches order c.in_ok-in_order.in_order.items i c.index.result.now c.in_ok-in_order.ensures within c.index.ensures in
     rw is
-    (looks_fit n (rule.looks_of c.args.rule.now) (sum_by (entries_at stretches) order) (count_pairs near (take i order)) (length (met c.loop-i.bands (first_at stretches x) (last_at stretches x - first_at stretches x))) (rule.looks_of c.loop-i.rule)
+    (looks_fit n (rule.looks_of c.args.rule.now) (sum_by (entries_at stretches) order) (count_pairs near (take i order))
+    (length (met c.loop-i.bands (first_at stretches x) (last_at stretches x - first_at stretches x))) (rule.looks_of c.loop-i.rule)
     c.requires.few c.requires.seen c.requires.entries (omega (arith, half, square)) (omega (arith, few, short))
     (omega (arith, so_far.looks, sum_by-take-le (entries_at stretches) order i)))
 
@@ -63,7 +70,8 @@ loop-i-init g c =
     record {
       found =
           rw c.requires.untested
-          (found_none g.S.PairSink.Takes (rule.Holds fixed) (g.met.R.PairRule.symmetric fixed) (rule.rect_of fixed) c.args.items.now c.args.stretches.now bands c.requires.stretches c.args.order.now c.requires.order
+          (found_none g.S.PairSink.Takes (rule.Holds fixed) (g.met.R.PairRule.symmetric fixed)
+          (rule.rect_of fixed) c.args.items.now c.args.stretches.now bands c.requires.stretches c.args.order.now c.requires.order
           c.args.sink.now c.requires.empty);
       reaches = λ k. refl;
       count = refl;
@@ -104,17 +112,25 @@ loop-i-preserved g c =
     let tests = rw (so_far.same, is) at visit.tests in
     let left = rw (so_far.same, is) at visit.left in
     let looks = rw is at visit.looks in
-    let few_near = met_near holds symmetric rect_of items stretches start c.requires.stretches order c.requires.order i within bands so_far.found.found so_far.found.swept so_far.reaches so_far.count in
-    let few_both = met_near_both holds symmetric rect_of items stretches start c.requires.stretches order c.requires.order i within bands so_far.found.found so_far.found.swept so_far.reaches so_far.count in
+    let few_near =
+    met_near holds symmetric rect_of items stretches start c.requires.stretches order c.requires.order i within bands so_far.found.found so_far.found.swept
+    so_far.reaches so_far.count in
+    let few_both =
+    met_near_both holds symmetric rect_of items stretches start c.requires.stretches order c.requires.order i within bands so_far.found.found
+    so_far.found.swept so_far.reaches so_far.count in
     let grown = take_more order i 0 within in
-    let near_more : count_pairs near (take (i + 1) order) ≡ count_pairs near (take i order) + count_by (λ x. near x n) (take i order) = rw grown (count_pairs_push near (take i order) n) in
-    let both_more : count_pairs both (take (i + 1) order) ≡ count_pairs both (take i order) + count_by (λ x. both x n) (take i order) = rw grown (count_pairs_push both (take i order) n) in
-    let entries_more : sum_by (entries_at stretches) (take (i + 1) order) ≡ sum_by (entries_at stretches) (take i order) + entries_at stretches n = rw grown (sum_by_push (entries_at stretches) (take i order) n) in
+    let near_more : count_pairs near (take (i + 1) order) ≡ count_pairs near (take i order) + count_by (λ x. near x n) (take i order) =
+    rw grown (count_pairs_push near (take i order) n) in
+    let both_more : count_pairs both (take (i + 1) order) ≡ count_pairs both (take i order) + count_by (λ x. both x n) (take i order) =
+    rw grown (count_pairs_push both (take i order) n) in
+    let entries_more : sum_by (entries_at stretches) (take (i + 1) order) ≡ sum_by (entries_at stretches) (take i order) + entries_at stretches n =
+    rw grown (sum_by_push (entries_at stretches) (take i order) n) in
     record {
       found =
           rw tests
           (found_more g.S.PairSink.Takes holds symmetric rect_of items stretches start c.requires.stretches order c.requires.order
-          i (rule.tests_of c.loop-i.rule) (count_by counts seen) within bands c.visit.new.bands c.args.sink.now c.loop-i.sink c.visit.new.sink so_far.found so_far.reaches so_far.count visited found);
+          i (rule.tests_of c.loop-i.rule) (count_by counts seen) within bands c.visit.new.bands c.args.sink.now c.loop-i.sink c.visit.new.sink so_far.found
+          so_far.reaches so_far.count visited found);
       reaches = λ k. reaches_after narrow (first_at stretches n) (last_at stretches n) n bands c.visit.new.bands visited k ∙ so_far.reaches k;
       count = visited.count ∙ so_far.count;
       looks = looks_in_bounds _ _ _ _ _ _ _ _ _ _ _ _ _ looks left so_far.looks few_near near_more entries_more;
@@ -129,7 +145,8 @@ returns-clause-pairs g c =
     let rule = g.R.PairRule in
     let fixed = rule.fixed c.args.rule.now in
     let end : c.loop-i.i ≡ length c.args.order.now = omega arith in
-    found_all g.S.PairSink.Takes (rule.Holds fixed) (g.met.R.PairRule.symmetric fixed) (rule.rect_of fixed) c.args.items.now c.args.stretches.now c.args.bands.now c.requires.stretches c.args.order.now c.requires.order
+    found_all g.S.PairSink.Takes (rule.Holds fixed) (g.met.R.PairRule.symmetric fixed)
+    (rule.rect_of fixed) c.args.items.now c.args.stretches.now c.args.bands.now c.requires.stretches c.args.order.now c.requires.order
     c.loop-i.bands (rule.tests_of c.loop-i.rule) c.args.sink.now c.loop-i.sink (rw end at c.loop-i.invariant.found)
 
 less_of : (a b n : ℕ) → a + b ≤ n → a ≤ n
@@ -158,5 +175,6 @@ returns-in_err-visit-clause-same g c = c.visit.ensures.same ∙ c.loop-i.invaria
 
 pub index-requires : goal.index-requires
 index-requires g c =
-    let long : length c.in_ok-in_order.in_order.items ≡ length c.args.order.now = ap length c.in_ok-in_order.ensures ∙ length-map c.args.order.now (stretch_at c.args.stretches.now) in
+    let long : length c.in_ok-in_order.in_order.items ≡ length c.args.order.now =
+    ap length c.in_ok-in_order.ensures ∙ length-map c.args.order.now (stretch_at c.args.stretches.now) in
     omega (arith, long, c.in_ok-in_order.in_order.ok.0)

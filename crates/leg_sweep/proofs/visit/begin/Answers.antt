@@ -79,7 +79,8 @@ returns-clause-found g c =
     let first = c.in_ok-meet_waiting.ensures.found in
     let second = rw c.meet_waiting.ensures.same at c.in_ok-meet_waiting-2.ensures.found in
     rw (band_is, sum_by-append (λ x. cond (counts x) 1 0) begun passing)
-    (new_pairs_append g.S.PairSink.Takes (IsPair (rule.Holds fixed) items) c.args.new c.args.sink.now begun passing (count_by counts begun) (count_by counts passing) c.meet_waiting.new.sink c.meet_waiting-2.new.sink differ first second)
+    (new_pairs_append g.S.PairSink.Takes (IsPair (rule.Holds fixed) items) c.args.new c.args.sink.now begun passing (count_by counts begun)
+    (count_by counts passing) c.meet_waiting.new.sink c.meet_waiting-2.new.sink differ first second)
 
 pub returns-clause-looks : goal.returns-clause-looks
 returns-clause-looks g c =

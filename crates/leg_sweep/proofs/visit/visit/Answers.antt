@@ -39,7 +39,8 @@ loop-k-init g c =
       looks = rw none begun.looks;
       tests = rw none begun.tests;
       left = rw (none, begun.bands) (omega (arith, count_begin narrow new old first there));
-      counts = omega (arith, begun.looks, begun.tests, c.requires.counts, count_by-le-length (λ x. test_at (near_along_both reach) rects x new) (met old first 0));
+      counts =
+          omega (arith, begun.looks, begun.tests, c.requires.counts, count_by-le-length (λ x. test_at (near_along_both reach) rects x new) (met old first 0));
       same = c.begin.ensures.same;
       same_room = c.begin.ensures.same_room;
     }
@@ -111,17 +112,22 @@ loop-k-preserved g c =
     let number : first + suc (k - first) ≡ k + 1 = next_number first k upward in
     let not_past : first + suc (k - first) ≤ last = rw number (next_to_last k last earlier) in
     let differ : (x : ℕ) → Contains seen x → Contains begun x → ⊥ = λ x seen_there there.
-    met_new old first last (λ j low high. (can.begun j low high).apart) can.passing.apart can.apart can.apart_passing (k - first) x not_past seen_there (rw number there) in
+    met_new old first last (λ j low high. (can.begun j low high).apart) can.passing.apart can.apart can.apart_passing (k - first) x not_past seen_there
+    (rw number there) in
     let count_more = sum_by-append (λ x. cond (counts x) 1 0) seen begun in
     record {
-      visited = rw passed (rw (here, one) at (visited_more narrow first k new old bands upward (next_there k last (length old) (length old) earlier can.there refl) so_far.visited));
+      visited =
+          rw passed (rw (here, one) at (visited_more narrow first k new old bands upward
+          (next_there k last (length old) (length old) earlier can.there refl) so_far.visited));
       found =
           rw (next, count_more)
-          (new_pairs_append g.S.PairSink.Takes (IsPair (rule.Holds fixed) items) new c.args.sink.now seen begun (count_by counts seen) (count_by counts begun) c.loop-k.sink c.pass.new.sink
+          (new_pairs_append g.S.PairSink.Takes (IsPair (rule.Holds fixed) items) new c.args.sink.now seen begun (count_by counts seen)
+          (count_by counts begun) c.loop-k.sink c.pass.new.sink
           differ so_far.found found);
       looks = rw next (looks_at_both seen begun _ _ _ so_far.looks looks);
       tests = rw next (tests_at_both seen begun counts _ _ _ so_far.tests tests);
-      left = rw (next, passed) (left_at_both narrow seen begun first k _ _ _ upward so_far.left (rw (same_begun, here, one) at (count_pass narrow new bands (k + 1) within)));
+      left = rw (next, passed) (left_at_both narrow seen begun first k _ _ _ upward so_far.left
+          (rw (same_begun, here, one) at (count_pass narrow new bands (k + 1) within)));
       counts = tests_in_looks counts begun _ _ _ _ so_far.counts looks tests;
       same = c.pass.ensures.same ∙ so_far.same;
       same_room = c.pass.ensures.same_room ∙ so_far.same_room;

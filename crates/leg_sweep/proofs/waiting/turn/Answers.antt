@@ -56,7 +56,8 @@ loop-other-preserved g c =
     let counted : ◌≡◌ {A = ℕ} (cond (test_at both (map rect_of items) x new) 1 0) (cond (both (rect_of a) (rect_of b)) 1 0) = ap (λ t. cond t 1 0) both_is in
     let one_more = sum_by_more (λ y. cond (test_at both (map rect_of items) y new) 1 0) waiting i 0 within in
     let counts = λ (y : ℕ). test_at both (map rect_of items) y new in
-    let pushed_count : count_by counts (take i waiting ++ x ∷ []) ≡ count_by counts (take i waiting) + cond (test_at both (map rect_of items) x new) 1 0 = sum_by_push (λ y. cond (counts y) 1 0) (take i waiting) x in
+    let pushed_count : count_by counts (take i waiting ++ x ∷ []) ≡ count_by counts (take i waiting) + cond (test_at both (map rect_of items) x new) 1 0 =
+    sum_by_push (λ y. cond (counts y) 1 0) (take i waiting) x in
     let grown : take (i + 1) waiting ≡ take i waiting ++ x ∷ [] = take_more waiting i 0 within in
     let not_done : Contains (take i waiting) x → ⊥ = λ k.
     let place = place_in_front waiting i x (omega arith) k in
@@ -65,22 +66,29 @@ loop-other-preserved g c =
       kept = elim c.if-near.branch [
         | then-near+in_ok-push w ↦
             let pushed : c.if-near.kept.items ≡ c.loop-other.kept.items ++ x ∷ [] = rw w.kept-is w.in_ok-push.ensures.items in
-            rw pushed (filter_yes (λ y. test_at near (map rect_of items) y new) waiting i 0 within c.loop-other.kept.items so_far.kept (passes true w.if-near.true))
+            rw pushed (filter_yes (λ y. test_at near (map rect_of items) y new) waiting i 0 within c.loop-other.kept.items so_far.kept
+            (passes true w.if-near.true))
         | else-near w ↦
             let same : c.if-near.kept.items ≡ c.loop-other.kept.items = rw w.kept-is refl in
-            rw same (filter_no (λ y. test_at near (map rect_of items) y new) waiting i 0 within c.loop-other.kept.items so_far.kept (passes false w.if-near.false))
+            rw same (filter_no (λ y. test_at near (map rect_of items) y new) waiting i 0 within c.loop-other.kept.items so_far.kept
+            (passes false w.if-near.false))
       ];
       found = elim c.if-holds.branch [
         | then-holds+in_ok-take w ↦
             let took = rw w.lower_first.ensures at w.in_ok-take.ensures in
-            let one : count_by counts (take i waiting ++ x ∷ []) ≡ count_by counts (take i waiting) + 1 = test_counts _ _ _ _ _ _ tests_now (told.tested w.if-holds.true) counted pushed_count in
+            let one : count_by counts (take i waiting ++ x ∷ []) ≡ count_by counts (take i waiting) + 1 =
+            test_counts _ _ _ _ _ _ tests_now (told.tested w.if-holds.true) counted pushed_count in
             rw (w.sink-is, grown, one)
             (new_pairs_more g.S.PairSink.Takes (IsPair holds items) new before (take i waiting) x (count_by counts (take i waiting)) c.loop-other.sink _
-            (pair_from_holds holds (g.met.R.PairRule.symmetric fixed) items x new a b a_at b_at x_other (answer.0 w.if-holds.true)) not_done took.taken so_far.found)
+            (pair_from_holds holds (g.met.R.PairRule.symmetric fixed) items x new a b a_at b_at x_other (answer.0 w.if-holds.true)) not_done took.taken
+            so_far.found)
         | else-holds w ↦
             let same : c.if-holds.sink ≡ c.loop-other.sink = rw w.sink-is refl in
-            let no_pair : IsPair holds items (ordered x new) → ⊥ = λ p. both_ways c.ask-near.result.1 w.if-holds.false (answer.1 (holds_from_pair holds (g.met.R.PairRule.symmetric fixed) items x new a b a_at b_at p)) in
-            rw (same, grown) (new_pairs_skip g.S.PairSink.Takes (IsPair holds items) new before (take i waiting) x (count_by counts (take i waiting)) (count_by counts (take i waiting ++ x ∷ [])) c.loop-other.sink no_pair (not_fewer _ _ _ pushed_count) so_far.found)
+            let no_pair : IsPair holds items (ordered x new) → ⊥ =
+            λ p. both_ways c.ask-near.result.1 w.if-holds.false
+            (answer.1 (holds_from_pair holds (g.met.R.PairRule.symmetric fixed) items x new a b a_at b_at p)) in
+            rw (same, grown) (new_pairs_skip g.S.PairSink.Takes (IsPair holds items) new before (take i waiting) x (count_by counts (take i waiting))
+            (count_by counts (take i waiting ++ x ∷ [])) c.loop-other.sink no_pair (not_fewer _ _ _ pushed_count) so_far.found)
       ];
       looks = look_more _ _ _ i so_far.looks told.looks;
       tests = test_more _ _ _ _ _ _ _ so_far.tests tests_now counted one_more;

@@ -2,7 +2,7 @@ use Rattle.std.proofs.Common.{◌≡◌, ℕ, List, length, ap, ◌∙◌, subst
 use Rattle.leg_lib_records.specs.Records.{MasterModel}
 use Rattle.leg_design_records.specs.declared.records.Component.{Component}
 use Rattle.leg_grammar.specs.Def.Namespace.{KnownModel}
-use Rattle.leg_design_nets.specs.Steps.Pins.{place_at, numbers_under, AreListed, ArePinPlaces, AreUnder}
+use Rattle.leg_design_nets.specs.Steps.Pins.{place_in_tables, numbers_under, AreListed, ArePinPlaces, AreUnder}
 use Rattle.leg_design_nets.proofs.known_pins.KnownPins.new.Goals as goal
 
 pub invariant_of-result : goal.invariant_of-result
@@ -14,8 +14,8 @@ invariant_of-result g c =
       long = c.in_ok-components.ensures.long ∙ ap (λ (xs : List MasterModel). length xs) of_library;
       listed = subst (λ (xs : List Component). AreListed xs lists) of_components c.in_ok-components.ensures.listed;
       places =
-          subst (λ (xs : List MasterModel). ArePinPlaces xs lists (place_at c.in_ok-places.places.items)) of_library
-          (subst (λ (ls : List (List ℕ)). ArePinPlaces c.masters-library.result.now ls (place_at c.in_ok-places.places.items)) c.deref.ensures.value c.in_ok-places.ensures);
+          subst (λ (xs : List MasterModel). ArePinPlaces xs lists (place_in_tables c.in_ok-places.places.items)) of_library
+          (subst (λ (ls : List (List ℕ)). ArePinPlaces c.masters-library.result.now ls (place_in_tables c.in_ok-places.places.items)) c.deref.ensures.value c.in_ok-places.ensures);
       having =
           subst (λ (xs : List MasterModel). AreUnder xs lists (numbers_under c.in_ok-masters.masters)) of_library
           (subst (λ (ls : List (List ℕ)). AreUnder c.masters-library.result.now ls (numbers_under c.in_ok-masters.masters)) c.deref-2.ensures.value c.in_ok-masters.ensures);

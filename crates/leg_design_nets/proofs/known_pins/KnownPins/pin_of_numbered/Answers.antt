@@ -3,7 +3,7 @@ use Rattle.std.proofs.lemmas.Option.{slice_get_read, slice_get_past}
 use Rattle.leg_design_records.specs.declared.limits.TheConstants.{ENTRY_LIMIT}
 use Rattle.leg_design_records.specs.declared.records.Component.{Component}
 use Rattle.leg_grammar.specs.Def.Namespace.{KnownModel}
-use Rattle.leg_design_nets.specs.Steps.Pins.{place_in, numbers_under}
+use Rattle.leg_design_nets.specs.Steps.Pins.{place_in_table, numbers_under}
 use Rattle.leg_design_nets.proofs.PinLookups.{found_none, found_some, in_any_case}
 use Rattle.leg_design_nets.proofs.known_pins.KnownPins.pin_of_numbered.Goals as goal
 
@@ -24,7 +24,7 @@ returns-clause-is g c =
     let stands : slice_get c.self.inside.known.now.components c.args.number ≡ Some component = rw parts at there in
     let table = c.in_ok-places.places.now in
     let some : slice_get c.self.inside.places.items component.master ≡ Some table = rw (← c.deref.ensures.value) (slice_get_read c.deref.result.now _ component.master table refl c.in_ok-places.ensures.lookup.3.0 c.in_ok-places.ensures.lookup.1) in
-    let said : c.copied.result ≡ place_in table c.args.name.now = c.copied.ensures ∙ c.get-3.ensures.value in
+    let said : c.copied.result ≡ place_in_table table c.args.name.now = c.copied.ensures ∙ c.get-3.ensures.value in
     rw (← c.self.view_is) (said ∙ found_some c.self.inside.known.now c.self.inside.components.items c.self.inside.places.items (numbers_under c.self.inside.masters) c.self.invariant c.args.number component c.args.name.now table stands some)
 
 pub returns-clause-few : goal.returns-clause-few

@@ -25,10 +25,13 @@ next_wire-number-requires-clause-are g c =
 pub returns-in_err-push-clause-unchanged : goal.returns-in_err-push-clause-unchanged
 returns-in_err-push-clause-unchanged g c =
     let shapes = c.reserve.ensures.items in
-    let pieces = same_pieces c.self.inside.pieces.items c.args.net c.push.new.self c.index_mut.result.now c.in_err-push.ensures.unchanged c.index_mut.ensures.value in
+    let pieces =
+    same_pieces c.self.inside.pieces.items c.args.net c.push.new.self c.index_mut.result.now c.in_err-push.ensures.unchanged c.index_mut.ensures.value in
     on_err_anyway c.from_residual-in_err-push.result (rw (shapes, pieces) c.self.view_is)
 
-abbrev gets : (g : Over) (c : goal.After-drop-added-2 g) → GetsWire (record { shapes = c.self.inside.shapes.items; pieces = c.self.inside.pieces.items }) c.args.net c.index_mut.result.now c.next_wire-number.result c.in_ok-added.added.items
+abbrev gets : (g : Over) (c : goal.After-drop-added-2 g)
+    → GetsWire (record { shapes = c.self.inside.shapes.items; pieces = c.self.inside.pieces.items }) c.args.net c.index_mut.result.now
+    c.next_wire-number.result c.in_ok-added.added.items
 gets g c =
     let design = c.args.design.now in
     let net = c.args.net in

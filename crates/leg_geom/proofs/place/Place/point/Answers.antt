@@ -21,7 +21,8 @@ moved_is l t a b el et la lm =
 moved_fits : (l t a b : ℤ) → l ≡ a → t ≡ b → IsCoordinate a → IsCoordinate (a +ℤ b) → FitsSigned w64 (to_z w64 (of_z w64 l) +ℤ to_z w64 (of_z w64 t))
 moved_fits l t a b el et la lm = rw (moved_is l t a b el et la lm) (fits_signed_from_abs w64 (a +ℤ b) (omega arith))
 
-moved_within : (l t a b : ℤ) → l ≡ a → t ≡ b → IsCoordinate a → IsCoordinate (a +ℤ b) → IsCoordinate (to_z w64 (of_z w64 (to_z w64 (of_z w64 l) +ℤ to_z w64 (of_z w64 t))))
+moved_within : (l t a b : ℤ) → l ≡ a → t ≡ b → IsCoordinate a → IsCoordinate (a +ℤ b)
+    → IsCoordinate (to_z w64 (of_z w64 (to_z w64 (of_z w64 l) +ℤ to_z w64 (of_z w64 t))))
 moved_within l t a b el et la lm = rw (to_z-of_z w64 _ (moved_fits l t a b el et la lm), moved_is l t a b el et la lm) lm
 
 pub turned-x-requires-clause-x : goal.turned-x-requires-clause-x
@@ -60,8 +61,10 @@ known-requires c =
     let y = rw (width, height) at c.turned-x.ensures.y in
     let place = c.args.self.now in
     record {
-      x = moved_within c.x-left.result c.turned-x.result.0 place.at.x (turned place.orient c.args.width c.args.height c.args.point.now).x c.x-left.ensures.is x c.x-left.ensures.within.x c.requires.x;
-      y = moved_within c.y-bottom.result c.turned-x.result.1 place.at.y (turned place.orient c.args.width c.args.height c.args.point.now).y c.y-bottom.ensures.is y c.x-left.ensures.within.y c.requires.y;
+      x = moved_within c.x-left.result c.turned-x.result.0 place.at.x
+          (turned place.orient c.args.width c.args.height c.args.point.now).x c.x-left.ensures.is x c.x-left.ensures.within.x c.requires.x;
+      y = moved_within c.y-bottom.result c.turned-x.result.1 place.at.y
+          (turned place.orient c.args.width c.args.height c.args.point.now).y c.y-bottom.ensures.is y c.x-left.ensures.within.y c.requires.y;
     }
 
 pub returns : goal.returns

@@ -15,7 +15,8 @@ sum_is a b la lb =
     rw (to_z-of_z w64 a fa, to_z-of_z w64 b fb)
 
 -- half of the machine's sum is the middle
-half_is : (a b r : ℤ) → IsCoordinate a → IsCoordinate b → r ≡ int_div_euclid (to_z w64 (of_z w64 (to_z w64 (of_z w64 a) +ℤ to_z w64 (of_z w64 b)))) (pos 2) → r ≡ halfway a b
+half_is : (a b r : ℤ) → IsCoordinate a → IsCoordinate b → r ≡ int_div_euclid (to_z w64 (of_z w64 (to_z w64 (of_z w64 a) +ℤ to_z w64 (of_z w64 b)))) (pos 2)
+    → r ≡ halfway a b
 half_is a b r la lb e = rw (sum_is a b la lb, to_z-of_z w64 (a +ℤ b) (sum_fits a b la lb)) at e
 
 IsHalfway-halfway : (a b : ℤ) → IsHalfway a b (halfway a b)
@@ -35,14 +36,22 @@ div_euclid-requires-clause-no_overflow c = λ e _. omega arith
 pub returns-clause-is : goal.returns-clause-is
 returns-clause-is c =
     rw (← c.self.view_is)
-    (to_z-of_z w64 _ (record { sfits = c.div_euclid.type_inv }) ∙ half_is c.self.inside.low c.self.inside.high c.div_euclid.result c.self.invariant.low c.self.invariant.high c.div_euclid.ensures)
+    (to_z-of_z w64 _ (record { sfits = c.div_euclid.type_inv })
+    ∙ half_is c.self.inside.low c.self.inside.high c.div_euclid.result c.self.invariant.low c.self.invariant.high c.div_euclid.ensures)
 
 pub returns-clause-halfway : goal.returns-clause-halfway
 returns-clause-halfway c =
-    rw (← c.self.view_is, to_z-of_z w64 c.div_euclid.result (record { sfits = c.div_euclid.type_inv }), half_is c.self.inside.low c.self.inside.high c.div_euclid.result c.self.invariant.low c.self.invariant.high c.div_euclid.ensures)
+    rw (
+      ← c.self.view_is,
+      to_z-of_z w64 c.div_euclid.result (record { sfits = c.div_euclid.type_inv }),
+      half_is c.self.inside.low c.self.inside.high c.div_euclid.result c.self.invariant.low c.self.invariant.high c.div_euclid.ensures,
+    )
     (IsHalfway-halfway c.self.inside.low c.self.inside.high)
 
 pub returns-clause-within : goal.returns-clause-within
 returns-clause-within c =
-    rw (to_z-of_z w64 c.div_euclid.result (record { sfits = c.div_euclid.type_inv }), half_is c.self.inside.low c.self.inside.high c.div_euclid.result c.self.invariant.low c.self.invariant.high c.div_euclid.ensures)
+    rw (
+      to_z-of_z w64 c.div_euclid.result (record { sfits = c.div_euclid.type_inv }),
+      half_is c.self.inside.low c.self.inside.high c.div_euclid.result c.self.invariant.low c.self.invariant.high c.div_euclid.ensures,
+    )
     (within_ends c.self.inside.low c.self.inside.high _ c.self.invariant.low c.self.invariant.high (IsHalfway-halfway c.self.inside.low c.self.inside.high))

@@ -26,7 +26,8 @@ overflow_add-result-2 g c =
     let from = c.in-Some.ends.from in
     let left : IsCoordinate (row.at.x +ℤ pos from *ℤ size.width) = c.requires.within.left from c.in-Some.ensures.first in
     let low : IsCoordinate row.at.y = c.y-y.ensures.within.y in
-    rw (c.edge-left.ensures, c.y-y.ensures.is, coordinate_passed (row.at.x +ℤ pos from *ℤ size.width) left, coordinate_passed row.at.y low) (sum_fits (row.at.x +ℤ pos from *ℤ size.width) row.at.y left low)
+    rw (c.edge-left.ensures, c.y-y.ensures.is, coordinate_passed (row.at.x +ℤ pos from *ℤ size.width) left, coordinate_passed row.at.y low)
+    (sum_fits (row.at.x +ℤ pos from *ℤ size.width) row.at.y left low)
 
 pub returns : goal.returns
 returns g c =

@@ -37,7 +37,8 @@ returns g c =
     let high_passed : to_z w64 (of_z w64 old.high) ≡ old.high = search rules in
     let top_passed : to_z w64 (of_z w64 old.top) ≡ old.top = search rules in
     let sum_passed : to_z w64 (of_z w64 c.saturating_add.result) ≡ c.saturating_add.result = search rules in
-    let sum : c.saturating_add.result ≡ saturate_signed w64 ((row.at.x +ℤ pos ends.from *ℤ size.width) +ℤ old.low) = c.saturating_add.ensures ∙ rw (low_passed, c.edge-left.ensures, l_passed) refl in
+    let sum : c.saturating_add.result ≡ saturate_signed w64 ((row.at.x +ℤ pos ends.from *ℤ size.width) +ℤ old.low) =
+    c.saturating_add.ensures ∙ rw (low_passed, c.edge-left.ensures, l_passed) refl in
     bound_alike 0 row size c.requires.area (all_of c.args.parts.now) ends c.in-Some.ensures old _ (record {
       least_row = refl;
       least_site = refl;
@@ -47,6 +48,8 @@ returns g c =
       top = top_passed;
       left = rw c.edge-left.ensures l_passed;
       right = rw c.edge.ensures r_passed;
-      corner = λ y far below. rw (sum_passed, sum) (saturated_upto ((row.at.x +ℤ pos ends.from *ℤ size.width) +ℤ old.low) ((row.at.x +ℤ pos ends.from *ℤ size.width) +ℤ y) (omega (arith, ints, below)) (sum_fits (row.at.x +ℤ pos ends.from *ℤ size.width) y left far));
+      corner =
+          λ y far below. rw (sum_passed, sum) (saturated_upto ((row.at.x +ℤ pos ends.from *ℤ size.width) +ℤ old.low)
+          ((row.at.x +ℤ pos ends.from *ℤ size.width) +ℤ y) (omega (arith, ints, below)) (sum_fits (row.at.x +ℤ pos ends.from *ℤ size.width) y left far));
       longest = refl;
     })

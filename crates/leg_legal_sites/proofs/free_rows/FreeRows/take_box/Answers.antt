@@ -10,7 +10,8 @@ use Rattle.leg_legal_sites.proofs.free_rows.FreeRows.take_box.Goals as goal
 pub returns-then-is_empty : goal.returns-then-is_empty
 returns-then-is_empty g c =
     let same : c.self.inside.order.items ≡ c.args.self.now.order = ap (λ (f : RowLists). f.order) c.self.view_is in
-    let none : length c.self.inside.order.items ≡ 0 = rw c.as_slice-order.ensures.value at (eqb-true (length c.as_slice-order.result.now) 0 (sym c.if-is_empty.ensures)) in
+    let none : length c.self.inside.order.items ≡ 0 =
+    rw c.as_slice-order.ensures.value at (eqb-true (length c.as_slice-order.result.now) 0 (sym c.if-is_empty.ensures)) in
     box_of_none c.args.design.now c.args.rect.now c.args.self.now (rw (← same) none)
 
 pub returns : goal.returns
@@ -29,6 +30,7 @@ returns g c =
     let count_nodes : length nodes ≡ c.self.inside.nodes.len = omega (arith, long_nodes, kept_nodes) in
     let all_lists = take_at lists (drop (length lists) c.self.inside.lists.items) c.self.inside.lists.len count_lists in
     let all_nodes = take_at nodes (drop (length nodes) c.self.inside.nodes.items) c.self.inside.nodes.len count_nodes in
-    rw (all_lists, all_nodes) (box_taken c.take_from_rows.result design rect c.args.self.now free (record { lists = row_lists order lists; order = order; nodes = nodes }) c.self.view_is
+    rw (all_lists, all_nodes) (box_taken c.take_from_rows.result design rect c.args.self.now free
+    (record { lists = row_lists order lists; order = order; nodes = nodes }) c.self.view_is
     (rw c.as_slice-order.ensures.value at c.take_from_rows.ensures.rows)
     (rw (c.as_slice-order.ensures.value, c.as_mut_slice.ensures.value) at c.take_from_rows.ensures.taken))

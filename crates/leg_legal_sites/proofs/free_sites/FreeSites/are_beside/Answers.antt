@@ -22,7 +22,8 @@ returns-then-end-free g c t =
     let is = c.as_slice-free.ensures.value ∙ c.self.view_is in
     let some : 0 < length free = omega (arith, eqb-false (length free) 0 (sym c.if-is_empty.ensures)) in
     let m : AreMeasured c.self.inside.longest free = rw c.as_slice-free.ensures.value c.self.invariant in
-    rw (← is) (beside_kept free m.are _ _ (slice_get-get_or free 0 none some) (slice_get-get_or free (length free - 1) none (omega (arith, some))) c.args.from c.args.end (inl c.if-end-free.true))
+    rw (← is) (beside_kept free m.are _ _ (slice_get-get_or free 0 none some)
+    (slice_get-get_or free (length free - 1) none (omega (arith, some))) c.args.from c.args.end (inl c.if-end-free.true))
 
 pub returns : goal.returns
 returns g c t =
@@ -30,4 +31,5 @@ returns g c t =
     let is = c.as_slice-free.ensures.value ∙ c.self.view_is in
     let some : 0 < length free = omega (arith, eqb-false (length free) 0 (sym c.if-is_empty.ensures)) in
     let m : AreMeasured c.self.inside.longest free = rw c.as_slice-free.ensures.value c.self.invariant in
-    rw (← is) (beside_kept free m.are _ _ (slice_get-get_or free 0 none some) (slice_get-get_or free (length free - 1) none (omega (arith, some))) c.args.from c.args.end (inr (leb-true _ _ t)))
+    rw (← is) (beside_kept free m.are _ _ (slice_get-get_or free 0 none some)
+    (slice_get-get_or free (length free - 1) none (omega (arith, some))) c.args.from c.args.end (inr (leb-true _ _ t)))

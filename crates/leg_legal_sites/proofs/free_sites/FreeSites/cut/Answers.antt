@@ -30,7 +30,8 @@ invariant_of-result g c =
     let at = c.len.result / 4 * 3 in
     let both : take at items ++ drop at items ≡ items = take-append-drop at items in
     let whole : AreMeasured c.self.inside.longest (take at items ++ drop at items) = rw both c.self.invariant in
-    let longest : AreNoMoreThan c.longest_of-longest.result (drop at items) = rw (c.as_slice-2.ensures.value, c.in_ok-stretches.ensures.tail) at c.longest_of-longest.ensures in
+    let longest : AreNoMoreThan c.longest_of-longest.result (drop at items) =
+    rw (c.as_slice-2.ensures.value, c.in_ok-stretches.ensures.tail) at c.longest_of-longest.ensures in
     rw c.in_ok-stretches.ensures.tail (record { are = (right_measured c.self.inside.longest (take at items) (drop at items) whole).are; longest = longest })
 
 pub invariant_of-self-2 : goal.invariant_of-self-2
@@ -39,5 +40,6 @@ invariant_of-self-2 g c =
     let at = c.len.result / 4 * 3 in
     let both : take at items ++ drop at items ≡ items = take-append-drop at items in
     let whole : AreMeasured c.self.inside.longest (take at items ++ drop at items) = rw both c.self.invariant in
-    let longest : AreNoMoreThan c.longest_of-self-inside.result (take at items) = rw (c.as_slice.ensures.value, c.in_ok-stretches.ensures.items) at c.longest_of-self-inside.ensures in
+    let longest : AreNoMoreThan c.longest_of-self-inside.result (take at items) =
+    rw (c.as_slice.ensures.value, c.in_ok-stretches.ensures.items) at c.longest_of-self-inside.ensures in
     rw c.in_ok-stretches.ensures.items (record { are = (left_measured c.self.inside.longest (take at items) (drop at items) whole).are; longest = longest })

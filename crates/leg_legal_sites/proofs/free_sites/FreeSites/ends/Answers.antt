@@ -16,4 +16,5 @@ returns g c =
     let is : free ≡ c.args.self.now = c.as_slice-free.ensures.value ∙ c.self.view_is in
     let some : 0 < length free = omega (arith, eqb-false (length free) 0 (sym c.if-is_empty.ensures)) in
     let m : AreMeasured c.self.inside.longest free = rw c.as_slice-free.ensures.value c.self.invariant in
-    rw (← is) (span_is free m.are _ _ (slice_get-get_or free 0 none some) (slice_get-get_or free (length free - 1) none (omega (arith, some))) c.self.inside.longest m.longest)
+    rw (← is) (span_is free m.are _ _ (slice_get-get_or free 0 none some)
+    (slice_get-get_or free (length free - 1) none (omega (arith, some))) c.self.inside.longest m.longest)

@@ -7,7 +7,8 @@ use Rattle.leg_legal_sites.proofs.row_parts.RowParts.copied.Goals as goal
 
 pub loop-part-preserved : goal.loop-part-preserved
 loop-part-preserved g c =
-    c.in_ok-push.ensures.items ∙ one_more_taken c.deref-part-items.result.now c.loop-part.parts.items c.loop-part.part-index c.in_ok-copy.copy c.part-item.result c.loop-part-test.true c.loop-part.invariant c.in_ok-copy.ensures c.part-item.is
+    c.in_ok-push.ensures.items ∙ one_more_taken c.deref-part-items.result.now c.loop-part.parts.items c.loop-part.part-index c.in_ok-copy.copy
+    c.part-item.result c.loop-part-test.true c.loop-part.invariant c.in_ok-copy.ensures c.part-item.is
 
 pub invariant_of-result : goal.invariant_of-result
 invariant_of-result g c =

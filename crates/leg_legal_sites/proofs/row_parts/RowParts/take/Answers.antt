@@ -52,7 +52,8 @@ returns-in-Some g c =
     let whole = take_at new (drop (length new) old) c.self.inside.parts.len count in
     let lost : AreLostUpTo c.args.from c.args.end (length old) old new = rw c.as_mut_slice.ensures.value at c.in_ok-take_from_parts.ensures.lost in
     let loses : LosesSites (all_of old) c.args.from c.args.end (all_of new) = lost_all c.args.from c.args.end old new lost in
-    rw (← c.self.view_is) (on_ok_weaker c.cut_part.result (λ same. loses_kept c.args.from c.args.end (all_of old) (all_of new) (all_of c.cut_part.new.parts.items) loses same) (rw whole at c.cut_part.ensures.kept))
+    rw (← c.self.view_is) (on_ok_weaker c.cut_part.result
+    (λ same. loses_kept c.args.from c.args.end (all_of old) (all_of new) (all_of c.cut_part.new.parts.items) loses same) (rw whole at c.cut_part.ensures.kept))
 
 pub returns-in-None : goal.returns-in-None
 returns-in-None g c =

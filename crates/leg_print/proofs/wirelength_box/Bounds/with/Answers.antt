@@ -4,7 +4,8 @@ use Rattle.leg_print.proofs.LeastBoxes.{sides, same_sides}
 use Rattle.leg_print.proofs.BoxesKept.{register, min_kept, max_kept, box_joined}
 use Rattle.leg_print.proofs.wirelength_box.Bounds.with.Goals as goal
 
-same : (c : goal.After-max-2) → sides (register c.min.result) (register c.min-2.result) (register c.max.result) (register c.max-2.result) ≡ joined c.args.self.now c.args.other.now
+same : (c : goal.After-max-2) → sides (register c.min.result) (register c.min-2.result) (register c.max.result)
+    (register c.max-2.result) ≡ joined c.args.self.now c.args.other.now
 same c =
     rw (← c.self.view_is, ← c.other.view_is)
     (same_sides _ _ _ _ _ _ _ _

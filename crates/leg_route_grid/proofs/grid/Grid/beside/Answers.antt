@@ -12,10 +12,12 @@ returns-then-not-has_node-clause-is g c =
 pub returns-then-has_node-clause-is : goal.returns-then-has_node-clause-is
 returns-then-has_node-clause-is g c =
     some_is (IsNeighbourAt c.args.self.now c.args.side c.args.number) c.number_at.result
-    (steps_there c.args.self.now c.args.side c.args.number c.slot-slot.result c.slot-slot.ensures.proper c.slot-slot.ensures.is c.in-Some.next c.in-Some.ensures c.number_at.result c.number_at.ensures.is
+    (steps_there c.args.self.now c.args.side c.args.number c.slot-slot.result c.slot-slot.ensures.proper c.slot-slot.ensures.is c.in-Some.next
+    c.in-Some.ensures c.number_at.result c.number_at.ensures.is
     (λ node lies. let other = c.if-not-has_node.false in (c.has_node.ensures node lies).0 (search rules))
     (λ node lies. (c.has_node-in-Some.ensures node lies).0 c.if-has_node.true))
-    (only_there c.args.self.now c.args.side c.args.number c.slot-slot.result c.slot-slot.ensures.proper c.slot-slot.ensures.is c.in-Some.next c.in-Some.ensures c.number_at.result c.number_at.ensures.is)
+    (only_there c.args.self.now c.args.side c.args.number c.slot-slot.result c.slot-slot.ensures.proper c.slot-slot.ensures.is c.in-Some.next
+    c.in-Some.ensures c.number_at.result c.number_at.ensures.is)
 
 pub returns-else-has_node-clause-is : goal.returns-else-has_node-clause-is
 returns-else-has_node-clause-is g c =

@@ -34,7 +34,8 @@ invariant_of-result g c =
     let rows : c.len-2.result ≡ length c.in_ok-ys.ys.items = search rules in
     let columns : c.len-3.result ≡ length c.in_ok-xs.xs.items = search rules in
     let few : c.len.result * c.len-2.result * c.len-3.result ≤ c.args.limit = c.if-not-fits.ensures.0 refl in
-    let tracks : AreTracks c.args.design.now c.deref.result.now c.deref-2.result.now c.deref-3.result.now c.in_ok-tracks.tracks.items = c.in_ok-tracks.ensures in
+    let tracks : AreTracks c.args.design.now c.deref.result.now c.deref-2.result.now c.deref-3.result.now c.in_ok-tracks.tracks.items =
+    c.in_ok-tracks.ensures in
     let vias : AreViasFrom c.library-library.result.now c.deref-4.result.now (length c.deref-4.result.now) c.in_ok-vias.vias.items = c.in_ok-vias.ensures in
     record {
       layers_are = rw layers_is (layers_are c.args.design.now.library);
@@ -42,7 +43,8 @@ invariant_of-result g c =
       ys_are = c.in_ok-ys.ensures;
       xs_within = xs_within c.args.design.now c.in_ok-xs.xs.items c.tracks.ensures.proper c.in_ok-xs.ensures;
       ys_within = ys_within c.args.design.now c.in_ok-ys.ys.items c.tracks.ensures.proper c.in_ok-ys.ensures;
-      few = (let kept : length c.in_ok-layers.layers.items * length c.in_ok-ys.ys.items * length c.in_ok-xs.xs.items ≤ c.args.limit = rw (layers, rows, columns) at few in omega (arith, kept, c.requires));
+      few = (let kept : length c.in_ok-layers.layers.items * length c.in_ok-ys.ys.items * length c.in_ok-xs.xs.items ≤ c.args.limit = rw
+          (layers, rows, columns) at few in omega (arith, kept, c.requires));
       tracks_are = rw (c.deref.ensures.value, c.deref-2.ensures.value, c.deref-3.ensures.value) at tracks;
       vias_are = rw (c.deref-4.ensures.value, c.library-library.ensures.is) at vias;
     }
@@ -55,5 +57,6 @@ returns-clause-fits g c =
     let rows : c.len-2.result ≡ length c.in_ok-ys.ys.items = search rules in
     let columns : c.len-3.result ≡ length c.in_ok-xs.xs.items = search rules in
     let few : c.len.result * c.len-2.result * c.len-3.result ≤ c.args.limit = c.if-not-fits.ensures.0 refl in
-    not_beyond c.args.design.now c.in_ok-xs.xs.items c.in_ok-ys.ys.items c.in_ok-xs.ensures c.in_ok-ys.ensures c.args.limit c.in_ok-layers.layers.items layers_is
+    not_beyond c.args.design.now c.in_ok-xs.xs.items c.in_ok-ys.ys.items c.in_ok-xs.ensures c.in_ok-ys.ensures c.args.limit
+    c.in_ok-layers.layers.items layers_is
     (λ many. true≢false (sym (c.if-are_too_many.ensures.1 (rw c.tracks.ensures.is many)))) (rw (layers, rows, columns) at few)

@@ -14,7 +14,11 @@ returns-clause-is g c node number =
     let wide = width_is grid.design.library _ _ _ sound runs in
     let fits : FitsSigned w64 c.layer_at-layer.result.width = let within = wide.within in omega (arith, ints, within) in
     let lies = lies_at grid c.args.number c.slot-slot.result.layer c.slot-slot.result.row c.slot-slot.result.column node c.slot-slot.ensures.is number in
-    rw (to_z-of_z w64 c.layer_at-layer.result.width fits) (c.layer_at-layer.result.direction, runs_at_node grid c.slot-slot.result.layer c.slot-slot.result.row c.slot-slot.result.column node c.layer_at-layer.result c.layer_at-layer.ensures.is lies runs)
+    rw (to_z-of_z w64 c.layer_at-layer.result.width fits) (
+      c.layer_at-layer.result.direction,
+      runs_at_node grid c.slot-slot.result.layer c.slot-slot.result.row c.slot-slot.result.column node
+          c.layer_at-layer.result c.layer_at-layer.ensures.is lies runs,
+    )
 
 pub returns-clause-proper : goal.returns-clause-proper
 returns-clause-proper g c =

@@ -23,7 +23,8 @@ returns-in-West g c =
     let net = c.args.self.now.net in
     let n = c.args.node in
     let there = there_is grid c.grid_is_sound.ensures.proper slots (λ slot. slot.along) net West n c.number_to_west.result c.number_to_west.ensures in
-    let says : IsTrue c.is_open_along.result ↔ IsStepAdmitted grid slots net West n = (λ is. there.1 (c.is_open_along.ensures.0 is), λ step. c.is_open_along.ensures.1 (there.0 step)) in
+    let says : IsTrue c.is_open_along.result ↔ IsStepAdmitted grid slots net West n =
+    (λ is. there.1 (c.is_open_along.ensures.0 is), λ step. c.is_open_along.ensures.1 (there.0 step)) in
     let P : Side → Type 0 = λ side. IsTrue c.is_open_along.result ↔ IsStepAdmitted grid slots net side n in
     subst P (sym c.in-West.is) says
 
@@ -43,7 +44,8 @@ returns-in-South g c =
     let net = c.args.self.now.net in
     let n = c.args.node in
     let there = there_is grid c.grid_is_sound.ensures.proper slots (λ slot. slot.along) net South n c.number_to_south.result c.number_to_south.ensures in
-    let says : IsTrue c.is_open_along-in-South.result ↔ IsStepAdmitted grid slots net South n = (λ is. there.1 (c.is_open_along-in-South.ensures.0 is), λ step. c.is_open_along-in-South.ensures.1 (there.0 step)) in
+    let says : IsTrue c.is_open_along-in-South.result ↔ IsStepAdmitted grid slots net South n =
+    (λ is. there.1 (c.is_open_along-in-South.ensures.0 is), λ step. c.is_open_along-in-South.ensures.1 (there.0 step)) in
     let P : Side → Type 0 = λ side. IsTrue c.is_open_along-in-South.result ↔ IsStepAdmitted grid slots net side n in
     subst P (sym c.in-South.is) says
 
@@ -63,6 +65,7 @@ returns-in-Below g c =
     let net = c.args.self.now.net in
     let n = c.args.node in
     let there = there_is grid c.grid_is_sound.ensures.proper slots (λ slot. slot.above) net Below n c.number_below.result c.number_below.ensures in
-    let says : IsTrue c.is_open_above.result ↔ IsStepAdmitted grid slots net Below n = (λ is. there.1 (c.is_open_above.ensures.0 is), λ step. c.is_open_above.ensures.1 (there.0 step)) in
+    let says : IsTrue c.is_open_above.result ↔ IsStepAdmitted grid slots net Below n =
+    (λ is. there.1 (c.is_open_above.ensures.0 is), λ step. c.is_open_above.ensures.1 (there.0 step)) in
     let P : Side → Type 0 = λ side. IsTrue c.is_open_above.result ↔ IsStepAdmitted grid slots net side n in
     subst P (sym c.in-Below.is) says

@@ -11,7 +11,11 @@ pub returns-clause-is : goal.returns-clause-is
 returns-clause-is c =
     let proper = c.x1.ensures.proper in
     same_bounds _ _
-    (to_z-of_z w32 c.step_of.result (record { sfits = c.step_of.type_inv }) ∙ c.step_of.ensures ∙ ap step_of (omega (arith, ints, proper.x1, c.x1.ensures.is, c.from-reach.ensures)))
-    (to_z-of_z w32 c.step_of-2.result (record { sfits = c.step_of-2.type_inv }) ∙ c.step_of-2.ensures ∙ ap step_of (omega (arith, ints, proper.y1, c.y1.ensures.is, c.from-reach.ensures)))
-    (to_z-of_z w32 c.step_of-3.result (record { sfits = c.step_of-3.type_inv }) ∙ c.step_of-3.ensures ∙ ap step_of (omega (arith, ints, proper.x2, c.x2.ensures.is, c.from-reach.ensures)))
-    (to_z-of_z w32 c.step_of-4.result (record { sfits = c.step_of-4.type_inv }) ∙ c.step_of-4.ensures ∙ ap step_of (omega (arith, ints, proper.y2, c.y2.ensures.is, c.from-reach.ensures)))
+    (to_z-of_z w32 c.step_of.result (record { sfits = c.step_of.type_inv }) ∙ c.step_of.ensures
+    ∙ ap step_of (omega (arith, ints, proper.x1, c.x1.ensures.is, c.from-reach.ensures)))
+    (to_z-of_z w32 c.step_of-2.result (record { sfits = c.step_of-2.type_inv }) ∙ c.step_of-2.ensures
+    ∙ ap step_of (omega (arith, ints, proper.y1, c.y1.ensures.is, c.from-reach.ensures)))
+    (to_z-of_z w32 c.step_of-3.result (record { sfits = c.step_of-3.type_inv }) ∙ c.step_of-3.ensures
+    ∙ ap step_of (omega (arith, ints, proper.x2, c.x2.ensures.is, c.from-reach.ensures)))
+    (to_z-of_z w32 c.step_of-4.result (record { sfits = c.step_of-4.type_inv }) ∙ c.step_of-4.ensures
+    ∙ ap step_of (omega (arith, ints, proper.y2, c.y2.ensures.is, c.from-reach.ensures)))
