@@ -19,6 +19,7 @@ use Rattle.leg_rules.specs.declared.difference.Difference.TheVariants.{Whole, Go
 use Rattle.leg_rules.specs.Compare.Sections.{names_of}
 use Rattle.leg_rules.specs.Compare.Spelling.{spelled_terminal, spelled_terminals, spelled_wire, spelled_wires}
 use Rattle.leg_rules.specs.Compare.Differences.{DiffersInPart, DiffersAsVia, DiffersAsComponent, DiffersAsPin, DiffersAsNet, DifferAt, HasChanged, IsDifference}
+use Rattle.leg_compare.proofs.SetsTold.{same_if_equal}
 
 -- no two entries of a section have one name
 pub names_apart : (design : DesignModel) → IsWellFormed design → (section : Section) → AreApart (names_of section design)
@@ -123,6 +124,6 @@ module _ (first second : DesignModel) (terminals : (t : Terminal) → spelled_te
   same_net Direction x h = absurd h
   same_net Usage x h = h refl
   same_net Ports x h = absurd h
-  same_net Terminals x h = h (sym (terminals_same first second terminals x.terminals))
+  same_net Terminals x h = h (same_if_equal _ _ (sym (terminals_same first second terminals x.terminals)))
   same_net LostWires x h = h (record { more = []; is = goes_on_itself first second wires x.wires ∙ sym (append-nil (spelled_wires first x.wires)) })
   same_net MoreWires x h = h.some (goes_on_itself first second wires x.wires)

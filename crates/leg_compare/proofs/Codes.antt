@@ -1,7 +1,7 @@
 -- Values of designs are equal or not: each has a code, which is a tree of numbers.
 use Rattle.std.proofs.Common.{◌≡◌, ◌≢◌, ℕ, ◌⊎◌, inl, inr, List, [], ◌∷◌, get_or, map, pos, Option, None, Some, refl, sym, ap, ◌∙◌, arith}
 use Rattle.std.proofs.lemmas.Bool.{cases_order}
-use base.Stored.{Gv, Coded, coded_ℕ, coded_list, coded×}
+use base.Stored.{Gv, Coded, coded_ℕ, coded_list}
 use base.Stored.Gv.{gnil, gnum, gcons}
 use Rattle.leg_geom.specs.declared.place.Place.{Place}
 use Rattle.leg_lib_records.specs.Records.{ViaModel}
@@ -83,9 +83,6 @@ module _ (d : DesignModel) where
 
   pub wires_told : (x y : List SpelledWire) → (x ≡ y) ⊎ (x ≢ y)
   wires_told x y = told_in (λ ws. record d { nets = map net_of ws }) (λ (e : DesignModel). map (λ (n : NetModel). wire_by n.name n.usage n.wires) e.nets) wires_back x y
-
-pub terminals_told : (x y : List (List ℕ × List ℕ)) → (x ≡ y) ⊎ (x ≢ y)
-terminals_told x y = told (coded_list (coded× (coded_list coded_ℕ) (coded_list coded_ℕ))) x y
 
 pub masters_told : (m n : ℕ) → (m ≡ n) ⊎ (m ≢ n)
 masters_told m n = numbers_told m n

@@ -21,6 +21,7 @@ use Rattle.leg_rules.specs.Compare.Sections.{names_of}
 use Rattle.leg_rules.specs.Compare.Spelling.{spelled_terminal, spelled_terminals, spelled_wire, spelled_wires}
 use Rattle.leg_rules.specs.Compare.Differences.{DiffersInPart, DiffersAsVia, DiffersAsComponent, DiffersAsPin, DiffersAsNet, DifferAt, HasChanged, IsDifference}
 use Rattle.leg_rules.specs.Compare.Verdicts.{IsGrowth}
+use Rattle.leg_compare.proofs.SetsTold.{same_if_equal}
 use Rattle.leg_compare.proofs.Alike.{names_apart, AreAlike, IsChangeAt, only_changes, none_differ, same_via, same_component, same_pin, same_net, goes_on_itself, terminals_same}
 
 -- entries that correspond have one name, and stand at one place
@@ -57,7 +58,7 @@ module _ (first second : DesignModel) (terminals : (t : Terminal) → spelled_te
   growth_of Direction x y same differ = absurd differ
   growth_of Usage x y same differ = absurd (differ (sym (ap (λ (n : NetModel). n.usage) same.is)))
   growth_of Ports x y same differ = absurd differ
-  growth_of Terminals x y same differ = absurd (differ (sym (ap (λ (n : NetModel). spelled_terminals second n.terminals) same.is ∙ terminals_same first second terminals x.terminals)))
+  growth_of Terminals x y same differ = absurd (differ (same_if_equal _ _ (sym (ap (λ (n : NetModel). spelled_terminals second n.terminals) same.is ∙ terminals_same first second terminals x.terminals))))
   growth_of LostWires x y same differ = absurd (differ (record { more = spelled_wires first same.more; is = ap (λ (n : NetModel). spelled_wires second n.wires) same.is ∙ goes_on x.wires same.more }))
   growth_of MoreWires x y same differ = refl
 

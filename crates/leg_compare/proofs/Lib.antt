@@ -2,6 +2,7 @@
 mod Decisions
 mod ListsAlike
 mod Growth
+mod WordSearch
 mod Named
 mod Entries
 -- The list of differences
@@ -10,11 +11,13 @@ mod DifferenceLists
 mod BetweenRanks
 -- The verdict
 mod Counts
+-- Values that can be told apart
+mod Codes
+mod SetsTold
 -- What legalising and routing change
 mod Alike
 mod MovedPlaces
 mod GrownNets
 mod MovedAndGrown
 -- Designs without differences
-mod Codes
 mod SameByName

@@ -27,7 +27,8 @@ use Rattle.leg_rules.specs.Compare.Spelling.{spelled_terminals, spelled_wires}
 use Rattle.leg_rules.specs.Compare.Differences.{DiffersAsVia, DiffersAsComponent, DiffersAsPin, DiffersAsNet, DifferAt, IsDifference}
 use Rattle.leg_compare.specs.Same.{HasSame, AreSameByName, IsSameNet, IsSameDesign}
 use Rattle.leg_compare.proofs.Alike.{names_apart}
-use Rattle.leg_compare.proofs.Codes.{told_in, same_if, words_told, vias_told, places_told, statuses_told, ports_told, wires_told, terminals_told, masters_told, names_told}
+use Rattle.leg_compare.proofs.SetsTold.{terminals_told}
+use Rattle.leg_compare.proofs.Codes.{told_in, same_if, words_told, vias_told, places_told, statuses_told, ports_told, wires_told, masters_told, names_told}
 
 -- Lists of named elements of which none is missing in the other, and none has changed, are the same by name.
 module _ {X : Type 0} (name_of : X → List ℕ) (Differs : Change → X → X → Type 0) (Same : X → X → Type 0) (Good : X → Type 0) (xs ys : List X)

@@ -3,7 +3,7 @@ use Rattle.std.specs.Prelude.{◌≡◌, ℕ, List, Contains}
 use Rattle.leg_lib_records.specs.Records.{ViaModel}
 use Rattle.leg_design_records.specs.declared.records.Component.{Component}
 use Rattle.leg_design_records.specs.Records.{DesignModel, PinModel, NetModel}
-use Rattle.leg_rules.specs.Compare.Spelling.{spelled_terminals, spelled_wires}
+use Rattle.leg_rules.specs.Compare.Spelling.{AreSameTerminals, spelled_terminals, spelled_wires}
 
 -- the list has an element of this one's name that is the same
 pub record HasSame {X : Type 0} (name_of : X → List ℕ) (Same : X → X → Type 0) (list : List X) (x : X) : Type 0 where
@@ -20,7 +20,7 @@ pub record AreSameByName {X : Type 0} (name_of : X → List ℕ) (Same : X → X
 -- a net of the first design and one of the second are spelled alike
 pub record IsSameNet (first second : DesignModel) (a b : NetModel) : Type 0 where
   pub usage : a.usage ≡ b.usage
-  pub terminals : spelled_terminals first a.terminals ≡ spelled_terminals second b.terminals
+  pub terminals : AreSameTerminals (spelled_terminals first a.terminals) (spelled_terminals second b.terminals)
   pub wires : spelled_wires first a.wires ≡ spelled_wires second b.wires
 
 -- each part is equal, and named entries are the same by name

@@ -1,6 +1,6 @@
 //! What differs between two entries of one name.
 
-ghost use Rattle.std.specs.Prelude.{◌≡◌, ◌↔◌, ◌<◌, length, IsTrue};
+ghost use Rattle.std.specs.Prelude.{◌≡◌, ◌↔◌, ◌<◌, length, IsTrue, IfOk};
 ghost use Rattle.leg_design_records.specs.Movable.{MayMove};
 ghost use Rattle.leg_rules.specs.Compare.Sections.{names_of};
 ghost use Rattle.leg_rules.specs.Compare.Differences.{DiffersAsVia, IsOtherStatus, DiffersAsComponent, DiffersAsPin, DiffersAsNet, HasChanged};
@@ -11,7 +11,7 @@ use crate::spelling::{are_same_terminals, go_on, grow};
 use leg_design_records::{Component, Design, Net, Pin, Status};
 use leg_lib_records::Via;
 use leg_rules::{Change, Section};
-use std::alloc::Allocator;
+use std::alloc::{AllocError, Allocator};
 
 /// Whether the vias are the same.
 fn is_same_via<A: Allocator>(a: &Via<'_, A>, b: &Via<'_, A>) -> bool
@@ -77,60 +77,58 @@ fn pin_differs<A: Allocator>(change: Change, a: &Pin<'_, A>, b: &Pin<'_, A>) -> 
     }
 }
 
-/// Whether the nets differ so, each spelled in its own design.
+/// Whether the nets differ so, each spelled in its own design. It fails only when out of memory.
 fn net_differs<A: Allocator + Copy>(
+    alloc: A,
     first: &Design<'_, A>,
     second: &Design<'_, A>,
     change: Change,
     a: &Net<'_, A>,
     b: &Net<'_, A>,
-) -> bool
-    ensures { IsTrue result ↔ DiffersAsNet first.now second.now change a.now b.now }
+) -> Result<bool, AllocError>
+    ensures { IfOk result (λ differs. IsTrue differs ↔ DiffersAsNet first.now second.now change a.now b.now) }
 {
-    match change {
+    let differs = match change {
         Change::Usage => !is_same_name(&a.usage, &b.usage),
         Change::Terminals => {
-            !are_same_terminals(
-                first,
-                second,
-                a.terminals.as_slice(),
-                b.terminals.as_slice(),
-            )
+            let (before, after) = (a.terminals.as_slice(), b.terminals.as_slice());
+            !are_same_terminals(alloc, first, second, before, after)?
         }
         Change::LostWires => !go_on(first, second, a.wires.as_slice(), b.wires.as_slice()),
         Change::MoreWires => grow(first, second, a.wires.as_slice(), b.wires.as_slice()),
         _ => false,
-    }
+    };
+    Ok(differs)
 }
 
-/// Whether entry `i` of the first design and entry `j` of the second differ so.
+/// Whether entry `i` of the first design and entry `j` of the second differ so. It fails only when out of memory.
 pub(crate) fn has_changed<A: Allocator + Copy>(
+    alloc: A,
     first: &Design<'_, A>,
     second: &Design<'_, A>,
     section: Section,
     change: Change,
     i: usize,
     j: usize,
-) -> bool
+) -> Result<bool, AllocError>
     requires in_first { i < length (names_of section first.now) }
     requires in_second { j < length (names_of section second.now) }
-    ensures { IsTrue result ↔ HasChanged section change first.now second.now i j }
+    ensures { IfOk result (λ differs. IsTrue differs ↔ HasChanged section change first.now second.now i j) }
 {
-    match section {
+    let differs = match section {
         Section::Vias => via_differs(change, &first.vias()[i], &second.vias()[j]),
         Section::Components => {
             component_differs(change, &first.components()[i], &second.components()[j])
         }
         Section::Pins => pin_differs(change, &first.pins()[i], &second.pins()[j]),
         Section::SpecialNets => {
-            net_differs(
-                first,
-                second,
-                change,
-                &first.special()[i],
-                &second.special()[j],
-            )
+            let (a, b) = (&first.special()[i], &second.special()[j]);
+            net_differs(alloc, first, second, change, a, b)?
         }
-        Section::Nets => net_differs(first, second, change, &first.nets()[i], &second.nets()[j]),
-    }
+        Section::Nets => {
+            let (a, b) = (&first.nets()[i], &second.nets()[j]);
+            net_differs(alloc, first, second, change, a, b)?
+        }
+    };
+    Ok(differs)
 }

@@ -79,13 +79,14 @@ fn push_section<A: Allocator + Copy>(
     ensures { OnOk result (AreListedTo first.now second.now (at (section_number section + 2) 0 0) list.new.items) }
 {
     let later = names_of(alloc, second, section)?;
-    push_entries(list, first, second, section, &later)?;
+    push_entries(alloc, list, first, second, section, &later)?;
     let earlier = names_of(alloc, first, section)?;
     push_added(list, first, second, section, &earlier)
 }
 
 /// Adds what differs of the entries of the first design in the section. Of the second the names are given.
 fn push_entries<A: Allocator + Copy>(
+    alloc: A,
     list: &mut Vec<Difference, A>,
     first: &Design<'_, A>,
     second: &Design<'_, A>,
@@ -99,7 +100,7 @@ fn push_entries<A: Allocator + Copy>(
     for i in 0..count_of(first, section) {
         match later.place_of(name_at(first, section, i)) {
             None => list.push(Difference::Gone(section, i))?,
-            Some(j) => push_changes(list, first, second, section, i, j)?,
+            Some(j) => push_changes(alloc, list, first, second, section, i, j)?,
         }
     }
     Ok(())
@@ -107,6 +108,7 @@ fn push_entries<A: Allocator + Copy>(
 
 /// Adds each change of an entry of the first design, which has entry `j` of the second one's name.
 fn push_changes<A: Allocator + Copy>(
+    alloc: A,
     list: &mut Vec<Difference, A>,
     first: &Design<'_, A>,
     second: &Design<'_, A>,
@@ -118,21 +120,22 @@ fn push_changes<A: Allocator + Copy>(
     requires listed { AreListedTo first.now second.now (at (section_number section) i 0) list.old.items }
     ensures { OnOk result (AreListedTo first.now second.now (at (section_number section) (i + 1) 0) list.new.items) }
 {
-    push_change(list, first, second, section, Change::Shapes, i, j)?;
-    push_change(list, first, second, section, Change::Macro, i, j)?;
-    push_change(list, first, second, section, Change::Status, i, j)?;
-    push_change(list, first, second, section, Change::Place, i, j)?;
-    push_change(list, first, second, section, Change::NetName, i, j)?;
-    push_change(list, first, second, section, Change::Direction, i, j)?;
-    push_change(list, first, second, section, Change::Usage, i, j)?;
-    push_change(list, first, second, section, Change::Ports, i, j)?;
-    push_change(list, first, second, section, Change::Terminals, i, j)?;
-    push_change(list, first, second, section, Change::LostWires, i, j)?;
-    push_change(list, first, second, section, Change::MoreWires, i, j)
+    push_change(alloc, list, first, second, section, Change::Shapes, i, j)?;
+    push_change(alloc, list, first, second, section, Change::Macro, i, j)?;
+    push_change(alloc, list, first, second, section, Change::Status, i, j)?;
+    push_change(alloc, list, first, second, section, Change::Place, i, j)?;
+    push_change(alloc, list, first, second, section, Change::NetName, i, j)?;
+    push_change(alloc, list, first, second, section, Change::Direction, i, j)?;
+    push_change(alloc, list, first, second, section, Change::Usage, i, j)?;
+    push_change(alloc, list, first, second, section, Change::Ports, i, j)?;
+    push_change(alloc, list, first, second, section, Change::Terminals, i, j)?;
+    push_change(alloc, list, first, second, section, Change::LostWires, i, j)?;
+    push_change(alloc, list, first, second, section, Change::MoreWires, i, j)
 }
 
 /// Adds the change of an entry of the first design if it differs so from entry `j` of the second, which has its name.
 fn push_change<A: Allocator + Copy>(
+    alloc: A,
     list: &mut Vec<Difference, A>,
     first: &Design<'_, A>,
     second: &Design<'_, A>,
@@ -145,7 +148,8 @@ fn push_change<A: Allocator + Copy>(
     requires listed { AreListedTo first.now second.now (at (section_number section) i (change_number change)) list.old.items }
     ensures { OnOk result (AreListedTo first.now second.now (at (section_number section) i (change_number change + 1)) list.new.items) }
 {
-    if has_changed(first, second, section, change, i, j) {
+    let differs = has_changed(alloc, first, second, section, change, i, j)?;
+    if differs {
         list.push(Difference::Changed(section, change, i))?;
     }
     Ok(())

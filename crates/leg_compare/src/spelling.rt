@@ -1,14 +1,16 @@
 //! Terminals and wires of two designs, compared by the names of the entries that they speak of.
+//! The order of terminals means nothing: both lists are sorted by their words, and each is looked up in the other.
 
-ghost use Rattle.std.specs.Prelude.{◌≡◌, ◌↔◌, IsTrue, slice_get};
+ghost use Rattle.std.specs.Prelude.{◌≡◌, ◌↔◌, IsTrue, IfOk, map, slice_get, All, Contains, IsPermutation, IsSorted};
+ghost use Rattle.leg_compare.specs.Steps.Words.{words_cmp, words_now};
 ghost use Rattle.leg_rules.specs.Compare.Differences.{GoesOn, NetGrows};
 ghost use Rattle.leg_rules.specs.Compare.Spelling.SpelledWire.{via};
-ghost use Rattle.leg_rules.specs.Compare.Spelling.{pin_name_in, spelled_terminal, spelled_terminals, spelled_wire, spelled_wires};
+ghost use Rattle.leg_rules.specs.Compare.Spelling.{AreSameTerminals, pin_name_in, spelled_terminal, spelled_terminals, spelled_wire, spelled_wires};
 ghost use Rattle.leg_rules.specs.Names.{via_name, component_name, design_pin_name};
 
 use leg_design_records::{Design, Terminal, Wire};
 use leg_geom::Point;
-use std::alloc::Allocator;
+use std::alloc::{AllocError, Allocator};
 
 /// The name of the via of this number: those of the library count first. It is empty where there is none.
 fn via_name<'d, A: Allocator + Copy>(design: &'d Design<'_, A>, number: usize) -> &'d [u8]
@@ -84,38 +86,57 @@ fn terminal_words<'d, A: Allocator + Copy>(
     }
 }
 
-/// Whether the terminals are spelled alike, each in its own design.
-fn is_same_terminal<A: Allocator + Copy>(
-    first: &Design<'_, A>,
-    second: &Design<'_, A>,
-    a: &Terminal,
-    b: &Terminal,
-) -> bool
-    ensures { IsTrue result ↔ (spelled_terminal first.now a.now ≡ spelled_terminal second.now b.now) }
+/// The words of the terminals in increasing order, by their bytes.
+fn sorted_words<'d, A: Allocator + Copy>(
+    alloc: A,
+    design: &'d Design<'_, A>,
+    terminals: &[Terminal],
+) -> Result<Vec<(&'d [u8], &'d [u8]), A>, AllocError>
+    ensures sorted { IfOk result (λ words. IsSorted words_cmp words.items) }
+    ensures all { IfOk result (λ words. IsPermutation (spelled_terminals design.now terminals.now) (map words_now words.items)) }
 {
-    let (owner, pin) = terminal_words(first, a);
-    let (other_owner, other_pin) = terminal_words(second, b);
-    owner == other_owner && pin == other_pin
+    let mut words = Vec::new(alloc);
+    for number in 0..terminals.len() {
+        words.push(terminal_words(design, &terminals[number]))?;
+    }
+    words.sort_unstable();
+    Ok(words)
 }
 
-/// Whether the terminals are spelled alike, in their order.
-pub(crate) fn are_same_terminals<A: Allocator + Copy>(
-    first: &Design<'_, A>,
-    second: &Design<'_, A>,
-    a: &[Terminal],
-    b: &[Terminal],
-) -> bool
-    ensures { IsTrue result ↔ (spelled_terminals first.now a.now ≡ spelled_terminals second.now b.now) }
+/// Whether the words are among the others, which are in increasing order.
+fn is_among<'d>(words: &(&'d [u8], &'d [u8]), others: &[(&'d [u8], &'d [u8])]) -> bool
+    requires { IsSorted words_cmp others.now }
+    ensures { IsTrue result ↔ Contains (map words_now others.now) (words_now words.now) }
 {
-    if a.len() != b.len() {
-        return false;
-    }
-    for i in 0..a.len() {
-        if !is_same_terminal(first, second, &a[i], &b[i]) {
+    others.binary_search(words).is_ok()
+}
+
+/// Whether each of these words is among the others, which are in increasing order.
+fn are_among<'d>(list: &[(&'d [u8], &'d [u8])], others: &[(&'d [u8], &'d [u8])]) -> bool
+    requires { IsSorted words_cmp others.now }
+    ensures { IsTrue result ↔ All (Contains (map words_now others.now)) (map words_now list.now) }
+{
+    for number in 0..list.len() {
+        if !is_among(&list[number], others) {
             return false;
         }
     }
     true
+}
+
+/// Whether the terminals are the same by their names, each in its own design, in whatever order. It fails only when out of memory.
+pub(crate) fn are_same_terminals<A: Allocator + Copy>(
+    alloc: A,
+    first: &Design<'_, A>,
+    second: &Design<'_, A>,
+    a: &[Terminal],
+    b: &[Terminal],
+) -> Result<bool, AllocError>
+    ensures { IfOk result (λ same. IsTrue same ↔ AreSameTerminals (spelled_terminals first.now a.now) (spelled_terminals second.now b.now)) }
+{
+    let before = sorted_words(alloc, &*first, a)?;
+    let after = sorted_words(alloc, &*second, b)?;
+    Ok(are_among(&before, &after) && are_among(&after, &before))
 }
 
 /// Whether the wire of the second design is spelled as a via of the first one at a point.

@@ -1,6 +1,6 @@
 -- What differs between two designs of one library (lefdef's own rules). Entries that have names are compared with those of the same
--- name, wherever they stand. Lists whose elements have no names (rows, tracks, blockages, ports, terminals, wires) are
--- compared as they stand.
+-- name, wherever they stand, and terminals of a net by their names, in whatever order. Lists whose elements have no names (rows,
+-- tracks, blockages, ports, wires) are compared as they stand.
 use Rattle.std.specs.Prelude.{◌≡◌, ◌≢◌, ℕ, List, ◌++◌, Some, slice_get}
 use Rattle.leg_lib_records.specs.Records.{ViaModel}
 use Rattle.leg_design_records.specs.declared.records.Status.{Status}
@@ -16,7 +16,7 @@ use Rattle.leg_rules.specs.declared.difference.Change.TheVariants.{Shapes, Macro
 use Rattle.leg_rules.specs.declared.difference.Difference.{Difference}
 use Rattle.leg_rules.specs.declared.difference.Difference.TheVariants.{Whole, Gone, Changed, Added}
 use Rattle.leg_rules.specs.Compare.Sections.{IsMissing, AreOfOneName}
-use Rattle.leg_rules.specs.Compare.Spelling.{SpelledWire, spelled_terminals, spelled_wires}
+use Rattle.leg_rules.specs.Compare.Spelling.{SpelledWire, AreSameTerminals, spelled_terminals, spelled_wires}
 
 -- the designs differ in what a design has once
 abbrev pub DiffersInPart : Part → DesignModel → DesignModel → Type 0
@@ -66,7 +66,7 @@ pub record NetGrows (before after : List SpelledWire) : Type 0 where
 -- a net of the first design and one of the second: another use, other terminals, wires that are lost, or more wires
 abbrev pub DiffersAsNet : DesignModel → DesignModel → Change → NetModel → NetModel → Type 0
 DiffersAsNet first second Usage a b = a.usage ≢ b.usage
-DiffersAsNet first second Terminals a b = spelled_terminals first a.terminals ≢ spelled_terminals second b.terminals
+DiffersAsNet first second Terminals a b = ¬ AreSameTerminals (spelled_terminals first a.terminals) (spelled_terminals second b.terminals)
 DiffersAsNet first second LostWires a b = ¬ GoesOn (spelled_wires first a.wires) (spelled_wires second b.wires)
 DiffersAsNet first second MoreWires a b = NetGrows (spelled_wires first a.wires) (spelled_wires second b.wires)
 DiffersAsNet first second change a b = ⊥

@@ -1,6 +1,6 @@
 -- What a DEF writes for terminals and wires: entries of a design stand there by their names, so that the same text means the
 -- same in designs whose entries are in another order. A number that nothing has names nothing.
-use Rattle.std.specs.Prelude.{ℕ, List, [], map, Option, None, Some, codes, slice_get}
+use Rattle.std.specs.Prelude.{◌↔◌, ℕ, List, [], map, Option, None, Some, codes, slice_get, Contains}
 use Rattle.leg_geom.specs.Plane.{PointModel}
 use Rattle.leg_lib_records.specs.Records.{LibraryModel, MasterModel, MasterPinModel}
 use Rattle.leg_design_records.specs.declared.records.Component.{Component}
@@ -26,9 +26,13 @@ abbrev pub spelled_terminal : DesignModel → Terminal → List ℕ × List ℕ
 spelled_terminal design (Comp c k) = (component_name design c, pin_name_in design.library (slice_get design.components c) k)
 spelled_terminal design (Pin p) = (codes "PIN", design_pin_name design p)
 
--- terminals in their order
+-- terminals by their names
 abbrev pub spelled_terminals : DesignModel → List Terminal → List (List ℕ × List ℕ)
 spelled_terminals design terminals = map (spelled_terminal design) terminals
+
+-- A terminal by its names is in the one list just when it is in the other: their order means nothing.
+abbrev pub AreSameTerminals : List (List ℕ × List ℕ) → List (List ℕ × List ℕ) → Type 0
+AreSameTerminals before after = (terminal : List ℕ × List ℕ) → Contains before terminal ↔ Contains after terminal
 
 -- a wire as it is spelled: metal by its numbers, a via by its name and its point
 pub data SpelledWire : Type 0 where

@@ -15,11 +15,11 @@ has_changed-requires-clause-in_second g c = found_within _ (names_of c.args.sect
 pub returns-in_ok-push : goal.returns-in_ok-push
 returns-in_ok-push g c =
     rw c.in_ok-push.ensures.items (with_one c.args.first.now c.args.second.now (Changed c.args.section c.args.change c.args.i) c.args.list.now.items
-    (record { j = c.args.j; one_name = c.requires.one_name; changed = c.has_changed.ensures.0 c.if-has_changed.true }) c.requires.listed)
+    (record { j = c.args.j; one_name = c.requires.one_name; changed = c.in_ok-differs.ensures.0 c.if-differs.true }) c.requires.listed)
 
-pub returns-else-has_changed : goal.returns-else-has_changed
-returns-else-has_changed g c =
+pub returns-else-differs : goal.returns-else-differs
+returns-else-differs g c =
     without_one c.args.first.now c.args.second.now (Changed c.args.section c.args.change c.args.i) c.args.list.now.items
     (λ is. let same : is.j ≡ c.args.j = cc (is.one_name.found, c.requires.one_name.found) in
-    let changed : c.has_changed.result ≡ true = c.has_changed.ensures.1 (subst (λ (j : ℕ). HasChanged c.args.section c.args.change c.args.first.now c.args.second.now c.args.i j) same is.changed) in
+    let changed : c.in_ok-differs.differs ≡ true = c.in_ok-differs.ensures.1 (subst (λ (j : ℕ). HasChanged c.args.section c.args.change c.args.first.now c.args.second.now c.args.i j) same is.changed) in
     let no : ⊥ = cc in no) c.requires.listed
