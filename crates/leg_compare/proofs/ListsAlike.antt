@@ -32,9 +32,6 @@ module _ {X Y Z : Type 0} (f : X → Z) (g : Y → Z) where
       let tail : map f xs ≡ map g ys = cc in
       alike_at xs ys k d e tail (omega arith)
 
-  pub same_lengths : (xs : List X) (ys : List Y) → map f xs ≡ map g ys → length xs ≡ length ys
-  same_lengths xs ys same = sym (length-map xs f) ∙ ap length same ∙ length-map ys g
-
 -- lists are the same that have the same elements
 pub same_elements : {X : Type 0} (xs ys : List X) → length xs ≡ length ys → ((k : ℕ) (d e : X) → k < length xs → get_or xs k d ≡ get_or ys k e) → xs ≡ ys
 same_elements [] [] same alike = refl

@@ -66,16 +66,6 @@ search_tells others x (Err i) up within found b is =
     let halves = found (searchable_from_sorted words_total (λ w. w) others x up) in
     (λ e. absurd (let no : ⊥ = cc (e, is) in no), λ h. absurd (not_there others x i halves.0 halves.1 h))
 
--- the words so far, and one more
-pub one_more_word : {X : Type 0} (f : X → List ℕ × List ℕ) (xs : List X) (words : List Words) (i : ℕ) (x : X) (both : Words) → i < length xs → x ≡ get_or xs i x
-    → map words_now words ≡ map f (take i xs) → words_now both ≡ f x → map words_now (words ++ both ∷ []) ≡ map f (take (i + 1) xs)
-one_more_word f xs words i x both less is so_far same =
-    map-append words_now words (both ∷ [])
-    ∙ (λ j. so_far j ++ same j ∷ [])
-    ∙ (λ j. map f (take i xs) ++ f (is j) ∷ [])
-    ∙ sym (map-append f (take i xs) (get_or xs i x ∷ []))
-    ∙ ap (map f) (sym (take_more xs i x less))
-
 -- each of the words so far is there, and one more
 pub one_more_there : (others list : List Words) (number : ℕ) (e : Words) → number < length list
     → ((k : ℕ) (d : Words) → k < number → Contains (map words_now others) (words_now (get_or list k d))) → Contains (map words_now others) (words_now (get_or list number e))
