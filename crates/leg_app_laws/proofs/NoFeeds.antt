@@ -28,8 +28,7 @@ plain_feed b plain = by (is_white b) refl where
 black_feeds : (bytes : List ℕ) → list_any is_white bytes ≡ false → HasNoFeed bytes
 black_feeds [] none = refl
 black_feeds (b ∷ bytes) none = by (black_feeds bytes) (is_white b) (list_any is_white bytes) refl refl where
-  by : (list_any is_white bytes ≡ false → HasNoFeed bytes) → (first others : Bool) → is_white b ≡ first → list_any is_white bytes ≡ others
-      → HasNoFeed (b ∷ bytes)
+  by : (list_any is_white bytes ≡ false → HasNoFeed bytes) → (first others : Bool) → is_white b ≡ first → list_any is_white bytes ≡ others → HasNoFeed (b ∷ bytes)
   by later false false here there = rw (white_feed b here, later there) refl
   by later false true here there = absurd (false≢true (sym (rw (here, there) at none)))
   by later true others here there = absurd (false≢true (sym (rw here at none)))

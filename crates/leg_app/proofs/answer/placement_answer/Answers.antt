@@ -8,7 +8,7 @@ pub returns : goal.returns
 returns g c =
     let design = c.args.design.now in
     let violations = c.in_ok-violations.violations.items in
-    let list = rw c.library.ensures.is at c.in_ok-violations.ensures in
+    let list = c.in_ok-violations.ensures in
     let listed = rw (nothing_there (λ flat. flat.now) c.as_ref.result c.as_ref.ensures.variant, c.deref.ensures.value) at c.listing.ensures.listed in
     ok_weaker _ _ c.listing.result
     (λ answer both lefs def say. record {
