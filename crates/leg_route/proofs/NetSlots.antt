@@ -1,9 +1,8 @@
 -- The slots in the metal of a net, shape by shape.
-use Rattle.std.proofs.Common.{◌≡◌, ◌↔◌, ℕ, ◌<◌, Bool, true, false, List, [], ◌∷◌, ◌++◌, All, Contains, get_or, Some, slice_get, ◌⊎◌, inl, inr, refl, sym, subst, ap, ◌∙◌, true≢false, arith}
+use Rattle.std.proofs.Common.{◌≡◌, ◌↔◌, ℕ, ◌<◌, Bool, true, false, List, [], ◌∷◌, ◌++◌, All, Contains, get_or, Some, slice_get, ◌⊎◌, inl, inr, refl, sym, subst, ap, ◌∙◌, true≢false}
 use Rattle.std.proofs.lemmas.Bool.{cases_Bool}
-use Rattle.std.proofs.lemmas.List.Elements.{All-nil, Contains-append_left, Contains-push, Contains-push_cases}
+use Rattle.std.proofs.lemmas.List.Elements.{Contains-append_left, Contains-push, Contains-push_cases}
 use Rattle.std.proofs.lemmas.Option.{same_Some, slice_get_within, slice_get_read, slice_get-get_or, get_or_from_slice_get}
-use Rattle.leg_sweep.proofs.Lists.{Contains-nil}
 use Rattle.leg_rules.specs.declared.shape.Shape.{Shape}
 use Rattle.leg_rules.specs.Metal.Flat.{FlatModel}
 use Rattle.leg_wire.specs.NetShapes.{AreNumbersOf}
@@ -11,7 +10,7 @@ use Rattle.leg_wire.specs.PieceMarks.{AreMarks}
 use Rattle.leg_rules.specs.Joins.Touch.{piece_count, LiesIn, AreJoined}
 use Rattle.leg_rules.specs.declared.node.Node.{Node}
 use Rattle.leg_route_grid.specs.declared.slot_box.SlotBox.{SlotBox}
-use Rattle.leg_route_grid.specs.Steps.WalkBounds.{bound_at, IsBoxOf, AreBoxed}
+use Rattle.leg_route_grid.specs.Steps.WalkBounds.{AreBoxed}
 use Rattle.leg_route_grid.specs.Steps.Grid.{GridModel, IsNumberOf, slot_total}
 use Rattle.leg_route_grid.specs.Steps.NodesInRect.{LiesInRect}
 use Rattle.leg_rules.specs.Route.Meets.{MeetsJoined, MeetsRest}
@@ -121,7 +120,7 @@ module _ (grid : GridModel) (shapes : List Shape) (marks : List Bool) (mark : Bo
 
 -- The shapes of a net, and which of its pieces are joined.
 module _ (flat : FlatModel) (net : ℕ) (numbers : List ℕ) (are : AreNumbersOf flat.shapes net numbers) (marks : List Bool) (marks_are : AreMarks (AreJoined flat net 0) (piece_count flat net) marks) where
-  meets_piece : (mark : Bool) (node : Node) (m : MeetsMarked flat.shapes marks mark numbers node) → LiesIn flat net m.marked.number node.layer node.at
+  pub meets_piece : (mark : Bool) (node : Node) (m : MeetsMarked flat.shapes marks mark numbers node) → LiesIn flat net m.marked.number node.layer node.at
   meets_piece mark node m =
       let of_net = are.each m.number m.listed in
       let same : m.shape ≡ of_net.shape = same_Some m.shape of_net.shape (sym m.there ∙ of_net.at) in
@@ -158,7 +157,7 @@ module _ (flat : FlatModel) (net : ℕ) (numbers : List ℕ) (are : AreNumbersOf
       let read = mark_at piece within in
       read ∙ ap Some ((marks_are.each piece (get_or marks piece false) read).1 joined)
 
-  rest_marked : (piece : ℕ) → piece < piece_count flat net → (AreJoined flat net 0 piece → ⊥) → slice_get marks piece ≡ Some false
+  pub rest_marked : (piece : ℕ) → piece < piece_count flat net → (AreJoined flat net 0 piece → ⊥) → slice_get marks piece ≡ Some false
   rest_marked piece within rest =
       let read = mark_at piece within in
       elim (cases_Bool (get_or marks piece false)) [
