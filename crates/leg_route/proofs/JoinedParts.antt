@@ -18,12 +18,16 @@ use Rattle.leg_rules.specs.Joins.Touch.{piece_count, LiesIn, Touch, AreJoined}
 use Rattle.leg_rules.specs.Joins.Touch.Joined.{itself, through}
 use Rattle.leg_rules.specs.declared.node.Node.{Node}
 use Rattle.leg_route_grid.specs.declared.slot_box.SlotBox.{SlotBox}
+use Rattle.leg_route_grid.specs.declared.hulls.Hull.{Hull}
 use Rattle.leg_route_grid.specs.Steps.WalkBounds.{bound_at, IsBoxOf}
 use Rattle.leg_route_grid.specs.Steps.Grid.{GridModel, slot_total}
 use Rattle.leg_route_laws.proofs.Places.{is_like, comes_from}
-use Rattle.leg_route.specs.Steps.NetSlots.{MeetsMarked, AreMarkedSlots}
-use Rattle.leg_route.specs.Steps.JoinedPart.{PartModel, MeetsPart, IsJoinedPart}
+use Rattle.leg_route.specs.declared.end_slots.EndSlot.{EndSlot}
+use Rattle.leg_route.specs.Steps.EndSlots.{IsApart, MeetsPiece}
+use Rattle.leg_route.specs.Steps.NetSlots.{MeetsMarked, IsPartOf}
+use Rattle.leg_route.specs.Steps.JoinedPart.{PartModel, MeetsPart, LiesInPiece, IsJoinedPart}
 use Rattle.leg_route.proofs.JoinedSlots.{one_as}
+use Rattle.leg_route.proofs.EndSlots.{ends_as}
 use Rattle.leg_route.proofs.MoreWires.{count_at, count_as, with_count, one_piece, step_pieces}
 
 -- a piece that is joined has its mark
@@ -33,10 +37,11 @@ marked_joined joined Is size marks k low is =
     read ∙ ap Some ((marks.each k (get_or joined k false) read).1 is)
 
 -- of no pieces
-pub part_none : (grid : GridModel) (flat : FlatModel) (net : ℕ) (joined : List Bool) (boxes : List SlotBox) (slots : List ℕ) → joined ≡ [] → boxes ≡ [] → slots ≡ []
-    → IsJoinedPart grid flat (record { net = net; joined = joined; boxes = boxes; slots = slots })
-part_none grid flat net joined boxes slots joined_is boxes_is slots_is =
-    rw (joined_is, boxes_is, slots_is)
+pub part_none : (grid : GridModel) (flat : FlatModel) (net : ℕ) (joined : List Bool) (boxes : List SlotBox) (slots : List ℕ) (hulls : List Hull) (ends : List EndSlot)
+    → joined ≡ [] → boxes ≡ [] → slots ≡ [] → hulls ≡ [] → ends ≡ []
+    → IsJoinedPart grid flat (record { net = net; joined = joined; boxes = boxes; slots = slots; hulls = hulls; ends = ends })
+part_none grid flat net joined boxes slots hulls ends joined_is boxes_is slots_is hulls_is ends_is =
+    rw (joined_is, boxes_is, slots_is, hulls_is, ends_is)
     (record {
       few = omega arith;
       still = λ k there. absurd (none-some true there);
@@ -45,6 +50,8 @@ part_none grid flat net joined boxes slots joined_is boxes_is slots_is =
       are = λ n. (λ has. absurd (Contains-nil n has), λ one. absurd (none-some true one.holds.marked));
       within = All-nil (λ n. n < slot_total grid);
       boxed = record { corners = All-nil (IsBoxOf grid); inside = All-nil (λ n. bound_at grid [] n ≡ 0); only = λ n within none. absurd (omega (arith, none)) };
+      hulled = record { one_each = refl; each = λ k hull there. absurd (none-some hull there) };
+      ends_are = record { each = λ end has. absurd (Contains-nil end has); all = λ piece n apart one. absurd (none-some false apart) };
     })
 
 same_net : (m n : ℕ) → Net m ≡ Net n → m ≡ n
@@ -170,6 +177,10 @@ module _ (design : DesignModel) (net : ℕ) (wire : records.Wire) (before after 
         );
         within = had.within;
         boxed = had.boxed;
+        hulled = had.hulled;
+        ends_are = ends_as grid (IsApart part.joined) (IsApart part.joined) (LiesInPiece before n) (LiesInPiece after n) part.boxes part.ends (λ piece apart. apart) (λ piece apart. apart)
+            (λ piece node apart lies. lies_on n piece node.layer node.at lies)
+            (λ piece node apart lies. let within = slice_get_within part.joined piece false apart in lies_back n piece node.layer node.at (omega (arith, within, few)) lies) had.ends_are;
       }
 
 -- the marked pieces of a net, by the numbers of its shapes
@@ -205,32 +216,67 @@ module _ (flat : FlatModel) (net : ℕ) (numbers : List ℕ) (are : AreNumbersOf
         lies = record { on_layer = sym lies.on_layer; inside = lies.inside };
       }
 
-  module _ (grid : GridModel) (boxes : List SlotBox) (slots : List ℕ) where
+  lies_numbered : (piece : ℕ) (node : Node) → IsApart joined piece → LiesInPiece flat net piece node → MeetsPiece flat.shapes numbers piece node
+  lies_numbered piece node apart lies =
+      let k = lies.has.0 in
+      let there : slice_get flat.shapes k ≡ Some lies.shape = slice_get_read flat.shapes _ k lies.shape refl lies.has.1 (sym lies.has.2) in
+      record {
+        number = k;
+        listed = are.all k (record { shape = lies.shape; at = there; owner = lies.of_piece.owner });
+        shape = lies.shape;
+        there = there;
+        of_piece = lies.of_piece.piece;
+        lies = record { on_layer = sym lies.on_layer; inside = lies.inside };
+      }
+
+  numbered_lies : (piece : ℕ) (node : Node) → IsApart joined piece → MeetsPiece flat.shapes numbers piece node → LiesInPiece flat net piece node
+  numbered_lies piece node apart m =
+      let of_net = are.each m.number m.listed in
+      let same : m.shape ≡ of_net.shape = same_Some m.shape of_net.shape (sym m.there ∙ of_net.at) in
+      let within = slice_get_within joined piece false apart in
+      record {
+        shape = m.shape;
+        has = (m.number, slice_get_within flat.shapes m.number m.shape m.there, get_or_from_slice_get flat.shapes m.number m.shape m.shape m.there);
+        of_piece = record { there = omega (arith, within, few); owner = ap (λ (s : Shape). s.owner) same ∙ of_net.owner; piece = m.of_piece };
+        on_layer = sym m.lies.on_layer;
+        inside = m.lies.inside;
+      }
+
+  module _ (grid : GridModel) (boxes : List SlotBox) (slots : List ℕ) (hulls : List Hull) (ends : List EndSlot) where
     -- what is kept, by these numbers
-    pub part_has : IsJoinedPart grid flat (record { net = net; joined = joined; boxes = boxes; slots = slots }) → AreMarkedSlots grid flat.shapes joined true numbers boxes slots
+    pub part_has : IsJoinedPart grid flat (record { net = net; joined = joined; boxes = boxes; slots = slots; hulls = hulls; ends = ends })
+        → IsPartOf grid flat.shapes joined numbers boxes slots hulls ends
     part_has part = record {
-      are = λ n. (
-        λ has. one_as grid (MeetsPart flat net joined) (MeetsMarked flat.shapes joined true numbers) meets_numbered n ((part.are n).0 has),
-        λ one. (part.are n).1 (one_as grid (MeetsMarked flat.shapes joined true numbers) (MeetsPart flat net joined) meets_part n one),
-      );
-      within = part.within;
-      boxed = part.boxed;
+      starts = record {
+        are = λ n. (
+          λ has. one_as grid (MeetsPart flat net joined) (MeetsMarked flat.shapes joined true numbers) meets_numbered n ((part.are n).0 has),
+          λ one. (part.are n).1 (one_as grid (MeetsMarked flat.shapes joined true numbers) (MeetsPart flat net joined) meets_part n one),
+        );
+        within = part.within;
+        boxed = part.boxed;
+      };
+      hulled = part.hulled;
+      ends_are = ends_as grid (IsApart joined) (IsApart joined) (LiesInPiece flat net) (MeetsPiece flat.shapes numbers) boxes ends (λ piece apart. apart) (λ piece apart. apart) lies_numbered numbered_lies
+          part.ends_are;
     }
 
     -- and what is to be kept
-    pub part_of : AreMarks (AreJoined flat net 0) (piece_count flat net) joined → AreMarkedSlots grid flat.shapes joined true numbers boxes slots
-        → IsJoinedPart grid flat (record { net = net; joined = joined; boxes = boxes; slots = slots })
+    pub part_of : AreMarks (AreJoined flat net 0) (piece_count flat net) joined → IsPartOf grid flat.shapes joined numbers boxes slots hulls ends
+        → IsJoinedPart grid flat (record { net = net; joined = joined; boxes = boxes; slots = slots; hulls = hulls; ends = ends })
     part_of marks had = record {
       few = few;
       still = λ k there. (marks.each k true there).0 refl;
       begun = λ some. marked_joined joined (AreJoined flat net 0) (piece_count flat net) marks 0 some itself;
       closed = λ a b marked b_low touch. marked_joined joined (AreJoined flat net 0) (piece_count flat net) marks b b_low (through ((marks.each a true marked).0 refl) touch);
       are = λ n. (
-        λ has. one_as grid (MeetsMarked flat.shapes joined true numbers) (MeetsPart flat net joined) meets_part n ((had.are n).0 has),
-        λ one. (had.are n).1 (one_as grid (MeetsPart flat net joined) (MeetsMarked flat.shapes joined true numbers) meets_numbered n one),
+        λ has. one_as grid (MeetsMarked flat.shapes joined true numbers) (MeetsPart flat net joined) meets_part n ((had.starts.are n).0 has),
+        λ one. (had.starts.are n).1 (one_as grid (MeetsPart flat net joined) (MeetsMarked flat.shapes joined true numbers) meets_numbered n one),
       );
-      within = had.within;
-      boxed = had.boxed;
+      within = had.starts.within;
+      boxed = had.starts.boxed;
+      hulled = had.hulled;
+      ends_are = ends_as grid (IsApart joined) (IsApart joined) (MeetsPiece flat.shapes numbers) (LiesInPiece flat net) boxes ends (λ piece apart. apart) (λ piece apart. apart) numbered_lies lies_numbered
+          had.ends_are;
     }
 
 -- what was joined when the part was kept has its mark still
@@ -244,5 +290,5 @@ part_still grid flat part net joined same had marks k there =
 
 -- what is kept of this net, by the numbers of its shapes
 pub part_had : (grid : GridModel) (flat : FlatModel) (part : PartModel) (net : ℕ) (numbers : List ℕ) → part.net ≡ net → AreNumbersOf flat.shapes net numbers → IsJoinedPart grid flat part
-    → AreMarkedSlots grid flat.shapes part.joined true numbers part.boxes part.slots
-part_had grid flat part net numbers same are had = part_has flat part.net numbers (rw same are) part.joined had.few grid part.boxes part.slots had
+    → IsPartOf grid flat.shapes part.joined numbers part.boxes part.slots part.hulls part.ends
+part_had grid flat part net numbers same are had = part_has flat part.net numbers (rw same are) part.joined had.few grid part.boxes part.slots part.hulls part.ends had

@@ -120,7 +120,7 @@ module _ (grid : GridModel) (shapes : List Shape) (marks : List Bool) (mark : Bo
 
 -- The shapes of a net, and which of its pieces are joined.
 module _ (flat : FlatModel) (net : ℕ) (numbers : List ℕ) (are : AreNumbersOf flat.shapes net numbers) (marks : List Bool) (marks_are : AreMarks (AreJoined flat net 0) (piece_count flat net) marks) where
-  meets_piece : (mark : Bool) (node : Node) (m : MeetsMarked flat.shapes marks mark numbers node) → LiesIn flat net m.marked.number node.layer node.at
+  pub meets_piece : (mark : Bool) (node : Node) (m : MeetsMarked flat.shapes marks mark numbers node) → LiesIn flat net m.marked.number node.layer node.at
   meets_piece mark node m =
       let of_net = are.each m.number m.listed in
       let same : m.shape ≡ of_net.shape = same_Some m.shape of_net.shape (sym m.there ∙ of_net.at) in
@@ -157,7 +157,7 @@ module _ (flat : FlatModel) (net : ℕ) (numbers : List ℕ) (are : AreNumbersOf
       let read = mark_at piece within in
       read ∙ ap Some ((marks_are.each piece (get_or marks piece false) read).1 joined)
 
-  rest_marked : (piece : ℕ) → piece < piece_count flat net → (AreJoined flat net 0 piece → ⊥) → slice_get marks piece ≡ Some false
+  pub rest_marked : (piece : ℕ) → piece < piece_count flat net → (AreJoined flat net 0 piece → ⊥) → slice_get marks piece ≡ Some false
   rest_marked piece within rest =
       let read = mark_at piece within in
       elim (cases_Bool (get_or marks piece false)) [

@@ -1,21 +1,24 @@
 -- A walk over slots, and the nodes in them.
-use Rattle.std.proofs.Common.{◌≡◌, ◌↔◌, ℕ, ◌<◌, List, [], ◌∷◌, All, Contains, Option, None, Some, IfSome, option_map, subst, ap, ◌∙◌, refl}
+use Rattle.std.proofs.Common.{◌≡◌, ◌↔◌, ℕ, ◌<◌, Bool, List, [], ◌∷◌, All, Contains, Option, None, Some, IfSome, option_map, subst, ap, ◌∙◌, refl}
 use Rattle.std.specs.List.{AllZip}
+use Rattle.std.proofs.lemmas.List.Elements.{All-contains}
 use Rattle.leg_sweep.proofs.Lists.{Contains-nil}
 use Rattle.leg_design_records.specs.Records.{DesignModel}
 use Rattle.leg_rules.specs.Metal.Flat.{FlatModel}
 use Rattle.leg_route_search.specs.Steps.Walks.{IsStep, IsShortestIfAny}
+use Rattle.leg_route_search.specs.Steps.Dive.{IsOrigin}
+use Rattle.leg_route_search.specs.Steps.Search.{IsRound}
 use Rattle.leg_rules.specs.Route.Walk.{IsShortest, NoWalk}
 use Rattle.leg_rules.specs.declared.node.Node.{Node}
 use Rattle.leg_route_grid.specs.declared.slot_access.SlotAccess.{SlotAccess}
 use Rattle.leg_route_grid.specs.declared.slot_box.SlotBox.{SlotBox}
-use Rattle.leg_route_grid.specs.Steps.WalkBounds.{IsNeighbourNear}
+use Rattle.leg_route_grid.specs.Steps.WalkBounds.{bound_at, AreBoxed, IsNeighbourNear}
 use Rattle.leg_route_grid.specs.Steps.Grid.{GridModel, IsNumberOf, slot_total}
 use Rattle.leg_rules.specs.Route.Meets.{MeetsJoined, MeetsRest}
 use Rattle.leg_route_grid.specs.Steps.AccessToNet.{IsNodeAdmitted, IsStepAdmitted}
 use Rattle.leg_route_grid.specs.Steps.NodeNumbers.{IsOneOf, IsNextWalkAt, HasNoWalkAt}
 use Rattle.leg_rules.specs.Route.Run.{IsNextWalk}
-use Rattle.leg_route.specs.Steps.NetSlots.{IsNextAnswerAt}
+use Rattle.leg_route.specs.Steps.NetSlots.{IsNextAnswerAt, IsNearAnswerAt}
 
 -- where a walk can't end, there is none
 pub no_ends : (grid : GridModel) (flat : FlatModel) (net : ℕ) (ends : List ℕ) → ((n : ℕ) → Contains ends n ↔ IsOneOf (IsNumberOf grid) (MeetsRest flat net) n)
@@ -51,6 +54,44 @@ module _ (grid : GridModel) (flat : FlatModel) (slots : List SlotAccess) (net : 
       → {V : Type 0} (items : V → List ℕ) (walk : Option V) → IsFound (option_map items walk) → IfSome walk (λ v. All (λ n. n < slot_total grid) (items v))
   answer_within walks items None is = tt
   answer_within walks items (Some v) is = walks (items v) is
+
+-- the slots of some boxes are those to which no steps are left
+pub origins_are : (grid : GridModel) (boxes : List SlotBox) (slots : List ℕ) → All (λ n. n < slot_total grid) slots → AreBoxed grid boxes slots
+    → (a : ℕ) → Contains slots a ↔ IsOrigin (slot_total grid) (λ n. bound_at grid boxes n) a
+origins_are grid boxes slots within boxed a = (
+  λ has. (All-contains (λ n. n < slot_total grid) slots a within has, All-contains (λ n. bound_at grid boxes n ≡ 0) slots a boxed.inside has),
+  λ none. boxed.only a none.0 none.1,
+)
+
+-- what a search nearby answers
+module _ (grid : GridModel) (flat : FlatModel) (slots : List SlotAccess) (net : ℕ) (origin around : List SlotBox) (starts ends : List ℕ) (bound : ℕ → ℕ)
+    (origins : (a : ℕ) → Contains starts a ↔ IsOrigin (slot_total grid) bound a) where
+  abbrev pub IsNearby : Bool → Option (List ℕ) → Type 0
+  IsNearby left answer =
+      IsRound (IsNodeAdmitted slots net) (IsStep (IsNeighbourNear grid origin around) (IsStepAdmitted grid slots net)) (IsOrigin (slot_total grid) bound) (Contains ends) left answer
+
+  walk_from : (numbers : List ℕ)
+      → IsShortest (IsNodeAdmitted slots net) (IsStep (IsNeighbourNear grid origin around) (IsStepAdmitted grid slots net)) (IsOrigin (slot_total grid) bound) (Contains ends) numbers
+      → IsWalk grid flat slots net origin around starts ends numbers
+  walk_from numbers is = record {
+    from = is.from;
+    to = is.to;
+    start = (origins is.from).1 is.start;
+    is_end = is.is_end;
+    walk = is.walk;
+    least = λ a b others start stop walk. is.least a b others ((origins a).0 start) stop walk;
+  }
+
+  pub near_at : ((numbers : List ℕ) → IsWalk grid flat slots net origin around starts ends numbers → IsNextWalkAt grid flat net numbers)
+      → (IsNone grid flat slots net origin around starts ends → HasNoWalkAt grid flat net)
+      → (left : Bool) (answer : Option (List ℕ)) → IsNearby left answer → IsNearAnswerAt grid flat net left answer
+  near_at walks none left None is = λ closed. none (λ a b nodes start stop walk. is closed a b nodes ((origins a).0 start) stop walk)
+  near_at walks none left (Some numbers) is = walks numbers (walk_from numbers is)
+
+  pub near_within : ((numbers : List ℕ) → IsWalk grid flat slots net origin around starts ends numbers → All (λ n. n < slot_total grid) numbers)
+      → {V : Type 0} (items : V → List ℕ) (left : Bool) (walk : Option V) → IsNearby left (option_map items walk) → IfSome walk (λ v. All (λ n. n < slot_total grid) (items v))
+  near_within walks items left None is = tt
+  near_within walks items left (Some v) is = walks (items v) (walk_from (items v) is)
 
 -- where a number has one node, numbers have one list of them
 same_nodes : (Number : ℕ → Node → Type 0) → ((n : ℕ) (a b : Node) → Number n a → Number n b → a ≡ b)

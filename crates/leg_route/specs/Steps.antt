@@ -4,6 +4,7 @@ pub mod NetRun
 pub mod RunSoFar
 pub mod Stops
 pub mod Ready
+pub mod EndSlots
 pub mod NetSlots
 pub mod JoinedPart
 pub mod NetLists

@@ -12,7 +12,7 @@ ghost use Rattle.leg_route.specs.Steps.Ready.{IsReadyGround};
 
 use crate::fault::RouteFault;
 use crate::ground::Ground;
-use crate::joined_part::{JoinedPart, joined_slots};
+use crate::joined_part::{JoinedPart, part_now};
 use crate::kept_joins::{joins_of, with_wire};
 use crate::next_wires::next_wires;
 use leg_design_records::{Design, Wire};
@@ -51,7 +51,7 @@ impl<'g, 'a, A: Allocator + Copy> GridGround<'g, 'a, A> {
     ) -> Result<GridGround<'g, 'a, A>, RouteFault<A>>
         requires clean { IsCleanIn design.now flat }
         ensures ready { IfOk result (λ ground. IsReadyGround design.now ground.grid ground.flat ground.slots.items ground.numbers.items ground.marks.items ground.touched.items
-            (record { net = ground.part.net; joined = ground.part.joined.items; boxes = ground.part.slots.boxes.items; slots = ground.part.slots.slots.items }) ground.joins) }
+            (record { net = ground.part.net; joined = ground.part.joined.items; boxes = ground.part.slots.boxes.items; slots = ground.part.slots.slots.items; hulls = ground.part.hulls.items; ends = ground.part.ends.items }) ground.joins) }
         ensures same_design { IfOk result (λ ground. ground.design.now ≡ design.now) }
         ensures comes { IfOk result (λ ground. ComesToRun design.now ground.flat) }
         ensures within { IfOk result (λ ground. IsWithinLimits ground.flat) }
@@ -84,7 +84,7 @@ impl<'g, 'a, A: Allocator + Copy> Ground<A> for GridGround<'g, 'a, A> {
     ghost flat = { λ g. g.flat };
 
     ghost IsReady = { λ g. IsReadyGround g.design.now g.grid g.flat g.slots.items g.numbers.items g.marks.items g.touched.items
-        (record { net = g.part.net; joined = g.part.joined.items; boxes = g.part.slots.boxes.items; slots = g.part.slots.slots.items }) g.joins };
+        (record { net = g.part.net; joined = g.part.joined.items; boxes = g.part.slots.boxes.items; slots = g.part.slots.slots.items; hulls = g.part.hulls.items; ends = g.part.ends.items }) g.joins };
 
     fn joined(&mut self, alloc: A, net: u32) -> Result<Vec<bool, A>, AllocError> {
         let kept = self.joins.take();
@@ -104,7 +104,7 @@ impl<'g, 'a, A: Allocator + Copy> Ground<A> for GridGround<'g, 'a, A> {
         let part = mem::replace(&mut self.part, JoinedPart::new(alloc, net));
         let own = self.numbers[net as usize].as_slice();
         let shapes = self.flat.shapes();
-        let slots = joined_slots(alloc, &self.grid, shapes, net, own, joined, part)?;
+        let part = part_now(alloc, &self.grid, shapes, net, own, joined, part)?;
         let wires = next_wires(
             alloc,
             &self.grid,
@@ -114,12 +114,11 @@ impl<'g, 'a, A: Allocator + Copy> Ground<A> for GridGround<'g, 'a, A> {
             net,
             own,
             joined,
-            &slots,
+            &part,
             &mut self.marks,
             &mut self.touched,
         )?;
-        let joined = Vec::from_slice(alloc, joined)?;
-        self.part = JoinedPart { net, joined, slots };
+        self.part = part;
         Ok(wires)
     }
 

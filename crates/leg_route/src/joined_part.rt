@@ -1,20 +1,26 @@
 //! The joined part of a net, which is kept from walk to walk while the net has its turn.
 
-ghost use Rattle.std.specs.Prelude.{◌≡◌, ◌⊎◌, ◌<◌, ℕ, [], true, Some, slice_get, All, length, IfOk, OnOk};
-ghost use Rattle.leg_route.specs.Steps.NetSlots.{HasMark, AreMarkedSlots};
+ghost use Rattle.std.specs.Prelude.{◌≡◌, ◌⊎◌, ◌<◌, ◌≤◌, ◌++◌, ℕ, List, [], true, false, Some, slice_get, get_or, All, length, IfOk, OnOk};
+ghost use Rattle.leg_route_grid.specs.declared.slot_box.SlotBox.{SlotBox};
+ghost use Rattle.leg_route_grid.specs.Steps.Hulls.{AreHulls};
+ghost use Rattle.leg_route.specs.Steps.EndSlots.{IsApart, MeetsPiece, AreEndSlots};
+ghost use Rattle.leg_route.specs.Steps.NetSlots.{HasMark, AreMarkedSlots, IsPartOf};
 
+use crate::end_slots::{EndSlot, are_joined_from, ends_left, ends_of};
 use crate::next_wires::{has_mark, marked_slots};
 use leg_flat::Shape;
-use leg_route_grid::{BoxedSlots, Grid, add_slots_in};
+use leg_route_grid::{BoxedSlots, Grid, Hull, add_hulls, add_slots_in, hulls_of};
 use std::alloc::{AllocError, Allocator};
 
-/// For pieces of a net whether they are joined to its first one, and the slots in the shapes of those that are. What came to the net
-/// later isn't in it.
+/// For pieces of a net whether they are joined to its first one, the slots in the shapes of those that are, with the hulls of their
+/// boxes, and the slots in those of the others. What came to the net later isn't in it.
 #[derive(Drop)]
 pub(crate) struct JoinedPart<A: Allocator> {
     pub(crate) net: u32,
     pub(crate) joined: Vec<bool, A>,
     pub(crate) slots: BoxedSlots<A>,
+    pub(crate) hulls: Vec<Hull, A>,
+    pub(crate) ends: Vec<EndSlot, A>,
 }
 
 impl<A: Allocator + Copy> JoinedPart<A> {
@@ -24,6 +30,8 @@ impl<A: Allocator + Copy> JoinedPart<A> {
         ensures joined { result.joined.items ≡ [] }
         ensures slots { result.slots.slots.items ≡ [] }
         ensures boxes { result.slots.boxes.items ≡ [] }
+        ensures hulls { result.hulls.items ≡ [] }
+        ensures ends { result.ends.items ≡ [] }
     {
         JoinedPart {
             net,
@@ -32,13 +40,15 @@ impl<A: Allocator + Copy> JoinedPart<A> {
                 slots: Vec::new(alloc),
                 boxes: Vec::new(alloc),
             },
+            hulls: Vec::new(alloc),
+            ends: Vec::new(alloc),
         }
     }
 }
 
-/// The slots in the shapes of joined pieces, of the shapes of these numbers, which are the net's. Those of the part are not
-/// looked for again, where it is of this net: it has no piece that isn't joined.
-pub(crate) fn joined_slots<A: Allocator + Copy>(
+/// The part of a net whose pieces are joined as these marks tell, of the shapes of these numbers, which are the net's. What is in the
+/// part from before is not looked for again, where that is of this net and the pieces that came later are joined.
+pub(crate) fn part_now<A: Allocator + Copy>(
     alloc: A,
     grid: &Grid<'_, '_, A>,
     shapes: &[Shape],
@@ -46,22 +56,85 @@ pub(crate) fn joined_slots<A: Allocator + Copy>(
     numbers: &[u32],
     joined: &[bool],
     part: JoinedPart<A>,
-) -> Result<BoxedSlots<A>, AllocError>
+) -> Result<JoinedPart<A>, AllocError>
     requires numbers { All (λ k. k < length shapes.now) numbers.now }
     requires still { part.net ≡ net → (k : ℕ) → slice_get part.joined.items k ≡ Some true → slice_get joined.now k ≡ Some true }
-    requires had { part.net ≡ net → AreMarkedSlots grid.now shapes.now part.joined.items true numbers.now part.slots.boxes.items part.slots.slots.items }
-    ensures { IfOk result (λ found. AreMarkedSlots grid.now shapes.now joined.now true numbers.now found.boxes.items found.slots.items) }
+    requires had { part.net ≡ net → IsPartOf grid.now shapes.now part.joined.items numbers.now part.slots.boxes.items part.slots.slots.items part.hulls.items part.ends.items }
+    ensures net { IfOk result (λ now. now.net ≡ net) }
+    ensures joined { IfOk result (λ now. now.joined.items ≡ joined.now) }
+    ensures is { IfOk result (λ now. IsPartOf grid.now shapes.now joined.now numbers.now now.slots.boxes.items now.slots.slots.items now.hulls.items now.ends.items) }
 {
-    if part.net != net || part.joined.is_empty() {
-        return marked_slots(alloc, grid, shapes, numbers, joined, true);
+    if part.net == net && !part.joined.is_empty() && are_joined_from(joined, part.joined.len()) {
+        return grown_part(alloc, grid, shapes, numbers, joined, part);
     }
+    new_part(alloc, grid, shapes, net, numbers, joined)
+}
+
+/// The part of a net of which nothing is kept.
+fn new_part<A: Allocator + Copy>(
+    alloc: A,
+    grid: &Grid<'_, '_, A>,
+    shapes: &[Shape],
+    net: u32,
+    numbers: &[u32],
+    joined: &[bool],
+) -> Result<JoinedPart<A>, AllocError>
+    requires numbers { All (λ k. k < length shapes.now) numbers.now }
+    ensures net { IfOk result (λ now. now.net ≡ net) }
+    ensures joined { IfOk result (λ now. now.joined.items ≡ joined.now) }
+    ensures is { IfOk result (λ now. IsPartOf grid.now shapes.now joined.now numbers.now now.slots.boxes.items now.slots.slots.items now.hulls.items now.ends.items) }
+{
+    let slots = marked_slots(alloc, grid, shapes, numbers, joined, true)?;
+    let hulls = hulls_of(alloc, &slots.boxes)?;
+    let ends = ends_of(alloc, grid, shapes, numbers, joined, &slots.boxes, &hulls)?;
+    let joined = Vec::from_slice(alloc, joined)?;
+    Ok(JoinedPart {
+        net,
+        joined,
+        slots,
+        hulls,
+        ends,
+    })
+}
+
+/// The part with the pieces that have come to the joined ones.
+fn grown_part<A: Allocator + Copy>(
+    alloc: A,
+    grid: &Grid<'_, '_, A>,
+    shapes: &[Shape],
+    numbers: &[u32],
+    joined: &[bool],
+    part: JoinedPart<A>,
+) -> Result<JoinedPart<A>, AllocError>
+    requires numbers { All (λ k. k < length shapes.now) numbers.now }
+    requires still { (k : ℕ) → slice_get part.joined.items k ≡ Some true → slice_get joined.now k ≡ Some true }
+    requires later { (k : ℕ) → length part.joined.items ≤ k → k < length joined.now → get_or joined.now k true ≡ true }
+    requires had { IsPartOf grid.now shapes.now part.joined.items numbers.now part.slots.boxes.items part.slots.slots.items part.hulls.items part.ends.items }
+    ensures net { IfOk result (λ now. now.net ≡ part.net) }
+    ensures joined { IfOk result (λ now. now.joined.items ≡ joined.now) }
+    ensures is { IfOk result (λ now. IsPartOf grid.now shapes.now joined.now numbers.now now.slots.boxes.items now.slots.slots.items now.hulls.items now.ends.items) }
+{
     let JoinedPart {
+        net,
         joined: before,
-        slots: mut found,
-        ..
+        mut slots,
+        mut hulls,
+        ends,
     } = part;
-    add_joined(grid, shapes, numbers, &before, joined, &mut found)?;
-    Ok(found)
+    let first = slots.boxes.len();
+    add_joined(grid, shapes, numbers, &before, joined, &mut slots)?;
+    add_hulls(&slots.boxes, &mut hulls)?;
+    let come = &slots.boxes[first..];
+    let come_hulls = hulls_of(alloc, come)?;
+    let ends = ends_left(alloc, grid, &ends, joined, come, &come_hulls)?;
+    let joined = Vec::from_slice(alloc, joined)?;
+    Ok(JoinedPart {
+        net,
+        joined,
+        slots,
+        hulls,
+        ends,
+    })
 }
 
 /// Adds the slots in the shapes of pieces that are joined and weren't before, of the shapes of these numbers.
@@ -76,7 +149,8 @@ fn add_joined<A: Allocator + Copy>(
     requires numbers { All (λ k. k < length shapes.now) numbers.now }
     requires still { (k : ℕ) → slice_get before.now k ≡ Some true → slice_get joined.now k ≡ Some true }
     requires had { AreMarkedSlots grid.now shapes.now before.now true numbers.now found.old.boxes.items found.old.slots.items }
-    ensures { OnOk result (AreMarkedSlots grid.now shapes.now joined.now true numbers.now found.new.boxes.items found.new.slots.items) }
+    ensures now { OnOk result (AreMarkedSlots grid.now shapes.now joined.now true numbers.now found.new.boxes.items found.new.slots.items) }
+    ensures after { OnOk result ((more : List SlotBox) × (found.new.boxes.items ≡ found.old.boxes.items ++ more)) }
 {
     for number in numbers {
         let shape = &shapes[*number as usize];

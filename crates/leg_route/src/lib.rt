@@ -16,6 +16,7 @@
 #![tactic(auto)]
 
 mod clean_flat;
+mod end_slots;
 mod fault;
 mod finish;
 mod grid_ground;

@@ -1,29 +1,33 @@
 //! The wires of a shortest open walk from the joined part of a net to the rest.
 
-ghost use Rattle.std.specs.Prelude.{◌≡◌, ◌↔◌, ◌<◌, ◌^◌, ℕ, [], IsTrue, true, All, Contains, length, IfOk, IfSome};
+ghost use Rattle.std.specs.Prelude.{◌≡◌, ◌↔◌, ◌<◌, ◌≤◌, ◌^◌, ℕ, [], IsTrue, map, All, Contains, length, IfOk, IfSome};
 ghost use Rattle.std.specs.Option.{option_map};
 ghost use Rattle.leg_route_search.specs.Steps.FreshMarks.{AreUnseen};
 ghost use Rattle.leg_wire.specs.NetShapes.{AreNumbersOf};
 ghost use Rattle.leg_wire.specs.PieceMarks.{AreMarks};
 ghost use Rattle.leg_rules.specs.Joins.Touch.{piece_count, AreJoined};
 ghost use Rattle.leg_route_grid.specs.Steps.Grid.{IsNumberOf, slot_total};
-ghost use Rattle.leg_route_grid.specs.Steps.WalkBounds.{AreBoxed};
+ghost use Rattle.leg_route_grid.specs.Steps.WalkBounds.{bound_at, AreBoxed};
+ghost use Rattle.leg_route_grid.specs.Steps.Hulls.{AreHulls};
 ghost use Rattle.leg_rules.specs.Route.Meets.{MeetsJoined, MeetsRest};
 ghost use Rattle.leg_route_grid.specs.Steps.NodeNumbers.{IsOneOf};
 ghost use Rattle.leg_route_grid.specs.Steps.AccessTable.{IsAccessTable};
-ghost use Rattle.leg_route.specs.Steps.NetSlots.{HasMark, AreMarkedSlots, IsNextAnswerAt};
+ghost use Rattle.leg_route.specs.Steps.NetSlots.{HasMark, AreMarkedSlots, IsPartOf, IsNextAnswerAt, IsNearAnswerAt};
+ghost use Rattle.leg_route.specs.declared.end_slots.EndSlot.{EndSlot};
 ghost use Rattle.leg_route.specs.Steps.NextWires.{IsNextAnswer};
 
+use crate::end_slots::{EndSlot, slots_of_ends, steps_to_ends};
+use crate::joined_part::JoinedPart;
 use leg_design_records::{Design, Wire};
 use leg_flat::{Flat, Shape};
 use leg_route_grid::laws::{
     nodes_have_numbers, numbers_walk_as_nodes, open_walks_are_grid_walks, searches_walk_as_numbers,
 };
 use leg_route_grid::{
-    BoxedSlots, Grid, NetGraph, SlotAccess, add_slots_in, grid_is_sound, hulls_of, nodes_of,
+    BoxedSlots, Grid, Hull, NetGraph, SlotAccess, add_slots_in, grid_is_sound, hulls_of, nodes_of,
     wires_of,
 };
-use leg_route_search::{Mark, shortest};
+use leg_route_search::{Mark, far_walk, near_walk};
 use std::alloc::{AllocError, Allocator};
 
 /// Whether the piece has this mark.
@@ -63,16 +67,76 @@ pub(crate) fn marked_slots<A: Allocator + Copy>(
     Ok(found)
 }
 
-/// The numbers of the slots of a shortest open walk of the net, whose walks begin and end in these slots, or `None` where there
-/// is no such walk. `slots` has what is open in the flat.
-fn next_walk<A: Allocator + Copy>(
+/// The numbers of the slots of a shortest open walk of the net, whose walks begin in these slots and end in those of the ends, where
+/// a search nearby finds one. Where it finds none, `left_out` is whether there may be one, and `limit` is where a search that goes on
+/// begins. `slots` has what is open in the flat.
+fn walk_nearby<A: Allocator + Copy>(
     alloc: A,
     grid: &Grid<'_, '_, A>,
     flat: &Flat<A>,
     slots: &[SlotAccess],
     net: u32,
     starts: &BoxedSlots<A>,
+    hulls: &[Hull],
+    ends: &[EndSlot],
+    limit: &mut u64,
+    marks: &mut [Mark],
+    touched: &mut Vec<u32, A>,
+    left_out: &mut bool,
+) -> Result<Option<Vec<u32, A>>, AllocError>
+    requires told { IsAccessTable grid.now flat.now slots.now }
+    requires starts { (n : ℕ) → Contains starts.now.slots.items n ↔ IsOneOf (IsNumberOf grid.now) (MeetsJoined flat.now net) n }
+    requires ends { (n : ℕ) → Contains (map (λ (end : EndSlot). end.slot) ends.now) n ↔ IsOneOf (IsNumberOf grid.now) (MeetsRest flat.now net) n }
+    requires starts_within { All (λ n. n < slot_total grid.now) starts.now.slots.items }
+    requires ends_within { All (λ (end : EndSlot). end.slot < slot_total grid.now) ends.now }
+    requires least { All (λ (end : EndSlot). end.least ≤ bound_at grid.now starts.now.boxes.items end.slot) ends.now }
+    requires starts_boxed { AreBoxed grid.now starts.now.boxes.items starts.now.slots.items }
+    requires hulls { AreHulls starts.now.boxes.items hulls.now }
+    requires count { length marks.old ≡ slot_total grid.now }
+    requires unseen { AreUnseen marks.old }
+    requires untouched { touched.old.items ≡ [] }
+    ensures answer { IfOk result (λ walk. IsNearAnswerAt grid.now flat.now net left_out.new (option_map (λ numbers. numbers.items) walk)) }
+    ensures within { IfOk result (λ walk. IfSome walk (λ numbers. All (λ n. n < slot_total grid.now) numbers.items)) }
+    ensures count { length marks.new ≡ slot_total grid.now }
+    ensures unseen { AreUnseen marks.new }
+    ensures untouched { touched.new.items ≡ [] }
+{
+    grid_is_sound(grid);
+    *left_out = false;
+    if starts.slots.is_empty() {
+        return Ok(None);
+    }
+    if ends.is_empty() {
+        return Ok(None);
+    }
+    let graph = NetGraph {
+        grid,
+        slots,
+        net,
+        starts: starts.boxes.as_slice(),
+        start_hulls: hulls,
+        ends: &[],
+        end_hulls: &[],
+    };
+    searches_walk_as_numbers();
+    let last = slots_of_ends(alloc, ends)?;
+    let known = steps_to_ends(alloc, ends)?;
+    let walk = near_walk(alloc, &graph, &last, known, limit, marks, touched, left_out)?;
+    Ok(walk)
+}
+
+/// The numbers of the slots of a shortest open walk of the net, whose walks begin and end in these slots, or `None` where there
+/// is no such walk, found by a search that begins with this limit. `slots` has what is open in the flat.
+fn walk_further<A: Allocator + Copy>(
+    alloc: A,
+    grid: &Grid<'_, '_, A>,
+    flat: &Flat<A>,
+    slots: &[SlotAccess],
+    net: u32,
+    starts: &BoxedSlots<A>,
+    hulls: &[Hull],
     ends: &BoxedSlots<A>,
+    limit: u64,
     marks: &mut [Mark],
     touched: &mut Vec<u32, A>,
 ) -> Result<Option<Vec<u32, A>>, AllocError>
@@ -83,6 +147,7 @@ fn next_walk<A: Allocator + Copy>(
     requires ends_within { All (λ n. n < slot_total grid.now) ends.now.slots.items }
     requires starts_boxed { AreBoxed grid.now starts.now.boxes.items starts.now.slots.items }
     requires ends_boxed { AreBoxed grid.now ends.now.boxes.items ends.now.slots.items }
+    requires hulls { AreHulls starts.now.boxes.items hulls.now }
     requires count { length marks.old ≡ slot_total grid.now }
     requires unseen { AreUnseen marks.old }
     requires untouched { touched.old.items ≡ [] }
@@ -92,31 +157,98 @@ fn next_walk<A: Allocator + Copy>(
     ensures untouched { touched.new.items ≡ [] }
 {
     grid_is_sound(grid);
-    if starts.slots.is_empty() {
-        return Ok(None);
-    }
-    if ends.slots.is_empty() {
-        return Ok(None);
-    }
-    let start_hulls = hulls_of(alloc, &starts.boxes)?;
     let end_hulls = hulls_of(alloc, &ends.boxes)?;
     let graph = NetGraph {
         grid,
         slots,
         net,
         starts: starts.boxes.as_slice(),
-        start_hulls: start_hulls.as_slice(),
+        start_hulls: hulls,
         ends: ends.boxes.as_slice(),
         end_hulls: end_hulls.as_slice(),
     };
     searches_walk_as_numbers();
-    let walk = shortest(alloc, &graph, &starts.slots, &ends.slots, marks, touched)?;
+    let walk = far_walk(
+        alloc,
+        &graph,
+        &starts.slots,
+        &ends.slots,
+        limit,
+        marks,
+        touched,
+    )?;
+    Ok(walk)
+}
+
+/// The numbers of the slots of a shortest open walk from the joined part of the net to the rest, or `None` where there is no such
+/// walk. The slots of the rest are looked for again where a search nearby finds no walk.
+fn next_walk<A: Allocator + Copy>(
+    alloc: A,
+    grid: &Grid<'_, '_, A>,
+    flat: &Flat<A>,
+    slots: &[SlotAccess],
+    net: u32,
+    numbers: &[u32],
+    joined: &[bool],
+    part: &JoinedPart<A>,
+    marks: &mut [Mark],
+    touched: &mut Vec<u32, A>,
+) -> Result<Option<Vec<u32, A>>, AllocError>
+    requires told { IsAccessTable grid.now flat.now slots.now }
+    requires numbers { AreNumbersOf flat.now.shapes net numbers.now }
+    requires joined { AreMarks (AreJoined flat.now net 0) (piece_count flat.now net) joined.now }
+    requires part { IsPartOf grid.now flat.now.shapes joined.now numbers.now part.now.slots.boxes.items part.now.slots.slots.items part.now.hulls.items part.now.ends.items }
+    requires count { length marks.old ≡ slot_total grid.now }
+    requires unseen { AreUnseen marks.old }
+    requires untouched { touched.old.items ≡ [] }
+    ensures answer { IfOk result (λ walk. IsNextAnswerAt grid.now flat.now net (option_map (λ numbers. numbers.items) walk)) }
+    ensures within { IfOk result (λ walk. IfSome walk (λ numbers. All (λ n. n < slot_total grid.now) numbers.items)) }
+    ensures unseen { AreUnseen marks.new }
+    ensures untouched { touched.new.items ≡ [] }
+{
+    let mut limit = 0;
+    let mut left_out = false;
+    let near = walk_nearby(
+        alloc,
+        grid,
+        flat,
+        slots,
+        net,
+        &part.slots,
+        &part.hulls,
+        &part.ends,
+        &mut limit,
+        marks,
+        touched,
+        &mut left_out,
+    )?;
+    if let Some(walk) = near {
+        return Ok(Some(walk));
+    }
+    if !left_out {
+        return Ok(None);
+    }
+    let shapes = flat.shapes();
+    let ends = marked_slots(alloc, grid, shapes, numbers, joined, false)?;
+    let walk = walk_further(
+        alloc,
+        grid,
+        flat,
+        slots,
+        net,
+        &part.slots,
+        &part.hulls,
+        &ends,
+        limit,
+        marks,
+        touched,
+    )?;
     Ok(walk)
 }
 
 /// The wires of a shortest open walk from the joined part of the net to the rest, or `None` where there is no such walk. `slots`
-/// has for each slot of the grid what is open in the flat, `numbers` are those of the net's shapes, and
-/// `joined` has for each of its pieces whether it is joined to the first one, and `starts` the slots in those that are. `marks` has one
+/// has for each slot of the grid what is open in the flat, `numbers` are those of the net's shapes, and `joined` has for each of its
+/// pieces whether it is joined to the first one, and `part` is what is kept of those that are and of the others. `marks` has one
 /// for each slot. `touched` is room to work in. Of several such walks one is taken as `shortest` of `leg_route_search` states.
 ///
 /// It fails only when out of memory.
@@ -129,7 +261,7 @@ pub(crate) fn next_wires<A: Allocator + Copy>(
     net: u32,
     numbers: &[u32],
     joined: &[bool],
-    starts: &BoxedSlots<A>,
+    part: &JoinedPart<A>,
     marks: &mut [Mark],
     touched: &mut Vec<u32, A>,
 ) -> Result<Option<Vec<Wire, A>>, AllocError>
@@ -138,7 +270,7 @@ pub(crate) fn next_wires<A: Allocator + Copy>(
     requires in_range { net < length flat.now.pieces }
     requires numbers { AreNumbersOf flat.now.shapes net numbers.now }
     requires joined { AreMarks (AreJoined flat.now net 0) (piece_count flat.now net) joined.now }
-    requires starts { AreMarkedSlots grid.now flat.now.shapes joined.now true numbers.now starts.now.boxes.items starts.now.slots.items }
+    requires part { IsPartOf grid.now flat.now.shapes joined.now numbers.now part.now.slots.boxes.items part.now.slots.slots.items part.now.hulls.items part.now.ends.items }
     requires count { length marks.old ≡ slot_total grid.now }
     requires unseen { AreUnseen marks.old }
     requires untouched { touched.old.items ≡ [] }
@@ -147,9 +279,9 @@ pub(crate) fn next_wires<A: Allocator + Copy>(
     ensures unseen { AreUnseen marks.new }
     ensures untouched { touched.new.items ≡ [] }
 {
-    let shapes = flat.shapes();
-    let ends = marked_slots(alloc, grid, shapes, numbers, joined, false)?;
-    let found = next_walk(alloc, grid, flat, slots, net, starts, &ends, marks, touched)?;
+    let found = next_walk(
+        alloc, grid, flat, slots, net, numbers, joined, part, marks, touched,
+    )?;
     grid_is_sound(grid);
     nodes_have_numbers();
     numbers_walk_as_nodes();

@@ -130,6 +130,9 @@ bound_small grid ends n s is_grid box slot =
 min_upto : (a b c : ℕ) → b ≤ c → min a b ≤ min a c
 min_upto a b c upto = grind arith
 
+min_least : (a b c : ℕ) → a ≤ b → a ≤ c → a ≤ min b c
+min_least a b c low lower = grind (arith, low, lower)
+
 pub none_upto : (a b : ℕ) → a ≤ b → b ≡ 0 → a ≡ 0
 none_upto a b upto none = omega arith
 
@@ -185,6 +188,15 @@ nearest_none (first ∷ boxes) s none = elim (least_none (slot_bound first s) (n
 pub nearest_first : (boxes more : List SlotBox) (s : Slot) → nearest (boxes ++ more) s ≤ nearest boxes s
 nearest_first [] more s = nearest_few more s
 nearest_first (ends ∷ boxes) more s = min_upto (slot_bound ends s) (nearest (boxes ++ more) s) (nearest boxes s) (nearest_first boxes more s)
+
+-- what is no farther than the nearest of some boxes, and of some more, is no farther than the nearest of all
+pub nearest_both : (boxes more : List SlotBox) (s : Slot) (steps : ℕ) → steps ≤ nearest boxes s → steps ≤ nearest more s → steps ≤ nearest (boxes ++ more) s
+nearest_both [] more s steps first rest = rest
+nearest_both (ends ∷ boxes) more s steps first rest =
+    let left = min-le_left (slot_bound ends s) (nearest boxes s) in
+    let right = min-le_right (slot_bound ends s) (nearest boxes s) in
+    let both = nearest_both boxes more s steps (omega (arith, first, right)) rest in
+    min_least steps (slot_bound ends s) (nearest (boxes ++ more) s) (omega (arith, first, left)) both
 
 pub in_boxes : (grid : GridModel) (boxes : List SlotBox) (ends : SlotBox) (n : ℕ) (s : Slot) → IsSlot grid n s.layer s.row s.column → Contains boxes ends
     → IsInBox ends s → bound_at grid boxes n ≡ 0

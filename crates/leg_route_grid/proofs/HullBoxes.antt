@@ -3,7 +3,7 @@ use Rattle.std.proofs.Common.{◌≡◌, zero, suc, ℕ, ◌+◌, ◌-◌, ◌<�
 use Rattle.std.proofs.lemmas.Bool.{cases_lt}
 use Rattle.std.proofs.lemmas.List.{drop_more}
 use Rattle.std.proofs.Math.Nat.{min-le_right}
-use Rattle.std.proofs.lemmas.Option.{same_Some, none-some, slice_get-get_or}
+use Rattle.std.proofs.lemmas.Option.{same_Some, none-some, slice_get_within, slice_get-get_or}
 use Rattle.leg_route_grid.specs.declared.slot.Slot.{Slot}
 use Rattle.leg_route_grid.specs.declared.slot_box.SlotBox.{SlotBox}
 use Rattle.leg_route_grid.specs.declared.hulls.Hull.{Hull}
@@ -47,6 +47,23 @@ hulls_push boxes hulls last hull count each is k other there = elim (push_cases 
   | inl before ↦ each k other before
   | inr new ↦ subst (λ (h : Hull). IsHullAt boxes k h) new.1 (subst (λ (n : ℕ). IsHullAt boxes n hull) (sym (new.0 ∙ count)) is)
 ]
+
+read_first : {X : Type 0} (xs ys : List X) (k : ℕ) (y : X) → k < length xs → slice_get (xs ++ ys) k ≡ Some y → slice_get xs k ≡ Some y
+read_first [] ys k y low is = absurd (omega (arith, low))
+read_first (x ∷ xs) ys zero y low is = is
+read_first (x ∷ xs) ys (suc k) y low is = read_first xs ys k y (omega (arith, low)) is
+
+-- hulls of the first boxes are hulls still when there are more
+pub hulls_stay : (boxes more : List SlotBox) (hulls : List Hull) → AreHulls boxes hulls → AreEachHull (boxes ++ more) hulls
+hulls_stay boxes more hulls are k hull there =
+    let is = are.each k hull there in
+    let low = slice_get_within hulls k hull there in
+    let count = are.one_each in
+    record {
+      some = is.some;
+      within = is.within;
+      covers = λ j ends read below above. is.covers j ends (read_first boxes more j ends (omega (arith, low, count, below)) read) below above;
+    }
 
 -- the hull of some boxes, and of those that end before them
 pub hull_of_more : (boxes : List SlotBox) (last : ℕ) (hull before : Hull) (ends : SlotBox) → hull.count ≤ last → IsHullAt boxes last hull

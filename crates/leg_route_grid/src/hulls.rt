@@ -1,6 +1,7 @@
 //! Hulls of boxes of slots, by which the nearest box is found without a look at each.
 
-ghost use Rattle.std.specs.Prelude.{◌≡◌, ◌<◌, length, IfOk};
+ghost use Rattle.std.specs.Prelude.{◌≡◌, ◌<◌, List, ◌++◌, length, IfOk, OnOk};
+ghost use Rattle.leg_route_grid.specs.declared.slot_box.SlotBox.{SlotBox};
 ghost use Rattle.leg_route_grid.specs.Steps.Hulls.{Covers, IsHullAt, AreEachHull, AreHulls};
 
 use crate::slot::Slot;
@@ -20,11 +21,23 @@ pub fn hulls_of<A: Allocator>(alloc: A, boxes: &[SlotBox]) -> Result<Vec<Hull, A
     ensures { IfOk result (λ hulls. AreHulls boxes.now hulls.items) }
 {
     let mut hulls = Vec::new(alloc);
-    for last in 0..boxes.len() {
-        let hull = hull_to(boxes, &hulls, last);
+    add_hulls(boxes, &mut hulls)?;
+    Ok(hulls)
+}
+
+/// Adds the hulls of those boxes that came after the first ones, of which the hulls are there.
+pub fn add_hulls<A: Allocator>(
+    boxes: &[SlotBox],
+    hulls: &mut Vec<Hull, A>,
+) -> Result<(), AllocError>
+    requires { (first : List SlotBox) × (more : List SlotBox) × (boxes.now ≡ first ++ more) × AreHulls first hulls.old.items }
+    ensures { OnOk result (AreHulls boxes.now hulls.new.items) }
+{
+    for last in hulls.len()..boxes.len() {
+        let hull = hull_to(boxes, hulls, last);
         hulls.push(hull)?;
     }
-    Ok(hulls)
+    Ok(())
 }
 
 /// The hull of the boxes that end with the one of this number, from the hulls of those before it.

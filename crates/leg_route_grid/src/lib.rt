@@ -52,7 +52,7 @@ pub use added::{add_shape, add_shapes, slots_beside};
 pub use fault::GridFault;
 pub use grid::{Grid, grid_is_sound};
 pub use grid_walk::is_walk;
-pub use hulls::{Hull, hulls_of};
+pub use hulls::{Hull, add_hulls, hulls_of};
 pub use layers::RoutingLayer;
 pub use leg_rules::{GREATEST_GRID, GRID_LIMIT, Node};
 pub use net_graph::NetGraph;

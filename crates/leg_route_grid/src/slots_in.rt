@@ -1,6 +1,6 @@
 //! The slots whose points lie in a rectangle, and their box.
 
-ghost use Rattle.std.specs.Prelude.{◌↔◌, IsTrue, ◌⊎◌, ◌<◌, ◌≤◌, ℕ, ◌<ℤ◌, length, All, AllPairs, Contains, OnOk};
+ghost use Rattle.std.specs.Prelude.{◌≡◌, ◌↔◌, IsTrue, ◌⊎◌, ◌<◌, ◌≤◌, ℕ, ◌<ℤ◌, List, ◌++◌, length, All, AllPairs, Contains, OnOk};
 ghost use Rattle.leg_route_grid.specs.Steps.NodesInRect.{LiesInRect};
 ghost use Rattle.leg_route_grid.specs.Steps.Grid.{slot_total, IsNumberOf};
 ghost use Rattle.leg_route_grid.specs.Steps.NodeNumbers.{IsOneOf};
@@ -162,6 +162,7 @@ pub fn add_slots_in<A: Allocator + Copy>(
     ensures added { OnOk result ((n : ℕ) → Contains found.new.slots.items n ↔ (Contains found.old.slots.items n ⊎ IsOneOf (IsNumberOf grid.now) (LiesInRect layer rect.now) n)) }
     ensures boxes { OnOk result ((ends : SlotBox) → Contains found.new.boxes.items ends
         → Contains found.old.boxes.items ends ⊎ HasJust grid.now (IsOneOf (IsNumberOf grid.now) (LiesInRect layer rect.now)) ends) }
+    ensures after { OnOk result ((more : List SlotBox) × (found.new.boxes.items ≡ found.old.boxes.items ++ more)) }
     ensures within { All (λ n. n < slot_total grid.now) found.old.slots.items → OnOk result (All (λ n. n < slot_total grid.now) found.new.slots.items) }
     ensures boxed { AreBoxed grid.now found.old.boxes.items found.old.slots.items → OnOk result (AreBoxed grid.now found.new.boxes.items found.new.slots.items) }
 {

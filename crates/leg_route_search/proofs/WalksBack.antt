@@ -1,8 +1,8 @@
 -- Walks by their last step, and what a dive learns from each.
-use Rattle.std.proofs.Common.{◌≡◌, ℕ, ◌+◌, ◌-◌, ◌<◌, ◌≤◌, min, List, [], ◌∷◌, ◌++◌, length, get_or, take, slice_set, All, Some, None, ◌⊎◌, ◌↔◌, inl, inr, refl, sym, subst, arith, length-append}
+use Rattle.std.proofs.Common.{◌≡◌, ℕ, ◌+◌, ◌-◌, ◌<◌, ◌≤◌, min, List, [], ◌∷◌, ◌++◌, length, get_or, take, slice_set, All, Some, ◌⊎◌, ◌↔◌, inl, inr, refl, sym, subst, arith, length-append}
 use Rattle.std.proofs.Math.Nat.{min-le_right}
 use Rattle.std.proofs.lemmas.List.Elements.{All-more}
-use Rattle.std.proofs.lemmas.Option.{same_Some, none-some}
+use Rattle.std.proofs.lemmas.Option.{same_Some}
 use Rattle.leg_route_search.specs.declared.mark.Mark.{Mark}
 use Rattle.leg_route_search.specs.declared.mark.Mark.TheVariants.{Shut, Far}
 use Rattle.leg_rules.specs.declared.side.Side.{Side}
@@ -10,10 +10,10 @@ use Rattle.leg_rules.specs.declared.side.Side.TheVariants.{West, East, South, No
 use Rattle.leg_route_search.specs.Steps.Side.{opposite}
 use Rattle.leg_route_search.specs.Steps.Walks.{IsStep, IsStepTo}
 use Rattle.leg_rules.specs.Route.Walk.{Walk, IsShortest}
-use Rattle.leg_route_search.specs.Steps.FreshMarks.{AreUnseen}
 use Rattle.leg_rules.specs.Route.Walk.Walk.{here, on}
-use Rattle.leg_route_search.specs.Steps.Dive.{IsOrigin, IsFarNode, IsFarFrom, AreLowerBounds, IsWalkBack}
-use Rattle.leg_route_search.proofs.Marks.{unseen_no_mark, mark_cases}
+use Rattle.leg_route_search.specs.Steps.Dive.{IsOrigin, IsFarNode, AreFar, IsFarFrom, AreLowerBounds, IsWalkBack}
+use Rattle.leg_route_search.specs.Steps.Starts.{AreLeast}
+use Rattle.leg_route_search.proofs.Marks.{mark_cases}
 
 module _ {Node : Type 0} {Open : Node → Type 0} {Step : Node → Node → Type 0} where
   -- the last node of a walk is open
@@ -129,6 +129,14 @@ far_by_bound size bound further steps most node is from nodes start walk =
 -- what is left at least from an end is left at least from one that is as far or farther
 pub far_fewer : {Open : ℕ → Type 0} {Step : ℕ → ℕ → Type 0} {Start : ℕ → Type 0} (steps fewer node : ℕ) → fewer ≤ steps → IsFarNode Open Step Start steps node → IsFarNode Open Step Start fewer node
 far_fewer steps fewer node less far from nodes start walk = omega (arith, less, far from nodes start walk)
+
+-- so each end is, of which no fewer are left by the bound
+pub far_each : {Open : ℕ → Type 0} {Step : ℕ → ℕ → Type 0} (size : ℕ) (bound : ℕ → ℕ) → ((a b : ℕ) → Step a b → bound b ≤ bound a + 1) → (ends known : List ℕ)
+    → AreLeast bound ends 0 known → AreFar Open Step (IsOrigin size bound) ends known
+far_each size bound further ends known least = record {
+  one_each = least.one_each;
+  each = λ k within from nodes start walk. let low = least.each k within in omega (arith, low, back_holds bound further walk, start.1);
+}
 
 -- the side across from that across from this one
 opposite_twice : (side : Side) → opposite (opposite side) ≡ side

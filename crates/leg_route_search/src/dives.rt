@@ -7,6 +7,7 @@ ghost use Rattle.leg_route_search.specs.Steps.FreshMarks.{AreUnseen};
 ghost use Rattle.leg_route_search.specs.Steps.Marks.{IsNoted};
 ghost use Rattle.leg_route_search.specs.Steps.Dive.{IsOrigin, IsFarNode, AreFar, AreLowerBounds, IsWalkBack};
 ghost use Rattle.leg_route_search.specs.Steps.Search.{IsRound};
+ghost use Rattle.leg_route_search.specs.Steps.Starts.{AreLeast};
 
 use crate::dive::{dive, is_open, one_more, steps_left};
 use crate::graph::Graph;
@@ -27,11 +28,12 @@ const NOTED_FOR_EACH_STEP: usize = 64;
 
 /// A shortest walk, where a few rounds of dives find one. Each round looks for a walk of as many steps as each has at least, as
 /// far as the rounds before it have found. Where none is found, `limit` is that number, and `left_out` whether there may be a walk:
-/// there is none where no end is open.
+/// there is none where no end is open. For each end `known` has how many steps a walk to it has at least by what is known before.
 pub(crate) fn walk_by_dives<G: Graph, A: Allocator + Copy>(
     alloc: A,
     graph: &G,
     ends: &[u32],
+    mut known: Vec<u32, A>,
     limit: &mut u64,
     marks: &mut [Mark],
     touched: &mut Vec<u32, A>,
@@ -41,11 +43,11 @@ pub(crate) fn walk_by_dives<G: Graph, A: Allocator + Copy>(
     requires unseen { AreUnseen marks.old }
     requires untouched { touched.old.items ≡ [] }
     requires ends { All (λ a. a < G.size_of graph.now) ends.now }
+    requires known { AreLeast (G.back_bound_of graph.now) ends.now 0 known.items }
     ensures found { IfOk result (λ walk. IsRound (G.OpenNode graph.now) (IsStep (G.IsBeside graph.now) (G.OpenStep graph.now))
         (IsOrigin (G.size_of graph.now) (G.back_bound_of graph.now)) (Contains ends.now) left_out.new (option_map (λ nodes. nodes.items) walk)) }
     ensures noted { IsNoted marks.new touched.new.items }
 {
-    let mut known = Vec::from_elem(alloc, 0, ends.len())?;
     let mut left = least_left(graph, ends, &mut known, marks);
     let most = left as usize * NOTED_FOR_EACH_STEP;
     'rounds: for _ in 0..ROUNDS {

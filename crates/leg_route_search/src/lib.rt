@@ -44,5 +44,5 @@ pub use graph::Graph;
 pub use leg_rules::Side;
 pub use mark::Mark;
 pub use reset::unseen_marks;
-pub use rounds::shortest;
+pub use rounds::{far_walk, near_walk, shortest};
 pub use side::opposite;

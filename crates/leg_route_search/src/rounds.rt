@@ -49,10 +49,12 @@ pub fn shortest<G: Graph, A: Allocator + Copy>(
 {
     let mut limit = 0;
     let mut left_out = false;
+    let known = Vec::from_elem(alloc, 0, ends.len())?;
     let near = near_walk(
         alloc,
         graph,
         ends,
+        known,
         &mut limit,
         marks,
         touched,
@@ -64,6 +66,64 @@ pub fn shortest<G: Graph, A: Allocator + Copy>(
     if !left_out {
         return Ok(None);
     }
+    let walk = far_walk(alloc, graph, starts, ends, limit, marks, touched)?;
+    Ok(walk)
+}
+
+/// Looks for a shortest walk by dives, and leaves all nodes unseen. For each end `known` has a number of steps, of which no fewer are
+/// left to it from the starts by what the graph tells (`back_bound`): an end that is further by that than the nearest is not asked
+/// about. How many steps are left from a node to the ends is not asked either. Where no walk is found, `left_out` is whether there may
+/// be one, and `limit` is how many steps it then has at least: `far_walk` goes on from there. The walk is the one that `shortest` finds.
+pub fn near_walk<G: Graph, A: Allocator + Copy>(
+    alloc: A,
+    graph: &G,
+    ends: &[u32],
+    known: Vec<u32, A>,
+    limit: &mut u64,
+    marks: &mut [Mark],
+    touched: &mut Vec<u32, A>,
+    left_out: &mut bool,
+) -> Result<Option<Vec<u32, A>>, AllocError>
+    requires count { length marks.old ≡ G.size_of graph.now }
+    requires unseen { AreUnseen marks.old }
+    requires untouched { touched.old.items ≡ [] }
+    requires ends { All (λ a. a < G.size_of graph.now) ends.now }
+    requires known { AreLeast (G.back_bound_of graph.now) ends.now 0 known.items }
+    ensures found { IfOk result (λ walk. IsRound (G.OpenNode graph.now) (IsStep (G.IsBeside graph.now) (G.OpenStep graph.now))
+        (IsOrigin (G.size_of graph.now) (G.back_bound_of graph.now)) (Contains ends.now) left_out.new (option_map (λ nodes. nodes.items) walk)) }
+    ensures unseen { AreUnseen marks.new }
+    ensures untouched { touched.new.items ≡ [] }
+    ensures count { length marks.new ≡ length marks.old }
+{
+    let walk = walk_by_dives(alloc, graph, ends, known, limit, marks, touched, left_out);
+    reset(marks, touched);
+    walk
+}
+
+/// The nodes of a shortest walk from a start to an end, or none where there is no such walk, found level by level in rounds of a
+/// growing limit, of which this is the first. It is the walk that `shortest` finds.
+pub fn far_walk<G: Graph, A: Allocator + Copy>(
+    alloc: A,
+    graph: &G,
+    starts: &[u32],
+    ends: &[u32],
+    first: u64,
+    marks: &mut [Mark],
+    touched: &mut Vec<u32, A>,
+) -> Result<Option<Vec<u32, A>>, AllocError>
+    requires count { length marks.old ≡ G.size_of graph.now }
+    requires few { G.size_of graph.now < 2 ^ 32 }
+    requires unseen { AreUnseen marks.old }
+    requires untouched { touched.old.items ≡ [] }
+    requires starts { All (λ a. a < G.size_of graph.now) starts.now }
+    requires ends { All (λ a. a < G.size_of graph.now) ends.now }
+    requires at_end { All (λ a. G.bound_of graph.now a ≡ 0) ends.now }
+    ensures found { IfOk result (λ walk. IsShortestIfAny (G.OpenNode graph.now) (IsStep (G.IsBeside graph.now) (G.OpenStep graph.now))
+        (Contains starts.now) (Contains ends.now) (option_map (λ nodes. nodes.items) walk)) }
+    ensures unseen { AreUnseen marks.new }
+    ensures untouched { touched.new.items ≡ [] }
+{
+    let mut limit = first;
     let mut least = Vec::from_elem(alloc, 0, starts.len())?;
     let mut told = 0;
     let mut growth = FIRST_GROWTH;
@@ -91,31 +151,6 @@ pub fn shortest<G: Graph, A: Allocator + Copy>(
         limit += growth;
         growth *= 2;
     }
-}
-
-/// Looks for a shortest walk by dives, and leaves all nodes unseen. Where none is found, no walk has fewer steps than the limit, and
-/// `left_out` is whether there may be one.
-fn near_walk<G: Graph, A: Allocator + Copy>(
-    alloc: A,
-    graph: &G,
-    ends: &[u32],
-    limit: &mut u64,
-    marks: &mut [Mark],
-    touched: &mut Vec<u32, A>,
-    left_out: &mut bool,
-) -> Result<Option<Vec<u32, A>>, AllocError>
-    requires count { length marks.old ≡ G.size_of graph.now }
-    requires unseen { AreUnseen marks.old }
-    requires untouched { touched.old.items ≡ [] }
-    requires ends { All (λ a. a < G.size_of graph.now) ends.now }
-    ensures found { IfOk result (λ walk. IsRound (G.OpenNode graph.now) (IsStep (G.IsBeside graph.now) (G.OpenStep graph.now))
-        (IsOrigin (G.size_of graph.now) (G.back_bound_of graph.now)) (Contains ends.now) left_out.new (option_map (λ nodes. nodes.items) walk)) }
-    ensures unseen { AreUnseen marks.new }
-    ensures untouched { touched.new.items ≡ [] }
-{
-    let walk = walk_by_dives(alloc, graph, ends, limit, marks, touched, left_out);
-    reset(marks, touched);
-    walk
 }
 
 /// Looks for a shortest walk within a limit, and leaves all nodes unseen.

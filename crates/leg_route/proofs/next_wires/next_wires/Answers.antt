@@ -1,39 +1,9 @@
-use Rattle.std.proofs.Common.{false}
 use Rattle.std.specs.List.{AllZip}
 use Rattle.leg_route_grid.specs.Steps.Grid.{IsNumberOf}
 use Rattle.leg_route_grid.specs.Steps.NodeNumbers.{IsNextWalkAt}
 use Rattle.leg_rules.specs.Route.Run.{IsNextWalk}
-use Rattle.leg_route.specs.Steps.NetSlots.{AreMarkedSlots}
-use Rattle.leg_route_laws.proofs.Within.{numbers_within}
-use Rattle.leg_route.proofs.NetSlots.{starts_are, ends_are}
 use Rattle.leg_route.proofs.NextWalk.{walk_of}
 use Rattle.leg_route.proofs.next_wires.next_wires.Goals as goal
-
-pub marked_slots-requires : goal.marked_slots-requires
-marked_slots-requires g c = rw c.shapes-shapes.ensures.is (numbers_within c.args.flat.now.shapes c.args.net c.args.numbers.now c.requires.numbers)
-
-pub next_walk-requires-clause-starts : goal.next_walk-requires-clause-starts
-next_walk-requires-clause-starts g c =
-    let grid = c.args.grid.now in
-    let flat = c.args.flat.now in
-    let net = c.args.net in
-    let numbers = c.args.numbers.now in
-    let joined = c.args.joined.now in
-    let boxes = c.args.starts.now.boxes.items in
-    let starts = c.args.starts.now.slots.items in
-    starts_are flat net numbers c.requires.numbers joined c.requires.joined grid boxes starts c.requires.starts
-
-pub next_walk-requires-clause-ends : goal.next_walk-requires-clause-ends
-next_walk-requires-clause-ends g c =
-    let grid = c.args.grid.now in
-    let flat = c.args.flat.now in
-    let net = c.args.net in
-    let numbers = c.args.numbers.now in
-    let joined = c.args.joined.now in
-    let boxes = c.in_ok-ends.ends.boxes.items in
-    let ends = c.in_ok-ends.ends.slots.items in
-    let told : AreMarkedSlots grid flat.shapes joined false numbers boxes ends = rw c.shapes-shapes.ensures.is at c.in_ok-ends.ensures in
-    ends_are flat net numbers c.requires.numbers joined c.requires.joined grid boxes ends told
 
 pub wires_of-requires-clause-walk : goal.wires_of-requires-clause-walk
 wires_of-requires-clause-walk g c =

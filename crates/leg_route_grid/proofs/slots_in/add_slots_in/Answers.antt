@@ -80,3 +80,6 @@ returns-clause-boxed g c boxed =
     c.places_within-columns.result.1 c.places_within-rows.result.0 c.places_within-rows.result.1
     (on g c) (columns g c) (rows g c) c.args.found.now.boxes.items c.add_box.new.boxes.items c.in_ok-add_box.ensures c.args.found.now.slots.items
     c.add_rows_once.new.slots.items (got g c) boxed
+
+pub returns-clause-after : goal.returns-clause-after
+returns-clause-after g c = (c.in_ok-add_box.ensures.more, c.in_ok-add_box.ensures.are)

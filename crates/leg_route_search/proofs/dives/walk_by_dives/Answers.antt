@@ -2,8 +2,14 @@ use Rattle.std.proofs.Common.{◌<◌}
 use Rattle.std.proofs.lemmas.List.Elements.{All-contains}
 use Rattle.leg_route_search.specs.Steps.Walks.{IsStep}
 use Rattle.leg_route_search.specs.Steps.Dive.{IsOrigin, IsFarNode}
-use Rattle.leg_route_search.proofs.WalksBack.{end_open, shortest_from_back}
+use Rattle.leg_route_search.proofs.WalksBack.{end_open, far_each, shortest_from_back}
 use Rattle.leg_route_search.proofs.dives.walk_by_dives.Goals as goal
+
+pub least_left-left-requires-clause-far : goal.least_left-left-requires-clause-far
+least_left-left-requires-clause-far g c =
+    let here = c.args.graph.now in
+    rw c.deref_mut.ensures.value
+    (far_each (g.G.Graph.size_of here) (g.G.Graph.back_bound_of here) (λ a b step. g.met.G.Graph.one_further here step.0 a b step.1.0) c.args.ends.now c.args.known.items c.requires.known)
 
 pub dive_from_ends-requires-clause-within : goal.dive_from_ends-requires-clause-within
 dive_from_ends-requires-clause-within g c a there =

@@ -17,7 +17,7 @@ returns-clause-ready g c =
       count = c.in_ok-marks.ensures.count ∙ c.size.ensures.is;
       unseen = c.in_ok-marks.ensures.unseen;
       untouched = c.new-2.ensures.items;
-      part_is = part_none c.in_ok-grid.grid c.args.flat _ _ _ _ c.new-3.ensures.joined c.new-3.ensures.boxes c.new-3.ensures.slots;
+      part_is = part_none c.in_ok-grid.grid c.args.flat _ _ _ _ _ _ c.new-3.ensures.joined c.new-3.ensures.boxes c.new-3.ensures.slots c.new-3.ensures.hulls c.new-3.ensures.ends;
       joins_are = tt;
     }
 

@@ -1,6 +1,12 @@
 use Rattle.std.proofs.Common.{◌∷◌, [], arith, length-append}
-use Rattle.leg_route_grid.proofs.HullBoxes.{hulls_push}
-use Rattle.leg_route_grid.proofs.hulls.hulls_of.Goals as goal
+use Rattle.leg_route_grid.proofs.HullBoxes.{hulls_push, hulls_stay}
+use Rattle.leg_route_grid.proofs.hulls.add_hulls.Goals as goal
+
+pub loop-last-init : goal.loop-last-init
+loop-last-init g c =
+    let had = c.requires in
+    let first = had.2 in
+    record { count = omega (arith, c.len-last.ensures, c.args.hulls.now.ok.0); each = rw first (hulls_stay had.0 had.1 c.args.hulls.now.items had.3) }
 
 pub loop-last-preserved : goal.loop-last-preserved
 loop-last-preserved g c =

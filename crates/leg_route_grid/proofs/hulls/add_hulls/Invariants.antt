@@ -1,7 +1,7 @@
 -- The hulls so far.
 use Rattle.std.proofs.Common.{◌≡◌, length}
 use Rattle.leg_route_grid.specs.Steps.Hulls.{AreEachHull}
-use Rattle.leg_route_grid.proofs.hulls.hulls_of.Given as goal
+use Rattle.leg_route_grid.proofs.hulls.add_hulls.Given as goal
 
 abbrev pub invariant-loop-last : goal.invariant-loop-last
 invariant-loop-last g l = record {

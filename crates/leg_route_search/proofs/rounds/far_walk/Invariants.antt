@@ -2,7 +2,7 @@
 use Rattle.std.proofs.Common.{◌≡◌, ◌+◌, ◌-◌, ◌^◌, ◌<◌, ◌≤◌, []}
 use Rattle.leg_route_search.specs.Steps.FreshMarks.{AreUnseen}
 use Rattle.leg_route_search.specs.Steps.Starts.{AreLeast}
-use Rattle.leg_route_search.proofs.rounds.shortest.Given as goal
+use Rattle.leg_route_search.proofs.rounds.far_walk.Given as goal
 
 abbrev pub invariant-rounds : goal.invariant-rounds
 invariant-rounds g l = record {

@@ -1,0 +1,292 @@
+-- The slots at which walks of a net end: of a shape more, of those that are left, and by their numbers.
+use Rattle.std.proofs.Common.{◌≡◌, ◌↔◌, ◌⊎◌, ◌<◌, ◌≤◌, ◌-◌, ℕ, Bool, true, false, List, [], ◌∷◌, ◌++◌, length, map, min, take, drop, get_or, All, Contains, Some, slice_get, inl, inr, refl, sym, subst, ap, ◌∙◌, true≢false, arith}
+use Rattle.std.proofs.Math.Nat.{min-le_left, min-le_right}
+use Rattle.std.proofs.lemmas.Bool.{cases_Bool, cases_lt}
+use Rattle.std.proofs.Math.Seq.{drop-append_seam}
+use Rattle.std.proofs.lemmas.List.{get_or-map, length-map, length-drop, take_all}
+use Rattle.std.proofs.lemmas.List.Elements.{All-get_or, All-contains, Contains-append_left, Contains-append_right, Contains-append_cases, Contains-push, Contains-push_cases}
+use Rattle.std.proofs.lemmas.Option.{same_Some, slice_get_within, slice_get_read, slice_get-get_or}
+use Rattle.leg_sweep.proofs.Lists.{All-from_contains, Contains-nil, Contains-map}
+use Rattle.leg_rules.specs.declared.shape.Shape.{Shape}
+use Rattle.leg_rules.specs.declared.node.Node.{Node}
+use Rattle.leg_rules.specs.Metal.Flat.{FlatModel}
+use Rattle.leg_route_grid.specs.declared.slot_box.SlotBox.{SlotBox}
+use Rattle.leg_route_grid.specs.Steps.WalkBounds.{slot_of, bound_at, IsBoxOf}
+use Rattle.leg_route_grid.specs.Steps.Grid.{GridModel, IsNumberOf, slot_total}
+use Rattle.leg_route_grid.specs.Steps.NodeNumbers.{IsOneOf}
+use Rattle.leg_route_grid.specs.Steps.NodesInRect.{LiesInRect}
+use Rattle.leg_route_grid.proofs.Bounds.{nearest_both}
+use Rattle.leg_route_search.specs.Steps.Starts.{AreLeast}
+use Rattle.leg_wire.specs.NetShapes.{AreNumbersOf}
+use Rattle.leg_wire.specs.PieceMarks.{AreMarks}
+use Rattle.leg_rules.specs.Joins.Touch.{piece_count, AreJoined}
+use Rattle.leg_rules.specs.Route.Meets.{MeetsRest}
+use Rattle.leg_route_laws.proofs.Places.{comes_from}
+use Rattle.leg_route.specs.Steps.NetSlots.{MeetsMarked}
+use Rattle.leg_route.proofs.NetSlots.{meets_piece, rest_marked}
+use Rattle.leg_route.specs.declared.end_slots.EndSlot.{EndSlot}
+use Rattle.leg_route.specs.Steps.EndSlots.{IsApart, MeetsPiece, IsEndSlot, AreEndSlots, end_at, HaveGotEnds, end_from, AreEndsLeft}
+
+-- the same ends for other reasons
+pub ends_as : (grid : GridModel) (Apart Apart2 : ℕ → Type 0) (Meets Meets2 : ℕ → Node → Type 0) (boxes : List SlotBox) (ends : List EndSlot)
+    → ((piece : ℕ) → Apart piece → Apart2 piece) → ((piece : ℕ) → Apart2 piece → Apart piece)
+    → ((piece : ℕ) (node : Node) → Apart2 piece → Meets piece node → Meets2 piece node) → ((piece : ℕ) (node : Node) → Apart2 piece → Meets2 piece node → Meets piece node)
+    → AreEndSlots grid Apart Meets boxes ends → AreEndSlots grid Apart2 Meets2 boxes ends
+ends_as grid Apart Apart2 Meets Meets2 boxes ends apart apart_back meets meets_back are = record {
+  each = λ end has.
+      let is = are.each end has in
+      let then = apart end.piece is.apart in
+      record { apart = then; meets = record { node = is.meets.node; is = is.meets.is; holds = meets end.piece is.meets.node then is.meets.holds }; within = is.within; least = is.least };
+  all = λ piece n then one. are.all piece n (apart_back piece then) (record { node = one.node; is = one.is; holds = meets_back piece one.node then one.holds });
+}
+
+-- none
+pub ends_none : (grid : GridModel) (joined : List Bool) (shapes : List Shape) (boxes : List SlotBox) → AreEndSlots grid (IsApart joined) (MeetsPiece shapes []) boxes []
+ends_none grid joined shapes boxes = record { each = λ end has. absurd (Contains-nil end has); all = λ piece n apart one. absurd (Contains-nil one.holds.number one.holds.listed) }
+
+-- one shape more
+module _ (grid : GridModel) (joined : List Bool) (shapes : List Shape) (numbers : List ℕ) (boxes : List SlotBox) (ends : List EndSlot)
+    (done : AreEndSlots grid (IsApart joined) (MeetsPiece shapes numbers) boxes ends) (k : ℕ) (shape : Shape) (read : slice_get shapes k ≡ Some shape) where
+  earlier : (piece : ℕ) (node : Node) → MeetsPiece shapes numbers piece node → MeetsPiece shapes (numbers ++ k ∷ []) piece node
+  earlier piece node m = record {
+    number = m.number;
+    listed = Contains-append_left numbers (k ∷ []) m.number m.listed;
+    shape = m.shape;
+    there = m.there;
+    of_piece = m.of_piece;
+    lies = m.lies;
+  }
+
+  -- of this shape
+  record IsHere (piece : ℕ) (node : Node) : Type 0 where
+    pub of_piece : shape.piece ≡ Some piece
+    pub lies : LiesInRect shape.layer shape.rect node
+
+  here_of : (piece : ℕ) (node : Node) (m : MeetsPiece shapes (numbers ++ k ∷ []) piece node) → k ≡ m.number → IsHere piece node
+  here_of piece node m same =
+      let there : slice_get shapes k ≡ Some m.shape = rw same m.there in
+      let is : m.shape ≡ shape = same_Some m.shape shape (sym there ∙ read) in
+      record { of_piece = subst (λ (s : Shape). s.piece ≡ Some piece) is m.of_piece; lies = subst (λ (s : Shape). LiesInRect s.layer s.rect node) is m.lies }
+
+  parts : (piece : ℕ) (node : Node) → MeetsPiece shapes (numbers ++ k ∷ []) piece node → MeetsPiece shapes numbers piece node ⊎ IsHere piece node
+  parts piece node m = elim (Contains-push_cases numbers k m.number m.listed) [
+    | inl before ↦ inl (record { number = m.number; listed = before; shape = m.shape; there = m.there; of_piece = m.of_piece; lies = m.lies })
+    | inr same ↦ inr (here_of piece node m same)
+  ]
+
+  still : (more : List EndSlot) (end : EndSlot) → IsEndSlot grid (IsApart joined) (MeetsPiece shapes numbers) boxes end → IsEndSlot grid (IsApart joined) (MeetsPiece shapes (numbers ++ k ∷ [])) boxes end
+  still more end is = record {
+    apart = is.apart;
+    meets = record { node = is.meets.node; is = is.meets.is; holds = earlier end.piece is.meets.node is.meets.holds };
+    within = is.within;
+    least = is.least;
+  }
+
+  -- its piece isn't joined
+  module _ (piece : ℕ) (of_piece : shape.piece ≡ Some piece) (apart : IsApart joined piece) (after : List EndSlot) (got : HaveGotEnds grid boxes shape.layer shape.rect piece ends after) where
+    new_end : (n : ℕ) → Contains got.slots n → IsEndSlot grid (IsApart joined) (MeetsPiece shapes (numbers ++ k ∷ [])) boxes (end_at grid boxes piece n)
+    new_end n has =
+        let one = (got.in_rect n).0 has in record {
+          apart = apart;
+          meets = record {
+            node = one.node;
+            is = one.is;
+            holds = record { number = k; listed = Contains-push numbers k; shape = shape; there = read; of_piece = of_piece; lies = one.holds };
+          };
+          within = All-contains (λ n. n < slot_total grid) got.slots n got.within has;
+          least = min-le_right 4294967295 (bound_at grid boxes n);
+        }
+
+    each_end : (end : EndSlot) → Contains (ends ++ map (end_at grid boxes piece) got.slots) end → IsEndSlot grid (IsApart joined) (MeetsPiece shapes (numbers ++ k ∷ [])) boxes end
+    each_end end has = elim (Contains-append_cases ends (map (end_at grid boxes piece) got.slots) end has) [
+      | inl old ↦ still ends end (done.each end old)
+      | inr new ↦
+          let from = comes_from (end_at grid boxes piece) got.slots end new in
+          subst (λ (e : EndSlot). IsEndSlot grid (IsApart joined) (MeetsPiece shapes (numbers ++ k ∷ [])) boxes e) from.2 (new_end from.0 from.1)
+    ]
+
+    all_ends : (other n : ℕ) → IsApart joined other → IsOneOf (IsNumberOf grid) (MeetsPiece shapes (numbers ++ k ∷ []) other) n
+        → (end : EndSlot) × Contains (ends ++ map (end_at grid boxes piece) got.slots) end × (end.piece ≡ other) × (end.slot ≡ n)
+    all_ends other n is_apart one = elim (parts other one.node one.holds) [
+      | inl before ↦
+          let old = done.all other n is_apart (record { node = one.node; is = one.is; holds = before }) in
+          (old.0, Contains-append_left ends (map (end_at grid boxes piece) got.slots) old.0 old.1, old.2, old.3)
+      | inr here ↦
+          let has = (got.in_rect n).1 (record { node = one.node; is = one.is; holds = here.lies }) in (
+            end_at grid boxes piece n,
+            Contains-append_right ends (map (end_at grid boxes piece) got.slots) (end_at grid boxes piece n) (Contains-map (end_at grid boxes piece) got.slots n has),
+            same_Some piece other (sym of_piece ∙ here.of_piece),
+            refl,
+          )
+    ]
+
+    pub ends_more : AreEndSlots grid (IsApart joined) (MeetsPiece shapes (numbers ++ k ∷ [])) boxes after
+    ends_more = rw got.are (record { each = each_end; all = all_ends })
+
+  -- it is, or the shape is of none
+  pub ends_skip : ((piece : ℕ) → shape.piece ≡ Some piece → IsApart joined piece → ⊥) → AreEndSlots grid (IsApart joined) (MeetsPiece shapes (numbers ++ k ∷ [])) boxes ends
+  ends_skip none = record {
+    each = λ end has. still ends end (done.each end has);
+    all = λ piece n apart one. elim (parts piece one.node one.holds) [
+      | inl before ↦ done.all piece n apart (record { node = one.node; is = one.is; holds = before })
+      | inr here ↦ absurd (none piece here.of_piece apart)
+    ];
+  }
+
+-- one end more is looked at
+module _ (grid : GridModel) (joined : List Bool) (boxes : List SlotBox) (ends left : List EndSlot) (so_far : AreEndsLeft grid joined boxes ends left) (end : EndSlot) where
+  pub left_none : AreEndsLeft grid joined boxes [] []
+  left_none = record { each = λ e has. absurd (Contains-nil e has); all = λ e has apart. absurd (Contains-nil e has) }
+
+  pub left_more : (after : List EndSlot) → after ≡ left ++ end_from grid boxes end ∷ [] → IsApart joined end.piece → AreEndsLeft grid joined boxes (ends ++ end ∷ []) after
+  left_more after is apart =
+      rw is
+      (record {
+        each = λ e has. elim (Contains-push_cases left (end_from grid boxes end) e has) [
+          | inl old ↦ let from = so_far.each e old in (from.0, Contains-append_left ends (end ∷ []) from.0 from.1, from.2, from.3)
+          | inr same ↦ (end, Contains-push ends end, apart, sym same)
+        ];
+        all = λ e has is_apart. elim (Contains-push_cases ends end e has) [
+          | inl old ↦ Contains-append_left left (end_from grid boxes end ∷ []) (end_from grid boxes e) (so_far.all e old is_apart)
+          | inr same ↦ subst (λ (x : EndSlot). Contains (left ++ end_from grid boxes end ∷ []) (end_from grid boxes x)) same (Contains-push left (end_from grid boxes end))
+        ];
+      })
+
+  pub left_skip : (IsApart joined end.piece → ⊥) → AreEndsLeft grid joined boxes (ends ++ end ∷ []) left
+  left_skip none = record {
+    each = λ e has. let from = so_far.each e has in (from.0, Contains-append_left ends (end ∷ []) from.0 from.1, from.2, from.3);
+    all = λ e has is_apart. elim (Contains-push_cases ends end e has) [
+      | inl old ↦ so_far.all e old is_apart
+      | inr same ↦ absurd (none (subst (λ (x : EndSlot). IsApart joined x.piece) (sym same) is_apart))
+    ];
+  }
+
+-- a piece that isn't joined wasn't before
+pub was_apart : (before joined : List Bool) → ((k : ℕ) → slice_get before k ≡ Some true → slice_get joined k ≡ Some true)
+    → ((k : ℕ) → length before ≤ k → k < length joined → get_or joined k true ≡ true) → (piece : ℕ) → IsApart joined piece → IsApart before piece
+was_apart before joined still later piece apart =
+    let low = slice_get_within joined piece false apart in
+    let now : get_or joined piece true ≡ false = same_Some (get_or joined piece true) false (sym (slice_get-get_or joined piece true low) ∙ apart) in
+    elim (cases_lt piece (length before)) [
+      | inl within ↦
+          let read = slice_get-get_or before piece false within in
+          elim (cases_Bool (get_or before piece false)) [
+            | inl is ↦ absurd (true≢false (same_Some true false (sym (still piece (read ∙ ap Some is)) ∙ apart)))
+            | inr is ↦ read ∙ ap Some is
+          ]
+      | inr past ↦ absurd (true≢false (sym (later piece past low) ∙ now))
+    ]
+
+-- what is left of the ends, when boxes have come to those of the joined part
+pub ends_kept : (grid : GridModel) (before joined : List Bool) (Meets : ℕ → Node → Type 0) (old come boxes : List SlotBox) (ends left : List EndSlot) → boxes ≡ old ++ come
+    → ((piece : ℕ) → IsApart joined piece → IsApart before piece) → AreEndSlots grid (IsApart before) Meets old ends → AreEndsLeft grid joined come ends left
+    → AreEndSlots grid (IsApart joined) Meets boxes left
+ends_kept grid before joined Meets old come boxes ends left boxes_are was had is = record {
+  each = λ end has.
+      let from = is.each end has in
+      let b = from.0 in
+      let one = had.each b from.1 in
+      let first = min-le_left b.least (bound_at grid come b.slot) in
+      let rest = min-le_right b.least (bound_at grid come b.slot) in
+      let few = one.least in
+      let both : min b.least (bound_at grid come b.slot) ≤ bound_at grid (old ++ come) b.slot = nearest_both old come (slot_of grid b.slot) (min b.least (bound_at grid come b.slot)) (omega (arith, first, few)) rest in
+      let then : IsEndSlot grid (IsApart joined) Meets boxes (end_from grid come b) = record { apart = from.2; meets = one.meets; within = one.within; least = rw boxes_are both } in
+      subst (λ (e : EndSlot). IsEndSlot grid (IsApart joined) Meets boxes e) (sym from.3) then;
+  all = λ piece n apart one.
+      let b = had.all piece n (was piece apart) one in
+      (end_from grid come b.0, is.all b.0 b.1 (rw b.2 apart), b.2, b.3);
+}
+
+-- the ends are of slots of the grid, no fewer steps from the boxes than they tell
+pub ends_within : (grid : GridModel) (Apart : ℕ → Type 0) (Meets : ℕ → Node → Type 0) (boxes : List SlotBox) (ends : List EndSlot) → AreEndSlots grid Apart Meets boxes ends
+    → All (λ (end : EndSlot). end.slot < slot_total grid) ends
+ends_within grid Apart Meets boxes ends are = All-from_contains (λ (end : EndSlot). end.slot < slot_total grid) ends (λ end has. (are.each end has).within)
+
+pub ends_least : (grid : GridModel) (Apart : ℕ → Type 0) (Meets : ℕ → Node → Type 0) (boxes : List SlotBox) (ends : List EndSlot) → AreEndSlots grid Apart Meets boxes ends
+    → All (λ (end : EndSlot). end.least ≤ bound_at grid boxes end.slot) ends
+ends_least grid Apart Meets boxes ends are = All-from_contains (λ (end : EndSlot). end.least ≤ bound_at grid boxes end.slot) ends (λ end has. (are.each end has).least)
+
+-- what a search is told of the ends
+pub told_least : (bound : ℕ → ℕ) (ends : List EndSlot) → All (λ (end : EndSlot). end.least ≤ bound end.slot) ends
+    → (k : ℕ) → k < length ends → get_or (map (λ (end : EndSlot). end.least) ends) k 0 ≤ bound (get_or (map (λ (end : EndSlot). end.slot) ends) k 0)
+told_least bound ends each k low =
+    let none : EndSlot = record { piece = 0; slot = 0; least = 0 } in
+    rw (get_or-map (λ (end : EndSlot). end.least) ends k none 0 low, get_or-map (λ (end : EndSlot). end.slot) ends k none 0 low)
+    (All-get_or (λ (end : EndSlot). end.least ≤ bound end.slot) ends k none low each)
+
+pub told_ends : (bound : ℕ → ℕ) (ends : List EndSlot) → All (λ (end : EndSlot). end.least ≤ bound end.slot) ends
+    → AreLeast bound (map (λ (end : EndSlot). end.slot) ends) 0 (map (λ (end : EndSlot). end.least) ends)
+told_ends bound ends each =
+    let slots = length-map ends (λ (end : EndSlot). end.slot) in
+    let steps = length-map ends (λ (end : EndSlot). end.least) in
+    record {
+      one_each = steps ∙ sym slots;
+      each = λ k low. told_least bound ends each k (omega (arith, low, slots));
+      told_near = λ k low below. absurd (omega (arith, below));
+    }
+
+pub slots_within : (size : ℕ) (ends : List EndSlot) → All (λ (end : EndSlot). end.slot < size) ends → All (λ n. n < size) (map (λ (end : EndSlot). end.slot) ends)
+slots_within size ends each = All-from_contains (λ n. n < size) (map (λ (end : EndSlot). end.slot) ends)
+    (λ n has.
+    let from = comes_from (λ (end : EndSlot). end.slot) ends n has in
+    subst (λ m. m < size) from.2 (All-contains (λ (end : EndSlot). end.slot < size) ends from.0 each from.1))
+
+-- what stands in a list behind its first part
+pub come_are : (all old more : List SlotBox) (first : ℕ) → all ≡ old ++ more → first ≡ length old → take (length all - first) (drop first all) ≡ more
+come_are all old more first all_is first_is =
+    rw (all_is, first_is)
+    (take_all (length (old ++ more) - length old) (drop (length old) (old ++ more)) (omega (arith, length-drop (length old) (old ++ more))) ∙ drop-append_seam old more)
+
+pub come_boxes : (grid : GridModel) (all old more : List SlotBox) → all ≡ old ++ more → All (IsBoxOf grid) all → All (IsBoxOf grid) more
+come_boxes grid all old more all_is each =
+    All-from_contains (IsBoxOf grid) more
+    (λ ends has. All-contains (IsBoxOf grid) all ends each (subst (λ (boxes : List SlotBox). Contains boxes ends) (sym all_is) (Contains-append_right old more ends has)))
+
+-- the slots of nodes that meet the rest of a net are those of its ends
+pub rest_are : (flat : FlatModel) (net : ℕ) (numbers : List ℕ) (are : AreNumbersOf flat.shapes net numbers) (joined : List Bool) (marks : AreMarks (AreJoined flat net 0) (piece_count flat net) joined)
+    (grid : GridModel) (boxes : List SlotBox) (ends : List EndSlot) → AreEndSlots grid (IsApart joined) (MeetsPiece flat.shapes numbers) boxes ends
+    → (n : ℕ) → Contains (map (λ (end : EndSlot). end.slot) ends) n ↔ IsOneOf (IsNumberOf grid) (MeetsRest flat net) n
+rest_are flat net numbers are joined marks grid boxes ends ends_are n = (
+  λ has.
+      let from = comes_from (λ (end : EndSlot). end.slot) ends n has in
+      let is = ends_are.each from.0 from.1 in
+      let one = is.meets in
+      let m : MeetsMarked flat.shapes joined false numbers one.node = record {
+        number = one.holds.number;
+        listed = one.holds.listed;
+        shape = one.holds.shape;
+        there = one.holds.there;
+        marked = record { number = from.0.piece; is = one.holds.of_piece; marked = is.apart };
+        lies = one.holds.lies;
+      } in
+      subst (λ k. IsOneOf (IsNumberOf grid) (MeetsRest flat net) k) from.2
+      (record {
+        node = one.node;
+        is = one.is;
+        holds = record {
+          piece = from.0.piece;
+          rest = λ joined_is. absurd (true≢false (sym ((marks.each from.0.piece false is.apart).1 joined_is)));
+          meets = meets_piece flat net numbers are joined marks false one.node m;
+        };
+      }),
+  λ one.
+      let rest = one.holds in
+      let apart : IsApart joined rest.piece = rest_marked flat net numbers are joined marks rest.piece rest.meets.of_piece.there rest.rest in
+      let lies = rest.meets in
+      let k = lies.has.0 in
+      let there : slice_get flat.shapes k ≡ Some lies.shape = slice_get_read flat.shapes _ k lies.shape refl lies.has.1 (sym lies.has.2) in
+      let end = ends_are.all rest.piece n apart
+      (record {
+        node = one.node;
+        is = one.is;
+        holds = record {
+          number = k;
+          listed = are.all k (record { shape = lies.shape; at = there; owner = lies.of_piece.owner });
+          shape = lies.shape;
+          there = there;
+          of_piece = lies.of_piece.piece;
+          lies = record { on_layer = sym lies.on_layer; inside = lies.inside };
+        };
+      }) in
+      subst (λ k. Contains (map (λ (end : EndSlot). end.slot) ends) k) end.3 (Contains-map (λ (end : EndSlot). end.slot) ends end.0 end.1),
+)

@@ -1,0 +1,7 @@
+-- The slots so far.
+use Rattle.std.proofs.Common.{◌≡◌, map, take}
+use Rattle.leg_route.specs.declared.end_slots.EndSlot.{EndSlot}
+use Rattle.leg_route.proofs.end_slots.slots_of_ends.Given as goal
+
+abbrev pub invariant-loop-end : goal.invariant-loop-end
+invariant-loop-end g l = l.slots.items ≡ map (λ (end : EndSlot). end.slot) (take l.end-index l.ends)

@@ -1,0 +1,69 @@
+use Rattle.std.proofs.Common.{◌≡◌, ◌↔◌, ℕ, [], map, Contains, length, refl, arith}
+use Rattle.std.proofs.lemmas.Bool.Decides.{nat_tests}
+use Rattle.std.proofs.lemmas.List.{nil_from_length}
+use Rattle.leg_route_grid.specs.Steps.Grid.{IsNumberOf, slot_total}
+use Rattle.leg_route_grid.specs.Steps.WalkBounds.{bound_at}
+use Rattle.leg_rules.specs.Route.Meets.{MeetsRest}
+use Rattle.leg_route_grid.specs.Steps.NodeNumbers.{IsOneOf}
+use Rattle.leg_route_search.specs.Steps.Dive.{IsOrigin}
+use Rattle.leg_route_search.specs.Steps.Starts.{AreLeast}
+use Rattle.leg_route.specs.declared.end_slots.EndSlot.{EndSlot}
+use Rattle.leg_route.proofs.EndSlots.{told_ends, slots_within}
+use Rattle.leg_route.proofs.NextWalk.{no_starts, no_ends, origins_are, near_at, near_within}
+use Rattle.leg_route.proofs.next_wires.walk_nearby.Goals as goal
+
+pub near_walk-requires-clause-ends : goal.near_walk-requires-clause-ends
+near_walk-requires-clause-ends g c = rw (c.deref.ensures.value, c.in_ok-last.ensures) (slots_within (slot_total c.args.grid.now) c.args.ends.now c.requires.ends_within)
+
+pub near_walk-requires-clause-known : goal.near_walk-requires-clause-known
+near_walk-requires-clause-known g c =
+    let told : AreLeast (λ n. bound_at c.args.grid.now c.as_slice.result.now n) c.deref.result.now 0 c.in_ok-known.known.items = rw (c.as_slice.ensures.value, c.deref.ensures.value, c.in_ok-last.ensures, c.in_ok-known.ensures)
+    (told_ends (λ n. bound_at c.args.grid.now c.args.starts.now.boxes.items n) c.args.ends.now c.requires.least) in
+    told
+
+pub returns-clause-answer : goal.returns-clause-answer
+returns-clause-answer g c =
+    let grid = c.args.grid.now in
+    let flat = c.args.flat.now in
+    let slots = c.args.slots.now in
+    let net = c.args.net in
+    let starts = c.args.starts.now.slots.items in
+    let ends = c.deref.result.now in
+    let last : (n : ℕ) → Contains ends n ↔ IsOneOf (IsNumberOf grid) (MeetsRest flat net) n = rw (c.deref.ensures.value, c.in_ok-last.ensures) c.requires.ends in
+    let origin = c.as_slice.result.now in
+    let origins : (a : ℕ) → Contains starts a ↔ IsOrigin (slot_total grid) (λ n. bound_at grid origin n) a =
+    rw c.as_slice.ensures.value (origins_are grid c.args.starts.now.boxes.items starts c.requires.starts_within c.requires.starts_boxed) in
+    let law = c.searches_walk_as_numbers.ensures in
+    let proper = c.grid_is_sound.ensures.proper in
+    let sound = c.grid_is_sound.ensures.library in
+    let told = c.requires.told in
+    near_at grid flat slots net origin [] starts ends (λ n. bound_at grid origin n) origins
+    (λ numbers is. law.shortest grid origin [] flat slots net starts ends numbers proper sound told c.requires.starts last is)
+    (λ none. law.none grid origin [] flat slots net starts ends proper sound told c.requires.starts last none) _ _ c.in_ok-walk.ensures.found
+
+pub returns-clause-within : goal.returns-clause-within
+returns-clause-within g c =
+    let grid = c.args.grid.now in
+    let slots = c.args.slots.now in
+    let net = c.args.net in
+    let starts = c.args.starts.now.slots.items in
+    let ends = c.deref.result.now in
+    let origin = c.as_slice.result.now in
+    let origins : (a : ℕ) → Contains starts a ↔ IsOrigin (slot_total grid) (λ n. bound_at grid origin n) a =
+    rw c.as_slice.ensures.value (origins_are grid c.args.starts.now.boxes.items starts c.requires.starts_within c.requires.starts_boxed) in
+    near_within grid c.args.flat.now slots net origin [] starts ends (λ n. bound_at grid origin n) origins
+    (λ numbers is. c.searches_walk_as_numbers.ensures.within grid origin [] slots net starts ends numbers c.requires.told.count is) (λ v. v.items) c.near_walk.new.left_out
+    c.in_ok-walk.walk c.in_ok-walk.ensures.found
+
+pub returns-then-is_empty-clause-answer : goal.returns-then-is_empty-clause-answer
+returns-then-is_empty-clause-answer g c = λ _.
+    let starts = c.args.starts.now.slots in
+    let empty : length starts.items ≡ 0 = grind (arith, nat_tests, c.is_empty.ensures, c.if-is_empty.true, starts.ok.0) in
+    no_starts c.args.grid.now c.args.flat.now c.args.net starts.items c.requires.starts (nil_from_length starts.items empty)
+
+pub returns-then-is_empty-2-clause-answer : goal.returns-then-is_empty-2-clause-answer
+returns-then-is_empty-2-clause-answer g c = λ _.
+    let ends = c.args.ends.now in
+    let empty : length ends ≡ 0 = grind (arith, nat_tests, c.is_empty-2.ensures, c.if-is_empty-2.true) in
+    let none : ends ≡ [] = nil_from_length ends empty in
+    no_ends c.args.grid.now c.args.flat.now c.args.net (map (λ (end : EndSlot). end.slot) ends) c.requires.ends (rw none refl)

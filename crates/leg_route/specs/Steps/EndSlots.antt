@@ -1,0 +1,56 @@
+-- The slots at which walks of a net end, each with how many steps are left to it at least.
+use Rattle.std.specs.Prelude.{◌≡◌, ◌↔◌, ◌<◌, ◌≤◌, ℕ, Bool, false, List, ◌++◌, map, min, All, Contains, Some, slice_get}
+use Rattle.leg_geom.specs.Plane.{RectModel}
+use Rattle.leg_rules.specs.declared.shape.Shape.{Shape}
+use Rattle.leg_rules.specs.declared.node.Node.{Node}
+use Rattle.leg_route_grid.specs.declared.slot_box.SlotBox.{SlotBox}
+use Rattle.leg_route_grid.specs.Steps.WalkBounds.{bound_at}
+use Rattle.leg_route_grid.specs.Steps.Grid.{GridModel, IsNumberOf, slot_total}
+use Rattle.leg_route_grid.specs.Steps.NodeNumbers.{IsOneOf}
+use Rattle.leg_route_grid.specs.Steps.NodesInRect.{LiesInRect}
+use Rattle.leg_route.specs.declared.end_slots.EndSlot.{EndSlot}
+
+-- the piece is one of those that have marks, and is not joined
+abbrev pub IsApart : List Bool → ℕ → Type 0
+IsApart joined piece = slice_get joined piece ≡ Some false
+
+-- the node lies in one of the shapes of these numbers, which is of this piece
+pub record MeetsPiece (shapes : List Shape) (numbers : List ℕ) (piece : ℕ) (node : Node) : Type 0 where
+  pub number : ℕ
+  pub listed : Contains numbers number
+  pub shape : Shape
+  pub there : slice_get shapes number ≡ Some shape
+  pub of_piece : shape.piece ≡ Some piece
+  pub lies : LiesInRect shape.layer shape.rect node
+
+-- the slot is that of a node that meets such a piece, and no fewer steps are left to it from the boxes
+pub record IsEndSlot (grid : GridModel) (Apart : ℕ → Type 0) (Meets : ℕ → Node → Type 0) (boxes : List SlotBox) (end : EndSlot) : Type 0 where
+  pub apart : Apart end.piece
+  pub meets : IsOneOf (IsNumberOf grid) (Meets end.piece) end.slot
+  pub within : end.slot < slot_total grid
+  pub least : end.least ≤ bound_at grid boxes end.slot
+
+-- such ends, and each slot of such a node is one
+pub record AreEndSlots (grid : GridModel) (Apart : ℕ → Type 0) (Meets : ℕ → Node → Type 0) (boxes : List SlotBox) (ends : List EndSlot) : Type 0 where
+  pub each : (end : EndSlot) → Contains ends end → IsEndSlot grid Apart Meets boxes end
+  pub all : (piece n : ℕ) → Apart piece → IsOneOf (IsNumberOf grid) (Meets piece) n → (end : EndSlot) × Contains ends end × (end.piece ≡ piece) × (end.slot ≡ n)
+
+-- the slot of this number as an end in the piece
+abbrev pub end_at : GridModel → List SlotBox → ℕ → ℕ → EndSlot
+end_at grid boxes piece n = record { piece = piece; slot = n; least = min 4294967295 (bound_at grid boxes n) }
+
+-- the slots in the rectangle have come to the ends
+pub record HaveGotEnds (grid : GridModel) (boxes : List SlotBox) (layer : ℕ) (rect : RectModel) (piece : ℕ) (before after : List EndSlot) : Type 0 where
+  pub slots : List ℕ
+  pub are : after ≡ before ++ map (end_at grid boxes piece) slots
+  pub in_rect : (n : ℕ) → Contains slots n ↔ IsOneOf (IsNumberOf grid) (LiesInRect layer rect) n
+  pub within : All (λ n. n < slot_total grid) slots
+
+-- the same end, to which no more steps are left than from these boxes
+abbrev pub end_from : GridModel → List SlotBox → EndSlot → EndSlot
+end_from grid boxes end = record { piece = end.piece; slot = end.slot; least = min end.least (bound_at grid boxes end.slot) }
+
+-- those of the ends whose pieces are not joined, when these boxes have come to the joined ones
+pub record AreEndsLeft (grid : GridModel) (joined : List Bool) (boxes : List SlotBox) (ends left : List EndSlot) : Type 0 where
+  pub each : (end : EndSlot) → Contains left end → (before : EndSlot) × Contains ends before × IsApart joined before.piece × (end ≡ end_from grid boxes before)
+  pub all : (before : EndSlot) → Contains ends before → IsApart joined before.piece → Contains left (end_from grid boxes before)
