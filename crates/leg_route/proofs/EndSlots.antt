@@ -6,7 +6,7 @@ use Rattle.std.proofs.Math.Seq.{drop-append_seam}
 use Rattle.std.proofs.lemmas.List.{get_or-map, length-map, length-drop, take_all}
 use Rattle.std.proofs.lemmas.List.Elements.{All-get_or, All-contains, Contains-append_left, Contains-append_right, Contains-append_cases, Contains-push, Contains-push_cases}
 use Rattle.std.proofs.lemmas.Option.{same_Some, slice_get_within, slice_get_read, slice_get-get_or}
-use Rattle.leg_sweep.proofs.Lists.{All-from_contains, Contains-nil, Contains-map}
+use Rattle.leg_sweep.proofs.Lists.{All-from_contains, Contains-map}
 use Rattle.leg_rules.specs.declared.shape.Shape.{Shape}
 use Rattle.leg_rules.specs.declared.node.Node.{Node}
 use Rattle.leg_rules.specs.Metal.Flat.{FlatModel}
@@ -39,10 +39,6 @@ ends_as grid Apart Apart2 Meets Meets2 boxes ends apart apart_back meets meets_b
       record { apart = then; meets = record { node = is.meets.node; is = is.meets.is; holds = meets end.piece is.meets.node then is.meets.holds }; within = is.within; least = is.least };
   all = λ piece n then one. are.all piece n (apart_back piece then) (record { node = one.node; is = one.is; holds = meets_back piece one.node then one.holds });
 }
-
--- none
-pub ends_none : (grid : GridModel) (joined : List Bool) (shapes : List Shape) (boxes : List SlotBox) → AreEndSlots grid (IsApart joined) (MeetsPiece shapes []) boxes []
-ends_none grid joined shapes boxes = record { each = λ end has. absurd (Contains-nil end has); all = λ piece n apart one. absurd (Contains-nil one.holds.number one.holds.listed) }
 
 -- one shape more
 module _ (grid : GridModel) (joined : List Bool) (shapes : List Shape) (numbers : List ℕ) (boxes : List SlotBox) (ends : List EndSlot)
@@ -135,9 +131,6 @@ module _ (grid : GridModel) (joined : List Bool) (shapes : List Shape) (numbers 
 
 -- one end more is looked at
 module _ (grid : GridModel) (joined : List Bool) (boxes : List SlotBox) (ends left : List EndSlot) (so_far : AreEndsLeft grid joined boxes ends left) (end : EndSlot) where
-  pub left_none : AreEndsLeft grid joined boxes [] []
-  left_none = record { each = λ e has. absurd (Contains-nil e has); all = λ e has apart. absurd (Contains-nil e has) }
-
   pub left_more : (after : List EndSlot) → after ≡ left ++ end_from grid boxes end ∷ [] → IsApart joined end.piece → AreEndsLeft grid joined boxes (ends ++ end ∷ []) after
   left_more after is apart =
       rw is
@@ -197,14 +190,10 @@ ends_kept grid before joined Meets old come boxes ends left boxes_are was had is
       (end_from grid come b.0, is.all b.0 b.1 (rw b.2 apart), b.2, b.3);
 }
 
--- the ends are of slots of the grid, no fewer steps from the boxes than they tell
+-- the ends are of slots of the grid
 pub ends_within : (grid : GridModel) (Apart : ℕ → Type 0) (Meets : ℕ → Node → Type 0) (boxes : List SlotBox) (ends : List EndSlot) → AreEndSlots grid Apart Meets boxes ends
     → All (λ (end : EndSlot). end.slot < slot_total grid) ends
 ends_within grid Apart Meets boxes ends are = All-from_contains (λ (end : EndSlot). end.slot < slot_total grid) ends (λ end has. (are.each end has).within)
-
-pub ends_least : (grid : GridModel) (Apart : ℕ → Type 0) (Meets : ℕ → Node → Type 0) (boxes : List SlotBox) (ends : List EndSlot) → AreEndSlots grid Apart Meets boxes ends
-    → All (λ (end : EndSlot). end.least ≤ bound_at grid boxes end.slot) ends
-ends_least grid Apart Meets boxes ends are = All-from_contains (λ (end : EndSlot). end.least ≤ bound_at grid boxes end.slot) ends (λ end has. (are.each end has).least)
 
 -- what a search is told of the ends
 pub told_least : (bound : ℕ → ℕ) (ends : List EndSlot) → All (λ (end : EndSlot). end.least ≤ bound end.slot) ends
