@@ -30,3 +30,7 @@ pub line_feeds_none : (piece : List ℕ) → ((after : List ℕ) × IsPiece piec
 line_feeds_none [] is_piece long quote = refl
 line_feeds_none (b ∷ bytes) (after, is_piece) long quote =
     ends_feeds (kind_of b) b bytes after refl is_piece (λ e. absurd (omega (arith, ap length e))) quote
+
+pub plain_feeds_none : (b : ℕ) (bytes after : List ℕ) → kind_of b ≡ Plain → IsPiece (b ∷ bytes) after → count_by is_line_feed (b ∷ bytes) ≡ 0
+plain_feeds_none b bytes after is is_piece =
+    sym (count_after b bytes (plain_feeds Plain b is (λ e. cc)) (runs_count is_white is_line_feed bytes after white_feeds (rw is at is_piece)))

@@ -66,7 +66,7 @@ closed_by_piece word (Some n) quote is within = by (n == length word) refl where
   by false less = less ∙ sym (piece_is_less word n is within (λ all. both_ways (n == length word) less (eq-eqb _ _ all)))
 
 -- By the pieces of texts: a plain word is a plain piece, and a quoted word is a quoted one.
-plain_here : (b : ℕ) → is_plain_kind (kind_of b) ≡ true → kind_of b ≡ Plain
+pub plain_here : (b : ℕ) → is_plain_kind (kind_of b) ≡ true → kind_of b ≡ Plain
 plain_here b test = by (kind_of b) test where
   by : (kind : Kind) → is_plain_kind kind ≡ true → kind ≡ Plain
   by White test = cc

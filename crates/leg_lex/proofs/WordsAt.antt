@@ -1,5 +1,5 @@
 -- The words at places of a text.
-use Rattle.std.proofs.Common.{◌≡◌, ℕ, suc, ◌+◌, ◌-◌, ◌<◌, ◌≤◌, true, ◌==◌, nat_lt, List, [], ◌∷◌, ◌++◌, length, map, take, drop, get_or, slice_range, count_by, Result, Ok, Err, OnOk, refl, sym, ap, ◌∙◌, arith}
+use Rattle.std.proofs.Common.{◌≡◌, ℕ, zero, suc, ◌+◌, ◌-◌, ◌<◌, ◌≤◌, true, ◌==◌, nat_lt, List, [], ◌∷◌, ◌++◌, length, map, take, drop, get_or, slice_range, count_by, Result, Ok, Err, OnOk, refl, sym, ap, ◌∙◌, add-zero, arith}
 use Rattle.std.proofs.lemmas.Bool.Decides.{nat_tests}
 use Rattle.std.proofs.Math.Nat.{add-sub_cancel_left}
 use Rattle.std.proofs.Math.Seq.{take-suc, drop-cons}
@@ -7,11 +7,12 @@ use Rattle.std.proofs.lemmas.List.{append_assoc, append-nil, take-take, drop-dro
 use Rattle.std.proofs.lemmas.List.Sums.{count_by-le-length}
 use Rattle.leg_lex.specs.declared.word_place.WordPlace.{WordPlace}
 use Rattle.leg_lex.specs.Word.{Word, texts}
-use Rattle.leg_lex.specs.Cut.{is_white, is_line_feed, IsPiece, IsUnclosed}
+use Rattle.leg_lex.specs.Cut.{Plain, kind_of, is_white, is_line_feed, IsPiece, IsUnclosed}
 use Rattle.leg_lex.specs.Tokens.{plain_words, words_in}
 use Rattle.leg_lex.specs.WordPlaces.{bytes_at, word_at}
 use Rattle.leg_lex.specs.Steps.MoreWords.{AddsWords}
 use Rattle.leg_lex.proofs.Cuts.{HasRead, read_more, read_stuck}
+use Rattle.leg_lex.proofs.LineFeeds.{plain_feeds_none}
 
 -- the words without their lines are the bytes there
 pub texts_at : (text : List ℕ) (places : List WordPlace) → map (bytes_at text) places ≡ texts (map (word_at text) places)
@@ -118,6 +119,21 @@ white_on text at line places less white read =
     let more = read_more text (drop at text) line (map (word_at text) places) 1 read (rw (front, after) is) in
     let next : at + 1 ≡ suc at = omega arith in
     rw next (rw (front, after, none, append-nil) at more)
+
+-- a plain word is read
+pub plain_on : (text : List ℕ) (at line n : ℕ) (before after : List WordPlace) → HasRead text (drop at text) line (map (word_at text) before) → at < length text
+    → kind_of (get_or text at 0) ≡ Plain → 0 < n → IsPiece (take n (slice_range text at (length text))) (drop n (slice_range text at (length text)))
+    → AddsWords text (plain_words line (slice_range text at (at + n))) before after → HasRead text (drop (at + n) text) line (map (word_at text) after)
+plain_on text at line zero before after read less plain some is_piece adds = absurd (omega (arith, some))
+plain_on text at line (suc m) before after read less plain some is_piece adds =
+    let b = get_or text at 0 in
+    let piece = piece_there text at (suc m) is_piece in
+    let cut : drop at text ≡ b ∷ drop (suc at) text = drop-cons text at 0 less in
+    let range : slice_range text at (at + suc m) ≡ b ∷ take m (drop (suc at) text) = range_on text at (suc m) ∙ ap (take (suc m)) cut in
+    let words : words_in line (slice_range text at (at + suc m)) ≡ plain_words line (slice_range text at (at + suc m)) = rw (range, plain) refl in
+    let feeds : count_by is_line_feed (slice_range text at (at + suc m)) ≡ 0 = rw range (plain_feeds_none b (take m (drop (suc at) text)) (drop m (drop (suc at) text)) plain (rw cut at piece)) in
+    let more = read_on text at line (suc m) before after read piece (rw words adds) in
+    rw (feeds, add-zero line) at more
 
 pub next_inside : (text : List ℕ) (at : ℕ) → at < length text → at + 1 ≤ length text
 next_inside text at less = omega arith

@@ -1,7 +1,8 @@
 //! Where the pieces of a text end: white bytes, comments, quoted words and plain words.
 
-ghost use Rattle.std.specs.Prelude.{◌≡◌, ℕ, ◌<◌, ◌≤◌, length, take, drop, slice_index, count_by, List, IfSome, IfNone, MatchOption};
-ghost use Rattle.leg_lex.specs.Cut.{is_white, is_line_feed, IsPiece, RunsTo};
+ghost use Rattle.std.specs.Prelude.{◌≡◌, ℕ, ◌<◌, ◌≤◌, true, length, take, drop, slice_index, count_by, List, IfSome, IfNone, MatchOption};
+ghost use Rattle.leg_lex.specs.Cut.{is_white, is_line_feed, kind_of, IsPiece, RunsTo};
+ghost use Rattle.leg_lex.specs.Words.{is_plain_kind};
 
 use memchr::memchr;
 
@@ -30,6 +31,21 @@ fn word_len(text: &[u8]) -> usize
     text.iter()
         .position(|byte| is_white(*byte))
         .unwrap_or(text.len())
+}
+
+/// How long the plain word is that the text begins with.
+#[tactic(auto, using(crate::proofs::OneWord::plain_here))]
+pub(crate) fn plain_len(text: &[u8]) -> usize
+    requires some { 0 < length text.now }
+    requires plain { is_plain_kind (kind_of (slice_index text.now 0)) ≡ true }
+    ensures piece { IsPiece (take result text.now) (drop result text.now) }
+    ensures some { 0 < result }
+    ensures within { result ≤ length text.now }
+{
+    match text {
+        [] => 0,
+        [_, more @ ..] => 1 + word_len(more),
+    }
 }
 
 /// How long the quoted word is that the text begins with, or `None` where its quote isn't closed.
@@ -64,7 +80,7 @@ pub fn piece_len(text: &[u8]) -> Option<usize>
         [first, ..] if is_white(*first) => Some(1),
         [b'#', comment @ ..] => Some(1 + line_len(comment)),
         [b'"', ..] => quoted_len(text),
-        [_, more @ ..] => Some(1 + word_len(more)),
+        _ => Some(plain_len(text)),
     }
 }
 

@@ -22,7 +22,7 @@ pub fn is_mark(word: &[u8]) -> bool
 }
 
 /// Whether a plain word may begin with the byte: it is not white, and begins no comment and no quoted word.
-fn begins_plain(byte: u8) -> bool
+pub(crate) fn begins_plain(byte: u8) -> bool
     ensures { result ≡ is_plain_kind (kind_of byte) }
 {
     !is_white(byte) && byte != b'#' && byte != b'"'

@@ -1,17 +1,19 @@
 //! The words of a text: LEF and DEF share them (LEF/DEF 5.8, "Rules for LEF and DEF files").
 
-ghost use Rattle.std.specs.Prelude.{◌≡◌, ◌≢◌, ℕ, ◌<◌, ◌≤◌, ◌↔◌, [], ◌∷◌, List, length, map, slice_range, count_by, All, IfOk, IfErr, OnOk, IsErrOf};
+ghost use Rattle.std.specs.Prelude.{◌≡◌, ◌≢◌, ℕ, ◌<◌, ◌≤◌, ◌↔◌, false, [], ◌∷◌, List, length, map, slice_index, slice_range, count_by, All, IfOk, IfErr, OnOk, IsErrOf};
 ghost use Rattle.leg_lex.specs.declared.limits.TheConstants.{TEXT_LIMIT};
 ghost use Rattle.leg_lex.specs.Word.{Word};
-ghost use Rattle.leg_lex.specs.Cut.{is_line_feed, IsUnclosed};
+ghost use Rattle.leg_lex.specs.Cut.{is_line_feed, kind_of, IsUnclosed};
 ghost use Rattle.leg_lex.specs.Tokens.{AreTokens, plain_words, words_in};
 ghost use Rattle.leg_lex.specs.WordPlaces.{word_at, IsPlaceIn};
+ghost use Rattle.leg_lex.specs.Words.{is_plain_kind};
 ghost use Rattle.leg_lex.specs.Steps.MoreWords.{AddsWords};
 
 use crate::fault::LexFault;
 use crate::limits::TEXT_LIMIT;
-use crate::pieces::{is_white, line_feeds, piece_len};
+use crate::pieces::{is_white, line_feeds, piece_len, plain_len};
 use crate::token::Token;
+use crate::word::begins_plain;
 use crate::word_place::{WordPlace, bytes_at};
 use std::alloc::{AllocError, Allocator};
 use std::marker::Model;
@@ -114,6 +116,12 @@ fn word_places<A: Allocator + Copy>(alloc: A, text: &[u8]) -> Result<Vec<WordPla
             at += 1;
             continue 'pieces;
         }
+        if begins_plain(text[at]) {
+            let end = at + plain_len(&text[at..]);
+            push_plain(&mut places, text, at, end, line)?;
+            at = end;
+            continue 'pieces;
+        }
         let rest = &text[at..];
         let Some(len) = piece_len(rest) else {
             return Err(LexFault::UnclosedString(line));
@@ -134,7 +142,7 @@ fn line_feeds_of(byte: u8) -> u32
     if byte == b'\n' { 1 } else { 0 }
 }
 
-/// Adds the words of the piece from `start` to `end`: white space and comments have none.
+/// Adds the words of the piece from `start` to `end`, which is no plain word: a quoted word is one, and other pieces have none.
 fn push_words<A: Allocator>(
     places: &mut Vec<WordPlace, A>,
     text: &[u8],
@@ -145,14 +153,13 @@ fn push_words<A: Allocator>(
     requires fits { length text.now ≤ TEXT_LIMIT }
     requires order { start ≤ end }
     requires within { end ≤ length text.now }
+    requires other { is_plain_kind (kind_of (slice_index text.now start)) ≡ false }
     ensures pushed { OnOk result (AddsWords text.now (words_in line (slice_range text.now start end)) places.old.items places.new.items) }
     ensures memory { IfErr result (λ fault. fault ≡ LexFault.Memory) }
 {
     match &text[start..end] {
-        [] | [b'#', ..] => Ok(()),
-        [first, ..] if is_white(*first) => Ok(()),
         [b'"', ..] => push_word(places, text, start, end, line),
-        _ => push_plain(places, text, start, end, line),
+        _ => Ok(()),
     }
 }
 

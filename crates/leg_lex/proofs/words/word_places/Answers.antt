@@ -1,6 +1,7 @@
-use Rattle.std.proofs.Common.{drop, sym, arith}
+use Rattle.std.proofs.Common.{drop, slice_index, sym, arith}
 use Rattle.leg_lex.proofs.Cuts.{read_only, unclosed_has_none}
-use Rattle.leg_lex.proofs.WordsAt.{read_on, white_on, next_inside, range_piece, piece_there, stuck_at, inside, lines_below, nothing_left}
+use Rattle.leg_lex.proofs.OneWord.{plain_here}
+use Rattle.leg_lex.proofs.WordsAt.{read_on, plain_on, white_on, next_inside, range_piece, piece_there, stuck_at, inside, lines_below, nothing_left}
 use Rattle.leg_lex.proofs.words.word_places.Goals as goal
 
 pub returns-in_default-clause-unclosed : goal.returns-in_default-clause-unclosed
@@ -14,6 +15,16 @@ pieces-preserved-then-is_white g c = record {
   inside = next_inside c.args.text.now c.pieces.at c.pieces-test.true;
   lines = omega (arith, c.line_feeds_of-line.ensures.one, c.pieces.invariant.lines);
 }
+
+pub pieces-preserved-then-begins_plain : goal.pieces-preserved-then-begins_plain
+pieces-preserved-then-begins_plain g c =
+    let text = c.args.text.now in
+    let plain = plain_here (slice_index text c.pieces.at) (sym c.if-begins_plain.ensures) in record {
+      read = plain_on text c.pieces.at c.pieces.line c.plain_len.result c.pieces.places.items _ c.pieces.invariant.read c.pieces-test.true plain c.plain_len.ensures.some c.plain_len.ensures.piece c.in_ok-push_plain.ensures.pushed;
+      within = c.in_ok-push_plain.ensures.pushed.within c.pieces.invariant.within;
+      inside = inside text c.pieces.at c.plain_len.result c.pieces.invariant.inside c.plain_len.ensures.within;
+      lines = omega (arith, c.pieces.invariant.lines);
+    }
 
 pub line_feeds-requires : goal.line_feeds-requires
 line_feeds-requires g c =
