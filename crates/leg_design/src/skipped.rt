@@ -4,7 +4,7 @@ ghost use Rattle.std.specs.Prelude.{◌≡◌, codes};
 ghost use Rattle.leg_lex.specs.Words.{Reads};
 ghost use Rattle.leg_grammar.specs.Def.Skipped.{is_past_statement, is_past_section, past_def_section, past_def_extension, past_def_form};
 
-use leg_lex::{Cursor, FaultKind, Need, ReadFault};
+use leg_lex::{Cursor, FaultKind, Keyword, Need, ReadFault};
 
 /// Whether a statement without effect comes next.
 fn is_past_statement(words: &Cursor<'_, '_>) -> bool
@@ -53,7 +53,8 @@ fn past_extension(words: &mut Cursor<'_, '_>) -> Result<(), ReadFault>
 /// The fault of words that begin no form.
 fn no_form(words: &Cursor<'_, '_>) -> ReadFault {
     if words.is_at_end() {
-        words.fault(FaultKind::UnexpectedEnd)
+        let need = Need::Keyword(Keyword::new(b"END DESIGN"));
+        words.need(FaultKind::UnexpectedEnd, need)
     } else {
         words.need(FaultKind::Unexpected, Need::Form)
     }

@@ -3,7 +3,7 @@
 ghost use Rattle.std.specs.Prelude.{◌≡◌, ◌≢◌};
 
 use crate::cursor::Cursor;
-use crate::read_fault::{FaultKind, Need, ReadFault};
+use crate::read_fault::{FaultKind, Keyword, Need, ReadFault};
 use crate::word_place::WordPlace;
 
 /// A place in a text, at which a fault may be: a word of it, if it has words.
@@ -90,23 +90,35 @@ impl<'t, 'a> Cursor<'t, 'a> {
         }
     }
 
-    // The fault of words that end too early. Where a mark ends them, it is in the place of what is needed.
+    // The fault of words that end too early. Where a mark ends them, it is in the place of what is needed. Where the text ends behind a
+    // whole statement, the `END` of what that belongs to is needed.
     #[cold]
     #[inline(never)]
     pub(crate) fn cut_short(&self, in_place: FaultKind, need: Need) -> ReadFault
         requires { in_place ≢ FaultKind.Memory }
         ensures { result.kind ≢ FaultKind.Memory }
     {
-        let kind = if self.is_closed {
-            in_place
+        let (kind, need) = if self.is_closed {
+            (in_place, need)
+        } else if self.is_behind_a_statement() {
+            let need = Need::Keyword(Keyword::new(b"END"));
+            (FaultKind::UnexpectedEnd, need)
         } else {
-            FaultKind::UnexpectedEnd
+            (FaultKind::UnexpectedEnd, need)
         };
         let end = FaultPlace {
             file: self.file,
             word: self.last,
         };
         end.need(kind, need)
+    }
+
+    // Whether the text ends with a semicolon.
+    fn is_behind_a_statement(&self) -> bool {
+        match self.last {
+            Some(last) => is_there(self.text, last, b";"),
+            None => false,
+        }
     }
 }
 

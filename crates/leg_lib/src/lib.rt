@@ -4,6 +4,7 @@
 //! those of `leg_lib_records`.
 #![tactic(auto)]
 
+mod first_form;
 mod form;
 mod geometry;
 pub mod laws;

@@ -8,8 +8,9 @@ ghost use Rattle.leg_lib_records.specs.Records.{RawLibraryModel};
 ghost use Rattle.leg_grammar.specs.Lef.Form.{lef_in};
 ghost use Rattle.leg_grammar.specs.Lef.Library.{DenoteLibrary};
 
+use crate::first_form::with_first;
 use crate::form;
-use leg_lex::{Cursor, NameKind, Need, ReadFault, Token, file_words, is_keyword, tokens};
+use leg_lex::{Cursor, ReadFault, file_words};
 use leg_lib_records::RawLibrary;
 use std::alloc::Allocator;
 
@@ -48,75 +49,6 @@ fn all_lefs<'a, A: Allocator + Copy>(
         add_lef(alloc, &mut library, file_number(number), lef)?;
     }
     Ok(library)
-}
-
-/// The keyword of the forms that define such names, where LEFs have some.
-fn keyword_of(kind: NameKind) -> Option<&'static [u8]> {
-    match kind {
-        NameKind::Layer => Some(b"LAYER"),
-        NameKind::Site => Some(b"SITE"),
-        NameKind::Macro => Some(b"MACRO"),
-        NameKind::Via => Some(b"VIA"),
-        _ => None,
-    }
-}
-
-/// Whether a form of this keyword and of this name begins with these words. Where a `;` comes after the name, a form is meant that
-/// was before.
-fn begins_form(words: &[Token<'_>], keyword: &[u8], name: &[u8]) -> bool {
-    match words {
-        [form, named, next] => named.text == name
-            && next.text != b";".as_slice()
-            && is_keyword(keyword, form.text),
-        _ => false,
-    }
-}
-
-/// The line in which a form of this keyword and of this name begins in the text, if one does.
-fn line_of_form<A: Allocator + Copy>(
-    alloc: A,
-    text: &[u8],
-    keyword: &[u8],
-    name: &[u8],
-) -> Option<u32> {
-    let words = tokens(alloc, text).ok()?;
-    let at = words
-        .windows(3)
-        .position(|three| begins_form(three, keyword, name))?;
-    Some(words.get(at)?.line)
-}
-
-/// The text and the line in which the name at fault, which is one of these, is defined first.
-fn first_definition<A: Allocator + Copy>(
-    alloc: A,
-    lefs: &[&[u8]],
-    fault: &ReadFault,
-    kind: NameKind,
-) -> Option<(u32, u32)> {
-    let keyword = keyword_of(kind)?;
-    let name = lefs
-        .get(fault.file as usize)?
-        .get(fault.start as usize..fault.end as usize)?;
-    for (number, lef) in lefs.iter().enumerate() {
-        if let Some(line) = line_of_form(alloc, lef, keyword, name) {
-            return Some((file_number(number), line));
-        }
-    }
-    None
-}
-
-/// The same fault; where a name is defined a second time, with the place at which it is first.
-fn with_first<A: Allocator + Copy>(alloc: A, lefs: &[&[u8]], fault: ReadFault) -> ReadFault
-    ensures { result.kind ≡ fault.kind }
-{
-    let Need::New(kind) = fault.need else {
-        return fault;
-    };
-    match first_definition(alloc, lefs, &fault, kind) {
-        Some((file, line)) if file == fault.file => fault.needs(Need::NewSince(kind, line)),
-        Some((file, line)) => fault.needs(Need::NewSinceText(kind, file, line)),
-        None => fault,
-    }
 }
 
 /// The library that LEF texts denote, taken one after the other, in millionths of a micron.
