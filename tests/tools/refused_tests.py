@@ -127,6 +127,17 @@ class CorpusTests(Room):
         self.assertGreater(kinds.count('SCALE'), 3)
         self.assertGreater(len(kinds), 150)
 
+    def test_the_tool_that_helps_is_the_one_that_the_program_names(self):
+        found = set()
+        for design, libraries, _, answer in self.cases():
+            if answer[-1] == 'Unsupported':
+                with open('stderr', encoding='utf-8') as file:
+                    said = file.read()
+                named = re.findall('tools/[a-z-]+', said)
+                self.assertEqual(named, re.findall('tools/[a-z-]+', self.lines(design, *libraries)[0]), said)
+                found.update(named)
+        self.assertEqual(found, {'tools/plain-vias', 'tools/plain-def', 'tools/plain-lef'})
+
     def test_examples(self):
         for name in sorted(os.listdir(os.path.join(TOP, 'examples'))):
             if name.endswith('.def'):

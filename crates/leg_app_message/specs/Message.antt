@@ -44,7 +44,7 @@ abbrev pub reason_of : TextsModel → List ℕ → ReadFault → Option (List �
 reason_of texts text fault master =
     if nat_lt TEXT_LIMIT (length text) then codes "the text is longer than 268,435,456 bytes"
     else before_of fault.kind (word_of text fault) ++ shown_word (word_of text fault) ++ after_of fault.kind
-    ++ need_text texts fault.need master (word_of text fault) ++ advice_on fault.kind (word_of text fault)
+    ++ need_text texts fault.need master (word_of text fault) ++ advice_on fault.kind (nat_lt fault.file (length texts.lefs)) (word_of text fault)
 
 -- the line at fault, and below it a mark under the word
 abbrev pub marked_line : List ℕ → ReadFault → List ℕ

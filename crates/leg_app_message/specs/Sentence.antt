@@ -1,5 +1,5 @@
 -- What is wrong with a text, in words.
-use Rattle.std.specs.Prelude.{ℕ, List, [], ◌∷◌, ◌++◌, ◌||◌, ◌==◌, if◌then◌else◌, Option, None, Some, map, codes, decimal}
+use Rattle.std.specs.Prelude.{ℕ, Bool, List, [], ◌∷◌, ◌++◌, ◌||◌, ◌==◌, if◌then◌else◌, Option, None, Some, map, codes, decimal}
 use Rattle.std.specs.List.{list_any}
 use Rattle.std.specs.Fmt.{signed_decimal}
 use Rattle.leg_lex.specs.declared.read_fault.FaultKind.{FaultKind}
@@ -24,28 +24,19 @@ end_text (b ∷ word) = codes "the text ends too early, after "
 
 -- what comes before the word at fault, by the kind of the fault
 abbrev pub before_of : FaultKind → List ℕ → List ℕ
-before_of kinds.UnclosedString word = []
 before_of kinds.UnexpectedEnd word = end_text word
-before_of kinds.Unexpected word = []
-before_of kinds.BadNumber word = []
-before_of kinds.TooLarge word = []
 before_of kinds.EmptyRect word = codes "the rectangle, size or wire at "
-before_of kinds.UnknownName word = []
-before_of kinds.DuplicateName word = []
-before_of kinds.Unsupported word = []
 before_of kinds.Diagonal word = codes "the wire to the point at "
 before_of kinds.ViaLayer word = codes "via "
 before_of kinds.PinTwice word = codes "the terminal at "
 before_of kinds.TooMany word = codes "one entry too many begins at "
-before_of kinds.BadRow word = []
 before_of kinds.BadVia word = codes "via "
 before_of kinds.OddWidth word = codes "the wire width "
-before_of kinds.Memory word = []
+before_of kind word = []
 
 -- what comes after it
 abbrev pub after_of : FaultKind → List ℕ
 after_of kinds.UnclosedString = codes "a quoted word begins in this line and has no closing quote"
-after_of kinds.UnexpectedEnd = []
 after_of kinds.Unexpected = codes " is not allowed here"
 after_of kinds.BadNumber = codes " is not allowed here"
 after_of kinds.TooLarge = codes " is out of range"
@@ -56,11 +47,11 @@ after_of kinds.Unsupported = codes " is not supported here, since it would chang
 after_of kinds.Diagonal = codes " is neither horizontal nor vertical"
 after_of kinds.ViaLayer = codes " has no metal on the layer on which its path is"
 after_of kinds.PinTwice = codes " is in another net already"
-after_of kinds.TooMany = []
 after_of kinds.BadRow = codes " is not supported in a ROW"
 after_of kinds.BadVia = codes " cannot be used in a wire: it needs metal around 0 0 on two routing layers with none between them, and cuts on the one cut layer between these"
 after_of kinds.OddWidth = codes " is odd: a width is an even number of database units, so that the wire has a middle line"
 after_of kinds.Memory = codes "out of memory"
+after_of kind = []
 
 -- what has a name
 abbrev pub name_text : NameKind → List ℕ
@@ -86,7 +77,7 @@ known_text names.Net = codes ": check its spelling, in which capitals count"
 
 -- how many entries there may be
 abbrev pub most_text : Entry → List ℕ
-most_text entries.Component = codes ": a DEF has at most 200,000 components"
+most_text entries.Component = codes ": a DEF has at most 200,000 components (tools/drop-fillers takes fillers out)"
 most_text entries.Pin = codes ": a DEF has at most 200,000 pins"
 most_text entries.Net = codes ": NETS and SPECIALNETS together have at most 200,000 entries"
 most_text entries.NetPart = codes ": the nets together have at most 4,000,000 terminals and 4,000,000 wires"
@@ -150,107 +141,62 @@ master_text (Some name) = codes "macro " ++ map shown_byte name
 
 -- then what differs from text to text: a keyword, a mark, a number, where a name is defined, or a macro
 abbrev pub middle_text : TextsModel → Need → Option (List ℕ) → List ℕ
-middle_text texts needs.OfKind master = []
 middle_text texts (needs.Keyword keyword) master = keyword_text keyword
 middle_text texts (needs.Mark mark) master = mark ∷ []
-middle_text texts needs.AnyWord master = []
-middle_text texts needs.Name master = []
-middle_text texts needs.Word master = []
-middle_text texts needs.FormName master = []
-middle_text texts needs.Whole master = []
-middle_text texts needs.Length master = []
-middle_text texts needs.Nothing master = []
-middle_text texts needs.Form master = []
 middle_text texts (needs.Statement keyword) master = keyword_text keyword
-middle_text texts needs.NoSecond master = []
-middle_text texts needs.Direction master = []
-middle_text texts needs.Orient master = []
-middle_text texts needs.RoutingLayer master = []
-middle_text texts needs.SameUnits master = []
-middle_text texts (needs.Known kind) master = []
 middle_text texts (needs.KnownPin number) master = master_text master
-middle_text texts (needs.New kind) master = []
 middle_text texts (needs.NewSince kind line) master = codes ", which line " ++ decimal line ++ codes " defines"
 middle_text texts (needs.NewSinceText kind file line) master = codes ", which " ++ path_of texts file ++ codes ":" ++ decimal line ++ codes " defines"
 middle_text texts (needs.AtLeast least) master = decimal least
-middle_text texts needs.AboveZero master = []
-middle_text texts needs.Units master = []
-middle_text texts needs.EndInRange master = []
-middle_text texts (needs.Fewer entry) master = []
-middle_text texts needs.OneLine master = []
 middle_text texts (needs.SiteStep width) master = signed_decimal width
-middle_text texts needs.RowOrient master = []
-middle_text texts needs.NoMask master = []
-middle_text texts needs.PlainSite master = []
-middle_text texts needs.PlainDie master = []
+middle_text texts need master = []
 
 -- and what is said last, in the place of this word
 abbrev pub last_text : Need → List ℕ → List ℕ
-last_text needs.OfKind word = []
 last_text (needs.Keyword keyword) word = codes "` is needed"
 last_text (needs.Mark mark) word = codes "` is needed"
-last_text needs.AnyWord word = []
-last_text needs.Name word = []
-last_text needs.Word word = []
-last_text needs.FormName word = []
 last_text needs.Whole word = point_text word
-last_text needs.Length word = []
-last_text needs.Nothing word = []
-last_text needs.Form word = []
 last_text (needs.Statement keyword) word = codes "` is missing before it"
-last_text needs.NoSecond word = []
-last_text needs.Direction word = []
-last_text needs.Orient word = []
-last_text needs.RoutingLayer word = []
-last_text needs.SameUnits word = []
 last_text (needs.Known kind) word = known_text kind
 last_text (needs.KnownPin number) word = codes ": check its spelling, in which capitals count"
 last_text (needs.New kind) word = rename_text kind
 last_text (needs.NewSince kind line) word = rename_text kind
 last_text (needs.NewSinceText kind file line) word = rename_text kind
 last_text (needs.AtLeast least) word = codes " is needed"
-last_text needs.AboveZero word = []
-last_text needs.Units word = []
-last_text needs.EndInRange word = []
-last_text (needs.Fewer entry) word = []
-last_text needs.OneLine word = []
-last_text (needs.SiteStep width) word = []
-last_text needs.RowOrient word = []
-last_text needs.NoMask word = []
-last_text needs.PlainSite word = []
-last_text needs.PlainDie word = []
+last_text need word = []
 
 -- what is needed in the place of this word
 abbrev pub need_text : TextsModel → Need → Option (List ℕ) → List ℕ → List ℕ
 need_text texts need master word = first_text need ++ middle_text texts need master ++ last_text need word
 
--- what to do about a form that is not supported, by its word
-abbrev pub form_text : List ℕ → List ℕ
-form_text word =
-    if is_keyword (codes "VIARULE") word || is_keyword (codes "PATTERNNAME") word then codes ": tools/plain-vias writes such vias as rectangles"
-    else (if is_keyword (codes "NONDEFAULTRULE") word || is_keyword (codes "TAPERRULE") word then codes ": such wires have another width and spacing than their layer"
-    else (if is_keyword (codes "DO") word || is_keyword (codes "ITERATE") word then codes ": write each of the array by itself"
-    else (if is_keyword (codes "POLYGON") word || is_keyword (codes "PATH") word then codes ": write it as rectangles"
-    else [])))
+-- an orientation other than N
+abbrev pub is_turn : List ℕ → Bool
+is_turn word =
+    is_keyword (codes "S") word || is_keyword (codes "W") word || is_keyword (codes "E") word || is_keyword (codes "FN") word
+    || is_keyword (codes "FS") word || is_keyword (codes "FW") word || is_keyword (codes "FE") word
 
-abbrev pub advice_on : FaultKind → List ℕ → List ℕ
-advice_on kinds.UnclosedString word = []
-advice_on kinds.UnexpectedEnd word = []
-advice_on kinds.Unexpected word = []
-advice_on kinds.BadNumber word = []
-advice_on kinds.TooLarge word = []
-advice_on kinds.EmptyRect word = []
-advice_on kinds.UnknownName word = []
-advice_on kinds.DuplicateName word = []
-advice_on kinds.Unsupported word = form_text word
-advice_on kinds.Diagonal word = []
-advice_on kinds.ViaLayer word = []
-advice_on kinds.PinTwice word = []
-advice_on kinds.TooMany word = []
-advice_on kinds.BadRow word = []
-advice_on kinds.BadVia word = []
-advice_on kinds.OddWidth word = []
-advice_on kinds.Memory word = []
+-- the tool that writes a form of a DEF in another way, by the word for which it is not supported
+abbrev pub def_tool_text : List ℕ → List ℕ
+def_tool_text word =
+    if is_keyword (codes "VIARULE") word then codes ": tools/plain-vias writes such a via as rectangles, if it has no PATTERN"
+    else (if is_keyword (codes "NONDEFAULTRULE") word || is_keyword (codes "TAPERRULE") word then codes ": tools/plain-def writes paths of such a rule as rectangles and vias of its widths"
+    else (if is_keyword (codes "POLYGON") word then codes ": tools/plain-def writes rectilinear polygons of PINS, BLOCKAGES and SPECIALNETS as rectangles or wires"
+    else (if is_keyword (codes "RECT") word || is_keyword (codes "VIA") word then codes ": tools/plain-def writes it as rectangles or wires"
+    else (if is_keyword (codes "DO") word then codes ": tools/plain-def writes each via of such an array in SPECIALNETS"
+    else (if is_turn word then codes ": tools/plain-def writes a via that is turned as a via of its own"
+    else [])))))
+
+-- the same of a LEF
+abbrev pub lef_tool_text : List ℕ → List ℕ
+lef_tool_text word =
+    if is_keyword (codes "POLYGON") word then codes ": tools/plain-lef writes rectilinear polygons as rectangles"
+    else (if is_keyword (codes "ITERATE") word then codes ": tools/plain-lef writes each rectangle of such an array"
+    else [])
+
+-- what to do about a fault of this kind, by the word at fault, in a LEF or else in a DEF
+abbrev pub advice_on : FaultKind → Bool → List ℕ → List ℕ
+advice_on kinds.Unsupported is_lef word = if is_lef then lef_tool_text word else def_tool_text word
+advice_on kind is_lef word = []
 
 -- a length that isn't one in database units
 abbrev pub scale_sentence_of : ScaleKind → List ℕ

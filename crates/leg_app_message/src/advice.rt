@@ -13,13 +13,10 @@ fn front_of<B: Allocator>(reason: &Reason<'_, B>) -> &'static [u8]
     ensures { result.now ≡ front_of reason.now }
 {
     match reason {
-        Reason::Read(_, _) => b"",
-        Reason::NoLibrary => b"",
-        Reason::Scale(_, _) => b"",
         Reason::TooMany =>
             b"the block has, or would get, more than 4,000,000 shapes: take out what need not be judged, such as fillers (tools/drop-fillers), or take a part of it",
         Reason::FixedIllegal =>
-            b"components that are not moved (FIXED, COVER, or of a macro without a SITE) are not legally placed: move those that are listed above, or make them PLACED",
+            b"components that are not moved (FIXED, COVER, or of a macro without a SITE) are not legally placed: move those that are listed above, or make them PLACED; what fits no row needs a macro without a SITE (docs/RECIPES.md)",
         Reason::NoSite(_) => b"component ",
         Reason::NoRoom(_) => b"component ",
         Reason::NotClean(Stage::Given) =>
@@ -32,6 +29,7 @@ fn front_of<B: Allocator>(reason: &Reason<'_, B>) -> &'static [u8]
         Reason::Unreachable(_, _) => b"net ",
         Reason::Unfinished =>
             b"no room was found for the wires of these nets beside one another: give the block more room (rows, tracks or layers), or another placement",
+        _ => b"",
     }
 }
 
@@ -40,20 +38,12 @@ fn name_of<'r, B: Allocator>(reason: &'r Reason<'_, B>) -> &'r [u8]
     ensures { result.now ≡ name_of reason.now }
 {
     match reason {
-        Reason::Read(_, _) => b"",
-        Reason::NoLibrary => b"",
-        Reason::Scale(_, _) => b"",
-        Reason::TooMany => b"",
-        Reason::FixedIllegal => b"",
         Reason::NoSite(component) => component.as_slice(),
         Reason::NoRoom(component) => component.as_slice(),
-        Reason::NotClean(Stage::Given) => b"",
-        Reason::NotClean(Stage::Legalised) => b"",
-        Reason::GridTooLarge(_) => b"",
         Reason::Unroutable(net, None) => net.as_slice(),
         Reason::Unroutable(net, Some(_)) => net.as_slice(),
         Reason::Unreachable(net, _) => net.as_slice(),
-        Reason::Unfinished => b"",
+        _ => b"",
     }
 }
 
@@ -62,23 +52,15 @@ fn middle_of<B: Allocator>(reason: &Reason<'_, B>) -> &'static [u8]
     ensures { result.now ≡ middle_of reason.now }
 {
     match reason {
-        Reason::Read(_, _) => b"",
-        Reason::NoLibrary => b"",
-        Reason::Scale(_, _) => b"",
-        Reason::TooMany => b"",
-        Reason::FixedIllegal => b"",
         Reason::NoSite(_) =>
-            b" fits no row: its macro has to be exactly as high as its SITE and a whole number of sites wide, and a ROW has to have that site. A cell of several rows' height is not moved: make it FIXED",
+            b" fits no row: its macro has to be exactly as high as its SITE and a whole number of sites wide, and a ROW has to have that site. FIXED, it would be OFFSITE. Give a cell of several rows' height a SITE of its own, with rows of it, or its macro no SITE, so that it stays where it is (docs/RECIPES.md)",
         Reason::NoRoom(_) =>
             b": no free stretch of sites was long enough for it at its turn: take out fillers (tools/drop-fillers) or placement blockages, give the block more rows, or lower the utilisation",
-        Reason::NotClean(Stage::Given) => b"",
-        Reason::NotClean(Stage::Legalised) => b"",
-        Reason::GridTooLarge(_) => b"",
         Reason::Unroutable(_, None) =>
             b": no way on the tracks was left at its turn, though each of its pieces can be reached in the block as it was given. Wires that are laid stay: try the command finish, which lays them again, or a lower density, or what tools/ease-routing makes of the block, with --first and the name of this net (docs/RECIPES.md)",
         Reason::Unroutable(_, Some(_)) => b": nothing leads from ",
         Reason::Unreachable(_, _) => b": nothing leads from ",
-        Reason::Unfinished => b"",
+        _ => b"",
     }
 }
 
@@ -90,20 +72,8 @@ fn push_limit<A: Allocator, B: Allocator>(
     ensures { OnOk result (message.new.items ≡ message.old.items ++ limit_text reason.now) }
 {
     match reason {
-        Reason::Read(_, _) => Ok(()),
-        Reason::NoLibrary => Ok(()),
-        Reason::Scale(_, _) => Ok(()),
-        Reason::TooMany => Ok(()),
-        Reason::FixedIllegal => Ok(()),
-        Reason::NoSite(_) => Ok(()),
-        Reason::NoRoom(_) => Ok(()),
-        Reason::NotClean(Stage::Given) => Ok(()),
-        Reason::NotClean(Stage::Legalised) => Ok(()),
         Reason::GridTooLarge(limit) => push_number(message, *limit as usize),
-        Reason::Unroutable(_, None) => Ok(()),
-        Reason::Unroutable(_, Some(_)) => Ok(()),
-        Reason::Unreachable(_, _) => Ok(()),
-        Reason::Unfinished => Ok(()),
+        _ => Ok(()),
     }
 }
 
@@ -112,20 +82,9 @@ fn piece_of<'r, B: Allocator>(reason: &'r Reason<'_, B>) -> &'r [u8]
     ensures { result.now ≡ piece_of reason.now }
 {
     match reason {
-        Reason::Read(_, _) => b"",
-        Reason::NoLibrary => b"",
-        Reason::Scale(_, _) => b"",
-        Reason::TooMany => b"",
-        Reason::FixedIllegal => b"",
-        Reason::NoSite(_) => b"",
-        Reason::NoRoom(_) => b"",
-        Reason::NotClean(Stage::Given) => b"",
-        Reason::NotClean(Stage::Legalised) => b"",
-        Reason::GridTooLarge(_) => b"",
-        Reason::Unroutable(_, None) => b"",
         Reason::Unroutable(_, Some(piece)) => piece.as_slice(),
         Reason::Unreachable(_, piece) => piece.as_slice(),
-        Reason::Unfinished => b"",
+        _ => b"",
     }
 }
 
@@ -134,23 +93,13 @@ fn end_of<B: Allocator>(reason: &Reason<'_, B>) -> &'static [u8]
     ensures { result.now ≡ end_of reason.now }
 {
     match reason {
-        Reason::Read(_, _) => b"",
-        Reason::NoLibrary => b"",
-        Reason::Scale(_, _) => b"",
-        Reason::TooMany => b"",
-        Reason::FixedIllegal => b"",
-        Reason::NoSite(_) => b"",
-        Reason::NoRoom(_) => b"",
-        Reason::NotClean(Stage::Given) => b"",
-        Reason::NotClean(Stage::Legalised) => b"",
         Reason::GridTooLarge(_) =>
             b" tracks, and as many slots, one for each routing layer, x value and y value: use coarser tracks, or take a part of the block",
-        Reason::Unroutable(_, None) => b"",
         Reason::Unroutable(_, Some(_)) =>
             b" to the rest of it, even with no other net routed: it may be unplaced or off the tracks, or have obstructions, blockages or wires of the block around it. Give the block tracks through it, or try what tools/ease-routing makes of the block (docs/RECIPES.md)",
         Reason::Unreachable(_, _) =>
             b" to another piece of it, whatever other nets do: look for obstructions, blockages and wires around it, give the block tracks through its pin, or try finish on what tools/ease-routing makes of the block (docs/RECIPES.md)",
-        Reason::Unfinished => b"",
+        _ => b"",
     }
 }
 

@@ -154,7 +154,8 @@ fn push_reason<A: Allocator, B: Allocator>(
     push_word(message, word)?;
     message.extend_from_slice(after_of(fault.kind))?;
     push_need(message, texts, fault.need, master, word)?;
-    message.extend_from_slice(advice_on(fault.kind, word))
+    let is_lef = (fault.file as usize) < texts.def_number();
+    message.extend_from_slice(advice_on(fault.kind, is_lef, word))
 }
 
 /// Adds the line at fault, and below it a mark under the word.

@@ -3,7 +3,7 @@
 ghost use Rattle.std.specs.Prelude.{◌≡◌, ◌==◌, ◌++◌, codes, decimal, OnOk};
 ghost use Rattle.leg_app_message.specs.Texts.{path_of};
 ghost use Rattle.std.specs.List.{list_any};
-ghost use Rattle.leg_app_message.specs.Sentence.{end_text, before_of, after_of, point_text, name_text, known_text, most_text, rename_text, first_text, master_text, middle_text, last_text, need_text, form_text, advice_on, scale_sentence_of};
+ghost use Rattle.leg_app_message.specs.Sentence.{end_text, before_of, after_of, point_text, name_text, known_text, most_text, rename_text, first_text, master_text, middle_text, last_text, need_text, is_turn, def_tool_text, lef_tool_text, advice_on, scale_sentence_of};
 
 use crate::parts::{push_number, push_parts, push_signed};
 use crate::text_line::push_shown_bytes;
@@ -28,23 +28,15 @@ pub(crate) fn before_of(kind: FaultKind, word: &[u8]) -> &'static [u8]
     ensures { result.now ≡ before_of kind word.now }
 {
     match kind {
-        FaultKind::UnclosedString => b"",
         FaultKind::UnexpectedEnd => end_text(word),
-        FaultKind::Unexpected => b"",
-        FaultKind::BadNumber => b"",
-        FaultKind::TooLarge => b"",
         FaultKind::EmptyRect => b"the rectangle, size or wire at ",
-        FaultKind::UnknownName => b"",
-        FaultKind::DuplicateName => b"",
-        FaultKind::Unsupported => b"",
         FaultKind::Diagonal => b"the wire to the point at ",
         FaultKind::ViaLayer => b"via ",
         FaultKind::PinTwice => b"the terminal at ",
         FaultKind::TooMany => b"one entry too many begins at ",
-        FaultKind::BadRow => b"",
         FaultKind::BadVia => b"via ",
         FaultKind::OddWidth => b"the wire width ",
-        FaultKind::Memory => b"",
+        _ => b"",
     }
 }
 
@@ -54,7 +46,6 @@ pub(crate) fn after_of(kind: FaultKind) -> &'static [u8]
 {
     match kind {
         FaultKind::UnclosedString => b"a quoted word begins in this line and has no closing quote",
-        FaultKind::UnexpectedEnd => b"",
         FaultKind::Unexpected => b" is not allowed here",
         FaultKind::BadNumber => b" is not allowed here",
         FaultKind::TooLarge => b" is out of range",
@@ -66,13 +57,13 @@ pub(crate) fn after_of(kind: FaultKind) -> &'static [u8]
         FaultKind::Diagonal => b" is neither horizontal nor vertical",
         FaultKind::ViaLayer => b" has no metal on the layer on which its path is",
         FaultKind::PinTwice => b" is in another net already",
-        FaultKind::TooMany => b"",
         FaultKind::BadRow => b" is not supported in a ROW",
         FaultKind::BadVia =>
             b" cannot be used in a wire: it needs metal around 0 0 on two routing layers with none between them, and cuts on the one cut layer between these",
         FaultKind::OddWidth =>
             b" is odd: a width is an even number of database units, so that the wire has a middle line",
         FaultKind::Memory => b"out of memory",
+        _ => b"",
     }
 }
 
@@ -134,7 +125,8 @@ fn most_text(entry: Entry) -> &'static [u8]
     ensures { result.now ≡ most_text entry }
 {
     match entry {
-        Entry::Component => b": a DEF has at most 200,000 components",
+        Entry::Component =>
+            b": a DEF has at most 200,000 components (tools/drop-fillers takes fillers out)",
         Entry::Pin => b": a DEF has at most 200,000 pins",
         Entry::Net => b": NETS and SPECIALNETS together have at most 200,000 entries",
         Entry::NetPart =>
@@ -209,39 +201,17 @@ fn last_text(need: Need, word: &[u8]) -> &'static [u8]
     ensures { result.now ≡ last_text need word.now }
 {
     match need {
-        Need::OfKind => b"",
         Need::Keyword(_) => b"` is needed",
         Need::Mark(_) => b"` is needed",
-        Need::AnyWord => b"",
-        Need::Name => b"",
-        Need::Word => b"",
-        Need::FormName => b"",
         Need::Whole => point_text(word),
-        Need::Length => b"",
-        Need::Nothing => b"",
-        Need::Form => b"",
         Need::Statement(_) => b"` is missing before it",
-        Need::NoSecond => b"",
-        Need::Direction => b"",
-        Need::Orient => b"",
-        Need::RoutingLayer => b"",
-        Need::SameUnits => b"",
         Need::Known(kind) => known_text(kind),
         Need::KnownPin(_) => b": check its spelling, in which capitals count",
         Need::New(kind) => rename_text(kind),
         Need::NewSince(kind, _) => rename_text(kind),
         Need::NewSinceText(kind, _, _) => rename_text(kind),
         Need::AtLeast(_) => b" is needed",
-        Need::AboveZero => b"",
-        Need::Units => b"",
-        Need::EndInRange => b"",
-        Need::Fewer(_) => b"",
-        Need::OneLine => b"",
-        Need::SiteStep(_) => b"",
-        Need::RowOrient => b"",
-        Need::NoMask => b"",
-        Need::PlainSite => b"",
-        Need::PlainDie => b"",
+        _ => b"",
     }
 }
 
@@ -296,39 +266,15 @@ fn push_middle<A: Allocator, B: Allocator>(
     ensures { OnOk result (message.new.items ≡ message.old.items ++ middle_text texts.now need master.now) }
 {
     match need {
-        Need::OfKind => Ok(()),
         Need::Keyword(keyword) => message.extend_from_slice(keyword.bytes()),
         Need::Mark(mark) => message.extend_from_slice(&[mark]),
-        Need::AnyWord => Ok(()),
-        Need::Name => Ok(()),
-        Need::Word => Ok(()),
-        Need::FormName => Ok(()),
-        Need::Whole => Ok(()),
-        Need::Length => Ok(()),
-        Need::Nothing => Ok(()),
-        Need::Form => Ok(()),
         Need::Statement(keyword) => message.extend_from_slice(keyword.bytes()),
-        Need::NoSecond => Ok(()),
-        Need::Direction => Ok(()),
-        Need::Orient => Ok(()),
-        Need::RoutingLayer => Ok(()),
-        Need::SameUnits => Ok(()),
-        Need::Known(_) => Ok(()),
         Need::KnownPin(_) => push_master(message, master),
-        Need::New(_) => Ok(()),
         Need::NewSince(_, line) => push_line(message, line),
         Need::NewSinceText(_, file, line) => push_text_line(message, texts, file, line),
         Need::AtLeast(least) => push_number(message, least as usize),
-        Need::AboveZero => Ok(()),
-        Need::Units => Ok(()),
-        Need::EndInRange => Ok(()),
-        Need::Fewer(_) => Ok(()),
-        Need::OneLine => Ok(()),
         Need::SiteStep(width) => push_signed(message, width),
-        Need::RowOrient => Ok(()),
-        Need::NoMask => Ok(()),
-        Need::PlainSite => Ok(()),
-        Need::PlainDie => Ok(()),
+        _ => Ok(()),
     }
 }
 
@@ -347,29 +293,60 @@ pub(crate) fn push_need<A: Allocator, B: Allocator>(
     message.extend_from_slice(last_text(need, word))
 }
 
-/// What to do about a form that is not supported, by its word.
-fn form_text(word: &[u8]) -> &'static [u8]
-    ensures { result.now ≡ form_text word.now }
+/// Whether a word is an orientation other than N.
+fn is_turn(word: &[u8]) -> bool
+    ensures { result ≡ is_turn word.now }
 {
-    if is_keyword(b"VIARULE", word) || is_keyword(b"PATTERNNAME", word) {
-        b": tools/plain-vias writes such vias as rectangles"
+    is_keyword(b"S", word)
+        || is_keyword(b"W", word)
+        || is_keyword(b"E", word)
+        || is_keyword(b"FN", word)
+        || is_keyword(b"FS", word)
+        || is_keyword(b"FW", word)
+        || is_keyword(b"FE", word)
+}
+
+/// The tool that writes a form of a DEF in another way, by the word for which it is not supported.
+fn def_tool_text(word: &[u8]) -> &'static [u8]
+    ensures { result.now ≡ def_tool_text word.now }
+{
+    if is_keyword(b"VIARULE", word) {
+        b": tools/plain-vias writes such a via as rectangles, if it has no PATTERN"
     } else if is_keyword(b"NONDEFAULTRULE", word) || is_keyword(b"TAPERRULE", word) {
-        b": such wires have another width and spacing than their layer"
-    } else if is_keyword(b"DO", word) || is_keyword(b"ITERATE", word) {
-        b": write each of the array by itself"
-    } else if is_keyword(b"POLYGON", word) || is_keyword(b"PATH", word) {
-        b": write it as rectangles"
+        b": tools/plain-def writes paths of such a rule as rectangles and vias of its widths"
+    } else if is_keyword(b"POLYGON", word) {
+        b": tools/plain-def writes rectilinear polygons of PINS, BLOCKAGES and SPECIALNETS as rectangles or wires"
+    } else if is_keyword(b"RECT", word) || is_keyword(b"VIA", word) {
+        b": tools/plain-def writes it as rectangles or wires"
+    } else if is_keyword(b"DO", word) {
+        b": tools/plain-def writes each via of such an array in SPECIALNETS"
+    } else if is_turn(word) {
+        b": tools/plain-def writes a via that is turned as a via of its own"
     } else {
         b""
     }
 }
 
-/// What to do about a fault of this kind, by the word at fault.
-pub(crate) fn advice_on(kind: FaultKind, word: &[u8]) -> &'static [u8]
-    ensures { result.now ≡ advice_on kind word.now }
+/// The same of a LEF.
+fn lef_tool_text(word: &[u8]) -> &'static [u8]
+    ensures { result.now ≡ lef_tool_text word.now }
+{
+    if is_keyword(b"POLYGON", word) {
+        b": tools/plain-lef writes rectilinear polygons as rectangles"
+    } else if is_keyword(b"ITERATE", word) {
+        b": tools/plain-lef writes each rectangle of such an array"
+    } else {
+        b""
+    }
+}
+
+/// What to do about a fault of this kind, by the word at fault, in a LEF or else in a DEF.
+pub(crate) fn advice_on(kind: FaultKind, is_lef: bool, word: &[u8]) -> &'static [u8]
+    ensures { result.now ≡ advice_on kind is_lef word.now }
 {
     match kind {
-        FaultKind::Unsupported => form_text(word),
+        FaultKind::Unsupported if is_lef => lef_tool_text(word),
+        FaultKind::Unsupported => def_tool_text(word),
         _ => b"",
     }
 }
