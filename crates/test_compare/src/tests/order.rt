@@ -53,3 +53,59 @@ END DESIGN
         )
     );
 }
+
+fn one_by_one() -> &'static str {
+    "DESIGN top ; UNITS DISTANCE MICRONS 1000 ; DIEAREA ( 0 0 ) ( 1600 2000 ) ;
+COMPONENTS 2 ; - u1 INV + PLACED ( 0 0 ) N ; - u2 INV + PLACED ( 400 0 ) N ; END COMPONENTS
+PINS 2 ; - p + NET n ; - q + NET n ; END PINS
+SPECIALNETS 1 ; - vdd ( u1 VDD ) ( u2 VDD ) ; END SPECIALNETS
+NETS 1 ; - n ( u1 Y ) ( u2 A ) ( PIN p ) ( PIN q ) ; END NETS
+END DESIGN
+"
+}
+
+// The terminals of n stand in another order, and those of vdd are in the order of the components, which is another one.
+#[test]
+fn order_of_terminals_means_nothing(rt: HostRuntime) {
+    let other = "DESIGN top ; UNITS DISTANCE MICRONS 1000 ; DIEAREA ( 0 0 ) ( 1600 2000 ) ;
+COMPONENTS 2 ; - u2 INV + PLACED ( 400 0 ) N ; - u1 INV + PLACED ( 0 0 ) N ; END COMPONENTS
+PINS 2 ; - q + NET n ; - p + NET n ; END PINS
+SPECIALNETS 1 ; - vdd ( * VDD ) ; END SPECIALNETS
+NETS 1 ; - n ( PIN q ) ( u2 A ) ( PIN p ) ( u1 Y ) ; END NETS
+END DESIGN
+";
+    assert!(rt; differ(rt.alloc(), (one_by_one(), other), &[], Verdict::Same));
+    assert!(rt; differ(rt.alloc(), (other, one_by_one()), &[], Verdict::Same));
+}
+
+// n has A of u1 in the place of that of u2, as many terminals as before; vdd has one terminal less, or one more.
+#[test]
+fn terminals_are_exchanged_lost_and_added(rt: HostRuntime) {
+    let other = "DESIGN top ; UNITS DISTANCE MICRONS 1000 ; DIEAREA ( 0 0 ) ( 1600 2000 ) ;
+COMPONENTS 2 ; - u1 INV + PLACED ( 0 0 ) N ; - u2 INV + PLACED ( 400 0 ) N ; END COMPONENTS
+PINS 2 ; - p + NET n ; - q + NET n ; END PINS
+SPECIALNETS 1 ; - vdd ( u2 VDD ) ; END SPECIALNETS
+NETS 1 ; - n ( u1 A ) ( u1 Y ) ( PIN p ) ( PIN q ) ; END NETS
+END DESIGN
+";
+    let expected = [
+        Difference::Changed(Section::SpecialNets, Change::Terminals, 0),
+        Difference::Changed(Section::Nets, Change::Terminals, 0),
+    ];
+    assert!(rt;
+        differ(
+            rt.alloc(),
+            (one_by_one(), other),
+            &expected,
+            Verdict::Differs(2)
+        )
+    );
+    assert!(rt;
+        differ(
+            rt.alloc(),
+            (other, one_by_one()),
+            &expected,
+            Verdict::Differs(2)
+        )
+    );
+}
