@@ -18,4 +18,3 @@ pub mod ReadBlockages
 mod Spots
 -- Of the clauses, the one that is sought.
 mod OneOfKind
--- Numbers by which tables tell their entries.
