@@ -3,6 +3,7 @@
 
 mod changes;
 mod commands;
+mod comparisons;
 mod no_rounds;
 mod two_nets;
 mod wires;
@@ -187,4 +188,17 @@ fn commands_around_an_obstruction_without_memory(rt: HostRuntime) {
 fn commands_in_a_blockage_without_memory(rt: HostRuntime) {
     let refusing = &RefusingAlloc::new(rt.alloc());
     assert!(rt; are_commands_right(refusing, rt.alloc(), refusing, in_a_blockage()));
+}
+
+#[test]
+fn differences_without_memory(rt: HostRuntime) {
+    let refusing = &RefusingAlloc::new(rt.alloc());
+    let library = &library_of_cells(refusing).expect(&rt, "memory");
+    assert!(rt; comparisons::are_told(refusing, refusing, library));
+}
+
+#[test]
+fn comparisons_without_memory(rt: HostRuntime) {
+    let refusing = &RefusingAlloc::new(rt.alloc());
+    assert!(rt; comparisons::is_run_right(refusing, rt.alloc(), refusing));
 }
