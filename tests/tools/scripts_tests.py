@@ -11,6 +11,8 @@ CASES = os.path.join(TOP, 'tests', 'program')
 COUNT = os.path.join(TOP, 'examples', 'count-violations')
 
 # Lines of each answer that docs/FORMATS.md names and that no case of tests/program prints.
+# What asks of the program itself, and not of a block.
+ABOUT_ITSELF = [['--help'], ['-h'], ['--version'], ['-V']]
 OTHER_LINES = (
     'MEMORY', 'SCALE core TooLarge', 'DIVIDERCHAR "/" ;', 'BUSBITCHARS "[ ]" ;', 'VIAS 1 ;', 'END VIAS', '# greatest 0',
     '- w + RECT m1 ( -50 -50 ) ( 50 50 ) ;', '- p + NET n + USE "a b" + PORT + LAYER m1 ( 0 0 ) ( 1 1 ) + PLACED ( 0 0 ) N ;', '- n',
@@ -37,7 +39,7 @@ def cases():
             if os.path.exists(os.path.join(CASES, name, 'words')):
                 with open(os.path.join(CASES, name, 'words'), encoding='utf-8') as file:
                     words = file.read().splitlines()
-            if lines and words != ['--help']:
+            if lines and words not in ABOUT_ITSELF:
                 yield name, words, lines
 
 
@@ -68,9 +70,9 @@ class ExpressionTests(unittest.TestCase):
                 self.assertTrue(any(re.fullmatch(text, line) for line in lines))
         self.assertEqual(len(set(expressions())), len(expressions()))
 
-    def test_help_alone_is_left_out(self):
+    def test_help_and_version_alone_are_left_out(self):
         printing = [name for name in os.listdir(CASES) if os.path.exists(os.path.join(CASES, name, 'stdout')) and os.path.getsize(os.path.join(CASES, name, 'stdout'))]
-        self.assertEqual(set(printing) - {name for name, _, _ in cases()}, {'help_as_the_one_word'})
+        self.assertEqual(set(printing) - {name for name, _, _ in cases()}, {'help_as_the_one_word', 'help_by_one_letter', 'the_version', 'the_version_by_one_letter'})
 
     def test_lines_that_lefdef_does_not_print_match_none(self):
         for line in ('', 'Legal', 'legal ', ' legal', 'violations', 'OFFSITE', 'OFFSITE a b', 'OVERLAP a', 'OPEN n WIRE', 'hpwl -1', 'REFUSED 0 1',
