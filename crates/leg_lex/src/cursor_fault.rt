@@ -122,15 +122,16 @@ impl<'t, 'a> Cursor<'t, 'a> {
     }
 }
 
-// The line of the first entry whose name is the word at fault, of the words at these places of the text, if it is another one.
+// The line of the first entry whose name is the word at fault, of the words at these places of the text, if that entry isn't the one at
+// fault.
 fn first_entry(text: &[u8], words: &[WordPlace], fault: &ReadFault) -> Option<u32> {
     let name = text.get(fault.start as usize..fault.end as usize)?;
-    let at = words
+    let first = words
         .windows(2)
         .position(|two| begins_entry(text, two, name))?;
-    let entry = words.get(at)?;
-    if entry.start < fault.start {
-        Some(entry.line)
+    let named = words.get(first + 1)?;
+    if named.start < fault.start {
+        Some(named.line)
     } else {
         None
     }
