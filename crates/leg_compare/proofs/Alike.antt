@@ -46,7 +46,8 @@ module _ (first second : DesignModel) (alike : AreAlike first second) where
   found : (section : Section) (i : ℕ) → i < length (names_of section first) → place_of (get_or (names_of section first) i []) (names_of section second) ≡ Some i
   found section i within = ap (place_of (get_or (names_of section first) i [])) (alike.names section) ∙ alike.apart section i within
 
-  found_back : (section : Section) (i : ℕ) → i < length (names_of section second) → place_of (get_or (names_of section second) i []) (names_of section first) ≡ Some i
+  found_back : (section : Section) (i : ℕ) → i < length (names_of section second)
+      → place_of (get_or (names_of section second) i []) (names_of section first) ≡ Some i
   found_back section i within =
       ap (λ l. place_of (get_or l i []) (names_of section first)) (alike.names section)
       ∙ alike.apart section i (subst (λ (l : List (List ℕ)). i < length l) (alike.names section) within)
@@ -106,15 +107,18 @@ same_pin Terminals x h = absurd h
 same_pin LostWires x h = absurd h
 same_pin MoreWires x h = absurd h
 
-pub goes_on_itself : (first second : DesignModel) → ((w : Wire) → spelled_wire second w ≡ spelled_wire first w) → (wires : List Wire) → spelled_wires second wires ≡ spelled_wires first wires
+pub goes_on_itself : (first second : DesignModel) → ((w : Wire) → spelled_wire second w ≡ spelled_wire first w) → (wires : List Wire)
+    → spelled_wires second wires ≡ spelled_wires first wires
 goes_on_itself first second same [] = refl
 goes_on_itself first second same (w ∷ wires) = λ i. same w i ∷ goes_on_itself first second same wires i
 
-pub terminals_same : (first second : DesignModel) → ((t : Terminal) → spelled_terminal second t ≡ spelled_terminal first t) → (terminals : List Terminal) → spelled_terminals second terminals ≡ spelled_terminals first terminals
+pub terminals_same : (first second : DesignModel) → ((t : Terminal) → spelled_terminal second t ≡ spelled_terminal first t) → (terminals : List Terminal)
+    → spelled_terminals second terminals ≡ spelled_terminals first terminals
 terminals_same first second same [] = refl
 terminals_same first second same (t ∷ terminals) = λ i. same t i ∷ terminals_same first second same terminals i
 
-module _ (first second : DesignModel) (terminals : (t : Terminal) → spelled_terminal second t ≡ spelled_terminal first t) (wires : (w : Wire) → spelled_wire second w ≡ spelled_wire first w) where
+module _ (first second : DesignModel) (terminals : (t : Terminal) → spelled_terminal second t ≡ spelled_terminal first t)
+    (wires : (w : Wire) → spelled_wire second w ≡ spelled_wire first w) where
   pub same_net : (change : Change) (x : NetModel) → ¬ DiffersAsNet first second change x x
   same_net Shapes x h = absurd h
   same_net Macro x h = absurd h

@@ -37,7 +37,8 @@ told coded x y = elim (codes_told (coded.code x) (coded.code y)) [ inl same ↦ 
 
 -- what is kept in a design is told apart as designs are
 pub told_in : {X : Type 0} (to : X → DesignModel) (from : DesignModel → X) → ((x : X) → from (to x) ≡ x) → (x y : X) → (x ≡ y) ⊎ (x ≢ y)
-told_in to from back x y = elim (told (the_code ℕ coded_ℕ) (to x) (to y)) [ inl same ↦ inl (sym (back x) ∙ ap from same ∙ back y) | inr other ↦ inr (λ same. other (ap to same)) ]
+told_in to from back x y = elim (told (the_code ℕ coded_ℕ) (to x) (to y))
+    [ inl same ↦ inl (sym (back x) ∙ ap from same ∙ back y) | inr other ↦ inr (λ same. other (ap to same)) ]
 
 -- what is not other is the same
 pub same_if : {P : Type 0} → P ⊎ (¬ P) → ¬ (¬ P) → P
@@ -52,10 +53,12 @@ module _ (d : DesignModel) where
   vias_told x y = told_in (λ v. record d { vias = v ∷ [] }) (λ (e : DesignModel). get_or e.vias 0 x) (λ v. refl) x y
 
   pub places_told : Component → (x y : Option Place) → (x ≡ y) ⊎ (x ≢ y)
-  places_told c x y = told_in (λ p. record d { components = record c { place = p } ∷ [] }) (λ (e : DesignModel). (get_or e.components 0 c).place) (λ p. refl) x y
+  places_told c x y = told_in (λ p. record d { components = record c { place = p } ∷ [] }) (λ (e : DesignModel). (get_or e.components 0 c).place)
+      (λ p. refl) x y
 
   pub statuses_told : Component → (x y : Status) → (x ≡ y) ⊎ (x ≢ y)
-  statuses_told c x y = told_in (λ s. record d { components = record c { status = s } ∷ [] }) (λ (e : DesignModel). (get_or e.components 0 c).status) (λ s. refl) x y
+  statuses_told c x y = told_in (λ s. record d { components = record c { status = s } ∷ [] }) (λ (e : DesignModel). (get_or e.components 0 c).status)
+      (λ s. refl) x y
 
   pub ports_told : PinModel → (x y : List PortModel) → (x ≡ y) ⊎ (x ≢ y)
   ports_told p x y = told_in (λ ports. record d { pins = record p { ports = ports } ∷ [] }) (λ (e : DesignModel). (get_or e.pins 0 p).ports) (λ ports. refl) x y
@@ -82,7 +85,8 @@ module _ (d : DesignModel) where
   wires_back (w ∷ ws) = λ i. wire_back w i ∷ wires_back ws i
 
   pub wires_told : (x y : List SpelledWire) → (x ≡ y) ⊎ (x ≢ y)
-  wires_told x y = told_in (λ ws. record d { nets = map net_of ws }) (λ (e : DesignModel). map (λ (n : NetModel). wire_by n.name n.usage n.wires) e.nets) wires_back x y
+  wires_told x y = told_in (λ ws. record d { nets = map net_of ws }) (λ (e : DesignModel). map (λ (n : NetModel). wire_by n.name n.usage n.wires) e.nets)
+      wires_back x y
 
 pub masters_told : (m n : ℕ) → (m ≡ n) ⊎ (m ≢ n)
 masters_told m n = numbers_told m n

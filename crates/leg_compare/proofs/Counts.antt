@@ -39,7 +39,8 @@ module _ (first : DesignModel) where
   each_more : (list : List Difference) (d : Difference) → All OfAKind list → OfAKind d → All OfAKind (list ++ d ∷ [])
   each_more list d each kind = All-append OfAKind list (d ∷ []) each (All-cons OfAKind d [] kind (All-nil OfAKind))
 
-  move_more : (list : List Difference) (d : Difference) (moves growths : ℕ) → AreCounted first list moves growths → IsMove first d → AreCounted first (list ++ d ∷ []) (moves + 1) growths
+  move_more : (list : List Difference) (d : Difference) (moves growths : ℕ) → AreCounted first list moves growths → IsMove first d
+      → AreCounted first (list ++ d ∷ []) (moves + 1) growths
   move_more list d moves growths h move = record {
     are = record {
       moves_ = so_many_more (IsMove first) list d moves h.are.moves_ move;
@@ -49,7 +50,8 @@ module _ (first : DesignModel) where
     many = omega (arith, length-append list (d ∷ []), h.many);
   }
 
-  growth_more : (list : List Difference) (d : Difference) (moves growths : ℕ) → AreCounted first list moves growths → IsGrowth d → AreCounted first (list ++ d ∷ []) moves (growths + 1)
+  growth_more : (list : List Difference) (d : Difference) (moves growths : ℕ) → AreCounted first list moves growths → IsGrowth d
+      → AreCounted first (list ++ d ∷ []) moves (growths + 1)
   growth_more list d moves growths h growth = record {
     are = record {
       moves_ = as_many (IsMove first) list d moves h.are.moves_ (λ move. not_both d move growth);
@@ -63,9 +65,11 @@ module _ (first : DesignModel) where
   pub next_move : (list : List Difference) (i : ℕ) (d : Difference) (moves growths : ℕ) → i < length list → get_or list i d ≡ d
       → AreCounted first (take i list) moves growths → IsMove first d → AreCounted first (take (i + 1) list) (moves + 1) growths
   next_move list i d moves growths less there h move =
-      subst (λ (l : List Difference). AreCounted first l (moves + 1) growths) (ap (λ x. take i list ++ x ∷ []) (sym there) ∙ sym (take_more list i d less)) (move_more (take i list) d moves growths h move)
+      subst (λ (l : List Difference). AreCounted first l (moves + 1) growths) (ap (λ x. take i list ++ x ∷ []) (sym there) ∙ sym (take_more list i d less))
+      (move_more (take i list) d moves growths h move)
 
   pub next_growth : (list : List Difference) (i : ℕ) (d : Difference) (moves growths : ℕ) → i < length list → get_or list i d ≡ d
       → AreCounted first (take i list) moves growths → IsGrowth d → AreCounted first (take (i + 1) list) moves (growths + 1)
   next_growth list i d moves growths less there h growth =
-      subst (λ (l : List Difference). AreCounted first l moves (growths + 1)) (ap (λ x. take i list ++ x ∷ []) (sym there) ∙ sym (take_more list i d less)) (growth_more (take i list) d moves growths h growth)
+      subst (λ (l : List Difference). AreCounted first l moves (growths + 1)) (ap (λ x. take i list ++ x ∷ []) (sym there) ∙ sym (take_more list i d less))
+      (growth_more (take i list) d moves growths h growth)

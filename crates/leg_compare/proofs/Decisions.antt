@@ -29,7 +29,8 @@ sides_decide : (r s : RectModel) → Decides (same_sides r s) (r ≡ s)
 sides_decide r s =
     Decides-like _ (λ h. λ i. record { x1 = h.0.0 i; y1 = h.1.0 i; x2 = h.0.1 i; y2 = h.1.1 i })
     (λ e. ((ap (λ (q : RectModel). q.x1) e, ap (λ (q : RectModel). q.x2) e), (ap (λ (q : RectModel). q.y1) e, ap (λ (q : RectModel). q.y2) e)))
-    (Decides-and _ _ (Decides-and _ _ (Decides-int_eq r.x1 s.x1) (Decides-int_eq r.x2 s.x2)) (Decides-and _ _ (Decides-int_eq r.y1 s.y1) (Decides-int_eq r.y2 s.y2)))
+    (Decides-and _ _ (Decides-and _ _ (Decides-int_eq r.x1 s.x1) (Decides-int_eq r.x2 s.x2))
+    (Decides-and _ _ (Decides-int_eq r.y1 s.y1) (Decides-int_eq r.y2 s.y2)))
 
 pub rects_decide : (xs ys : List RectModel) → Decides (pointwise rect_eq.ghosts.eq xs ys) (xs ≡ ys)
 rects_decide xs ys = slice_eq-Decides sides_decide xs ys (pointwise rect_eq.ghosts.eq xs ys) refl
@@ -45,7 +46,8 @@ shapes_decide xs ys = slice_eq-Decides shape_decides xs ys (pointwise shape_eq.g
 module _ (first second : DesignModel) where
   -- metal is spelled alike where it is equal
   pub segment_decides : (layer : ℕ) (from to : PointModel) (width ext_from ext_to : ℤ) (b : Wire)
-      → Decides (wire_eq.ghosts.eq (Segment layer from to width ext_from ext_to) b) (spelled_wire first (Segment layer from to width ext_from ext_to) ≡ spelled_wire second b)
+      → Decides (wire_eq.ghosts.eq (Segment layer from to width ext_from ext_to) b)
+      (spelled_wire first (Segment layer from to width ext_from ext_to) ≡ spelled_wire second b)
   segment_decides layer from to width ext_from ext_to (Segment l p q w x y) =
       Decides-like _ (λ h. λ i. metal (Segment (h.0 i) (h.1.0 i) (h.1.1.0 i) (h.1.1.1.0 i) (h.1.1.1.1.0 i) (h.1.1.1.1.1 i)))
       (λ e. (cc, (cc, (cc, (cc, (cc, cc))))))
@@ -54,7 +56,8 @@ module _ (first second : DesignModel) where
   segment_decides layer from to width ext_from ext_to (ViaAt n at) = (λ e. absurd (cc), λ e. absurd (cc))
   segment_decides layer from to width ext_from ext_to (Patch l at rect) = (λ e. absurd (cc), λ e. absurd (cc))
 
-  pub patch_decides : (layer : ℕ) (at : PointModel) (rect : RectModel) (b : Wire) → Decides (wire_eq.ghosts.eq (Patch layer at rect) b) (spelled_wire first (Patch layer at rect) ≡ spelled_wire second b)
+  pub patch_decides : (layer : ℕ) (at : PointModel) (rect : RectModel) (b : Wire)
+      → Decides (wire_eq.ghosts.eq (Patch layer at rect) b) (spelled_wire first (Patch layer at rect) ≡ spelled_wire second b)
   patch_decides layer at rect (Segment l p q w x y) = (λ e. absurd (cc), λ e. absurd (cc))
   patch_decides layer at rect (ViaAt n to) = (λ e. absurd (cc), λ e. absurd (cc))
   patch_decides layer at rect (Patch l to r) =
@@ -64,7 +67,8 @@ module _ (first second : DesignModel) where
   pub segment_alike : (a b : Wire) (layer : ℕ) (from to : PointModel) (width ext_from ext_to : ℤ) (r : Bool) → a ≡ Segment layer from to width ext_from ext_to
       → r ≡ wire_eq.ghosts.eq a b → Decides r (spelled_wire first a ≡ spelled_wire second b)
   segment_alike a b layer from to width ext_from ext_to r is e =
-      rw is (Decides-at r (wire_eq.ghosts.eq (Segment layer from to width ext_from ext_to) b) (e ∙ ap (λ w. wire_eq.ghosts.eq w b) is) (segment_decides layer from to width ext_from ext_to b))
+      rw is (Decides-at r (wire_eq.ghosts.eq (Segment layer from to width ext_from ext_to) b) (e ∙ ap (λ w. wire_eq.ghosts.eq w b) is)
+      (segment_decides layer from to width ext_from ext_to b))
 
   pub patch_alike : (a b : Wire) (layer : ℕ) (at : PointModel) (rect : RectModel) (r : Bool) → a ≡ Patch layer at rect
       → r ≡ wire_eq.ghosts.eq a b → Decides r (spelled_wire first a ≡ spelled_wire second b)

@@ -16,7 +16,8 @@ module _ (first second : DesignModel) where
       → AreListedTo first second bound list → AreListedTo first second next list
   listed_on bound next list on none listed = record {
     increasing = listed.increasing;
-    each = All-weaker (λ d. IsDifference first second d × IsBelow (rank d) bound) (λ d. IsDifference first second d × IsBelow (rank d) next) (λ d h. (h.0, on (rank d) h.1)) list listed.each;
+    each = All-weaker (λ d. IsDifference first second d × IsBelow (rank d) bound) (λ d. IsDifference first second d × IsBelow (rank d) next)
+        (λ d h. (h.0, on (rank d) h.1)) list listed.each;
     all = λ d is below. listed.all d is (none d is below);
   }
 
@@ -28,10 +29,12 @@ module _ (first second : DesignModel) where
   listed_more bound next list new on before within is one listed = record {
     increasing =
         all_pairs_push IsListedBefore list new listed.increasing
-        (λ k d less. before (rank (get_or list k d)) (All-contains (λ d. IsDifference first second d × IsBelow (rank d) bound) list (get_or list k d) listed.each (Contains-get_or list k d less)).1);
+        (λ k d less. before (rank (get_or list k d)) (All-contains (λ d. IsDifference first second d × IsBelow (rank d) bound) list
+        (get_or list k d) listed.each (Contains-get_or list k d less)).1);
     each =
         All-append (λ d. IsDifference first second d × IsBelow (rank d) next) list (new ∷ [])
-        (All-weaker (λ d. IsDifference first second d × IsBelow (rank d) bound) (λ d. IsDifference first second d × IsBelow (rank d) next) (λ d h. (h.0, on (rank d) h.1)) list listed.each)
+        (All-weaker (λ d. IsDifference first second d × IsBelow (rank d) bound) (λ d. IsDifference first second d × IsBelow (rank d) next)
+        (λ d h. (h.0, on (rank d) h.1)) list listed.each)
         (one_each new is within);
     all = λ d is_d below. elim (one d is_d below) [
       | inl earlier ↦ Contains-append_left list (new ∷ []) d (listed.all d is_d earlier)
@@ -39,4 +42,5 @@ module _ (first second : DesignModel) where
     ];
   } where
     one_each : (e : Difference) → IsDifference first second e → IsBelow (rank e) next → All (λ d. IsDifference first second d × IsBelow (rank d) next) (e ∷ [])
-    one_each e is_e below = All-cons (λ d. IsDifference first second d × IsBelow (rank d) next) e [] (is_e, below) (All-nil (λ d. IsDifference first second d × IsBelow (rank d) next))
+    one_each e is_e below = All-cons (λ d. IsDifference first second d × IsBelow (rank d) next) e [] (is_e, below)
+        (All-nil (λ d. IsDifference first second d × IsBelow (rank d) next))

@@ -34,7 +34,8 @@ same_net_names (x ∷ xs) (y ∷ ys) h =
     let tail = same_net_names xs ys h.1 in
     λ i. head i ∷ tail i
 
-grown_at : (before after : List NetModel) (i : ℕ) (x y : NetModel) → OneForOne IsSameNetButForWires before after → slice_get before i ≡ Some x → slice_get after i ≡ Some y → IsSameNetButForWires x y
+grown_at : (before after : List NetModel) (i : ℕ) (x y : NetModel) → OneForOne IsSameNetButForWires before after → slice_get before i ≡ Some x
+    → slice_get after i ≡ Some y → IsSameNetButForWires x y
 grown_at [] after i x y h there here = absurd (let no : ⊥ = cc in no)
 grown_at (a ∷ before) [] i x y h there here = absurd h
 grown_at (a ∷ before) (b ∷ after) zero x y h there here =
@@ -43,7 +44,8 @@ grown_at (a ∷ before) (b ∷ after) zero x y h there here =
     subst (λ (n : NetModel). IsSameNetButForWires n y) first (subst (λ (n : NetModel). IsSameNetButForWires a n) second h.0)
 grown_at (a ∷ before) (b ∷ after) (suc i) x y h there here = grown_at before after i x y h.1 there here
 
-module _ (first second : DesignModel) (terminals : (t : Terminal) → spelled_terminal second t ≡ spelled_terminal first t) (wires : (w : Wire) → spelled_wire second w ≡ spelled_wire first w) where
+module _ (first second : DesignModel) (terminals : (t : Terminal) → spelled_terminal second t ≡ spelled_terminal first t)
+    (wires : (w : Wire) → spelled_wire second w ≡ spelled_wire first w) where
   goes_on : (front more : List Wire) → spelled_wires second (front ++ more) ≡ spelled_wires first front ++ spelled_wires first more
   goes_on [] more = goes_on_itself first second wires more
   goes_on (w ∷ front) more = λ i. wires w i ∷ goes_on front more i
@@ -58,11 +60,14 @@ module _ (first second : DesignModel) (terminals : (t : Terminal) → spelled_te
   growth_of Direction x y same differ = absurd differ
   growth_of Usage x y same differ = absurd (differ (sym (ap (λ (n : NetModel). n.usage) same.is)))
   growth_of Ports x y same differ = absurd differ
-  growth_of Terminals x y same differ = absurd (differ (same_if_equal _ _ (sym (ap (λ (n : NetModel). spelled_terminals second n.terminals) same.is ∙ terminals_same first second terminals x.terminals))))
-  growth_of LostWires x y same differ = absurd (differ (record { more = spelled_wires first same.more; is = ap (λ (n : NetModel). spelled_wires second n.wires) same.is ∙ goes_on x.wires same.more }))
+  growth_of Terminals x y same differ = absurd (differ (same_if_equal _ _
+      (sym (ap (λ (n : NetModel). spelled_terminals second n.terminals) same.is ∙ terminals_same first second terminals x.terminals))))
+  growth_of LostWires x y same differ = absurd (differ (record
+      { more = spelled_wires first same.more; is = ap (λ (n : NetModel). spelled_wires second n.wires) same.is ∙ goes_on x.wires same.more }))
   growth_of MoreWires x y same differ = refl
 
-  pub growth_at : (change : Change) (i : ℕ) (before after : List NetModel) → OneForOne IsSameNetButForWires before after → DifferAt (DiffersAsNet first second change) before after i i → change ≡ MoreWires
+  pub growth_at : (change : Change) (i : ℕ) (before after : List NetModel) → OneForOne IsSameNetButForWires before after
+      → DifferAt (DiffersAsNet first second change) before after i i → change ≡ MoreWires
   growth_at change i before after grown h = growth_of change h.x h.y (grown_at before after i h.x h.y grown h.at_first h.at_second) h.differ
 
 module _ (before : DesignModel) (proper : IsWellFormed before) (nets : List NetModel) (grown : OneForOne IsSameNetButForWires before.nets nets) where
@@ -96,18 +101,25 @@ module _ (before : DesignModel) (proper : IsWellFormed before) (nets : List NetM
   -- every difference is a growth
   pub only_growths : (d : Difference) → IsDifference before (record before { nets = nets }) d → IsGrowth d
   only_growths d is = by (only_changes before (record before { nets = nets }) alike d is) where
-    changed : (section : Section) (change : Change) (i : ℕ) → d ≡ Changed section change i → HasChanged section change before (record before { nets = nets }) i i → IsGrowth d
+    changed : (section : Section) (change : Change) (i : ℕ) → d ≡ Changed section change i
+        → HasChanged section change before (record before { nets = nets }) i i → IsGrowth d
     changed Vias change i is_d h = absurd (none_differ (DiffersAsVia change) before.vias i (same_via change) h)
     changed Components change i is_d h = absurd (none_differ (DiffersAsComponent change) before.components i (same_component change) h)
     changed Pins change i is_d h = absurd (none_differ (DiffersAsPin change) before.pins i (same_pin change) h)
     changed SpecialNets change i is_d h =
-        absurd (none_differ (DiffersAsNet before (record before { nets = nets }) change) before.special i (same_net before (record before { nets = nets }) terminal_same wire_same change) h)
-    changed Nets change i is_d h = record { i = i; is = is_d ∙ ap (λ c. Changed Nets c i) (growth_at before (record before { nets = nets }) terminal_same wire_same change i before.nets nets grown h) }
+        absurd (none_differ (DiffersAsNet before (record before { nets = nets }) change) before.special i
+        (same_net before (record before { nets = nets }) terminal_same wire_same change) h)
+    changed Nets change i is_d h = record {
+      i = i;
+      is = is_d
+          ∙ ap (λ c. Changed Nets c i) (growth_at before (record before { nets = nets }) terminal_same wire_same change i before.nets nets grown h);
+    }
 
     by : IsChangeAt before (record before { nets = nets }) d → IsGrowth d
     by c = changed c.section c.change c.i c.is c.changed
 
 -- of designs that are the same but for added wires, entries of NETS have more wires, and nothing else differs
-pub wires_differ : (before after : DesignModel) → IsWellFormed before → IsSameButForWires before after → (d : Difference) → IsDifference before after d → IsGrowth d
+pub wires_differ : (before after : DesignModel) → IsWellFormed before → IsSameButForWires before after → (d : Difference) → IsDifference before after d
+    → IsGrowth d
 wires_differ before after proper same d is =
     only_growths before proper after.nets same.nets d (subst (λ (design : DesignModel). IsDifference before design d) same.rest is)

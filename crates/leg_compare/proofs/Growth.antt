@@ -1,8 +1,8 @@
 -- Lists that go on as others, with or without more.
-use Rattle.std.proofs.Common.{◌≡◌, ℕ, ◌+◌, ◌<◌, ◌≤◌, List, [], ◌∷◌, ◌++◌, length, length-append, get_or, drop, map, sym, ap, ◌∙◌, arith}
-use Rattle.std.proofs.lemmas.List.{length-map, get_or-map, get_or_append_left, take-append-drop, append-nil}
+use Rattle.std.proofs.Common.{◌≡◌, ℕ, ◌+◌, ◌<◌, ◌≤◌, List, ◌++◌, length, length-append, get_or, drop, map, sym, ap, ◌∙◌, arith}
+use Rattle.std.proofs.lemmas.List.{length-map, get_or-map, get_or_append_left, take-append-drop}
 use Rattle.leg_rules.specs.Compare.Spelling.{SpelledWire}
-use Rattle.leg_rules.specs.Compare.Differences.{GoesOn, NetGrows}
+use Rattle.leg_rules.specs.Compare.Differences.{GoesOn}
 use Rattle.leg_compare.proofs.ListsAlike.{front_alike}
 
 module _ {X Y : Type 0} (f : X → SpelledWire) (g : Y → SpelledWire) (xs : List X) (ys : List Y) where

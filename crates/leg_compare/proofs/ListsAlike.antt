@@ -1,6 +1,5 @@
 -- Lists whose elements are alike one by one.
-use Rattle.std.proofs.Common.{◌≡◌, ℕ, zero, suc, ◌<◌, ◌≤◌, List, [], ◌∷◌, length, get_or, take, map, refl, sym, ap, ◌∙◌, arith}
-use Rattle.std.proofs.lemmas.List.{length-map}
+use Rattle.std.proofs.Common.{◌≡◌, ℕ, zero, suc, ◌<◌, ◌≤◌, List, [], ◌∷◌, length, get_or, take, map, refl, arith}
 
 module _ {X Y Z : Type 0} (f : X → Z) (g : Y → Z) where
   -- the first list is the front of the second, where its elements are those of the second one by one

@@ -61,13 +61,15 @@ module _ (before : DesignModel) (proper : IsWellFormed before) (components : Lis
   -- every difference is a move or a growth
   pub moves_and_growths : (d : Difference) → IsDifference before changed_to d → IsMove before d ⊎ IsGrowth d
   moves_and_growths d is = by (only_changes before changed_to alike d is) where
-    changed : (section : Section) (change : Change) (i : ℕ) → d ≡ Changed section change i → HasChanged section change before changed_to i i → IsMove before d ⊎ IsGrowth d
+    changed : (section : Section) (change : Change) (i : ℕ) → d ≡ Changed section change i → HasChanged section change before changed_to i i
+        → IsMove before d ⊎ IsGrowth d
     changed Vias change i is_d h = absurd (none_differ (DiffersAsVia change) before.vias i (same_via change) h)
     changed Components change i is_d h =
         let move = move_at before proper components count kept change i h in
         inl (record { i = i; is = is_d ∙ ap (λ c. Changed Components c i) move.0; movable = move.1 })
     changed Pins change i is_d h = absurd (none_differ (DiffersAsPin change) before.pins i (same_pin change) h)
-    changed SpecialNets change i is_d h = absurd (none_differ (DiffersAsNet before changed_to change) before.special i (same_net before changed_to terminal_same wire_same change) h)
+    changed SpecialNets change i is_d h = absurd (none_differ (DiffersAsNet before changed_to change) before.special i
+        (same_net before changed_to terminal_same wire_same change) h)
     changed Nets change i is_d h =
         inr (record { i = i; is = is_d ∙ ap (λ c. Changed Nets c i) (growth_at before changed_to terminal_same wire_same change i before.nets nets grown h) })
 

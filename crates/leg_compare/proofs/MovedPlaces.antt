@@ -36,7 +36,8 @@ module _ (before : DesignModel) (proper : IsWellFormed before) (components : Lis
     (kept : (i : ℕ) (old new : Component) → slice_get before.components i ≡ Some old → slice_get components i ≡ Some new → IsKeptOrMoved before i old new) where
   kept_at : (i : ℕ) (d e : Component) → i < length before.components → IsKeptOrMoved before i (get_or before.components i d) (get_or components i e)
   kept_at i d e within =
-      kept i (get_or before.components i d) (get_or components i e) (slice_get-get_or before.components i d within) (slice_get-get_or components i e (omega arith))
+      kept i (get_or before.components i d) (get_or components i e) (slice_get-get_or before.components i d within)
+      (slice_get-get_or components i e (omega arith))
 
   -- names and macros stay
   same_name_of : (i : ℕ) (old new : Component) → IsKeptOrMoved before i old new → new.name ≡ old.name
@@ -54,7 +55,8 @@ module _ (before : DesignModel) (proper : IsWellFormed before) (components : Lis
 
   -- so terminals are spelled as before
   owner : (c k : ℕ) (old new : Option Component) → slice_get before.components c ≡ old → slice_get components c ≡ new
-      → (name_by (λ (m : Component). m.name) new ≡ name_by (λ (m : Component). m.name) old) × (pin_name_in before.library new k ≡ pin_name_in before.library old k)
+      → (name_by (λ (m : Component). m.name) new ≡ name_by (λ (m : Component). m.name) old)
+      × (pin_name_in before.library new k ≡ pin_name_in before.library old k)
   owner c k None None there here = (refl, refl)
   owner c k None (Some new) there here = absurd (past (cases_lt c (length components))) where
     past : (c < length components) ⊎ (length components ≤ c) → ⊥
@@ -105,11 +107,13 @@ module _ (before : DesignModel) (proper : IsWellFormed before) (components : Lis
       subst (λ (c : Component). MayMove c.status) same m.status
 
   -- a component that is movable has another place, and nothing else of it differs
-  move_of : (i : ℕ) (change : Change) (old new : Component) → slice_get before.components i ≡ Some old → IsKeptOrMoved before i old new → DiffersAsComponent change old new → (change ≡ Place) × IsMovable before i
+  move_of : (i : ℕ) (change : Change) (old new : Component) → slice_get before.components i ≡ Some old → IsKeptOrMoved before i old new
+      → DiffersAsComponent change old new → (change ≡ Place) × IsMovable before i
   move_of i change old new there (inl same) differ = absurd (same_component change old (subst (λ (c : Component). DiffersAsComponent change old c) same differ))
   move_of i Shapes old new there (inr moved) differ = absurd differ
   move_of i Macro old new there (inr moved) differ = absurd (differ (sym (ap (λ (c : Component). c.master) moved.1.is)))
-  move_of i OtherStatus old new there (inr moved) differ = absurd (differ.fixed (status_of i old there moved.0, subst MayMove (sym (ap (λ (c : Component). c.status) moved.1.is)) tt))
+  move_of i OtherStatus old new there (inr moved) differ =
+      absurd (differ.fixed (status_of i old there moved.0, subst MayMove (sym (ap (λ (c : Component). c.status) moved.1.is)) tt))
   move_of i Place old new there (inr moved) differ = (refl, moved.0)
   move_of i NetName old new there (inr moved) differ = absurd differ
   move_of i Direction old new there (inr moved) differ = absurd differ
@@ -125,22 +129,26 @@ module _ (before : DesignModel) (proper : IsWellFormed before) (components : Lis
   -- every difference is a move
   pub only_moves : (d : Difference) → IsDifference before (record before { components = components }) d → IsMove before d
   only_moves d is = by (only_changes before (record before { components = components }) alike d is) where
-    changed : (section : Section) (change : Change) (i : ℕ) → d ≡ Changed section change i → HasChanged section change before (record before { components = components }) i i → IsMove before d
+    changed : (section : Section) (change : Change) (i : ℕ) → d ≡ Changed section change i
+        → HasChanged section change before (record before { components = components }) i i → IsMove before d
     changed Vias change i is_d h = absurd (none_differ (DiffersAsVia change) before.vias i (same_via change) h)
     changed Components change i is_d h =
         let move = move_at change i h in
         record { i = i; is = is_d ∙ ap (λ c. Changed Components c i) move.0; movable = move.1 }
     changed Pins change i is_d h = absurd (none_differ (DiffersAsPin change) before.pins i (same_pin change) h)
     changed SpecialNets change i is_d h =
-        absurd (none_differ (DiffersAsNet before (record before { components = components }) change) before.special i (same_net before (record before { components = components }) terminal_same wire_same change) h)
+        absurd (none_differ (DiffersAsNet before (record before { components = components }) change) before.special i
+        (same_net before (record before { components = components }) terminal_same wire_same change) h)
     changed Nets change i is_d h =
-        absurd (none_differ (DiffersAsNet before (record before { components = components }) change) before.nets i (same_net before (record before { components = components }) terminal_same wire_same change) h)
+        absurd (none_differ (DiffersAsNet before (record before { components = components }) change) before.nets i
+        (same_net before (record before { components = components }) terminal_same wire_same change) h)
 
     by : IsChangeAt before (record before { components = components }) d → IsMove before d
     by c = changed c.section c.change c.i c.is c.changed
 
 -- each component of a design that is the same but for places stays as it is, or is movable and has another place
-pub kept_or_moved : (before after : DesignModel) → IsSameButForPlaces before after → (i : ℕ) (old new : Component) → slice_get before.components i ≡ Some old → slice_get after.components i ≡ Some new → IsKeptOrMoved before i old new
+pub kept_or_moved : (before after : DesignModel) → IsSameButForPlaces before after → (i : ℕ) (old new : Component) → slice_get before.components i ≡ Some old
+    → slice_get after.components i ≡ Some new → IsKeptOrMoved before i old new
 kept_or_moved before after same i old new there here =
     elim (movable_or_not before i) [
       | inl movable ↦ inr (movable, same.moves i old new movable there here)
@@ -148,6 +156,8 @@ kept_or_moved before after same i old new there here =
     ]
 
 -- of designs that are the same but for places, movable components have other places, and nothing else differs
-pub places_differ : (before after : DesignModel) → IsWellFormed before → IsSameButForPlaces before after → (d : Difference) → IsDifference before after d → IsMove before d
+pub places_differ : (before after : DesignModel) → IsWellFormed before → IsSameButForPlaces before after → (d : Difference) → IsDifference before after d
+    → IsMove before d
 places_differ before after proper same d is =
-    only_moves before proper after.components same.count (kept_or_moved before after same) d (subst (λ (design : DesignModel). IsDifference before design d) same.rest is)
+    only_moves before proper after.components same.count (kept_or_moved before after same) d
+    (subst (λ (design : DesignModel). IsDifference before design d) same.rest is)

@@ -35,13 +35,16 @@ module _ {X : Type 0} (name_of : X → List ℕ) (Differs : Change → X → X �
     (good_xs : All Good xs) (good_ys : All Good ys) (apart : AreApart (map name_of ys))
     (none_gone : (i : ℕ) → i < length (map name_of xs) → place_of (get_or (map name_of xs) i []) (map name_of ys) ≢ None)
     (none_added : (j : ℕ) → j < length (map name_of ys) → place_of (get_or (map name_of ys) j []) (map name_of xs) ≢ None)
-    (none_changed : (change : Change) (i j : ℕ) → i < length (map name_of xs) → place_of (get_or (map name_of xs) i []) (map name_of ys) ≡ Some j → ¬ DifferAt (Differs change) xs ys i j)
+    (none_changed : (change : Change) (i j : ℕ) → i < length (map name_of xs) → place_of (get_or (map name_of xs) i []) (map name_of ys) ≡ Some j
+    → ¬ DifferAt (Differs change) xs ys i j)
     (decide : (x y : X) → Good x → Good y → name_of x ≡ name_of y → ((change : Change) → ¬ Differs change x y) → Same x y) where
   -- two elements at numbers of one name
-  pair : (i j : ℕ) (d : X) → i < length xs → j < length ys → place_of (get_or (map name_of xs) i []) (map name_of ys) ≡ Some j → Same (get_or xs i d) (get_or ys j d)
+  pair : (i j : ℕ) (d : X) → i < length xs → j < length ys → place_of (get_or (map name_of xs) i []) (map name_of ys) ≡ Some j
+      → Same (get_or xs i d) (get_or ys j d)
   pair i j d less within found =
       decide (get_or xs i d) (get_or ys j d) (good_xs i d less) (good_ys j d within)
-      (sym (get_or-map name_of xs i d [] less) ∙ sym ((place_stands (get_or (map name_of xs) i []) (map name_of ys) j found).there []) ∙ get_or-map name_of ys j d [] within)
+      (sym (get_or-map name_of xs i d [] less) ∙ sym ((place_stands (get_or (map name_of xs) i []) (map name_of ys) j found).there [])
+      ∙ get_or-map name_of ys j d [] within)
       (λ change differ. none_changed change i j (omega (arith, length-map xs name_of)) found
       (record { x = get_or xs i d; y = get_or ys j d; at_first = slice_get-get_or xs i d less; at_second = slice_get-get_or ys j d within; differ = differ }))
 
@@ -68,7 +71,8 @@ module _ {X : Type 0} (name_of : X → List ℕ) (Differs : Change → X → X �
       let found = some (place_of (get_or (map name_of ys) j []) (map name_of xs)) (none_added j inside) in
       let stands = place_stands (get_or (map name_of ys) j []) (map name_of xs) found.0 found.1 in
       let less : found.0 < length xs = omega (arith, length-map xs name_of, stands.within) in
-      let back : place_of (get_or (map name_of xs) found.0 []) (map name_of ys) ≡ Some j = ap (λ n. place_of n (map name_of ys)) (stands.there []) ∙ apart j inside in
+      let back : place_of (get_or (map name_of xs) found.0 []) (map name_of ys) ≡ Some j = ap (λ n. place_of n (map name_of ys)) (stands.there [])
+      ∙ apart j inside in
       record {
         y = get_or xs found.0 y;
         there = Contains-get_or xs found.0 y less;
@@ -100,12 +104,18 @@ module _ (first second : DesignModel) (library : first.library ≡ second.librar
   vias_same : (x y : ViaModel) → Unit {0} → Unit {0} → x.name ≡ y.name → ((change : Change) → ¬ DiffersAsVia change x y) → x ≡ y
   vias_same x y _ _ name never = same_if (vias_told first x y) (never Shapes)
 
-  statuses_same : (x y : Component) → IsPlaced x.status x.place → IsPlaced y.status y.place → x.place ≡ y.place → ¬ DiffersAsComponent OtherStatus x y → x.status ≡ y.status
+  statuses_same : (x y : Component) → IsPlaced x.status x.place → IsPlaced y.status y.place → x.place ≡ y.place → ¬ DiffersAsComponent OtherStatus x y
+      → x.status ≡ y.status
   statuses_same x y p q place never =
       same_if (statuses_told first x x.status y.status)
-      (λ other. never (record { other = other; fixed = λ both. other (one_status x.status y.status x.place p (subst (IsPlaced y.status) (sym place) q) both.0 both.1) }))
+      (λ other. never (record {
+        other = other;
+        fixed = λ both. other
+            (one_status x.status y.status x.place p (subst (IsPlaced y.status) (sym place) q) both.0 both.1);
+      }))
 
-  components_same : (x y : Component) → IsComponent first.library x → IsComponent first.library y → x.name ≡ y.name → ((change : Change) → ¬ DiffersAsComponent change x y) → x ≡ y
+  components_same : (x y : Component) → IsComponent first.library x → IsComponent first.library y → x.name ≡ y.name
+      → ((change : Change) → ¬ DiffersAsComponent change x y) → x ≡ y
   components_same x y p q name never =
       let master = same_if (masters_told x.master y.master) (never Macro) in
       let place = same_if (places_told first x x.place y.place) (never OtherPlace) in
@@ -120,7 +130,8 @@ module _ (first second : DesignModel) (library : first.library ≡ second.librar
       let ports = same_if (ports_told first x x.ports y.ports) (never Ports) in
       λ i. record { name = name i; net_name = net i; direction = direction i; usage = usage i; ports = ports i }
 
-  nets_same : (x y : NetModel) → Unit {0} → Unit {0} → x.name ≡ y.name → ((change : Change) → ¬ DiffersAsNet first second change x y) → IsSameNet first second x y
+  nets_same : (x y : NetModel) → Unit {0} → Unit {0} → x.name ≡ y.name → ((change : Change) → ¬ DiffersAsNet first second change x y)
+      → IsSameNet first second x y
   nets_same x y _ _ name never = record {
     usage = same_if (words_told first x.usage y.usage) (never Usage);
     terminals = same_if (terminals_told (spelled_terminals first x.terminals) (spelled_terminals second y.terminals)) (never Terminals);
@@ -132,10 +143,12 @@ module _ (first second : DesignModel) (library : first.library ≡ second.librar
   any xs = λ k d within. tt
 
   -- of any section none is gone, added or changed
-  none_gone : (section : Section) (i : ℕ) → i < length (names_of section first) → place_of (get_or (names_of section first) i []) (names_of section second) ≢ None
+  none_gone : (section : Section) (i : ℕ) → i < length (names_of section first)
+      → place_of (get_or (names_of section first) i []) (names_of section second) ≢ None
   none_gone section i within gone = none (Gone section i) (record { there = within; gone = gone })
 
-  none_added : (section : Section) (j : ℕ) → j < length (names_of section second) → place_of (get_or (names_of section second) j []) (names_of section first) ≢ None
+  none_added : (section : Section) (j : ℕ) → j < length (names_of section second)
+      → place_of (get_or (names_of section second) j []) (names_of section first) ≢ None
   none_added section j within gone = none (Added section j) (record { there = within; gone = gone })
 
   all_same : IsSameDesign first second
@@ -146,23 +159,35 @@ module _ (first second : DesignModel) (library : first.library ≡ second.librar
     die = same_if (told_in (λ x. record first { die = x }) (λ (e : DesignModel). e.die) (λ x. refl) first.die second.die) (none (Whole Die));
     rows = same_if (told_in (λ x. record first { rows = x }) (λ (e : DesignModel). e.rows) (λ x. refl) first.rows second.rows) (none (Whole Rows));
     tracks = same_if (told_in (λ x. record first { tracks = x }) (λ (e : DesignModel). e.tracks) (λ x. refl) first.tracks second.tracks) (none (Whole Tracks));
-    blockages = same_if (told_in (λ x. record first { blockages = x }) (λ (e : DesignModel). e.blockages) (λ x. refl) first.blockages second.blockages) (none (Whole Blockages));
+    blockages = same_if (told_in (λ x. record first { blockages = x }) (λ (e : DesignModel). e.blockages) (λ x. refl) first.blockages second.blockages)
+        (none (Whole Blockages));
     vias =
-        same_by_name (λ (v : ViaModel). v.name) DiffersAsVia (λ a b. a ≡ b) (λ v. Unit {0}) first.vias second.vias (any first.vias) (any second.vias) (names_apart second proper_second Vias)
-        (none_gone Vias) (none_added Vias) (λ change i j within found differ. none (Changed Vias change i) (record { j = j; one_name = record { there = within; found = found }; changed = differ })) vias_same;
+        same_by_name (λ (v : ViaModel). v.name) DiffersAsVia (λ a b. a ≡ b) (λ v. Unit {0}) first.vias second.vias (any first.vias) (any second.vias)
+        (names_apart second proper_second Vias)
+        (none_gone Vias) (none_added Vias) (λ change i j within found differ. none (Changed Vias change i)
+        (record { j = j; one_name = record { there = within; found = found }; changed = differ })) vias_same;
     components =
-        same_by_name (λ (c : Component). c.name) DiffersAsComponent (λ a b. a ≡ b) (IsComponent first.library) first.components second.components proper.components.each
-        (subst (λ (l : LibraryModel). All (IsComponent l) second.components) (sym library) proper_second.components.each) (names_apart second proper_second Components)
-        (none_gone Components) (none_added Components) (λ change i j within found differ. none (Changed Components change i) (record { j = j; one_name = record { there = within; found = found }; changed = differ })) components_same;
+        same_by_name (λ (c : Component). c.name) DiffersAsComponent (λ a b. a ≡ b) (IsComponent first.library) first.components second.components
+        proper.components.each
+        (subst (λ (l : LibraryModel). All (IsComponent l) second.components) (sym library) proper_second.components.each)
+        (names_apart second proper_second Components)
+        (none_gone Components) (none_added Components) (λ change i j within found differ. none (Changed Components change i)
+        (record { j = j; one_name = record { there = within; found = found }; changed = differ })) components_same;
     pins =
-        same_by_name (λ (p : PinModel). p.name) DiffersAsPin (λ a b. a ≡ b) (λ p. Unit {0}) first.pins second.pins (any first.pins) (any second.pins) (names_apart second proper_second Pins)
-        (none_gone Pins) (none_added Pins) (λ change i j within found differ. none (Changed Pins change i) (record { j = j; one_name = record { there = within; found = found }; changed = differ })) pins_same;
+        same_by_name (λ (p : PinModel). p.name) DiffersAsPin (λ a b. a ≡ b) (λ p. Unit {0}) first.pins second.pins (any first.pins) (any second.pins)
+        (names_apart second proper_second Pins)
+        (none_gone Pins) (none_added Pins) (λ change i j within found differ. none (Changed Pins change i)
+        (record { j = j; one_name = record { there = within; found = found }; changed = differ })) pins_same;
     special =
-        same_by_name (λ (n : NetModel). n.name) (DiffersAsNet first second) (IsSameNet first second) (λ n. Unit {0}) first.special second.special (any first.special) (any second.special) (names_apart second proper_second SpecialNets)
-        (none_gone SpecialNets) (none_added SpecialNets) (λ change i j within found differ. none (Changed SpecialNets change i) (record { j = j; one_name = record { there = within; found = found }; changed = differ })) nets_same;
+        same_by_name (λ (n : NetModel). n.name) (DiffersAsNet first second) (IsSameNet first second) (λ n. Unit {0}) first.special second.special
+        (any first.special) (any second.special) (names_apart second proper_second SpecialNets)
+        (none_gone SpecialNets) (none_added SpecialNets) (λ change i j within found differ. none (Changed SpecialNets change i)
+        (record { j = j; one_name = record { there = within; found = found }; changed = differ })) nets_same;
     nets =
-        same_by_name (λ (n : NetModel). n.name) (DiffersAsNet first second) (IsSameNet first second) (λ n. Unit {0}) first.nets second.nets (any first.nets) (any second.nets) (names_apart second proper_second Nets)
-        (none_gone Nets) (none_added Nets) (λ change i j within found differ. none (Changed Nets change i) (record { j = j; one_name = record { there = within; found = found }; changed = differ })) nets_same;
+        same_by_name (λ (n : NetModel). n.name) (DiffersAsNet first second) (IsSameNet first second) (λ n. Unit {0}) first.nets second.nets (any first.nets)
+        (any second.nets) (names_apart second proper_second Nets)
+        (none_gone Nets) (none_added Nets) (λ change i j within found differ. none (Changed Nets change i)
+        (record { j = j; one_name = record { there = within; found = found }; changed = differ })) nets_same;
   }
 
 -- designs of one library between which there is no difference are the same but for the order of named entries

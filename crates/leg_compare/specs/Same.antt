@@ -1,4 +1,4 @@
--- Designs that are the same but for the order of entries that have names (lefdef's own rules).
+-- Designs that are the same but for the order of entries that have names, and of terminals (lefdef's own rules).
 use Rattle.std.specs.Prelude.{◌≡◌, ℕ, List, Contains}
 use Rattle.leg_lib_records.specs.Records.{ViaModel}
 use Rattle.leg_design_records.specs.declared.records.Component.{Component}

@@ -1,5 +1,6 @@
 //! Terminals and wires of two designs, compared by the names of the entries that they speak of.
-//! The order of terminals means nothing: both lists are sorted by their words, and each is looked up in the other.
+//! The order of terminals means nothing: where they don't stand in one order, both lists are sorted by their words, and each is looked
+//! up in the other.
 
 ghost use Rattle.std.specs.Prelude.{◌≡◌, ◌↔◌, IsTrue, IfOk, map, slice_get, All, Contains, IsPermutation, IsSorted};
 ghost use Rattle.leg_compare.specs.Steps.Words.{words_cmp, words_now};
@@ -124,6 +125,40 @@ fn are_among<'d>(list: &[(&'d [u8], &'d [u8])], others: &[(&'d [u8], &'d [u8])])
     true
 }
 
+/// Whether both terminals are spelled alike, each in its own design.
+fn is_same_terminal<A: Allocator + Copy>(
+    first: &Design<'_, A>,
+    second: &Design<'_, A>,
+    a: &Terminal,
+    b: &Terminal,
+) -> bool
+    ensures { IsTrue result ↔ (spelled_terminal first.now a.now ≡ spelled_terminal second.now b.now) }
+{
+    let before = terminal_words(first, a);
+    let after = terminal_words(second, b);
+    before.0 == after.0 && before.1 == after.1
+}
+
+/// Whether the terminals are spelled alike in one order, each in its own design.
+fn are_in_one_order<A: Allocator + Copy>(
+    first: &Design<'_, A>,
+    second: &Design<'_, A>,
+    a: &[Terminal],
+    b: &[Terminal],
+) -> bool
+    ensures { IsTrue result ↔ (spelled_terminals first.now a.now ≡ spelled_terminals second.now b.now) }
+{
+    if a.len() != b.len() {
+        return false;
+    }
+    for i in 0..a.len() {
+        if !is_same_terminal(first, second, &a[i], &b[i]) {
+            return false;
+        }
+    }
+    true
+}
+
 /// Whether the terminals are the same by their names, each in its own design, in whatever order. It fails only when out of memory.
 pub(crate) fn are_same_terminals<A: Allocator + Copy>(
     alloc: A,
@@ -134,6 +169,9 @@ pub(crate) fn are_same_terminals<A: Allocator + Copy>(
 ) -> Result<bool, AllocError>
     ensures { IfOk result (λ same. IsTrue same ↔ AreSameTerminals (spelled_terminals first.now a.now) (spelled_terminals second.now b.now)) }
 {
+    if are_in_one_order(&*first, &*second, a, b) {
+        return Ok(true);
+    }
     let before = sorted_words(alloc, &*first, a)?;
     let after = sorted_words(alloc, &*second, b)?;
     Ok(are_among(&before, &after) && are_among(&after, &before))

@@ -11,6 +11,8 @@ returns-in_ok-are_same_terminals-in-Terminals g c =
     let after : c.as_slice-after.result.now ≡ c.args.b.now.terminals = c.as_slice-after.ensures ∙ ap (λ (net : NetModel). net.terminals) c.b.view_is in
     let answer = c.in_ok-are_same_terminals-in-Terminals.field-0 in
     rw c.in-Terminals.is (not_same answer
-    (subst (λ (l : List Terminal). IsTrue answer ↔ AreSameTerminals (spelled_terminals c.args.first.now l) (spelled_terminals c.args.second.now c.args.b.now.terminals)) before
-    (subst (λ (l : List Terminal). IsTrue answer ↔ AreSameTerminals (spelled_terminals c.args.first.now c.as_slice-before.result.now) (spelled_terminals c.args.second.now l)) after
+    (subst (λ (l : List Terminal). IsTrue answer ↔ AreSameTerminals (spelled_terminals c.args.first.now l)
+    (spelled_terminals c.args.second.now c.args.b.now.terminals)) before
+    (subst (λ (l : List Terminal). IsTrue answer ↔ AreSameTerminals (spelled_terminals c.args.first.now c.as_slice-before.result.now)
+    (spelled_terminals c.args.second.now l)) after
     c.in_ok-are_same_terminals-in-Terminals.ensures)))

@@ -14,14 +14,16 @@ loop-j-preserved g c =
       | then-is_none+in_ok-push w ↦
           let within : c.loop-j.j < length (names_of c.args.section c.args.second.now) = omega arith in
           let missing : IsMissing c.args.section c.args.second.now c.args.first.now c.loop-j.j =
-          is_missing c.args.section c.args.second.now c.args.first.now c.loop-j.j c.name_at.result.now c.args.earlier.now c.place_of.result (c.requires.names, c.name_at.ensures, c.place_of.ensures) within
+          is_missing c.args.section c.args.second.now c.args.first.now c.loop-j.j c.name_at.result.now c.args.earlier.now c.place_of.result
+          (c.requires.names, c.name_at.ensures, c.place_of.ensures) within
           (is_nothing c.place_of.result c.is_none.result c.is_none.ensures w.if-is_none.true) in
           rw (w.list-is, w.in_ok-push.ensures.items) (added_on c.args.first.now c.args.second.now c.args.section _ c.loop-j.j
           (with_one c.args.first.now c.args.second.now (Added c.args.section c.loop-j.j) c.loop-j.list.items missing c.loop-j.invariant))
       | else-is_none w ↦
           rw w.list-is (added_on c.args.first.now c.args.second.now c.args.section c.loop-j.list.items c.loop-j.j
           (without_one c.args.first.now c.args.second.now (Added c.args.section c.loop-j.j) c.loop-j.list.items
-          (not_missing c.args.section c.args.second.now c.args.first.now c.loop-j.j c.name_at.result.now c.args.earlier.now c.place_of.result (c.requires.names, c.name_at.ensures, c.place_of.ensures)
+          (not_missing c.args.section c.args.second.now c.args.first.now c.loop-j.j c.name_at.result.now c.args.earlier.now c.place_of.result
+          (c.requires.names, c.name_at.ensures, c.place_of.ensures)
           (is_something c.place_of.result c.is_none.result c.is_none.ensures w.if-is_none.false)) c.loop-j.invariant))
     ]
 

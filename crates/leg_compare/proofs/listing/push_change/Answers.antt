@@ -21,5 +21,6 @@ pub returns-else-differs : goal.returns-else-differs
 returns-else-differs g c =
     without_one c.args.first.now c.args.second.now (Changed c.args.section c.args.change c.args.i) c.args.list.now.items
     (λ is. let same : is.j ≡ c.args.j = cc (is.one_name.found, c.requires.one_name.found) in
-    let changed : c.in_ok-differs.differs ≡ true = c.in_ok-differs.ensures.1 (subst (λ (j : ℕ). HasChanged c.args.section c.args.change c.args.first.now c.args.second.now c.args.i j) same is.changed) in
+    let changed : c.in_ok-differs.differs ≡ true = c.in_ok-differs.ensures.1
+    (subst (λ (j : ℕ). HasChanged c.args.section c.args.change c.args.first.now c.args.second.now c.args.i j) same is.changed) in
     let no : ⊥ = cc in no) c.requires.listed

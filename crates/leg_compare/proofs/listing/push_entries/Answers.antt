@@ -14,7 +14,8 @@ loop-i-preserved g c =
       | in-None+in_ok-push-in-None w ↦
           let within : c.loop-i.i < length (names_of c.args.section c.args.first.now) = omega arith in
           let missing : IsMissing c.args.section c.args.first.now c.args.second.now c.loop-i.i =
-          is_missing c.args.section c.args.first.now c.args.second.now c.loop-i.i c.name_at.result.now c.args.later.now c.place_of.result (c.requires.names, c.name_at.ensures, c.place_of.ensures) within w.in-None.is in
+          is_missing c.args.section c.args.first.now c.args.second.now c.loop-i.i c.name_at.result.now c.args.later.now c.place_of.result
+          (c.requires.names, c.name_at.ensures, c.place_of.ensures) within w.in-None.is in
           rw (w.list-is, w.in_ok-push-in-None.ensures.items) (gone_on c.args.first.now c.args.second.now c.args.section _ c.loop-i.i missing
           (with_one c.args.first.now c.args.second.now (Gone c.args.section c.loop-i.i) c.loop-i.list.items missing c.loop-i.invariant))
       | in-Some+in_ok-push_changes-in-Some w ↦ rw w.list-is w.in_ok-push_changes-in-Some.ensures

@@ -5,7 +5,8 @@ use Rattle.leg_compare.proofs.spelling.are_among.Goals as goal
 pub returns-then-not-is_among : goal.returns-then-not-is_among
 returns-then-not-is_among c = (
   λ e. absurd (cc),
-  λ h. absurd (let yes : c.is_among.result ≡ true = c.is_among.ensures.1 (one_there c.args.others.now c.args.list.now c.loop-number.number _ (omega arith) h) in let no : ⊥ = cc (yes, c.if-not-is_among.true) in no),
+  λ h. absurd (let yes : c.is_among.result ≡ true = c.is_among.ensures.1 (one_there c.args.others.now c.args.list.now c.loop-number.number _ (omega arith) h) in
+      let no : ⊥ = cc (yes, c.if-not-is_among.true) in no),
 )
 
 pub loop-number-preserved : goal.loop-number-preserved

@@ -18,8 +18,10 @@ returns g c =
       | then-are_among w ↦
           let here : IsTrue w.are_among-then-are_among.result ↔ All (Contains words_before) words_after =
           rw (sym w.deref-then-are_among.ensures.value, sym w.deref-then-are_among-2.ensures.value) w.are_among-then-are_among.ensures in
-          both_tell before after words_before words_after c.in_ok-before.ensures.all c.in_ok-after.ensures.all c.are_among.result w.are_among-then-are_among.result c.if-are_among.result
+          both_tell before after words_before words_after c.in_ok-before.ensures.all c.in_ok-after.ensures.all c.are_among.result
+          w.are_among-then-are_among.result c.if-are_among.result
           there here w.if-are_among.true w.result-is
       | else-are_among w ↦
-          one_tells before after words_before words_after c.in_ok-before.ensures.all c.in_ok-after.ensures.all c.are_among.result c.if-are_among.result there w.if-are_among.false w.result-is
+          one_tells before after words_before words_after c.in_ok-before.ensures.all c.in_ok-after.ensures.all c.are_among.result c.if-are_among.result there
+          w.if-are_among.false w.result-is
     ]
