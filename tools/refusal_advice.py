@@ -4,6 +4,7 @@ from lefdef_text import Layer, Macro, Site, Via, shown
 NO_TOOL = 'No tool rewrites it.'
 NO_ROW = 'No tool rewrites it; a row on which no component stands can be taken out.'
 NO_BLOCKAGE = 'No tool rewrites it; to judge the block without this blockage, take the entry out.'
+LOOSE_BLOCKAGE = 'tools/plain-def takes it out with --{0} drop, and makes a hard one of it with --{0} hard.'
 MORE_UNITS = 'Have the program that wrote the DEF write more units a micron, such as UNITS DISTANCE MICRONS 2000.'
 RULE = 'The wires would have the widths and spacings of a nondefault rule, which is not read.'
 MASKS = 'The masks of a layer that is made with several are not told apart.'
@@ -25,8 +26,10 @@ ADVICE = {
     'VIA of a pin is not supported': ('The metal of a pin of the block is read as rectangles alone.', 'tools/plain-def writes its rectangles.'),
     'MASK of a pin is not supported': (MASKS, NO_TOOL),
     'MASK of tracks is not supported': (MASKS, NO_TOOL),
-    'SOFT of a blockage is not supported': ('A soft blockage keeps only some components out, at some steps of placing.', NO_BLOCKAGE),
-    'PARTIAL of a blockage is not supported': ('A partial blockage limits how full its place is, which is not judged.', NO_BLOCKAGE),
+    'SOFT of a blockage is not supported': ('A soft blockage keeps components out when a block is placed first, and not later.',
+                                            LOOSE_BLOCKAGE.format('soft')),
+    'PARTIAL of a blockage is not supported': ('A partial blockage limits how full its place is when a block is placed first, which is not judged.',
+                                               LOOSE_BLOCKAGE.format('partial')),
     'COMPONENT of a blockage is not supported': ('The blockage goes with a component.', NO_BLOCKAGE),
     'SLOTS of a blockage is not supported': ('The blockage keeps out slots, and no wires.', NO_BLOCKAGE),
     'FILLS of a blockage is not supported': ('The blockage keeps out fills, and no wires.', NO_BLOCKAGE),

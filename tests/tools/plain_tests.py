@@ -261,6 +261,59 @@ class PinTests(PlainDefCase):
                          'in.def:14: a POLYGON has a side that is neither horizontal nor vertical, to 5 8: it is no union of rectangles')
 
 
+class BlockageTests(PlainDefCase):
+    """Placement blockages that are soft or partial."""
+    ENTRIES = '''- PLACEMENT + SOFT RECT ( 0 0.0 ) ( 200 2000 ) ;
+- placement + PUSHDOWN
+  + partial 40.5
+  RECT ( 400 0 ) ( 600 2000 ) ;
+- PLACEMENT RECT ( 800 0 ) ( 900 2000 ) ;
+- PLACEMENT + SOFT + PUSHDOWN POLYGON ( 0 0 ) ( 0 9 ) ( 5 9 ) ( 5 4 ) ( 9 4 ) ( 9 0 ) ;
+'''
+
+    def written(self, *options):
+        """Returns what is written of these entries, the design that it is, and what is reported."""
+        out, err = self.edited('plain-def', block(BLOCKAGES=self.ENTRIES), *self.lefs, *options)
+        section = out[out.index('BLOCKAGES'):out.index('END BLOCKAGES')]
+        return section, [it.rects for it in self.design(out, *self.lefs).blockages], err
+
+    def test_soft_ones_are_taken_out_and_partial_ones_are_made_hard(self):
+        self.assertEqual(self.written('--soft', 'drop', '--partial', 'hard'), (
+            'BLOCKAGES 2 ;\n- placement + PUSHDOWN\n  RECT ( 400 0 ) ( 600 2000 ) ;\n- PLACEMENT RECT ( 800 0 ) ( 900 2000 ) ;\n',
+            [[(400, 0, 600, 2000)], [(800, 0, 900, 2000)]],
+            'plain-def: 2 soft blockages taken out: components may stand there\n'
+            'plain-def: 1 partial blockage written as a hard one: no movable component may stand there\n'))
+
+    def test_soft_ones_are_made_hard_and_partial_ones_are_taken_out(self):
+        self.assertEqual(self.written('--soft', 'hard', '--partial', 'drop'), (
+            'BLOCKAGES 3 ;\n- PLACEMENT  RECT ( 0 0 ) ( 200 2000 ) ;\n- PLACEMENT RECT ( 800 0 ) ( 900 2000 ) ;\n'
+            '- PLACEMENT  + PUSHDOWN RECT ( 0 0 ) ( 9 4 ) RECT ( 0 4 ) ( 5 9 ) ;\n',
+            [[(0, 0, 200, 2000)], [(800, 0, 900, 2000)], [(0, 0, 9, 4), (0, 4, 5, 9)]],
+            'plain-def: 1 POLYGON of BLOCKAGES written as rectangles\n'
+            'plain-def: 2 soft blockages written as hard ones: no movable component may stand there\n'
+            'plain-def: 1 partial blockage taken out: components may stand there\n'
+            'plain-def: 1 number written as the unit that each lies at, the first in line 14\n'))
+
+    def test_a_section_is_left_empty(self):
+        out, _ = self.edited('plain-def', block(BLOCKAGES=self.ENTRIES.splitlines(True)[0]), *self.lefs, '--soft', 'drop')
+        self.assertIn('BLOCKAGES 0 ;\nEND BLOCKAGES\n', out)
+
+    def test_what_is_not_asked_is_refused(self):
+        for options, why in (((), '14: SOFT of a blockage is not supported: --soft drop takes the blockage out, and --soft hard makes a hard one of it'),
+                             (('--partial', 'drop'), '14: SOFT of a blockage is not supported: --soft drop takes the blockage out, and --soft hard makes a hard one of it'),
+                             (('--soft', 'hard'), '16: PARTIAL of a blockage is not supported: --partial drop takes the blockage out, and --partial hard makes a hard one of it')):
+            with self.subTest(options=options):
+                self.assertEqual(self.refused('plain-def', block(BLOCKAGES=self.ENTRIES), *self.lefs, *options), f'in.def:{why}')
+        self.assertEqual(self.run_tool('plain-def', self.file('in.def', block()), *self.lefs, '--soft', 'maybe')[:2], (64, ''))
+
+    def test_what_is_refused(self):
+        for clauses, why in (('LAYER m1 + SOFT', 'SOFT of a blockage is not supported'), ('PLACEMENT + COMPONENT u1', 'COMPONENT of a blockage is not supported'),
+                             ('PLACEMENT + SOFT + PARTIAL 5', 'PARTIAL of a blockage is not supported'), ('PLACEMENT + PARTIAL 100.1', 'a number from 0 to 100 was expected, not 100.1'),
+                             ('PLACEMENT + PARTIAL', 'a number from 0 to 100 was expected, not RECT')):
+            with self.subTest(clauses=clauses):
+                self.assertEqual(self.refused('plain-def', block(BLOCKAGES=f'- {clauses} RECT ( 0 0 ) ( 5 5 ) ;\n'), *self.lefs, '--soft', 'drop', '--partial', 'drop'), f'in.def:14: {why}')
+
+
 class RuleTests(PlainDefCase):
     """Wires under nondefault rules."""
 

@@ -130,9 +130,11 @@ DEF_FORMS = (
      'VIA of a pin is not supported. The metal of a pin of the block is read as rectangles alone. tools/plain-def writes its rectangles.'),
     (PORT, '+ LAYER m9 ( 0 0 )', 15, 'UnknownName', f'there is no layer m9. {NO_LEF}'),
     (PLACEMENT, '- PLACEMENT + SOFT RECT', 18, 'Unsupported',
-     f'SOFT of a blockage is not supported. A soft blockage keeps only some components out, at some steps of placing. {NO_BLOCKAGE}'),
+     'SOFT of a blockage is not supported. A soft blockage keeps components out when a block is placed first, and not later. '
+     'tools/plain-def takes it out with --soft drop, and makes a hard one of it with --soft hard.'),
     (PLACEMENT, '- PLACEMENT + PARTIAL 0.5 RECT', 18, 'Unsupported',
-     f'PARTIAL of a blockage is not supported. A partial blockage limits how full its place is, which is not judged. {NO_BLOCKAGE}'),
+     'PARTIAL of a blockage is not supported. A partial blockage limits how full its place is when a block is placed first, which is not judged. '
+     'tools/plain-def takes it out with --partial drop, and makes a hard one of it with --partial hard.'),
     (PLACEMENT, '- PLACEMENT + COMPONENT u1 RECT', 18, 'Unsupported', f'COMPONENT of a blockage is not supported. The blockage goes with a component. {NO_BLOCKAGE}'),
     (BLOCKED, '- LAYER m2 + slots RECT', 19, 'Unsupported', f'SLOTS of a blockage is not supported. The blockage keeps out slots, and no wires. {NO_BLOCKAGE}'),
     (BLOCKED, '- LAYER m2 + FILLS RECT', 19, 'Unsupported', f'FILLS of a blockage is not supported. The blockage keeps out fills, and no wires. {NO_BLOCKAGE}'),

@@ -184,7 +184,9 @@ def_tool_text word =
     else (if is_keyword (codes "RECT") word || is_keyword (codes "VIA") word then codes ": tools/plain-def writes it as rectangles or wires"
     else (if is_keyword (codes "DO") word then codes ": tools/plain-def writes each via of such an array in SPECIALNETS"
     else (if is_turn word then codes ": tools/plain-def writes a via that is turned as a via of its own"
-    else [])))))
+    else (if is_keyword (codes "SOFT") word then codes ": tools/plain-def takes a soft blockage of PLACEMENT out (--soft drop), or makes a hard one of it (--soft hard)"
+    else (if is_keyword (codes "PARTIAL") word then codes ": tools/plain-def takes a partial blockage of PLACEMENT out (--partial drop), or makes a hard one of it (--partial hard)"
+    else [])))))))
 
 -- the same of a LEF
 abbrev pub lef_tool_text : List ℕ → List ℕ

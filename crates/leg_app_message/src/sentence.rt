@@ -322,6 +322,10 @@ fn def_tool_text(word: &[u8]) -> &'static [u8]
         b": tools/plain-def writes each via of such an array in SPECIALNETS"
     } else if is_turn(word) {
         b": tools/plain-def writes a via that is turned as a via of its own"
+    } else if is_keyword(b"SOFT", word) {
+        b": tools/plain-def takes a soft blockage of PLACEMENT out (--soft drop), or makes a hard one of it (--soft hard)"
+    } else if is_keyword(b"PARTIAL", word) {
+        b": tools/plain-def takes a partial blockage of PLACEMENT out (--partial drop), or makes a hard one of it (--partial hard)"
     } else {
         b""
     }
