@@ -145,6 +145,7 @@ middle_text texts (needs.Keyword keyword) master = keyword_text keyword
 middle_text texts (needs.Mark mark) master = mark ∷ []
 middle_text texts (needs.Statement keyword) master = keyword_text keyword
 middle_text texts (needs.KnownPin number) master = master_text master
+middle_text texts (needs.New names.Via) master = codes ", which a LEF defines"
 middle_text texts (needs.NewSince kind line) master = codes ", which line " ++ decimal line ++ codes " defines"
 middle_text texts (needs.NewSinceText kind file line) master = codes ", which " ++ path_of texts file ++ codes ":" ++ decimal line ++ codes " defines"
 middle_text texts (needs.AtLeast least) master = decimal least

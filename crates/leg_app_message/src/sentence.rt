@@ -270,6 +270,8 @@ fn push_middle<A: Allocator, B: Allocator>(
         Need::Mark(mark) => message.extend_from_slice(&[mark]),
         Need::Statement(keyword) => message.extend_from_slice(keyword.bytes()),
         Need::KnownPin(_) => push_master(message, master),
+        // (the first definition of its name is no entry of VIAS)
+        Need::New(NameKind::Via) => message.extend_from_slice(b", which a LEF defines"),
         Need::NewSince(_, line) => push_line(message, line),
         Need::NewSinceText(_, file, line) => push_text_line(message, texts, file, line),
         Need::AtLeast(least) => push_number(message, least as usize),
