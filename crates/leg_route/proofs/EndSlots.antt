@@ -1,48 +1,95 @@
 -- The slots at which walks of a net end: of a shape more, of those that are left, and by their numbers.
-use Rattle.std.proofs.Common.{◌≡◌, ◌↔◌, ◌⊎◌, ◌<◌, ◌≤◌, ◌-◌, ℕ, Bool, true, false, List, [], ◌∷◌, ◌++◌, length, map, min, take, drop, get_or, All, Contains, Some, slice_get, inl, inr, refl, sym, subst, ap, ◌∙◌, true≢false, arith}
-use Rattle.std.proofs.Math.Nat.{min-le_left, min-le_right}
+use Rattle.std.proofs.Common.{◌≡◌, ◌↔◌, ◌⊎◌, ◌<◌, ◌≤◌, ◌-◌, ℕ, Bool, true, false, List, [], ◌∷◌, ◌++◌, length, map, take, drop, get_or, All, Contains, Some, slice_get, inl, inr, refl, sym, subst, ap, ◌∙◌, true≢false, arith}
+use Rattle.std.proofs.Math.Nat.{min-le_right}
 use Rattle.std.proofs.lemmas.Bool.{cases_Bool, cases_lt}
-use Rattle.std.proofs.Math.Seq.{drop-append_seam}
-use Rattle.std.proofs.lemmas.List.{get_or-map, length-map, length-drop, take_all}
-use Rattle.std.proofs.lemmas.List.Elements.{All-get_or, All-contains, Contains-append_left, Contains-append_right, Contains-append_cases, Contains-push, Contains-push_cases}
+use Rattle.std.proofs.Math.Seq.{take-append_seam, drop-append_seam}
+use Rattle.std.proofs.lemmas.List.{get_or_read, length-drop, take_all}
+use Rattle.std.proofs.lemmas.List.Elements.{All-get_or, All-contains, Contains-get_or, Contains-append_left, Contains-append_right, Contains-append_cases, Contains-push, Contains-push_cases}
 use Rattle.std.proofs.lemmas.Option.{same_Some, slice_get_within, slice_get_read, slice_get-get_or}
 use Rattle.leg_sweep.proofs.Lists.{All-from_contains, Contains-map}
 use Rattle.leg_rules.specs.declared.shape.Shape.{Shape}
 use Rattle.leg_rules.specs.declared.node.Node.{Node}
 use Rattle.leg_rules.specs.Metal.Flat.{FlatModel}
 use Rattle.leg_route_grid.specs.declared.slot_box.SlotBox.{SlotBox}
-use Rattle.leg_route_grid.specs.Steps.WalkBounds.{slot_of, bound_at, IsBoxOf}
-use Rattle.leg_route_grid.specs.Steps.Grid.{GridModel, IsNumberOf, slot_total}
+use Rattle.leg_route_grid.specs.declared.hulls.Hull.{Hull}
+use Rattle.leg_route_grid.specs.Steps.WalkBounds.{bound_at, IsBoxOf}
+use Rattle.leg_route_grid.specs.Steps.Grid.{GridModel, IsDesignGrid, IsNumberOf, slot_total}
 use Rattle.leg_route_grid.specs.Steps.NodeNumbers.{IsOneOf}
 use Rattle.leg_route_grid.specs.Steps.NodesInRect.{LiesInRect}
-use Rattle.leg_route_grid.proofs.Bounds.{nearest_both}
-use Rattle.leg_route_search.specs.Steps.Starts.{AreLeast}
+use Rattle.leg_route.proofs.FarSlots.{far_joined}
 use Rattle.leg_wire.specs.NetShapes.{AreNumbersOf}
 use Rattle.leg_wire.specs.PieceMarks.{AreMarks}
 use Rattle.leg_rules.specs.Joins.Touch.{piece_count, AreJoined}
 use Rattle.leg_rules.specs.Route.Meets.{MeetsRest}
 use Rattle.leg_route_laws.proofs.Places.{comes_from}
-use Rattle.leg_route.specs.Steps.NetSlots.{MeetsMarked}
+use Rattle.leg_route.specs.Steps.NetSlots.{MeetsMarked, IsPartOf}
 use Rattle.leg_route.proofs.NetSlots.{meets_piece, rest_marked}
 use Rattle.leg_route.specs.declared.end_slots.EndSlot.{EndSlot}
-use Rattle.leg_route.specs.Steps.EndSlots.{IsApart, MeetsPiece, IsEndSlot, AreEndSlots, end_at, HaveGotEnds, end_from, AreEndsLeft}
+use Rattle.leg_route.specs.Steps.EndSlots.{IsApart, MeetsPiece, IsBoundFrom, IsFarSlot, IsEndSlot, AreEndSlots, AreSameEnds, end_at, HaveGotEnds, end_from, AreEndsLeft}
 
 -- the same ends for other reasons
-pub ends_as : (grid : GridModel) (Apart Apart2 : ℕ → Type 0) (Meets Meets2 : ℕ → Node → Type 0) (boxes : List SlotBox) (ends : List EndSlot)
+pub ends_as : (grid : GridModel) (Apart Apart2 : ℕ → Type 0) (Meets Meets2 : ℕ → Node → Type 0) (Far Far2 : ℕ → ℕ → Type 0) (ends : List EndSlot)
     → ((piece : ℕ) → Apart piece → Apart2 piece) → ((piece : ℕ) → Apart2 piece → Apart piece)
-    → ((piece : ℕ) (node : Node) → Apart2 piece → Meets piece node → Meets2 piece node) → ((piece : ℕ) (node : Node) → Apart2 piece → Meets2 piece node → Meets piece node)
-    → AreEndSlots grid Apart Meets boxes ends → AreEndSlots grid Apart2 Meets2 boxes ends
-ends_as grid Apart Apart2 Meets Meets2 boxes ends apart apart_back meets meets_back are = record {
+    → ((piece : ℕ) (node : Node) → Apart2 piece → Meets piece node → Meets2 piece node)
+    → ((piece : ℕ) (node : Node) → Apart2 piece → Meets2 piece node → Meets piece node)
+    → ((steps n : ℕ) → Far steps n → Far2 steps n) → AreEndSlots grid Apart Meets Far ends → AreEndSlots grid Apart2 Meets2 Far2 ends
+ends_as grid Apart Apart2 Meets Meets2 Far Far2 ends apart apart_back meets meets_back far are = record {
   each = λ end has.
       let is = are.each end has in
       let then = apart end.piece is.apart in
-      record { apart = then; meets = record { node = is.meets.node; is = is.meets.is; holds = meets end.piece is.meets.node then is.meets.holds }; within = is.within; least = is.least };
+      record {
+        apart = then;
+        meets = record { node = is.meets.node; is = is.meets.is; holds = meets end.piece is.meets.node then is.meets.holds };
+        within = is.within;
+        least = far end.least end.slot is.least;
+      };
   all = λ piece n then one. are.all piece n (apart_back piece then) (record { node = one.node; is = one.is; holds = meets_back piece one.node then one.holds });
 }
 
+-- so where the same pieces are met
+pub ends_farther : (grid : GridModel) (Apart : ℕ → Type 0) (Meets : ℕ → Node → Type 0) (Far Far2 : ℕ → ℕ → Type 0) (ends : List EndSlot)
+    → ((steps n : ℕ) → Far steps n → Far2 steps n)
+    → AreEndSlots grid Apart Meets Far ends → AreEndSlots grid Apart Meets Far2 ends
+ends_farther grid Apart Meets Far Far2 ends far are =
+    ends_as grid Apart Apart Meets Meets Far Far2 ends (λ piece apart. apart) (λ piece apart. apart) (λ piece node apart meets. meets)
+    (λ piece node apart meets. meets) far are
+
+-- the same ends, of which other numbers of steps are known
+pub ends_again : (grid : GridModel) (Apart : ℕ → Type 0) (Meets : ℕ → Node → Type 0) (Far : ℕ → ℕ → Type 0) (ends after : List EndSlot) → AreSameEnds ends after
+    → All (λ (end : EndSlot). Far end.least end.slot) after → AreEndSlots grid Apart Meets Far ends → AreEndSlots grid Apart Meets Far after
+ends_again grid Apart Meets Far ends after same far are =
+    let none : EndSlot = record { piece = 0; slot = 0; least = 0 } in
+    record {
+      each = λ end has.
+          let k = has.0 in
+          let low : k < length ends = omega (arith, has.1, same.one_each) in
+          let is_after : get_or after k none ≡ end = sym (get_or_read after k end has.1 (sym has.2) none) in
+          let is = are.each (get_or ends k none) (Contains-get_or ends k none low) in
+          let piece = same.piece k none low in
+          let slot = same.slot k none low in
+          let then : IsEndSlot grid Apart Meets Far (get_or after k none) = record {
+            apart = rw piece is.apart;
+            meets = rw (piece, slot) is.meets;
+            within = rw slot is.within;
+            least = All-get_or (λ (end : EndSlot). Far end.least end.slot) after k none (omega (arith, has.1)) far;
+          } in
+          subst (λ (e : EndSlot). IsEndSlot grid Apart Meets Far e) is_after then;
+      all = λ piece n apart one.
+          let old = are.all piece n apart one in
+          let k = old.1.0 in
+          let low : k < length ends = old.1.1 in
+          let is_old : get_or ends k none ≡ old.0 = sym (get_or_read ends k old.0 low (sym old.1.2) none) in (
+            get_or after k none,
+            Contains-get_or after k none (omega (arith, low, same.one_each)),
+            same.piece k none low ∙ ap (λ (e : EndSlot). e.piece) is_old ∙ old.2,
+            same.slot k none low ∙ ap (λ (e : EndSlot). e.slot) is_old ∙ old.3,
+          );
+    }
+
 -- one shape more
 module _ (grid : GridModel) (joined : List Bool) (shapes : List Shape) (numbers : List ℕ) (boxes : List SlotBox) (ends : List EndSlot)
-    (done : AreEndSlots grid (IsApart joined) (MeetsPiece shapes numbers) boxes ends) (k : ℕ) (shape : Shape) (read : slice_get shapes k ≡ Some shape) where
+    (done : AreEndSlots grid (IsApart joined) (MeetsPiece shapes numbers) (IsBoundFrom grid boxes) ends) (k : ℕ) (shape : Shape)
+    (read : slice_get shapes k ≡ Some shape) where
   earlier : (piece : ℕ) (node : Node) → MeetsPiece shapes numbers piece node → MeetsPiece shapes (numbers ++ k ∷ []) piece node
   earlier piece node m = record {
     number = m.number;
@@ -70,7 +117,8 @@ module _ (grid : GridModel) (joined : List Bool) (shapes : List Shape) (numbers 
     | inr same ↦ inr (here_of piece node m same)
   ]
 
-  still : (more : List EndSlot) (end : EndSlot) → IsEndSlot grid (IsApart joined) (MeetsPiece shapes numbers) boxes end → IsEndSlot grid (IsApart joined) (MeetsPiece shapes (numbers ++ k ∷ [])) boxes end
+  still : (more : List EndSlot) (end : EndSlot) → IsEndSlot grid (IsApart joined) (MeetsPiece shapes numbers) (IsBoundFrom grid boxes) end
+      → IsEndSlot grid (IsApart joined) (MeetsPiece shapes (numbers ++ k ∷ [])) (IsBoundFrom grid boxes) end
   still more end is = record {
     apart = is.apart;
     meets = record { node = is.meets.node; is = is.meets.is; holds = earlier end.piece is.meets.node is.meets.holds };
@@ -79,8 +127,10 @@ module _ (grid : GridModel) (joined : List Bool) (shapes : List Shape) (numbers 
   }
 
   -- its piece isn't joined
-  module _ (piece : ℕ) (of_piece : shape.piece ≡ Some piece) (apart : IsApart joined piece) (after : List EndSlot) (got : HaveGotEnds grid boxes shape.layer shape.rect piece ends after) where
-    new_end : (n : ℕ) → Contains got.slots n → IsEndSlot grid (IsApart joined) (MeetsPiece shapes (numbers ++ k ∷ [])) boxes (end_at grid boxes piece n)
+  module _ (piece : ℕ) (of_piece : shape.piece ≡ Some piece) (apart : IsApart joined piece) (after : List EndSlot)
+      (got : HaveGotEnds grid boxes shape.layer shape.rect piece ends after) where
+    new_end : (n : ℕ) → Contains got.slots n
+        → IsEndSlot grid (IsApart joined) (MeetsPiece shapes (numbers ++ k ∷ [])) (IsBoundFrom grid boxes) (end_at grid boxes piece n)
     new_end n has =
         let one = (got.in_rect n).0 has in record {
           apart = apart;
@@ -93,12 +143,14 @@ module _ (grid : GridModel) (joined : List Bool) (shapes : List Shape) (numbers 
           least = min-le_right 4294967295 (bound_at grid boxes n);
         }
 
-    each_end : (end : EndSlot) → Contains (ends ++ map (end_at grid boxes piece) got.slots) end → IsEndSlot grid (IsApart joined) (MeetsPiece shapes (numbers ++ k ∷ [])) boxes end
+    each_end : (end : EndSlot) → Contains (ends ++ map (end_at grid boxes piece) got.slots) end
+        → IsEndSlot grid (IsApart joined) (MeetsPiece shapes (numbers ++ k ∷ [])) (IsBoundFrom grid boxes) end
     each_end end has = elim (Contains-append_cases ends (map (end_at grid boxes piece) got.slots) end has) [
       | inl old ↦ still ends end (done.each end old)
       | inr new ↦
           let from = comes_from (end_at grid boxes piece) got.slots end new in
-          subst (λ (e : EndSlot). IsEndSlot grid (IsApart joined) (MeetsPiece shapes (numbers ++ k ∷ [])) boxes e) from.2 (new_end from.0 from.1)
+          subst (λ (e : EndSlot). IsEndSlot grid (IsApart joined) (MeetsPiece shapes (numbers ++ k ∷ [])) (IsBoundFrom grid boxes) e) from.2
+          (new_end from.0 from.1)
     ]
 
     all_ends : (other n : ℕ) → IsApart joined other → IsOneOf (IsNumberOf grid) (MeetsPiece shapes (numbers ++ k ∷ []) other) n
@@ -110,17 +162,19 @@ module _ (grid : GridModel) (joined : List Bool) (shapes : List Shape) (numbers 
       | inr here ↦
           let has = (got.in_rect n).1 (record { node = one.node; is = one.is; holds = here.lies }) in (
             end_at grid boxes piece n,
-            Contains-append_right ends (map (end_at grid boxes piece) got.slots) (end_at grid boxes piece n) (Contains-map (end_at grid boxes piece) got.slots n has),
+            Contains-append_right ends (map (end_at grid boxes piece) got.slots) (end_at grid boxes piece n)
+                (Contains-map (end_at grid boxes piece) got.slots n has),
             same_Some piece other (sym of_piece ∙ here.of_piece),
             refl,
           )
     ]
 
-    pub ends_more : AreEndSlots grid (IsApart joined) (MeetsPiece shapes (numbers ++ k ∷ [])) boxes after
+    pub ends_more : AreEndSlots grid (IsApart joined) (MeetsPiece shapes (numbers ++ k ∷ [])) (IsBoundFrom grid boxes) after
     ends_more = rw got.are (record { each = each_end; all = all_ends })
 
   -- it is, or the shape is of none
-  pub ends_skip : ((piece : ℕ) → shape.piece ≡ Some piece → IsApart joined piece → ⊥) → AreEndSlots grid (IsApart joined) (MeetsPiece shapes (numbers ++ k ∷ [])) boxes ends
+  pub ends_skip : ((piece : ℕ) → shape.piece ≡ Some piece → IsApart joined piece → ⊥)
+      → AreEndSlots grid (IsApart joined) (MeetsPiece shapes (numbers ++ k ∷ [])) (IsBoundFrom grid boxes) ends
   ends_skip none = record {
     each = λ end has. still ends end (done.each end has);
     all = λ piece n apart one. elim (parts piece one.node one.holds) [
@@ -130,8 +184,10 @@ module _ (grid : GridModel) (joined : List Bool) (shapes : List Shape) (numbers 
   }
 
 -- one end more is looked at
-module _ (grid : GridModel) (joined : List Bool) (boxes : List SlotBox) (ends left : List EndSlot) (so_far : AreEndsLeft grid joined boxes ends left) (end : EndSlot) where
-  pub left_more : (after : List EndSlot) → after ≡ left ++ end_from grid boxes end ∷ [] → IsApart joined end.piece → AreEndsLeft grid joined boxes (ends ++ end ∷ []) after
+module _ (grid : GridModel) (joined : List Bool) (boxes : List SlotBox) (ends left : List EndSlot) (so_far : AreEndsLeft grid joined boxes ends left)
+    (end : EndSlot) where
+  pub left_more : (after : List EndSlot) → after ≡ left ++ end_from grid boxes end ∷ [] → IsApart joined end.piece
+      → AreEndsLeft grid joined boxes (ends ++ end ∷ []) after
   left_more after is apart =
       rw is
       (record {
@@ -141,7 +197,9 @@ module _ (grid : GridModel) (joined : List Bool) (boxes : List SlotBox) (ends le
         ];
         all = λ e has is_apart. elim (Contains-push_cases ends end e has) [
           | inl old ↦ Contains-append_left left (end_from grid boxes end ∷ []) (end_from grid boxes e) (so_far.all e old is_apart)
-          | inr same ↦ subst (λ (x : EndSlot). Contains (left ++ end_from grid boxes end ∷ []) (end_from grid boxes x)) same (Contains-push left (end_from grid boxes end))
+          | inr same ↦
+              subst (λ (x : EndSlot). Contains (left ++ end_from grid boxes end ∷ []) (end_from grid boxes x)) same
+              (Contains-push left (end_from grid boxes end))
         ];
       })
 
@@ -171,50 +229,33 @@ was_apart before joined still later piece apart =
     ]
 
 -- what is left of the ends, when boxes have come to those of the joined part
-pub ends_kept : (grid : GridModel) (before joined : List Bool) (Meets : ℕ → Node → Type 0) (old come boxes : List SlotBox) (ends left : List EndSlot) → boxes ≡ old ++ come
-    → ((piece : ℕ) → IsApart joined piece → IsApart before piece) → AreEndSlots grid (IsApart before) Meets old ends → AreEndsLeft grid joined come ends left
-    → AreEndSlots grid (IsApart joined) Meets boxes left
-ends_kept grid before joined Meets old come boxes ends left boxes_are was had is = record {
+pub ends_kept : (grid : GridModel) (flat : FlatModel) (net : ℕ) → IsDesignGrid grid
+    → (before joined : List Bool) (Meets : ℕ → Node → Type 0) (old come boxes : List SlotBox) (ends left : List EndSlot)
+    → boxes ≡ old ++ come → ((piece : ℕ) → IsApart joined piece → IsApart before piece)
+    → AreEndSlots grid (IsApart before) Meets (IsFarSlot grid flat net old) ends
+    → AreEndsLeft grid joined come ends left → AreEndSlots grid (IsApart joined) Meets (IsFarSlot grid flat net boxes) left
+ends_kept grid flat net is_grid before joined Meets old come boxes ends left boxes_are was had is = record {
   each = λ end has.
       let from = is.each end has in
       let b = from.0 in
       let one = had.each b from.1 in
-      let first = min-le_left b.least (bound_at grid come b.slot) in
-      let rest = min-le_right b.least (bound_at grid come b.slot) in
-      let few = one.least in
-      let both : min b.least (bound_at grid come b.slot) ≤ bound_at grid (old ++ come) b.slot = nearest_both old come (slot_of grid b.slot) (min b.least (bound_at grid come b.slot)) (omega (arith, first, few)) rest in
-      let then : IsEndSlot grid (IsApart joined) Meets boxes (end_from grid come b) = record { apart = from.2; meets = one.meets; within = one.within; least = rw boxes_are both } in
-      subst (λ (e : EndSlot). IsEndSlot grid (IsApart joined) Meets boxes e) (sym from.3) then;
+      let far = far_joined grid flat net is_grid old come b.least b.slot one.least in
+      let then : IsEndSlot grid (IsApart joined) Meets (IsFarSlot grid flat net boxes) (end_from grid come b) =
+      record { apart = from.2; meets = one.meets; within = one.within; least = rw boxes_are far } in
+      subst (λ (e : EndSlot). IsEndSlot grid (IsApart joined) Meets (IsFarSlot grid flat net boxes) e) (sym from.3) then;
   all = λ piece n apart one.
       let b = had.all piece n (was piece apart) one in
       (end_from grid come b.0, is.all b.0 b.1 (rw b.2 apart), b.2, b.3);
 }
 
 -- the ends are of slots of the grid
-pub ends_within : (grid : GridModel) (Apart : ℕ → Type 0) (Meets : ℕ → Node → Type 0) (boxes : List SlotBox) (ends : List EndSlot) → AreEndSlots grid Apart Meets boxes ends
+pub ends_within : (grid : GridModel) (Apart : ℕ → Type 0) (Meets : ℕ → Node → Type 0) (Far : ℕ → ℕ → Type 0) (ends : List EndSlot)
+    → AreEndSlots grid Apart Meets Far ends
     → All (λ (end : EndSlot). end.slot < slot_total grid) ends
-ends_within grid Apart Meets boxes ends are = All-from_contains (λ (end : EndSlot). end.slot < slot_total grid) ends (λ end has. (are.each end has).within)
+ends_within grid Apart Meets Far ends are = All-from_contains (λ (end : EndSlot). end.slot < slot_total grid) ends (λ end has. (are.each end has).within)
 
--- what a search is told of the ends
-pub told_least : (bound : ℕ → ℕ) (ends : List EndSlot) → All (λ (end : EndSlot). end.least ≤ bound end.slot) ends
-    → (k : ℕ) → k < length ends → get_or (map (λ (end : EndSlot). end.least) ends) k 0 ≤ bound (get_or (map (λ (end : EndSlot). end.slot) ends) k 0)
-told_least bound ends each k low =
-    let none : EndSlot = record { piece = 0; slot = 0; least = 0 } in
-    rw (get_or-map (λ (end : EndSlot). end.least) ends k none 0 low, get_or-map (λ (end : EndSlot). end.slot) ends k none 0 low)
-    (All-get_or (λ (end : EndSlot). end.least ≤ bound end.slot) ends k none low each)
-
-pub told_ends : (bound : ℕ → ℕ) (ends : List EndSlot) → All (λ (end : EndSlot). end.least ≤ bound end.slot) ends
-    → AreLeast bound (map (λ (end : EndSlot). end.slot) ends) 0 (map (λ (end : EndSlot). end.least) ends)
-told_ends bound ends each =
-    let slots = length-map ends (λ (end : EndSlot). end.slot) in
-    let steps = length-map ends (λ (end : EndSlot). end.least) in
-    record {
-      one_each = steps ∙ sym slots;
-      each = λ k low. told_least bound ends each k (omega (arith, low, slots));
-      told_near = λ k low below. absurd (omega (arith, below));
-    }
-
-pub slots_within : (size : ℕ) (ends : List EndSlot) → All (λ (end : EndSlot). end.slot < size) ends → All (λ n. n < size) (map (λ (end : EndSlot). end.slot) ends)
+pub slots_within : (size : ℕ) (ends : List EndSlot) → All (λ (end : EndSlot). end.slot < size) ends
+    → All (λ n. n < size) (map (λ (end : EndSlot). end.slot) ends)
 slots_within size ends each = All-from_contains (λ n. n < size) (map (λ (end : EndSlot). end.slot) ends)
     (λ n has.
     let from = comes_from (λ (end : EndSlot). end.slot) ends n has in
@@ -224,18 +265,21 @@ slots_within size ends each = All-from_contains (λ n. n < size) (map (λ (end :
 pub come_are : (all old more : List SlotBox) (first : ℕ) → all ≡ old ++ more → first ≡ length old → take (length all - first) (drop first all) ≡ more
 come_are all old more first all_is first_is =
     rw (all_is, first_is)
-    (take_all (length (old ++ more) - length old) (drop (length old) (old ++ more)) (omega (arith, length-drop (length old) (old ++ more))) ∙ drop-append_seam old more)
+    (take_all (length (old ++ more) - length old) (drop (length old) (old ++ more)) (omega (arith, length-drop (length old) (old ++ more))) ∙ drop-append_seam
+    old more)
 
 pub come_boxes : (grid : GridModel) (all old more : List SlotBox) → all ≡ old ++ more → All (IsBoxOf grid) all → All (IsBoxOf grid) more
 come_boxes grid all old more all_is each =
     All-from_contains (IsBoxOf grid) more
-    (λ ends has. All-contains (IsBoxOf grid) all ends each (subst (λ (boxes : List SlotBox). Contains boxes ends) (sym all_is) (Contains-append_right old more ends has)))
+    (λ ends has. All-contains (IsBoxOf grid) all ends each
+    (subst (λ (boxes : List SlotBox). Contains boxes ends) (sym all_is) (Contains-append_right old more ends has)))
 
 -- the slots of nodes that meet the rest of a net are those of its ends
-pub rest_are : (flat : FlatModel) (net : ℕ) (numbers : List ℕ) (are : AreNumbersOf flat.shapes net numbers) (joined : List Bool) (marks : AreMarks (AreJoined flat net 0) (piece_count flat net) joined)
-    (grid : GridModel) (boxes : List SlotBox) (ends : List EndSlot) → AreEndSlots grid (IsApart joined) (MeetsPiece flat.shapes numbers) boxes ends
+pub rest_are : (flat : FlatModel) (net : ℕ) (numbers : List ℕ) (are : AreNumbersOf flat.shapes net numbers) (joined : List Bool)
+    (marks : AreMarks (AreJoined flat net 0) (piece_count flat net) joined)
+    (grid : GridModel) (Far : ℕ → ℕ → Type 0) (ends : List EndSlot) → AreEndSlots grid (IsApart joined) (MeetsPiece flat.shapes numbers) Far ends
     → (n : ℕ) → Contains (map (λ (end : EndSlot). end.slot) ends) n ↔ IsOneOf (IsNumberOf grid) (MeetsRest flat net) n
-rest_are flat net numbers are joined marks grid boxes ends ends_are n = (
+rest_are flat net numbers are joined marks grid Far ends ends_are n = (
   λ has.
       let from = comes_from (λ (end : EndSlot). end.slot) ends n has in
       let is = ends_are.each from.0 from.1 in
@@ -279,3 +323,28 @@ rest_are flat net numbers are joined marks grid boxes ends ends_are n = (
       }) in
       subst (λ k. Contains (map (λ (end : EndSlot). end.slot) ends) k) end.3 (Contains-map (λ (end : EndSlot). end.slot) ends end.0 end.1),
 )
+
+-- and how far each is
+pub ends_far : (grid : GridModel) (Apart : ℕ → Type 0) (Meets : ℕ → Node → Type 0) (Far : ℕ → ℕ → Type 0) (ends : List EndSlot)
+    → AreEndSlots grid Apart Meets Far ends
+    → All (λ (end : EndSlot). Far end.least end.slot) ends
+ends_far grid Apart Meets Far ends are = All-from_contains (λ (end : EndSlot). Far end.least end.slot) ends (λ end has. (are.each end has).least)
+
+-- a list of which all is written anew
+pub all_new : {X : Type 0} (new old : List X) (len : ℕ) → length new ≡ len → take len (new ++ drop (length new) old) ≡ new
+all_new new old len long = ap (λ n. take n (new ++ drop (length new) old)) (sym long) ∙ take-append_seam new (drop (length new) old)
+
+-- what is kept of the joined part, when more is known of the ends
+pub part_again : (grid : GridModel) (flat : FlatModel) (net : ℕ) (joined : List Bool) (numbers : List ℕ) (boxes : List SlotBox) (slots : List ℕ)
+    (hulls : List Hull)
+    (ends after : List EndSlot) (len : ℕ) → length ends ≡ len → AreSameEnds ends after → All
+    (λ (end : EndSlot). IsFarSlot grid flat net boxes end.least end.slot) after
+    → IsPartOf grid flat net joined numbers boxes slots hulls ends
+    → IsPartOf grid flat net joined numbers boxes slots hulls (take len (after ++ drop (length after) ends))
+part_again grid flat net joined numbers boxes slots hulls ends after len long same far part =
+    rw (all_new after ends len (same.one_each ∙ long))
+    (record {
+      starts = part.starts;
+      hulled = part.hulled;
+      ends_are = ends_again grid (IsApart joined) (MeetsPiece flat.shapes numbers) (IsFarSlot grid flat net boxes) ends after same far part.ends_are;
+    })

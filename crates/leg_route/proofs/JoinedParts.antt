@@ -23,21 +23,24 @@ use Rattle.leg_route_grid.specs.Steps.WalkBounds.{bound_at, IsBoxOf}
 use Rattle.leg_route_grid.specs.Steps.Grid.{GridModel, slot_total}
 use Rattle.leg_route_laws.proofs.Places.{is_like, comes_from}
 use Rattle.leg_route.specs.declared.end_slots.EndSlot.{EndSlot}
-use Rattle.leg_route.specs.Steps.EndSlots.{IsApart, MeetsPiece}
+use Rattle.leg_route.specs.Steps.EndSlots.{IsApart, MeetsPiece, IsFarSlot}
 use Rattle.leg_route.specs.Steps.NetSlots.{MeetsMarked, IsPartOf}
 use Rattle.leg_route.specs.Steps.JoinedPart.{PartModel, MeetsPart, LiesInPiece, IsJoinedPart}
 use Rattle.leg_route.proofs.JoinedSlots.{one_as}
+use Rattle.leg_route.proofs.FarSlots.{far_grows}
 use Rattle.leg_route.proofs.EndSlots.{ends_as}
 use Rattle.leg_route.proofs.MoreWires.{count_at, count_as, with_count, one_piece, step_pieces}
 
 -- a piece that is joined has its mark
-pub marked_joined : (joined : List Bool) (Is : ℕ → Type 0) (size : ℕ) → AreMarks Is size joined → (k : ℕ) → k < length joined → Is k → slice_get joined k ≡ Some true
+pub marked_joined : (joined : List Bool) (Is : ℕ → Type 0) (size : ℕ) → AreMarks Is size joined → (k : ℕ) → k < length joined → Is k
+    → slice_get joined k ≡ Some true
 marked_joined joined Is size marks k low is =
     let read : slice_get joined k ≡ Some (get_or joined k false) = slice_get-get_or joined k false low in
     read ∙ ap Some ((marks.each k (get_or joined k false) read).1 is)
 
 -- of no pieces
-pub part_none : (grid : GridModel) (flat : FlatModel) (net : ℕ) (joined : List Bool) (boxes : List SlotBox) (slots : List ℕ) (hulls : List Hull) (ends : List EndSlot)
+pub part_none : (grid : GridModel) (flat : FlatModel) (net : ℕ) (joined : List Bool) (boxes : List SlotBox) (slots : List ℕ) (hulls : List Hull)
+    (ends : List EndSlot)
     → joined ≡ [] → boxes ≡ [] → slots ≡ [] → hulls ≡ [] → ends ≡ []
     → IsJoinedPart grid flat (record { net = net; joined = joined; boxes = boxes; slots = slots; hulls = hulls; ends = ends })
 part_none grid flat net joined boxes slots hulls ends joined_is boxes_is slots_is hulls_is ends_is =
@@ -89,6 +92,10 @@ module _ (design : DesignModel) (net : ℕ) (wire : records.Wire) (before after 
         piece = like.like.piece ∙ sym (ap (λ (m : Metal). m.belongs.piece) from.2);
       }
 
+  -- the shapes are there still
+  shapes_on : (shape : Shape) → Contains before.shapes shape → Contains after.shapes shape
+  shapes_on shape there = subst (λ (shapes : List Shape). Contains shapes shape) (sym more.shapes) (Contains-append_left before.shapes more.added shape there)
+
   module _ (n : ℕ) where
     -- what lies in a piece lies in it still
     lies_on : (k layer : ℕ) (p : PointModel) → LiesIn before n k layer p → LiesIn after n k layer p
@@ -97,7 +104,7 @@ module _ (design : DesignModel) (net : ℕ) (wire : records.Wire) (before after 
         let there = h.of_piece.there in
         record {
           shape = h.shape;
-          has = subst (λ (shapes : List Shape). Contains shapes h.shape) (sym more.shapes) (Contains-append_left before.shapes more.added h.shape h.has);
+          has = shapes_on h.shape h.has;
           of_piece = record { there = omega (arith, many, there); owner = h.of_piece.owner; piece = h.of_piece.piece };
           on_layer = h.on_layer;
           inside = h.inside;
@@ -112,17 +119,18 @@ module _ (design : DesignModel) (net : ℕ) (wire : records.Wire) (before after 
 
     -- and in an old piece no more does
     lies_back : (k layer : ℕ) (p : PointModel) → k < piece_count before n → LiesIn after n k layer p → LiesIn before n k layer p
-    lies_back k layer p low h = elim (Contains-append_cases before.shapes more.added h.shape (subst (λ (shapes : List Shape). Contains shapes h.shape) more.shapes h.has)) [
-      | inl old ↦
-          record {
-            shape = h.shape;
-            has = old;
-            of_piece = record { there = low; owner = h.of_piece.owner; piece = h.of_piece.piece };
-            on_layer = h.on_layer;
-            inside = h.inside;
-          }
-      | inr new ↦ absurd (not_new k h.shape low h.of_piece.owner h.of_piece.piece (new_shape h.shape new))
-    ]
+    lies_back k layer p low h =
+        let has = subst (λ (shapes : List Shape). Contains shapes h.shape) more.shapes h.has in elim (Contains-append_cases before.shapes more.added h.shape has) [
+          | inl old ↦
+              record {
+                shape = h.shape;
+                has = old;
+                of_piece = record { there = low; owner = h.of_piece.owner; piece = h.of_piece.piece };
+                on_layer = h.on_layer;
+                inside = h.inside;
+              }
+          | inr new ↦ absurd (not_new k h.shape low h.of_piece.owner h.of_piece.piece (new_shape h.shape new))
+        ]
 
     touch_on : (a b : ℕ) → Touch before n a b → Touch after n a b
     touch_on a b h = record {
@@ -178,13 +186,19 @@ module _ (design : DesignModel) (net : ℕ) (wire : records.Wire) (before after 
         within = had.within;
         boxed = had.boxed;
         hulled = had.hulled;
-        ends_are = ends_as grid (IsApart part.joined) (IsApart part.joined) (LiesInPiece before n) (LiesInPiece after n) part.boxes part.ends (λ piece apart. apart) (λ piece apart. apart)
+        ends_are = ends_as grid (IsApart part.joined) (IsApart part.joined) (LiesInPiece before n) (LiesInPiece after n) (IsFarSlot grid before n part.boxes)
+            (IsFarSlot grid after n part.boxes) part.ends
+            (λ piece apart. apart) (λ piece apart. apart)
             (λ piece node apart lies. lies_on n piece node.layer node.at lies)
-            (λ piece node apart lies. let within = slice_get_within part.joined piece false apart in lies_back n piece node.layer node.at (omega (arith, within, few)) lies) had.ends_are;
+            (λ piece node apart lies.
+            let within = slice_get_within part.joined piece false apart in
+            lies_back n piece node.layer node.at (omega (arith, within, few)) lies)
+            (far_grows grid n before after shapes_on part.boxes) had.ends_are;
       }
 
 -- the marked pieces of a net, by the numbers of its shapes
-module _ (flat : FlatModel) (net : ℕ) (numbers : List ℕ) (are : AreNumbersOf flat.shapes net numbers) (joined : List Bool) (few : length joined ≤ piece_count flat net) where
+module _ (flat : FlatModel) (net : ℕ) (numbers : List ℕ) (are : AreNumbersOf flat.shapes net numbers) (joined : List Bool)
+    (few : length joined ≤ piece_count flat net) where
   meets_part : (node : Node) → MeetsMarked flat.shapes joined true numbers node → MeetsPart flat net joined node
   meets_part node m =
       let of_net = are.each m.number m.listed in
@@ -245,7 +259,7 @@ module _ (flat : FlatModel) (net : ℕ) (numbers : List ℕ) (are : AreNumbersOf
   module _ (grid : GridModel) (boxes : List SlotBox) (slots : List ℕ) (hulls : List Hull) (ends : List EndSlot) where
     -- what is kept, by these numbers
     pub part_has : IsJoinedPart grid flat (record { net = net; joined = joined; boxes = boxes; slots = slots; hulls = hulls; ends = ends })
-        → IsPartOf grid flat.shapes joined numbers boxes slots hulls ends
+        → IsPartOf grid flat net joined numbers boxes slots hulls ends
     part_has part = record {
       starts = record {
         are = λ n. (
@@ -256,18 +270,20 @@ module _ (flat : FlatModel) (net : ℕ) (numbers : List ℕ) (are : AreNumbersOf
         boxed = part.boxed;
       };
       hulled = part.hulled;
-      ends_are = ends_as grid (IsApart joined) (IsApart joined) (LiesInPiece flat net) (MeetsPiece flat.shapes numbers) boxes ends (λ piece apart. apart) (λ piece apart. apart) lies_numbered numbered_lies
-          part.ends_are;
+      ends_are = ends_as grid (IsApart joined) (IsApart joined) (LiesInPiece flat net) (MeetsPiece flat.shapes numbers) (IsFarSlot grid flat net boxes)
+          (IsFarSlot grid flat net boxes) ends
+          (λ piece apart. apart) (λ piece apart. apart) lies_numbered numbered_lies (λ steps n far. far) part.ends_are;
     }
 
     -- and what is to be kept
-    pub part_of : AreMarks (AreJoined flat net 0) (piece_count flat net) joined → IsPartOf grid flat.shapes joined numbers boxes slots hulls ends
+    pub part_of : AreMarks (AreJoined flat net 0) (piece_count flat net) joined → IsPartOf grid flat net joined numbers boxes slots hulls ends
         → IsJoinedPart grid flat (record { net = net; joined = joined; boxes = boxes; slots = slots; hulls = hulls; ends = ends })
     part_of marks had = record {
       few = few;
       still = λ k there. (marks.each k true there).0 refl;
       begun = λ some. marked_joined joined (AreJoined flat net 0) (piece_count flat net) marks 0 some itself;
-      closed = λ a b marked b_low touch. marked_joined joined (AreJoined flat net 0) (piece_count flat net) marks b b_low (through ((marks.each a true marked).0 refl) touch);
+      closed = λ a b marked b_low touch. marked_joined joined (AreJoined flat net 0) (piece_count flat net) marks b b_low
+          (through ((marks.each a true marked).0 refl) touch);
       are = λ n. (
         λ has. one_as grid (MeetsMarked flat.shapes joined true numbers) (MeetsPart flat net joined) meets_part n ((had.starts.are n).0 has),
         λ one. (had.starts.are n).1 (one_as grid (MeetsPart flat net joined) (MeetsMarked flat.shapes joined true numbers) meets_numbered n one),
@@ -275,8 +291,9 @@ module _ (flat : FlatModel) (net : ℕ) (numbers : List ℕ) (are : AreNumbersOf
       within = had.starts.within;
       boxed = had.starts.boxed;
       hulled = had.hulled;
-      ends_are = ends_as grid (IsApart joined) (IsApart joined) (MeetsPiece flat.shapes numbers) (LiesInPiece flat net) boxes ends (λ piece apart. apart) (λ piece apart. apart) numbered_lies lies_numbered
-          had.ends_are;
+      ends_are = ends_as grid (IsApart joined) (IsApart joined) (MeetsPiece flat.shapes numbers) (LiesInPiece flat net) (IsFarSlot grid flat net boxes)
+          (IsFarSlot grid flat net boxes) ends
+          (λ piece apart. apart) (λ piece apart. apart) numbered_lies lies_numbered (λ steps n far. far) had.ends_are;
     }
 
 -- what was joined when the part was kept has its mark still
@@ -289,6 +306,9 @@ part_still grid flat part net joined same had marks k there =
     marked_joined joined (AreJoined flat net 0) (piece_count flat net) marks k (omega (arith, within, few, count)) (rw same at (had.still k there))
 
 -- what is kept of this net, by the numbers of its shapes
-pub part_had : (grid : GridModel) (flat : FlatModel) (part : PartModel) (net : ℕ) (numbers : List ℕ) → part.net ≡ net → AreNumbersOf flat.shapes net numbers → IsJoinedPart grid flat part
-    → IsPartOf grid flat.shapes part.joined numbers part.boxes part.slots part.hulls part.ends
-part_had grid flat part net numbers same are had = part_has flat part.net numbers (rw same are) part.joined had.few grid part.boxes part.slots part.hulls part.ends had
+pub part_had : (grid : GridModel) (flat : FlatModel) (part : PartModel) (net : ℕ) (numbers : List ℕ) → part.net ≡ net → AreNumbersOf flat.shapes net numbers
+    → IsJoinedPart grid flat part
+    → IsPartOf grid flat net part.joined numbers part.boxes part.slots part.hulls part.ends
+part_had grid flat part net numbers same are had =
+    subst (λ m. IsPartOf grid flat m part.joined numbers part.boxes part.slots part.hulls part.ends) same
+    (part_has flat part.net numbers (rw same are) part.joined had.few grid part.boxes part.slots part.hulls part.ends had)

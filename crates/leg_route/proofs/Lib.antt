@@ -11,6 +11,7 @@ mod NewShapes
 mod Ready
 mod NetSlots
 mod JoinedSlots
+mod FarSlots
 mod EndSlots
 mod JoinedParts
 mod KeptJoins

@@ -19,7 +19,8 @@ use Rattle.leg_route.specs.Steps.NetSlots.{HasMark, MeetsMarked, AreMarkedSlots}
 
 module _ (grid : GridModel) (shapes : List Shape) (marks : List Bool) (mark : Bool) where
   -- one shape more
-  module _ (numbers : List ℕ) (boxes : List SlotBox) (slots : List ℕ) (done : AreMarkedSlots grid shapes marks mark numbers boxes slots) (k : ℕ) (shape : Shape) (read : slice_get shapes k ≡ Some shape) where
+  module _ (numbers : List ℕ) (boxes : List SlotBox) (slots : List ℕ) (done : AreMarkedSlots grid shapes marks mark numbers boxes slots) (k : ℕ) (shape : Shape)
+      (read : slice_get shapes k ≡ Some shape) where
     same_shape : (other : Shape) → slice_get shapes k ≡ Some other → other ≡ shape
     same_shape other there = same_Some other shape (sym there ∙ read)
 
@@ -34,7 +35,8 @@ module _ (grid : GridModel) (shapes : List Shape) (marks : List Bool) (mark : Bo
     }
 
     -- of an earlier shape
-    still : (n : ℕ) → IsOneOf (IsNumberOf grid) (MeetsMarked shapes marks mark numbers) n → IsOneOf (IsNumberOf grid) (MeetsMarked shapes marks mark (numbers ++ k ∷ [])) n
+    still : (n : ℕ) → IsOneOf (IsNumberOf grid) (MeetsMarked shapes marks mark numbers) n
+        → IsOneOf (IsNumberOf grid) (MeetsMarked shapes marks mark (numbers ++ k ∷ [])) n
     still n one = record { node = one.node; is = one.is; holds = earlier one.node one.holds }
 
     -- of this one
@@ -42,7 +44,8 @@ module _ (grid : GridModel) (shapes : List Shape) (marks : List Bool) (mark : Bo
       pub marked : HasMark marks mark shape.piece
       pub lies : LiesInRect shape.layer shape.rect node
 
-    here_of : (node : Node) (number : ℕ) (other : Shape) → k ≡ number → slice_get shapes number ≡ Some other → HasMark marks mark other.piece → LiesInRect other.layer other.rect node → IsHere node
+    here_of : (node : Node) (number : ℕ) (other : Shape) → k ≡ number → slice_get shapes number ≡ Some other → HasMark marks mark other.piece
+        → LiesInRect other.layer other.rect node → IsHere node
     here_of node number other same there marked lies =
         let is : other ≡ shape = same_shape other (rw same there) in
         record {
@@ -119,7 +122,8 @@ module _ (grid : GridModel) (shapes : List Shape) (marks : List Bool) (mark : Bo
     }
 
 -- The shapes of a net, and which of its pieces are joined.
-module _ (flat : FlatModel) (net : ℕ) (numbers : List ℕ) (are : AreNumbersOf flat.shapes net numbers) (marks : List Bool) (marks_are : AreMarks (AreJoined flat net 0) (piece_count flat net) marks) where
+module _ (flat : FlatModel) (net : ℕ) (numbers : List ℕ) (are : AreNumbersOf flat.shapes net numbers) (marks : List Bool)
+    (marks_are : AreMarks (AreJoined flat net 0) (piece_count flat net) marks) where
   pub meets_piece : (mark : Bool) (node : Node) (m : MeetsMarked flat.shapes marks mark numbers node) → LiesIn flat net m.marked.number node.layer node.at
   meets_piece mark node m =
       let of_net = are.each m.number m.listed in
@@ -136,7 +140,8 @@ module _ (flat : FlatModel) (net : ℕ) (numbers : List ℕ) (are : AreNumbersOf
         inside = m.lies.inside;
       }
 
-  meets_marked : (mark : Bool) (node : Node) (piece : ℕ) (lies : LiesIn flat net piece node.layer node.at) → slice_get marks piece ≡ Some mark → MeetsMarked flat.shapes marks mark numbers node
+  meets_marked : (mark : Bool) (node : Node) (piece : ℕ) (lies : LiesIn flat net piece node.layer node.at) → slice_get marks piece ≡ Some mark
+      → MeetsMarked flat.shapes marks mark numbers node
   meets_marked mark node piece lies marked =
       let k = lies.has.0 in
       let there : slice_get flat.shapes k ≡ Some lies.shape = slice_get_read flat.shapes _ k lies.shape refl lies.has.1 (sym lies.has.2) in
@@ -167,7 +172,8 @@ module _ (flat : FlatModel) (net : ℕ) (numbers : List ℕ) (are : AreNumbersOf
 
   module _ (grid : GridModel) (boxes : List SlotBox) (slots : List ℕ) where
     -- the slots in shapes of joined pieces
-    pub starts_are : AreMarkedSlots grid flat.shapes marks true numbers boxes slots → (n : ℕ) → Contains slots n ↔ IsOneOf (IsNumberOf grid) (MeetsJoined flat net) n
+    pub starts_are : AreMarkedSlots grid flat.shapes marks true numbers boxes slots → (n : ℕ)
+        → Contains slots n ↔ IsOneOf (IsNumberOf grid) (MeetsJoined flat net) n
     starts_are told n = (
       λ has.
           let one = (told.are n).0 has in
@@ -190,7 +196,8 @@ module _ (flat : FlatModel) (net : ℕ) (numbers : List ℕ) (are : AreNumbersOf
     )
 
     -- the slots in those of the others
-    pub ends_are : AreMarkedSlots grid flat.shapes marks false numbers boxes slots → (n : ℕ) → Contains slots n ↔ IsOneOf (IsNumberOf grid) (MeetsRest flat net) n
+    pub ends_are : AreMarkedSlots grid flat.shapes marks false numbers boxes slots → (n : ℕ)
+        → Contains slots n ↔ IsOneOf (IsNumberOf grid) (MeetsRest flat net) n
     ends_are told n = (
       λ has.
           let one = (told.are n).0 has in

@@ -26,7 +26,8 @@ pub no_ends : (grid : GridModel) (flat : FlatModel) (net : ℕ) (ends : List ℕ
 no_ends grid flat net ends are none a b nodes start is_end walk = Contains-nil b (subst (λ xs. Contains xs b) none ((are b).1 is_end))
 
 -- where it can't begin, there is none either
-pub no_starts : (grid : GridModel) (flat : FlatModel) (net : ℕ) (starts : List ℕ) → ((n : ℕ) → Contains starts n ↔ IsOneOf (IsNumberOf grid) (MeetsJoined flat net) n)
+pub no_starts : (grid : GridModel) (flat : FlatModel) (net : ℕ) (starts : List ℕ)
+    → ((n : ℕ) → Contains starts n ↔ IsOneOf (IsNumberOf grid) (MeetsJoined flat net) n)
     → starts ≡ [] → HasNoWalkAt grid flat net
 no_starts grid flat net starts are none a b nodes start is_end walk = Contains-nil a (subst (λ xs. Contains xs a) none ((are a).1 start))
 
@@ -34,14 +35,16 @@ no_starts grid flat net starts are none a b nodes start is_end walk = Contains-n
 module _ (grid : GridModel) (flat : FlatModel) (slots : List SlotAccess) (net : ℕ) (origin around : List SlotBox) (starts ends : List ℕ) where
   abbrev pub IsWalk : List ℕ → Type 0
   IsWalk numbers =
-      IsShortest (IsNodeAdmitted slots net) (IsStep (IsNeighbourNear grid origin around) (IsStepAdmitted grid slots net)) (Contains starts) (Contains ends) numbers
+      IsShortest (IsNodeAdmitted slots net) (IsStep (IsNeighbourNear grid origin around) (IsStepAdmitted grid slots net)) (Contains starts) (Contains ends)
+      numbers
 
   abbrev pub IsNone : Type 0
   IsNone = NoWalk (IsNodeAdmitted slots net) (IsStep (IsNeighbourNear grid origin around) (IsStepAdmitted grid slots net)) (Contains starts) (Contains ends)
 
   abbrev pub IsFound : Option (List ℕ) → Type 0
   IsFound answer =
-      IsShortestIfAny (IsNodeAdmitted slots net) (IsStep (IsNeighbourNear grid origin around) (IsStepAdmitted grid slots net)) (Contains starts) (Contains ends) answer
+      IsShortestIfAny (IsNodeAdmitted slots net) (IsStep (IsNeighbourNear grid origin around) (IsStepAdmitted grid slots net)) (Contains starts) (Contains ends)
+      answer
 
   -- it answers by numbers
   pub answer_at : ((numbers : List ℕ) → IsWalk numbers → IsNextWalkAt grid flat net numbers) → (IsNone → HasNoWalkAt grid flat net)
@@ -68,10 +71,12 @@ module _ (grid : GridModel) (flat : FlatModel) (slots : List SlotAccess) (net : 
     (origins : (a : ℕ) → Contains starts a ↔ IsOrigin (slot_total grid) bound a) where
   abbrev pub IsNearby : Bool → Option (List ℕ) → Type 0
   IsNearby left answer =
-      IsRound (IsNodeAdmitted slots net) (IsStep (IsNeighbourNear grid origin around) (IsStepAdmitted grid slots net)) (IsOrigin (slot_total grid) bound) (Contains ends) left answer
+      IsRound (IsNodeAdmitted slots net) (IsStep (IsNeighbourNear grid origin around) (IsStepAdmitted grid slots net)) (IsOrigin (slot_total grid) bound)
+      (Contains ends) left answer
 
   walk_from : (numbers : List ℕ)
-      → IsShortest (IsNodeAdmitted slots net) (IsStep (IsNeighbourNear grid origin around) (IsStepAdmitted grid slots net)) (IsOrigin (slot_total grid) bound) (Contains ends) numbers
+      → IsShortest (IsNodeAdmitted slots net) (IsStep (IsNeighbourNear grid origin around) (IsStepAdmitted grid slots net)) (IsOrigin (slot_total grid) bound)
+      (Contains ends) numbers
       → IsWalk grid flat slots net origin around starts ends numbers
   walk_from numbers is = record {
     from = is.from;
@@ -89,7 +94,8 @@ module _ (grid : GridModel) (flat : FlatModel) (slots : List SlotAccess) (net : 
   near_at walks none left (Some numbers) is = walks numbers (walk_from numbers is)
 
   pub near_within : ((numbers : List ℕ) → IsWalk grid flat slots net origin around starts ends numbers → All (λ n. n < slot_total grid) numbers)
-      → {V : Type 0} (items : V → List ℕ) (left : Bool) (walk : Option V) → IsNearby left (option_map items walk) → IfSome walk (λ v. All (λ n. n < slot_total grid) (items v))
+      → {V : Type 0} (items : V → List ℕ) (left : Bool) (walk : Option V) → IsNearby left (option_map items walk)
+      → IfSome walk (λ v. All (λ n. n < slot_total grid) (items v))
   near_within walks items left None is = tt
   near_within walks items left (Some v) is = walks (items v) (walk_from (items v) is)
 

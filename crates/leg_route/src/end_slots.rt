@@ -5,7 +5,7 @@ ghost use Rattle.leg_route_grid.specs.Steps.Grid.{slot_total};
 ghost use Rattle.leg_route_grid.specs.Steps.Hulls.{AreHulls};
 ghost use Rattle.leg_route_grid.specs.Steps.WalkBounds.{IsBoxOf};
 ghost use Rattle.leg_route.specs.declared.end_slots.EndSlot.{EndSlot};
-ghost use Rattle.leg_route.specs.Steps.EndSlots.{IsApart, MeetsPiece, end_at, HaveGotEnds, AreEndSlots, AreEndsLeft};
+ghost use Rattle.leg_route.specs.Steps.EndSlots.{IsApart, MeetsPiece, IsBoundFrom, end_at, HaveGotEnds, AreEndSlots, AreSameEnds, AreEndsLeft};
 
 use crate::next_wires::has_mark;
 use leg_flat::Shape;
@@ -13,8 +13,8 @@ use leg_geom::Rect;
 use leg_route_grid::{BoxedSlots, Grid, Hull, SlotBox, add_slots_in, bound};
 use std::alloc::{AllocError, Allocator};
 
-/// A slot in a piece of a net that is not joined to its first one, and a number of steps of which no fewer are left to it from the
-/// joined ones.
+/// A slot in a piece of a net that is not joined to its first one, and a number of steps, of which an open walk of the net from the
+/// joined ones to it has no fewer.
 #[derive(Clone, Copy)]
 pub(crate) struct EndSlot {
     pub(crate) piece: u32,
@@ -85,7 +85,7 @@ pub(crate) fn ends_of<A: Allocator + Copy>(
     requires numbers { All (λ k. k < length shapes.now) numbers.now }
     requires boxes { All (IsBoxOf grid.now) boxes.now }
     requires hulls { AreHulls boxes.now hulls.now }
-    ensures { IfOk result (λ ends. AreEndSlots grid.now (IsApart joined.now) (MeetsPiece shapes.now numbers.now) boxes.now ends.items) }
+    ensures { IfOk result (λ ends. AreEndSlots grid.now (IsApart joined.now) (MeetsPiece shapes.now numbers.now) (IsBoundFrom grid.now boxes.now) ends.items) }
 {
     let mut ends = Vec::new(alloc);
     for number in numbers {
@@ -150,7 +150,7 @@ pub(crate) fn slots_of_ends<A: Allocator>(
     Ok(slots)
 }
 
-/// How many steps are left to each of the ends at least.
+/// How many steps a walk to each of the ends has at least.
 pub(crate) fn steps_to_ends<A: Allocator>(
     alloc: A,
     ends: &[EndSlot],
@@ -162,6 +162,17 @@ pub(crate) fn steps_to_ends<A: Allocator>(
         steps.push(end.least)?;
     }
     Ok(steps)
+}
+
+/// Notes how many steps a walk to each of the ends has at least.
+pub(crate) fn note_steps(ends: &mut [EndSlot], steps: &[u32])
+    requires { length steps.now ≡ length ends.old }
+    ensures same { AreSameEnds ends.old ends.new }
+    ensures noted { (k : ℕ) (d : EndSlot) → k < length steps.now → (get_or ends.new k d).least ≡ get_or steps.now k 0 }
+{
+    for k in 0..ends.len() {
+        ends[k].least = steps[k];
+    }
 }
 
 /// Whether the pieces from this number on are joined.

@@ -103,8 +103,7 @@ impl<'g, 'a, A: Allocator + Copy> Ground<A> for GridGround<'g, 'a, A> {
     ) -> Result<Option<Vec<Wire, A>>, AllocError> {
         let part = mem::replace(&mut self.part, JoinedPart::new(alloc, net));
         let own = self.numbers[net as usize].as_slice();
-        let shapes = self.flat.shapes();
-        let part = part_now(alloc, &self.grid, shapes, net, own, joined, part)?;
+        let mut part = part_now(alloc, &self.grid, &self.flat, net, own, joined, part)?;
         let wires = next_wires(
             alloc,
             &self.grid,
@@ -114,7 +113,7 @@ impl<'g, 'a, A: Allocator + Copy> Ground<A> for GridGround<'g, 'a, A> {
             net,
             own,
             joined,
-            &part,
+            &mut part,
             &mut self.marks,
             &mut self.touched,
         )?;

@@ -8,8 +8,8 @@ ghost use Rattle.leg_route.specs.Steps.NetSlots.{HasMark, AreMarkedSlots, IsPart
 
 use crate::end_slots::{EndSlot, are_joined_from, ends_left, ends_of};
 use crate::next_wires::{has_mark, marked_slots};
-use leg_flat::Shape;
-use leg_route_grid::{BoxedSlots, Grid, Hull, add_hulls, add_slots_in, hulls_of};
+use leg_flat::{Flat, Shape};
+use leg_route_grid::{BoxedSlots, Grid, Hull, add_hulls, add_slots_in, grid_is_sound, hulls_of};
 use std::alloc::{AllocError, Allocator};
 
 /// For pieces of a net whether they are joined to its first one, the slots in the shapes of those that are, with the hulls of their
@@ -46,44 +46,49 @@ impl<A: Allocator + Copy> JoinedPart<A> {
     }
 }
 
-/// The part of a net whose pieces are joined as these marks tell, of the shapes of these numbers, which are the net's. What is in the
-/// part from before is not looked for again, where that is of this net and the pieces that came later are joined.
+/// The part of a net whose pieces are joined as these marks tell, of the flat's shapes of these numbers, which are the net's. What is
+/// in the part from before is not looked for again, where that is of this net and the pieces that came later are joined.
 pub(crate) fn part_now<A: Allocator + Copy>(
     alloc: A,
     grid: &Grid<'_, '_, A>,
-    shapes: &[Shape],
+    flat: &Flat<A>,
     net: u32,
     numbers: &[u32],
     joined: &[bool],
     part: JoinedPart<A>,
 ) -> Result<JoinedPart<A>, AllocError>
-    requires numbers { All (λ k. k < length shapes.now) numbers.now }
+    requires numbers { All (λ k. k < length flat.now.shapes) numbers.now }
     requires still { part.net ≡ net → (k : ℕ) → slice_get part.joined.items k ≡ Some true → slice_get joined.now k ≡ Some true }
-    requires had { part.net ≡ net → IsPartOf grid.now shapes.now part.joined.items numbers.now part.slots.boxes.items part.slots.slots.items part.hulls.items part.ends.items }
+    requires had { part.net ≡ net → IsPartOf grid.now flat.now net part.joined.items numbers.now
+        part.slots.boxes.items part.slots.slots.items part.hulls.items part.ends.items }
     ensures net { IfOk result (λ now. now.net ≡ net) }
     ensures joined { IfOk result (λ now. now.joined.items ≡ joined.now) }
-    ensures is { IfOk result (λ now. IsPartOf grid.now shapes.now joined.now numbers.now now.slots.boxes.items now.slots.slots.items now.hulls.items now.ends.items) }
+    ensures is { IfOk result (λ now. IsPartOf grid.now flat.now net joined.now numbers.now
+        now.slots.boxes.items now.slots.slots.items now.hulls.items now.ends.items) }
 {
     if part.net == net && !part.joined.is_empty() && are_joined_from(joined, part.joined.len()) {
-        return grown_part(alloc, grid, shapes, numbers, joined, part);
+        return grown_part(alloc, grid, flat, numbers, joined, part);
     }
-    new_part(alloc, grid, shapes, net, numbers, joined)
+    new_part(alloc, grid, flat, net, numbers, joined)
 }
 
 /// The part of a net of which nothing is kept.
 fn new_part<A: Allocator + Copy>(
     alloc: A,
     grid: &Grid<'_, '_, A>,
-    shapes: &[Shape],
+    flat: &Flat<A>,
     net: u32,
     numbers: &[u32],
     joined: &[bool],
 ) -> Result<JoinedPart<A>, AllocError>
-    requires numbers { All (λ k. k < length shapes.now) numbers.now }
+    requires numbers { All (λ k. k < length flat.now.shapes) numbers.now }
     ensures net { IfOk result (λ now. now.net ≡ net) }
     ensures joined { IfOk result (λ now. now.joined.items ≡ joined.now) }
-    ensures is { IfOk result (λ now. IsPartOf grid.now shapes.now joined.now numbers.now now.slots.boxes.items now.slots.slots.items now.hulls.items now.ends.items) }
+    ensures is { IfOk result (λ now. IsPartOf grid.now flat.now net joined.now numbers.now
+        now.slots.boxes.items now.slots.slots.items now.hulls.items now.ends.items) }
 {
+    grid_is_sound(grid);
+    let shapes = flat.shapes();
     let slots = marked_slots(alloc, grid, shapes, numbers, joined, true)?;
     let hulls = hulls_of(alloc, &slots.boxes)?;
     let ends = ends_of(alloc, grid, shapes, numbers, joined, &slots.boxes, &hulls)?;
@@ -101,19 +106,23 @@ fn new_part<A: Allocator + Copy>(
 fn grown_part<A: Allocator + Copy>(
     alloc: A,
     grid: &Grid<'_, '_, A>,
-    shapes: &[Shape],
+    flat: &Flat<A>,
     numbers: &[u32],
     joined: &[bool],
     part: JoinedPart<A>,
 ) -> Result<JoinedPart<A>, AllocError>
-    requires numbers { All (λ k. k < length shapes.now) numbers.now }
+    requires numbers { All (λ k. k < length flat.now.shapes) numbers.now }
     requires still { (k : ℕ) → slice_get part.joined.items k ≡ Some true → slice_get joined.now k ≡ Some true }
     requires later { (k : ℕ) → length part.joined.items ≤ k → k < length joined.now → get_or joined.now k true ≡ true }
-    requires had { IsPartOf grid.now shapes.now part.joined.items numbers.now part.slots.boxes.items part.slots.slots.items part.hulls.items part.ends.items }
+    requires had { IsPartOf grid.now flat.now part.net part.joined.items numbers.now
+        part.slots.boxes.items part.slots.slots.items part.hulls.items part.ends.items }
     ensures net { IfOk result (λ now. now.net ≡ part.net) }
     ensures joined { IfOk result (λ now. now.joined.items ≡ joined.now) }
-    ensures is { IfOk result (λ now. IsPartOf grid.now shapes.now joined.now numbers.now now.slots.boxes.items now.slots.slots.items now.hulls.items now.ends.items) }
+    ensures is { IfOk result (λ now. IsPartOf grid.now flat.now part.net joined.now numbers.now
+        now.slots.boxes.items now.slots.slots.items now.hulls.items now.ends.items) }
 {
+    grid_is_sound(grid);
+    let shapes = flat.shapes();
     let JoinedPart {
         net,
         joined: before,

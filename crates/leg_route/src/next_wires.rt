@@ -1,22 +1,23 @@
 //! The wires of a shortest open walk from the joined part of a net to the rest.
 
-ghost use Rattle.std.specs.Prelude.{◌≡◌, ◌↔◌, ◌<◌, ◌≤◌, ◌^◌, ℕ, [], IsTrue, map, All, Contains, length, IfOk, IfSome};
+ghost use Rattle.std.specs.Prelude.{◌≡◌, ◌↔◌, ◌<◌, ◌^◌, ℕ, [], IsTrue, map, All, Contains, length, IfOk, OnOk, IfSome};
 ghost use Rattle.std.specs.Option.{option_map};
 ghost use Rattle.leg_route_search.specs.Steps.FreshMarks.{AreUnseen};
 ghost use Rattle.leg_wire.specs.NetShapes.{AreNumbersOf};
 ghost use Rattle.leg_wire.specs.PieceMarks.{AreMarks};
 ghost use Rattle.leg_rules.specs.Joins.Touch.{piece_count, AreJoined};
 ghost use Rattle.leg_route_grid.specs.Steps.Grid.{IsNumberOf, slot_total};
-ghost use Rattle.leg_route_grid.specs.Steps.WalkBounds.{bound_at, AreBoxed};
+ghost use Rattle.leg_route_grid.specs.Steps.WalkBounds.{AreBoxed};
 ghost use Rattle.leg_route_grid.specs.Steps.Hulls.{AreHulls};
 ghost use Rattle.leg_rules.specs.Route.Meets.{MeetsJoined, MeetsRest};
 ghost use Rattle.leg_route_grid.specs.Steps.NodeNumbers.{IsOneOf};
 ghost use Rattle.leg_route_grid.specs.Steps.AccessTable.{IsAccessTable};
 ghost use Rattle.leg_route.specs.Steps.NetSlots.{HasMark, AreMarkedSlots, IsPartOf, IsNextAnswerAt, IsNearAnswerAt};
 ghost use Rattle.leg_route.specs.declared.end_slots.EndSlot.{EndSlot};
+ghost use Rattle.leg_route.specs.Steps.EndSlots.{IsFarSlot, AreSameEnds};
 ghost use Rattle.leg_route.specs.Steps.NextWires.{IsNextAnswer};
 
-use crate::end_slots::{EndSlot, slots_of_ends, steps_to_ends};
+use crate::end_slots::{EndSlot, note_steps, slots_of_ends, steps_to_ends};
 use crate::joined_part::JoinedPart;
 use leg_design_records::{Design, Wire};
 use leg_flat::{Flat, Shape};
@@ -69,7 +70,7 @@ pub(crate) fn marked_slots<A: Allocator + Copy>(
 
 /// The numbers of the slots of a shortest open walk of the net, whose walks begin in these slots and end in those of the ends, where
 /// a search nearby finds one. Where it finds none, `left_out` is whether there may be one, and `limit` is where a search that goes on
-/// begins. `slots` has what is open in the flat.
+/// begins. What the search finds out of each of the ends is noted. `slots` has what is open in the flat.
 fn walk_nearby<A: Allocator + Copy>(
     alloc: A,
     grid: &Grid<'_, '_, A>,
@@ -78,7 +79,7 @@ fn walk_nearby<A: Allocator + Copy>(
     net: u32,
     starts: &BoxedSlots<A>,
     hulls: &[Hull],
-    ends: &[EndSlot],
+    ends: &mut [EndSlot],
     limit: &mut u64,
     marks: &mut [Mark],
     touched: &mut Vec<u32, A>,
@@ -86,10 +87,10 @@ fn walk_nearby<A: Allocator + Copy>(
 ) -> Result<Option<Vec<u32, A>>, AllocError>
     requires told { IsAccessTable grid.now flat.now slots.now }
     requires starts { (n : ℕ) → Contains starts.now.slots.items n ↔ IsOneOf (IsNumberOf grid.now) (MeetsJoined flat.now net) n }
-    requires ends { (n : ℕ) → Contains (map (λ (end : EndSlot). end.slot) ends.now) n ↔ IsOneOf (IsNumberOf grid.now) (MeetsRest flat.now net) n }
+    requires ends { (n : ℕ) → Contains (map (λ (end : EndSlot). end.slot) ends.old) n ↔ IsOneOf (IsNumberOf grid.now) (MeetsRest flat.now net) n }
     requires starts_within { All (λ n. n < slot_total grid.now) starts.now.slots.items }
-    requires ends_within { All (λ (end : EndSlot). end.slot < slot_total grid.now) ends.now }
-    requires least { All (λ (end : EndSlot). end.least ≤ bound_at grid.now starts.now.boxes.items end.slot) ends.now }
+    requires ends_within { All (λ (end : EndSlot). end.slot < slot_total grid.now) ends.old }
+    requires far { All (λ (end : EndSlot). IsFarSlot grid.now flat.now net starts.now.boxes.items end.least end.slot) ends.old }
     requires starts_boxed { AreBoxed grid.now starts.now.boxes.items starts.now.slots.items }
     requires hulls { AreHulls starts.now.boxes.items hulls.now }
     requires count { length marks.old ≡ slot_total grid.now }
@@ -97,6 +98,8 @@ fn walk_nearby<A: Allocator + Copy>(
     requires untouched { touched.old.items ≡ [] }
     ensures answer { IfOk result (λ walk. IsNearAnswerAt grid.now flat.now net left_out.new (option_map (λ numbers. numbers.items) walk)) }
     ensures within { IfOk result (λ walk. IfSome walk (λ numbers. All (λ n. n < slot_total grid.now) numbers.items)) }
+    ensures same { AreSameEnds ends.old ends.new }
+    ensures far { All (λ (end : EndSlot). IsFarSlot grid.now flat.now net starts.now.boxes.items end.least end.slot) ends.new }
     ensures count { length marks.new ≡ slot_total grid.now }
     ensures unseen { AreUnseen marks.new }
     ensures untouched { touched.new.items ≡ [] }
@@ -120,8 +123,11 @@ fn walk_nearby<A: Allocator + Copy>(
     };
     searches_walk_as_numbers();
     let last = slots_of_ends(alloc, ends)?;
-    let known = steps_to_ends(alloc, ends)?;
-    let walk = near_walk(alloc, &graph, &last, known, limit, marks, touched, left_out)?;
+    let mut known = steps_to_ends(alloc, ends)?;
+    let walk = near_walk(
+        alloc, &graph, &last, &mut known, limit, marks, touched, left_out,
+    )?;
+    note_steps(ends, &known);
     Ok(walk)
 }
 
@@ -190,19 +196,24 @@ fn next_walk<A: Allocator + Copy>(
     net: u32,
     numbers: &[u32],
     joined: &[bool],
-    part: &JoinedPart<A>,
+    part: &mut JoinedPart<A>,
     marks: &mut [Mark],
     touched: &mut Vec<u32, A>,
 ) -> Result<Option<Vec<u32, A>>, AllocError>
     requires told { IsAccessTable grid.now flat.now slots.now }
     requires numbers { AreNumbersOf flat.now.shapes net numbers.now }
     requires joined { AreMarks (AreJoined flat.now net 0) (piece_count flat.now net) joined.now }
-    requires part { IsPartOf grid.now flat.now.shapes joined.now numbers.now part.now.slots.boxes.items part.now.slots.slots.items part.now.hulls.items part.now.ends.items }
+    requires part { IsPartOf grid.now flat.now net joined.now numbers.now
+        part.old.slots.boxes.items part.old.slots.slots.items part.old.hulls.items part.old.ends.items }
     requires count { length marks.old ≡ slot_total grid.now }
     requires unseen { AreUnseen marks.old }
     requires untouched { touched.old.items ≡ [] }
     ensures answer { IfOk result (λ walk. IsNextAnswerAt grid.now flat.now net (option_map (λ numbers. numbers.items) walk)) }
     ensures within { IfOk result (λ walk. IfSome walk (λ numbers. All (λ n. n < slot_total grid.now) numbers.items)) }
+    ensures part { OnOk result (IsPartOf grid.now flat.now net joined.now numbers.now
+        part.new.slots.boxes.items part.new.slots.slots.items part.new.hulls.items part.new.ends.items) }
+    ensures same_net { part.new.net ≡ part.old.net }
+    ensures same_joined { part.new.joined.items ≡ part.old.joined.items }
     ensures unseen { AreUnseen marks.new }
     ensures untouched { touched.new.items ≡ [] }
 {
@@ -216,7 +227,7 @@ fn next_walk<A: Allocator + Copy>(
         net,
         &part.slots,
         &part.hulls,
-        &part.ends,
+        &mut part.ends,
         &mut limit,
         marks,
         touched,
@@ -248,8 +259,9 @@ fn next_walk<A: Allocator + Copy>(
 
 /// The wires of a shortest open walk from the joined part of the net to the rest, or `None` where there is no such walk. `slots`
 /// has for each slot of the grid what is open in the flat, `numbers` are those of the net's shapes, and `joined` has for each of its
-/// pieces whether it is joined to the first one, and `part` is what is kept of those that are and of the others. `marks` has one
-/// for each slot. `touched` is room to work in. Of several such walks one is taken as `shortest` of `leg_route_search` states.
+/// pieces whether it is joined to the first one, and `part` is what is kept of those that are and of the others, for which is noted
+/// what is found out of them. `marks` has one for each slot. `touched` is room to work in. Of several such walks one is taken as
+/// `shortest` of `leg_route_search` states.
 ///
 /// It fails only when out of memory.
 pub(crate) fn next_wires<A: Allocator + Copy>(
@@ -261,7 +273,7 @@ pub(crate) fn next_wires<A: Allocator + Copy>(
     net: u32,
     numbers: &[u32],
     joined: &[bool],
-    part: &JoinedPart<A>,
+    part: &mut JoinedPart<A>,
     marks: &mut [Mark],
     touched: &mut Vec<u32, A>,
 ) -> Result<Option<Vec<Wire, A>>, AllocError>
@@ -270,11 +282,16 @@ pub(crate) fn next_wires<A: Allocator + Copy>(
     requires in_range { net < length flat.now.pieces }
     requires numbers { AreNumbersOf flat.now.shapes net numbers.now }
     requires joined { AreMarks (AreJoined flat.now net 0) (piece_count flat.now net) joined.now }
-    requires part { IsPartOf grid.now flat.now.shapes joined.now numbers.now part.now.slots.boxes.items part.now.slots.slots.items part.now.hulls.items part.now.ends.items }
+    requires part { IsPartOf grid.now flat.now net joined.now numbers.now
+        part.old.slots.boxes.items part.old.slots.slots.items part.old.hulls.items part.old.ends.items }
     requires count { length marks.old ≡ slot_total grid.now }
     requires unseen { AreUnseen marks.old }
     requires untouched { touched.old.items ≡ [] }
     ensures answer { IfOk result (λ answer. IsNextAnswer design.now flat.now net (option_map (λ wires. wires.items) answer)) }
+    ensures part { OnOk result (IsPartOf grid.now flat.now net joined.now numbers.now
+        part.new.slots.boxes.items part.new.slots.slots.items part.new.hulls.items part.new.ends.items) }
+    ensures same_net { part.new.net ≡ part.old.net }
+    ensures same_joined { part.new.joined.items ≡ part.old.joined.items }
     ensures count { length marks.new ≡ length marks.old }
     ensures unseen { AreUnseen marks.new }
     ensures untouched { touched.new.items ≡ [] }

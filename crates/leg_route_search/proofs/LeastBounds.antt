@@ -5,7 +5,8 @@ use Rattle.std.proofs.lemmas.Grind.{get_or-set_at}
 use Rattle.std.proofs.lemmas.List.{get_or-set_other}
 use Rattle.std.proofs.Math.ListN.{length-set}
 use Rattle.leg_route_search.specs.Steps.Starts.{AreLeast}
-use Rattle.leg_route_search.specs.Steps.Dive.{IsFarNode, AreFar}
+use Rattle.leg_route_search.specs.declared.mark.Mark.{Mark}
+use Rattle.leg_route_search.specs.Steps.Dive.{IsKnownNow}
 
 -- The starts before number k were looked at, with a limit, and the others were before.
 pub record AreLooked (bound : ℕ → ℕ) (starts : List ℕ) (told limit k : ℕ) (least : List ℕ) : Type 0 where
@@ -14,7 +15,8 @@ pub record AreLooked (bound : ℕ → ℕ) (starts : List ℕ) (told limit k : �
   pub done : (j : ℕ) → j < k → j < length starts → get_or least j 0 ≤ limit → bound (get_or starts j 0) ≤ limit
   pub rest : (j : ℕ) → k ≤ j → j < length starts → get_or least j 0 < told → bound (get_or starts j 0) < told
 
-pub looked_none : (bound : ℕ → ℕ) (starts : List ℕ) (told limit : ℕ) (least : List ℕ) → AreLeast bound starts told least → AreLooked bound starts told limit 0 least
+pub looked_none : (bound : ℕ → ℕ) (starts : List ℕ) (told limit : ℕ) (least : List ℕ) → AreLeast bound starts told least
+    → AreLooked bound starts told limit 0 least
 looked_none bound starts told limit least had = record {
   one_each = had.one_each;
   each = had.each;
@@ -23,9 +25,11 @@ looked_none bound starts told limit least had = record {
 }
 
 pub looked_more : (bound : ℕ → ℕ) (starts : List ℕ) (told limit k : ℕ) (least : List ℕ) (steps : ℕ) → k < length starts → steps ≤ bound (get_or starts k 0)
-    → (steps ≤ limit → bound (get_or starts k 0) ≤ limit) → AreLooked bound starts told limit k least → AreLooked bound starts told limit (k + 1) (slice_set least k steps)
+    → (steps ≤ limit → bound (get_or starts k 0) ≤ limit) → AreLooked bound starts told limit k least
+    → AreLooked bound starts told limit (k + 1) (slice_set least k steps)
 looked_more bound starts told limit k least steps within low near so_far =
-    let here : (j : ℕ) → j ≡ k → get_or (slice_set least k steps) j 0 ≡ steps = λ j same. get_or-set_at least k j steps 0 same (omega (arith, within, so_far.one_each)) in
+    let here : (j : ℕ) → j ≡ k → get_or (slice_set least k steps) j 0 ≡ steps =
+    λ j same. get_or-set_at least k j steps 0 same (omega (arith, within, so_far.one_each)) in
     record {
       one_each = length-set least k steps ∙ so_far.one_each;
       each = λ j there. elim (cases_eq j k) [
@@ -37,10 +41,12 @@ looked_more bound starts told limit k least steps within low near so_far =
         | inr other ↦ rw (get_or-set_other least k j steps 0 other) (so_far.done j (omega (arith, below, other)) there)
       ];
       rest = λ j above there.
-          let other : j ≡ k → ⊥ = λ same. omega (arith, above, same) in rw (get_or-set_other least k j steps 0 other) (so_far.rest j (omega (arith, above)) there);
+          let other : j ≡ k → ⊥ =
+          λ same. omega (arith, above, same) in rw (get_or-set_other least k j steps 0 other) (so_far.rest j (omega (arith, above)) there);
     }
 
-pub looked_all : (bound : ℕ → ℕ) (starts : List ℕ) (told limit k : ℕ) (least : List ℕ) → length starts ≤ k → AreLooked bound starts told limit k least → AreLeast bound starts (limit + 1) least
+pub looked_all : (bound : ℕ → ℕ) (starts : List ℕ) (told limit k : ℕ) (least : List ℕ) → length starts ≤ k → AreLooked bound starts told limit k least
+    → AreLeast bound starts (limit + 1) least
 looked_all bound starts told limit k least all so_far = record {
   one_each = so_far.one_each;
   each = so_far.each;
@@ -48,15 +54,19 @@ looked_all bound starts told limit k least all so_far = record {
 }
 
 -- One end is looked at.
-pub far_set : (Open : ℕ → Type 0) (Step : ℕ → ℕ → Type 0) (Start : ℕ → Type 0) (ends known : List ℕ) (k steps : ℕ) → k < length ends → IsFarNode Open Step Start steps (get_or ends k 0)
-    → AreFar Open Step Start ends known → AreFar Open Step Start ends (slice_set known k steps)
-far_set Open Step Start ends known k steps within far so_far = record {
-  one_each = length-set known k steps ∙ so_far.one_each;
-  each = λ j there. elim (cases_eq j k) [
-    | inl same ↦ rw (get_or-set_at known k j steps 0 same (omega (arith, within, so_far.one_each)), same) far
-    | inr other ↦ rw (get_or-set_other known k j steps 0 other) (so_far.each j there)
-  ];
-}
+pub now_set : (marks : List Mark) (ends before known : List ℕ) (k steps : ℕ) → k < length known → IsKnownNow marks (get_or ends k 0) (get_or before k 0) steps
+    → ((j : ℕ) → j < k → IsKnownNow marks (get_or ends j 0) (get_or before j 0) (get_or known j 0))
+    → (j : ℕ) → j < k + 1 → IsKnownNow marks (get_or ends j 0) (get_or before j 0) (get_or (slice_set known k steps) j 0)
+now_set marks ends before known k steps within now done j below = elim (cases_eq j k) [
+  | inl same ↦ rw (get_or-set_at known k j steps 0 same within, same) now
+  | inr other ↦ rw (get_or-set_other known k j steps 0 other) (done j (omega (arith, below, other)))
+]
+
+-- The others are not.
+pub rest_set : (before known : List ℕ) (k steps : ℕ) → ((j : ℕ) → k ≤ j → get_or known j 0 ≡ get_or before j 0) → (j : ℕ) → k + 1 ≤ j
+    → get_or (slice_set known k steps) j 0 ≡ get_or before j 0
+rest_set before known k steps rest j above =
+    let other : j ≡ k → ⊥ = λ same. omega (arith, above, same) in rw (get_or-set_other known k j steps 0 other) (rest j (omega (arith, above)))
 
 -- The least number so far is no more than those of the ends so far, and one more.
 pub low_set : (known : List ℕ) (k steps least least2 : ℕ) → k < length known → least2 ≤ least → least2 ≤ steps → ((j : ℕ) → j < k → least ≤ get_or known j 0)

@@ -7,4 +7,4 @@ mod Sides
 mod Walks
 mod SearchSoFar
 mod WayBack
-mod WalksBack
+pub mod WalksBack

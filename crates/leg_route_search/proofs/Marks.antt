@@ -49,7 +49,8 @@ pub mark_here : (marks : List Mark) (to : ℕ) (v : Mark) → to < length marks 
 mark_here marks to v within seen = record { is = slice_get-set_same marks to v within; seen = seen }
 
 -- leaves the others as they were
-pub mark_kept : (marks : List Mark) (to : ℕ) (v : Mark) → slice_get marks to ≡ Some Unseen → (a : ℕ) (m : Mark) → IsMark marks a m → IsMark (slice_set marks to v) a m
+pub mark_kept : (marks : List Mark) (to : ℕ) (v : Mark) → slice_get marks to ≡ Some Unseen → (a : ℕ) (m : Mark) → IsMark marks a m
+    → IsMark (slice_set marks to v) a m
 mark_kept marks to v unseen a m is =
     elim (cases_eq a to) [
       | inl same ↦ absurd (no_mark marks to m unseen (rw same at is))
@@ -57,7 +58,8 @@ mark_kept marks to v unseen a m is =
     ]
 
 -- and is the only new one
-pub mark_cases : (marks : List Mark) (to : ℕ) (v : Mark) → to < length marks → (a : ℕ) (m : Mark) → IsMark (slice_set marks to v) a m → IsMark marks a m ⊎ ((a ≡ to) × (v ≡ m))
+pub mark_cases : (marks : List Mark) (to : ℕ) (v : Mark) → to < length marks → (a : ℕ) (m : Mark) → IsMark (slice_set marks to v) a m
+    → IsMark marks a m ⊎ ((a ≡ to) × (v ≡ m))
 mark_cases marks to v within a m is =
     elim (cases_eq a to) [
       | inl same ↦
@@ -67,7 +69,8 @@ mark_cases marks to v within a m is =
     ]
 
 -- one node fewer is unseen
-pub one_fewer : (marks : List Mark) (to : ℕ) (v : Mark) → slice_get marks to ≡ Some Unseen → is_unseen v ≡ false → count_by is_unseen (slice_set marks to v) + 1 ≡ count_by is_unseen marks
+pub one_fewer : (marks : List Mark) (to : ℕ) (v : Mark) → slice_get marks to ≡ Some Unseen → is_unseen v ≡ false
+    → count_by is_unseen (slice_set marks to v) + 1 ≡ count_by is_unseen marks
 one_fewer marks to v unseen seen =
     let within = slice_get_within marks to Unseen unseen in
     let read : get_or marks to Unseen ≡ Unseen = get_or_from_slice_get marks to Unseen Unseen unseen in
@@ -82,7 +85,8 @@ noted_none marks touched unseen empty = record {
 }
 
 -- A node is noted, and gets a mark.
-pub noted_push_mark : (marks : List Mark) (touched : List ℕ) (to : ℕ) (v : Mark) → to < length marks → IsNoted marks touched → IsNoted (slice_set marks to v) (touched ++ to ∷ [])
+pub noted_push_mark : (marks : List Mark) (touched : List ℕ) (to : ℕ) (v : Mark) → to < length marks → IsNoted marks touched
+    → IsNoted (slice_set marks to v) (touched ++ to ∷ [])
 noted_push_mark marks touched to v within so_far = record {
   noted = λ a m is. elim (mark_cases marks to v within a m is) [
     | inl old ↦ Contains-append_left touched (to ∷ []) a (so_far.noted a m old)

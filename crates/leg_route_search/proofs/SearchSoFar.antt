@@ -17,7 +17,8 @@ none_there a there = omega (arith, there.1)
 
 module _ (Open : ℕ → Type 0) (Step : ℕ → ℕ → Type 0) (Start End : ℕ → Type 0) (bound : ℕ → ℕ) (limit : ℕ) where
   -- an open node with a new mark is reached
-  new_at : (Tried : ℕ → ℕ → Type 0) (level : ℕ) (next : List ℕ) (marks : List Mark) (a : ℕ) (m : Mark) → Open a → IsMark marks a m → IsNew Open Tried limit level next a m → IsAt marks a level
+  new_at : (Tried : ℕ → ℕ → Type 0) (level : ℕ) (next : List ℕ) (marks : List Mark) (a : ℕ) (m : Mark) → Open a → IsMark marks a m
+      → IsNew Open Tried limit level next a m → IsAt marks a level
   new_at Tried level next marks a Unseen is_open is n = absurd n
   new_at Tried level next marks a Shut is_open is n = absurd (n is_open)
   new_at Tried level next marks a (Reached k from) is_open is n = (from, rw (← n.0) is)

@@ -1,5 +1,5 @@
 -- Marks that spread: one node, one step after another, and all sides.
-use Rattle.std.proofs.Common.{◌≡◌, ℕ, ◌+◌, ◌^◌, ◌<◌, ◌≤◌, Bool, true, false, List, [], ◌∷◌, ◌++◌, length, slice_set, slice_get, Contains, Some, ◌⊎◌, ◌↔◌, inl, inr, refl, ◌∙◌, subst, arith, length-append}
+use Rattle.std.proofs.Common.{◌≡◌, ℕ, ◌+◌, ◌<◌, ◌≤◌, Bool, false, List, [], ◌∷◌, ◌++◌, length, slice_set, slice_get, Contains, Some, ◌⊎◌, ◌↔◌, inl, inr, refl, ◌∙◌, subst, arith, length-append}
 use Rattle.std.proofs.lemmas.List.Elements.{Contains-append_left, Contains-push, Contains-push_cases}
 use Rattle.std.proofs.Math.ListN.{length-set}
 use Rattle.leg_route_search.specs.declared.mark.Mark.{Mark}
@@ -48,12 +48,14 @@ module _ (Open : ℕ → Type 0) (bound : ℕ → ℕ) (limit level : ℕ) where
   }
 
   -- The node that was tried is entered, or shut.
-  pub spread_entered : (Tried : ℕ → ℕ → Type 0) (from to : ℕ) (IsOpen : Type 0) (marks : List Mark) (next : List ℕ) (marks2 : List Mark) (next2 : List ℕ) (left : Bool)
+  pub spread_entered : (Tried : ℕ → ℕ → Type 0) (from to : ℕ) (IsOpen : Type 0) (marks : List Mark) (next : List ℕ) (marks2 : List Mark) (next2 : List ℕ)
+      (left : Bool)
       → slice_get marks to ≡ Some Unseen → to < length marks → level ≤ limit → Tried from to → ((a b : ℕ) → Tried a b → b ≡ to) → (IsOpen ↔ Open to)
       → IsEntered IsOpen to (Reached level from) marks next marks2 next2 → IsSpread Open Tried bound limit level marks next left marks2 next2 left
   spread_entered Tried from to IsOpen marks next marks2 next2 left unseen within low was_tried only asked (inl (closed, marks_is, next_is)) =
       rw (marks_is, next_is)
-      (spread_marked Tried marks next next left to Shut unseen within refl (λ is_open. closed (asked.1 is_open)) only (λ a there. there) (λ a there. inl there) (omega arith))
+      (spread_marked Tried marks next next left to Shut unseen within refl (λ is_open. closed (asked.1 is_open)) only (λ a there. there) (λ a there. inl there)
+      (omega arith))
   spread_entered Tried from to IsOpen marks next marks2 next2 left unseen within low was_tried only asked (inr (is_open, marks_is, next_is)) =
       let mark : Mark = Reached level from in
       let here = mark_here marks to mark within refl in

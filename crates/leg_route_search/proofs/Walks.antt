@@ -21,7 +21,8 @@ module _ {Node : Type 0} {Open : Node → Type 0} {Step : Node → Node → Type
 -- limit and below d, ends at a marked node.
 pub end_reached : {Open : ℕ → Type 0} {Step : ℕ → ℕ → Type 0} (bound : ℕ → ℕ) (limit d : ℕ) (marks : List Mark) → ((a b : ℕ) → Step a b → bound a ≤ bound b + 1)
     → ((a b level : ℕ) → IsAt marks a level → level < d → Step a b → Open b → level + 1 + bound b ≤ limit → (j : ℕ) × IsAt marks b j × (j ≤ level + 1))
-    → {a b : ℕ} {nodes : List ℕ} (level : ℕ) → bound b ≡ 0 → IsAt marks a level → level + length nodes ≤ d → level + length nodes ≤ limit + 1 → Walk Open Step a nodes b
+    → {a b : ℕ} {nodes : List ℕ} (level : ℕ) → bound b ≡ 0 → IsAt marks a level → level + length nodes ≤ d → level + length nodes ≤ limit + 1
+    → Walk Open Step a nodes b
     → (j : ℕ) × IsAt marks b j × (j + 1 ≤ level + length nodes)
 end_reached bound limit d marks nearer followed level at_end is_at short near (here is_open) = (level, is_at, omega arith)
 end_reached bound limit d marks nearer followed level at_end is_at short near (on {a = a} {b = b} {nodes = nodes} is_open step rest) =

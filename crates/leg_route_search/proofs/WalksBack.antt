@@ -1,7 +1,7 @@
 -- Walks by their last step, and what a dive learns from each.
 use Rattle.std.proofs.Common.{◌≡◌, ℕ, ◌+◌, ◌-◌, ◌<◌, ◌≤◌, min, List, [], ◌∷◌, ◌++◌, length, get_or, take, slice_set, All, Some, ◌⊎◌, ◌↔◌, inl, inr, refl, sym, subst, arith, length-append}
 use Rattle.std.proofs.Math.Nat.{min-le_right}
-use Rattle.std.proofs.lemmas.List.Elements.{All-more}
+use Rattle.std.proofs.lemmas.List.Elements.{All-more, All-from_get_or}
 use Rattle.std.proofs.lemmas.Option.{same_Some}
 use Rattle.leg_route_search.specs.declared.mark.Mark.{Mark}
 use Rattle.leg_route_search.specs.declared.mark.Mark.TheVariants.{Shut, Far}
@@ -11,8 +11,7 @@ use Rattle.leg_route_search.specs.Steps.Side.{opposite}
 use Rattle.leg_route_search.specs.Steps.Walks.{IsStep, IsStepTo}
 use Rattle.leg_rules.specs.Route.Walk.{Walk, IsShortest}
 use Rattle.leg_rules.specs.Route.Walk.Walk.{here, on}
-use Rattle.leg_route_search.specs.Steps.Dive.{IsOrigin, IsFarNode, AreFar, IsFarFrom, AreLowerBounds, IsWalkBack}
-use Rattle.leg_route_search.specs.Steps.Starts.{AreLeast}
+use Rattle.leg_route_search.specs.Steps.Dive.{IsOrigin, IsFarNode, AreFar, IsFarFrom, AreLowerBounds, IsKnownNow, AreKnownNow, IsWalkBack}
 use Rattle.leg_route_search.proofs.Marks.{mark_cases}
 
 module _ {Node : Type 0} {Open : Node → Type 0} {Step : Node → Node → Type 0} where
@@ -83,7 +82,8 @@ far_beyond IsBeside OpenStep Open Start steps least node beyond side less only f
     omega (arith, less, far from nodes start (rw (only last step.0) at walk))
 
 -- one side more
-pub far_more : (P : ℕ → Side → Type 0) → ((steps fewer : ℕ) (side : Side) → fewer ≤ steps → P steps side → P fewer side) → (sides : List Side) (i steps fewer : ℕ)
+pub far_more : (P : ℕ → Side → Type 0) → ((steps fewer : ℕ) (side : Side) → fewer ≤ steps → P steps side → P fewer side)
+    → (sides : List Side) (i steps fewer : ℕ)
     → i < length sides → fewer ≤ steps → All (P steps) (take i sides) → P fewer (get_or sides i West) → All (P fewer) (take (i + 1) sides)
 far_more P less sides i steps fewer within low far more = All-more (P fewer) sides i West within (λ k d below. less steps fewer _ low (far k d below)) more
 
@@ -103,7 +103,8 @@ module _ {Open : ℕ → Type 0} {Step : ℕ → ℕ → Type 0} {Start : ℕ �
       → AreLowerBounds Open Step Start marks → AreLowerBounds Open Step Start (slice_set marks to Shut)
   known_shut marks to within closed k = record {
     shut = λ a is. elim (mark_cases marks to Shut within a Shut is) [ inl old ↦ k.shut a old | inr new ↦ rw new.0 closed ];
-    is_open = λ a steps is. elim (mark_cases marks to Shut within a (Far steps) is) [ inl old ↦ k.is_open a steps old | inr new ↦ absurd (shut_far steps new.1) ];
+    is_open = λ a steps is. elim (mark_cases marks to Shut within a (Far steps) is)
+        [ inl old ↦ k.is_open a steps old | inr new ↦ absurd (shut_far steps new.1) ];
     far = λ a steps is. elim (mark_cases marks to Shut within a (Far steps) is) [ inl old ↦ k.far a steps old | inr new ↦ absurd (shut_far steps new.1) ];
   }
 
@@ -120,23 +121,49 @@ module _ {Open : ℕ → Type 0} {Step : ℕ → ℕ → Type 0} {Start : ℕ �
   }
 
 -- what is left at least to a node, as the bound says
-pub far_by_bound : {Open : ℕ → Type 0} {Step : ℕ → ℕ → Type 0} (size : ℕ) (bound : ℕ → ℕ) → ((a b : ℕ) → Step a b → bound b ≤ bound a + 1) → (steps most node : ℕ) → steps ≡ min most (bound node)
+pub far_by_bound : {Open : ℕ → Type 0} {Step : ℕ → ℕ → Type 0} (size : ℕ) (bound : ℕ → ℕ) → ((a b : ℕ) → Step a b → bound b ≤ bound a + 1)
+    → (steps most node : ℕ) → steps ≡ min most (bound node)
     → IsFarNode Open Step (IsOrigin size bound) steps node
 far_by_bound size bound further steps most node is from nodes start walk =
     let upto : min most (bound node) ≤ bound node = min-le_right most (bound node) in
     omega (arith, is, upto, back_holds bound further walk, start.1)
 
 -- what is left at least from an end is left at least from one that is as far or farther
-pub far_fewer : {Open : ℕ → Type 0} {Step : ℕ → ℕ → Type 0} {Start : ℕ → Type 0} (steps fewer node : ℕ) → fewer ≤ steps → IsFarNode Open Step Start steps node → IsFarNode Open Step Start fewer node
+pub far_fewer : {Open : ℕ → Type 0} {Step : ℕ → ℕ → Type 0} {Start : ℕ → Type 0} (steps fewer node : ℕ) → fewer ≤ steps → IsFarNode Open Step Start steps node
+    → IsFarNode Open Step Start fewer node
 far_fewer steps fewer node less far from nodes start walk = omega (arith, less, far from nodes start walk)
 
 -- so each end is, of which no fewer are left by the bound
 pub far_each : {Open : ℕ → Type 0} {Step : ℕ → ℕ → Type 0} (size : ℕ) (bound : ℕ → ℕ) → ((a b : ℕ) → Step a b → bound b ≤ bound a + 1) → (ends known : List ℕ)
-    → AreLeast bound ends 0 known → AreFar Open Step (IsOrigin size bound) ends known
-far_each size bound further ends known least = record {
-  one_each = least.one_each;
-  each = λ k within from nodes start walk. let low = least.each k within in omega (arith, low, back_holds bound further walk, start.1);
+    → length known ≡ length ends → ((k : ℕ) → k < length ends → get_or known k 0 ≤ bound (get_or ends k 0)) → AreFar Open Step (IsOrigin size bound) ends known
+far_each size bound further ends known one_each low = record {
+  one_each = one_each;
+  each = λ k within from nodes start walk. let few = low k within in omega (arith, few, back_holds bound further walk, start.1);
 }
+
+-- What is known now of an end is true, where what was known before is, and what the marks state.
+far_now : {Open : ℕ → Type 0} {Step : ℕ → ℕ → Type 0} {Start : ℕ → Type 0} (marks : List Mark) (a before after : ℕ) → AreLowerBounds Open Step Start marks
+    → IsFarNode Open Step Start before a
+    → IsKnownNow marks a before after → IsFarNode Open Step Start after a
+far_now marks a before after bounds far (inl same) = rw same far
+far_now marks a before after bounds far (inr (inl shut)) = λ from nodes start walk. absurd (bounds.shut a shut (end_open walk))
+far_now marks a before after bounds far (inr (inr mark)) = bounds.far a after mark
+
+pub all_far_now : {Open : ℕ → Type 0} {Step : ℕ → ℕ → Type 0} {Start : ℕ → Type 0} (marks : List Mark) (ends before after : List ℕ)
+    → AreLowerBounds Open Step Start marks → AreFar Open Step Start ends before
+    → AreKnownNow marks ends before after → AreFar Open Step Start ends after
+all_far_now marks ends before after bounds far now = record {
+  one_each = now.one_each;
+  each = λ k within. far_now marks (get_or ends k 0) (get_or before k 0) (get_or after k 0) bounds (far.each k within) (now.each k within);
+}
+
+-- and so are the fewest steps that are known of an end
+pub least_far : {Open : ℕ → Type 0} {Step : ℕ → ℕ → Type 0} {Start : ℕ → Type 0} (ends known : List ℕ) (least : ℕ)
+    → ((k : ℕ) → k < length ends → least ≤ get_or known k 0)
+    → AreFar Open Step Start ends known → All (IsFarNode Open Step Start least) ends
+least_far {Open} {Step} {Start} ends known least low far =
+    All-from_get_or (IsFarNode Open Step Start least) ends 0
+    (λ k within. far_fewer (get_or known k 0) least (get_or ends k 0) (low k within) (far.each k within))
 
 -- the side across from that across from this one
 opposite_twice : (side : Side) → opposite (opposite side) ≡ side
@@ -147,7 +174,8 @@ opposite_twice North = refl
 opposite_twice Below = refl
 opposite_twice Above = refl
 
-module _ (IsBeside : Side → ℕ → ℕ → Type 0) (both_ways : (side : Side) (a b : ℕ) → IsBeside side a b → IsBeside (opposite side) b a) (side : Side) (node : ℕ) where
+module _ (IsBeside : Side → ℕ → ℕ → Type 0) (both_ways : (side : Side) (a b : ℕ) → IsBeside side a b → IsBeside (opposite side) b a) (side : Side)
+    (node : ℕ) where
   turned : (last : ℕ) → IsBeside (opposite side) last node → IsBeside side node last
   turned last beside = subst (λ (s : Side). IsBeside s node last) (opposite_twice side) (both_ways (opposite side) last node beside)
 

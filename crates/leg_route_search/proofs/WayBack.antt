@@ -15,7 +15,8 @@ same_level : (marks : List Mark) (a level k f from : ℕ) → IsMark marks a (Re
 same_level marks a level k f from one other = let same = one_mark marks a (Reached level f) (Reached k from) one other in cc
 
 -- one node further back
-pub back_more : (marks : List Mark) → AreEntered marks → (node first from level k : ℕ) (nodes : List ℕ) → IsAt marks first level → 0 < level → IsMark marks first (Reached k from)
+pub back_more : (marks : List Mark) → AreEntered marks → (node first from level k : ℕ) (nodes : List ℕ) → IsAt marks first level → 0 < level
+    → IsMark marks first (Reached k from)
     → Walk (IsReached marks) (IsEntry marks) first (reverse nodes) node
     → IsAt marks from (level - 1) × Walk (IsReached marks) (IsEntry marks) from (reverse (nodes ++ from ∷ [])) node
 back_more marks entered node first from level k nodes is_at positive is walk =
@@ -34,18 +35,21 @@ walk_as node_as step_as (here {a = a} p) = here (node_as a p)
 walk_as node_as step_as (on {a = a} {b = b} p r rest) = on (node_as a p) (step_as a b r) (walk_as node_as step_as rest)
 
 -- what is linked is entered
-pub entered_from_linked : {Open : ℕ → Type 0} {Step : ℕ → ℕ → Type 0} {Start : ℕ → Type 0} (marks : List Mark) → AreLinked Open Step Start marks → AreEntered marks
+pub entered_from_linked : {Open : ℕ → Type 0} {Step : ℕ → ℕ → Type 0} {Start : ℕ → Type 0} (marks : List Mark) → AreLinked Open Step Start marks
+    → AreEntered marks
 entered_from_linked marks linked a level from is =
     elim (linked a level from is).1 [ inl start ↦ inl start.0 | inr link ↦ inr (link.below, link.level_is, link.from_at) ]
 
 -- and each entry is a step
-step_from_entry : {Open : ℕ → Type 0} {Step : ℕ → ℕ → Type 0} {Start : ℕ → Type 0} (marks : List Mark) → AreLinked Open Step Start marks → (a b : ℕ) → IsEntry marks a b → Step a b
+step_from_entry : {Open : ℕ → Type 0} {Step : ℕ → ℕ → Type 0} {Start : ℕ → Type 0} (marks : List Mark) → AreLinked Open Step Start marks → (a b : ℕ)
+    → IsEntry marks a b → Step a b
 step_from_entry marks linked a b (below, is) =
     elim (linked b (below + 1) a is).1 [ inl start ↦ absurd (omega (arith, start.0)) | inr link ↦ link.step ]
 
 module _ {Open : ℕ → Type 0} {Step : ℕ → ℕ → Type 0} {Start End : ℕ → Type 0} where
   -- the way to a nearest end is a shortest walk
-  pub shortest_from_way : (marks : List Mark) (end : ℕ) (nodes : List ℕ) → IsNearestSoFar Open Step Start End marks end → IsWay marks end nodes → IsShortest Open Step Start End nodes
+  pub shortest_from_way : (marks : List Mark) (end : ℕ) (nodes : List ℕ) → IsNearestSoFar Open Step Start End marks end → IsWay marks end nodes
+      → IsShortest Open Step Start End nodes
   shortest_from_way marks end nodes near way =
       let same : near.level ≡ way.level = same_level marks end near.level way.level near.end_at.0 way.node_at.0 near.end_at.1 way.node_at.1 in record {
         from = way.from;

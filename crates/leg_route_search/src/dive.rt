@@ -30,11 +30,13 @@ pub(crate) fn dive<G: Graph, A: Allocator + Copy>(
     requires count { length marks.old ≡ G.size_of graph.now }
     requires within { node < G.size_of graph.now }
     requires is_open { G.OpenNode graph.now node }
-    requires known { AreLowerBounds (G.OpenNode graph.now) (IsStep (G.IsBeside graph.now) (G.OpenStep graph.now)) (IsOrigin (G.size_of graph.now) (G.back_bound_of graph.now)) marks.old }
+    requires known { AreLowerBounds (G.OpenNode graph.now) (IsStep (G.IsBeside graph.now) (G.OpenStep graph.now))
+        (IsOrigin (G.size_of graph.now) (G.back_bound_of graph.now)) marks.old }
     requires noted { IsNoted marks.old touched.old.items }
     ensures found { IfOk result (λ walk. IfSome walk (λ nodes. IsWalkBack (G.OpenNode graph.now) (IsStep (G.IsBeside graph.now) (G.OpenStep graph.now))
         (IsOrigin (G.size_of graph.now) (G.back_bound_of graph.now)) left node nodes.items)) }
-    ensures known { AreLowerBounds (G.OpenNode graph.now) (IsStep (G.IsBeside graph.now) (G.OpenStep graph.now)) (IsOrigin (G.size_of graph.now) (G.back_bound_of graph.now)) marks.new }
+    ensures known { AreLowerBounds (G.OpenNode graph.now) (IsStep (G.IsBeside graph.now) (G.OpenStep graph.now))
+        (IsOrigin (G.size_of graph.now) (G.back_bound_of graph.now)) marks.new }
     ensures noted { IsNoted marks.new touched.new.items }
 {
     if is_start(graph, node) {
@@ -80,15 +82,18 @@ fn enter<G: Graph, A: Allocator + Copy>(
 ) -> Result<Option<u32>, AllocError>
     requires count { length marks.old ≡ G.size_of graph.now }
     requires within { node < G.size_of graph.now }
-    requires known { AreLowerBounds (G.OpenNode graph.now) (IsStep (G.IsBeside graph.now) (G.OpenStep graph.now)) (IsOrigin (G.size_of graph.now) (G.back_bound_of graph.now)) marks.old }
+    requires known { AreLowerBounds (G.OpenNode graph.now) (IsStep (G.IsBeside graph.now) (G.OpenStep graph.now))
+        (IsOrigin (G.size_of graph.now) (G.back_bound_of graph.now)) marks.old }
     requires noted { IsNoted marks.old touched.old.items }
     ensures fewer { steps.new ≤ steps.old }
     ensures entered { IfOk result (λ from. IfSome from (λ from. (from < G.size_of graph.now) × (0 < left)
         × IsStepTo (G.IsBeside graph.now) (G.OpenStep graph.now) (opposite side) from node)) }
     ensures only { IfOk result (λ from. IfSome from (λ from. (last : ℕ) → G.IsBeside graph.now (opposite side) last node → last ≡ from)) }
     ensures is_open { IfOk result (λ from. IfSome from (G.OpenNode graph.now)) }
-    ensures past { IfOk result (λ from. IfNone from (IsFarFrom (G.IsBeside graph.now) (G.OpenStep graph.now) (G.OpenNode graph.now) (IsOrigin (G.size_of graph.now) (G.back_bound_of graph.now)) steps.new node side)) }
-    ensures known { AreLowerBounds (G.OpenNode graph.now) (IsStep (G.IsBeside graph.now) (G.OpenStep graph.now)) (IsOrigin (G.size_of graph.now) (G.back_bound_of graph.now)) marks.new }
+    ensures past { IfOk result (λ from. IfNone from (IsFarFrom (G.IsBeside graph.now) (G.OpenStep graph.now) (G.OpenNode graph.now)
+        (IsOrigin (G.size_of graph.now) (G.back_bound_of graph.now)) steps.new node side)) }
+    ensures known { AreLowerBounds (G.OpenNode graph.now) (IsStep (G.IsBeside graph.now) (G.OpenStep graph.now))
+        (IsOrigin (G.size_of graph.now) (G.back_bound_of graph.now)) marks.new }
     ensures noted { IsNoted marks.new touched.new.items }
 {
     let Some(from) = graph.beside(node, side) else {
@@ -120,8 +125,10 @@ pub(crate) fn one_more(steps: u32) -> u32
 pub(crate) fn steps_left<G: Graph>(graph: &G, node: u32, most: u32, marks: &[Mark]) -> u32
     requires count { length marks.now ≡ G.size_of graph.now }
     requires within { node < G.size_of graph.now }
-    requires known { AreLowerBounds (G.OpenNode graph.now) (IsStep (G.IsBeside graph.now) (G.OpenStep graph.now)) (IsOrigin (G.size_of graph.now) (G.back_bound_of graph.now)) marks.now }
-    ensures { IsFarNode (G.OpenNode graph.now) (IsStep (G.IsBeside graph.now) (G.OpenStep graph.now)) (IsOrigin (G.size_of graph.now) (G.back_bound_of graph.now)) result node }
+    requires known { AreLowerBounds (G.OpenNode graph.now) (IsStep (G.IsBeside graph.now) (G.OpenStep graph.now))
+        (IsOrigin (G.size_of graph.now) (G.back_bound_of graph.now)) marks.now }
+    ensures { IsFarNode (G.OpenNode graph.now) (IsStep (G.IsBeside graph.now) (G.OpenStep graph.now))
+        (IsOrigin (G.size_of graph.now) (G.back_bound_of graph.now)) result node }
 {
     match marks[node as usize] {
         Mark::Far { steps } => steps,
@@ -140,11 +147,14 @@ pub(crate) fn is_open<G: Graph, A: Allocator + Copy>(
 ) -> Result<bool, AllocError>
     requires count { length marks.old ≡ G.size_of graph.now }
     requires within { node < G.size_of graph.now }
-    requires known { AreLowerBounds (G.OpenNode graph.now) (IsStep (G.IsBeside graph.now) (G.OpenStep graph.now)) (IsOrigin (G.size_of graph.now) (G.back_bound_of graph.now)) marks.old }
-    requires far { IsFarNode (G.OpenNode graph.now) (IsStep (G.IsBeside graph.now) (G.OpenStep graph.now)) (IsOrigin (G.size_of graph.now) (G.back_bound_of graph.now)) steps node }
+    requires known { AreLowerBounds (G.OpenNode graph.now) (IsStep (G.IsBeside graph.now) (G.OpenStep graph.now))
+        (IsOrigin (G.size_of graph.now) (G.back_bound_of graph.now)) marks.old }
+    requires far { IsFarNode (G.OpenNode graph.now) (IsStep (G.IsBeside graph.now) (G.OpenStep graph.now))
+        (IsOrigin (G.size_of graph.now) (G.back_bound_of graph.now)) steps node }
     requires noted { IsNoted marks.old touched.old.items }
     ensures is { IfOk result (λ is_open. IsTrue is_open ↔ G.OpenNode graph.now node) }
-    ensures known { AreLowerBounds (G.OpenNode graph.now) (IsStep (G.IsBeside graph.now) (G.OpenStep graph.now)) (IsOrigin (G.size_of graph.now) (G.back_bound_of graph.now)) marks.new }
+    ensures known { AreLowerBounds (G.OpenNode graph.now) (IsStep (G.IsBeside graph.now) (G.OpenStep graph.now))
+        (IsOrigin (G.size_of graph.now) (G.back_bound_of graph.now)) marks.new }
     ensures noted { IsNoted marks.new touched.new.items }
 {
     match marks[node as usize] {

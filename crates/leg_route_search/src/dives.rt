@@ -1,13 +1,12 @@
 //! Dives from the ends, in rounds of a growing limit.
 
-ghost use Rattle.std.specs.Prelude.{◌≡◌, ◌<◌, ℕ, [], false, length, All, Contains, IfOk, IfSome};
+ghost use Rattle.std.specs.Prelude.{◌≡◌, ◌≤◌, ◌<◌, ℕ, [], false, length, get_or, All, Contains, IfOk, IfSome};
 ghost use Rattle.std.specs.Option.{option_map};
 ghost use Rattle.leg_route_search.specs.Steps.Walks.{IsStep};
 ghost use Rattle.leg_route_search.specs.Steps.FreshMarks.{AreUnseen};
 ghost use Rattle.leg_route_search.specs.Steps.Marks.{IsNoted};
-ghost use Rattle.leg_route_search.specs.Steps.Dive.{IsOrigin, IsFarNode, AreFar, AreLowerBounds, IsWalkBack};
+ghost use Rattle.leg_route_search.specs.Steps.Dive.{IsOrigin, AreFar, AreLowerBounds, IsKnownNow, AreKnownNow, IsWalkBack};
 ghost use Rattle.leg_route_search.specs.Steps.Search.{IsRound};
-ghost use Rattle.leg_route_search.specs.Steps.Starts.{AreLeast};
 
 use crate::dive::{dive, is_open, one_more, steps_left};
 use crate::graph::Graph;
@@ -28,12 +27,12 @@ const NOTED_FOR_EACH_STEP: usize = 64;
 
 /// A shortest walk, where a few rounds of dives find one. Each round looks for a walk of as many steps as each has at least, as
 /// far as the rounds before it have found. Where none is found, `limit` is that number, and `left_out` whether there may be a walk:
-/// there is none where no end is open. For each end `known` has how many steps a walk to it has at least by what is known before.
+/// there is none where no end is open. For each end `known` has how many steps a walk to it has at least, as far as is known.
 pub(crate) fn walk_by_dives<G: Graph, A: Allocator + Copy>(
     alloc: A,
     graph: &G,
     ends: &[u32],
-    mut known: Vec<u32, A>,
+    known: &mut [u32],
     limit: &mut u64,
     marks: &mut [Mark],
     touched: &mut Vec<u32, A>,
@@ -43,62 +42,59 @@ pub(crate) fn walk_by_dives<G: Graph, A: Allocator + Copy>(
     requires unseen { AreUnseen marks.old }
     requires untouched { touched.old.items ≡ [] }
     requires ends { All (λ a. a < G.size_of graph.now) ends.now }
-    requires known { AreLeast (G.back_bound_of graph.now) ends.now 0 known.items }
+    requires known { AreFar (G.OpenNode graph.now) (IsStep (G.IsBeside graph.now) (G.OpenStep graph.now))
+        (IsOrigin (G.size_of graph.now) (G.back_bound_of graph.now)) ends.now known.old }
     ensures found { IfOk result (λ walk. IsRound (G.OpenNode graph.now) (IsStep (G.IsBeside graph.now) (G.OpenStep graph.now))
         (IsOrigin (G.size_of graph.now) (G.back_bound_of graph.now)) (Contains ends.now) left_out.new (option_map (λ nodes. nodes.items) walk)) }
+    ensures known { AreFar (G.OpenNode graph.now) (IsStep (G.IsBeside graph.now) (G.OpenStep graph.now))
+        (IsOrigin (G.size_of graph.now) (G.back_bound_of graph.now)) ends.now known.new }
     ensures noted { IsNoted marks.new touched.new.items }
 {
-    let mut left = least_left(graph, ends, &mut known, marks);
+    let mut left = least_left(ends, known, marks);
     let most = left as usize * NOTED_FOR_EACH_STEP;
     'rounds: for _ in 0..ROUNDS {
         if left > DEEPEST || touched.len() >= most {
             break;
         }
-        let near = near_ends(alloc, ends, &known, left)?;
+        let near = near_ends(alloc, ends, known, left)?;
         let walk = dive_from_ends(alloc, graph, &near, left, most, marks, touched)?;
+        left = least_left(ends, known, marks);
         if let Some(nodes) = walk {
             return Ok(Some(nodes));
         }
-        left = least_left(graph, ends, &mut known, marks);
     }
     *limit = u64::from(left);
     *left_out = is_one_open(graph, ends);
     Ok(None)
 }
 
-/// How many steps a walk from a start to an end has at least, as far as is known. `known` has for each end how many a walk to it has at
-/// least by what was asked before: an end that is further by that than the nearest is not asked about again. Of the others it then
-/// has how many are known now, where those are no more than to the nearest.
-fn least_left<G: Graph>(graph: &G, ends: &[u32], known: &mut [u32], marks: &[Mark]) -> u32
-    requires count { length marks.now ≡ G.size_of graph.now }
-    requires within { All (λ a. a < G.size_of graph.now) ends.now }
-    requires known { AreLowerBounds (G.OpenNode graph.now) (IsStep (G.IsBeside graph.now) (G.OpenStep graph.now)) (IsOrigin (G.size_of graph.now) (G.back_bound_of graph.now)) marks.now }
-    requires far { AreFar (G.OpenNode graph.now) (IsStep (G.IsBeside graph.now) (G.OpenStep graph.now)) (IsOrigin (G.size_of graph.now) (G.back_bound_of graph.now)) ends.now known.old }
-    ensures least { All (IsFarNode (G.OpenNode graph.now) (IsStep (G.IsBeside graph.now) (G.OpenStep graph.now)) (IsOrigin (G.size_of graph.now) (G.back_bound_of graph.now)) result) ends.now }
-    ensures far { AreFar (G.OpenNode graph.now) (IsStep (G.IsBeside graph.now) (G.OpenStep graph.now)) (IsOrigin (G.size_of graph.now) (G.back_bound_of graph.now)) ends.now known.new }
+/// How many steps a walk from a start to an end has at least, as far as is known. For each end `known` has how many a walk to it had at
+/// least by what was known before, and then what is known now.
+fn least_left(ends: &[u32], known: &mut [u32], marks: &[Mark]) -> u32
+    requires one_each { length known.old ≡ length ends.now }
+    requires within { All (λ a. a < length marks.now) ends.now }
+    ensures now { AreKnownNow marks.now ends.now known.old known.new }
+    ensures least { (k : ℕ) → k < length ends.now → result ≤ get_or known.new k 0 }
 {
     let mut least = u32::MAX;
     for k in 0..ends.len() {
-        let steps = look_again(graph, ends[k], known[k], least, marks);
+        let steps = known_now(ends[k], known[k], marks);
         known[k] = steps;
         least = least.min(steps);
     }
     least
 }
 
-/// How many steps a walk from a start to the end has at least: as many as are known, where those are more than `least`, and else as far
-/// as is known now, or one more than `least` where those are more.
-fn look_again<G: Graph>(graph: &G, end: u32, known: u32, least: u32, marks: &[Mark]) -> u32
-    requires count { length marks.now ≡ G.size_of graph.now }
-    requires within { end < G.size_of graph.now }
-    requires known { AreLowerBounds (G.OpenNode graph.now) (IsStep (G.IsBeside graph.now) (G.OpenStep graph.now)) (IsOrigin (G.size_of graph.now) (G.back_bound_of graph.now)) marks.now }
-    requires far { IsFarNode (G.OpenNode graph.now) (IsStep (G.IsBeside graph.now) (G.OpenStep graph.now)) (IsOrigin (G.size_of graph.now) (G.back_bound_of graph.now)) known end }
-    ensures { IsFarNode (G.OpenNode graph.now) (IsStep (G.IsBeside graph.now) (G.OpenStep graph.now)) (IsOrigin (G.size_of graph.now) (G.back_bound_of graph.now)) result end }
+/// How many steps a walk from a start to the end has at least, to which it had at least so many by what was known before.
+fn known_now(end: u32, known: u32, marks: &[Mark]) -> u32
+    requires { end < length marks.now }
+    ensures { IsKnownNow marks.now end known result }
 {
-    if known > least {
-        return known;
+    match marks[end as usize] {
+        Mark::Far { steps } => known.max(steps),
+        Mark::Shut => u32::MAX,
+        Mark::Unseen | Mark::Reached { .. } => known,
     }
-    steps_left(graph, end, one_more(least), marks)
 }
 
 /// The ends to which a walk has at most `left` steps by what is known, in increasing order.
@@ -146,11 +142,14 @@ fn dive_from_ends<G: Graph, A: Allocator + Copy>(
 ) -> Result<Option<Vec<u32, A>>, AllocError>
     requires count { length marks.old ≡ G.size_of graph.now }
     requires within { (a : ℕ) → Contains ends.now a → a < G.size_of graph.now }
-    requires known { AreLowerBounds (G.OpenNode graph.now) (IsStep (G.IsBeside graph.now) (G.OpenStep graph.now)) (IsOrigin (G.size_of graph.now) (G.back_bound_of graph.now)) marks.old }
+    requires known { AreLowerBounds (G.OpenNode graph.now) (IsStep (G.IsBeside graph.now) (G.OpenStep graph.now))
+        (IsOrigin (G.size_of graph.now) (G.back_bound_of graph.now)) marks.old }
     requires noted { IsNoted marks.old touched.old.items }
     ensures found { IfOk result (λ walk. IfSome walk (λ nodes. (end : ℕ) × Contains ends.now end
-        × IsWalkBack (G.OpenNode graph.now) (IsStep (G.IsBeside graph.now) (G.OpenStep graph.now)) (IsOrigin (G.size_of graph.now) (G.back_bound_of graph.now)) left end nodes.items)) }
-    ensures known { AreLowerBounds (G.OpenNode graph.now) (IsStep (G.IsBeside graph.now) (G.OpenStep graph.now)) (IsOrigin (G.size_of graph.now) (G.back_bound_of graph.now)) marks.new }
+        × IsWalkBack (G.OpenNode graph.now) (IsStep (G.IsBeside graph.now) (G.OpenStep graph.now))
+        (IsOrigin (G.size_of graph.now) (G.back_bound_of graph.now)) left end nodes.items)) }
+    ensures known { AreLowerBounds (G.OpenNode graph.now) (IsStep (G.IsBeside graph.now) (G.OpenStep graph.now))
+        (IsOrigin (G.size_of graph.now) (G.back_bound_of graph.now)) marks.new }
     ensures noted { IsNoted marks.new touched.new.items }
 {
     for end in ends {
@@ -174,18 +173,18 @@ fn dive_from<G: Graph, A: Allocator + Copy>(
 ) -> Result<Option<Vec<u32, A>>, AllocError>
     requires count { length marks.old ≡ G.size_of graph.now }
     requires within { end < G.size_of graph.now }
-    requires known { AreLowerBounds (G.OpenNode graph.now) (IsStep (G.IsBeside graph.now) (G.OpenStep graph.now)) (IsOrigin (G.size_of graph.now) (G.back_bound_of graph.now)) marks.old }
+    requires known { AreLowerBounds (G.OpenNode graph.now) (IsStep (G.IsBeside graph.now) (G.OpenStep graph.now))
+        (IsOrigin (G.size_of graph.now) (G.back_bound_of graph.now)) marks.old }
     requires noted { IsNoted marks.old touched.old.items }
     ensures found { IfOk result (λ walk. IfSome walk (λ nodes. IsWalkBack (G.OpenNode graph.now) (IsStep (G.IsBeside graph.now) (G.OpenStep graph.now))
         (IsOrigin (G.size_of graph.now) (G.back_bound_of graph.now)) left end nodes.items)) }
-    ensures known { AreLowerBounds (G.OpenNode graph.now) (IsStep (G.IsBeside graph.now) (G.OpenStep graph.now)) (IsOrigin (G.size_of graph.now) (G.back_bound_of graph.now)) marks.new }
+    ensures known { AreLowerBounds (G.OpenNode graph.now) (IsStep (G.IsBeside graph.now) (G.OpenStep graph.now))
+        (IsOrigin (G.size_of graph.now) (G.back_bound_of graph.now)) marks.new }
     ensures noted { IsNoted marks.new touched.new.items }
 {
     let least = steps_left(graph, end, one_more(left), marks);
-    if least > left {
-        return Ok(None);
-    }
-    if !is_open(graph, end, least, marks, touched)? {
+    let is_open = is_open(graph, end, least, marks, touched)?;
+    if !is_open || least > left {
         return Ok(None);
     }
     let walk = dive(alloc, graph, end, left, most, marks, touched)?;

@@ -10,7 +10,9 @@
 //! is known to have at least. A node from which it finds none is marked with a lower bound on the steps of each walk to it,
 //! which stays true in the next rounds. In the open a dive looks at little more than the nodes of the walk. It gives up
 //! after 30 rounds, or when it notes more than 64 nodes for each step that a walk has at least. Where no end is open it
-//! then looks no further.
+//! then looks no further. A caller of `near_walk` hands in how many steps a walk to each end has at least, and gets what
+//! the dives have found out of it: so where metal only comes, and boxes come to the starts, ends that were found to be
+//! far are not looked for again.
 //!
 //! Then `shortest` goes level by level: all nodes at a given number of steps from a start are marked before those that are
 //! one more. It goes in rounds of a growing limit: a node is marked only if the sum of its level and its bound is no more

@@ -5,7 +5,7 @@ ghost use Rattle.std.specs.Option.{option_map};
 ghost use Rattle.leg_route_search.specs.Steps.Walks.{IsStep, IsShortestIfAny};
 ghost use Rattle.leg_route_search.specs.Steps.FreshMarks.{AreUnseen};
 ghost use Rattle.leg_route_search.specs.Steps.Marks.{IsNoted};
-ghost use Rattle.leg_route_search.specs.Steps.Dive.{IsOrigin};
+ghost use Rattle.leg_route_search.specs.Steps.Dive.{IsOrigin, AreFar};
 ghost use Rattle.leg_route_search.specs.Steps.Search.{IsRound};
 ghost use Rattle.leg_route_search.specs.Steps.Starts.{AreLeast};
 
@@ -49,12 +49,12 @@ pub fn shortest<G: Graph, A: Allocator + Copy>(
 {
     let mut limit = 0;
     let mut left_out = false;
-    let known = Vec::from_elem(alloc, 0, ends.len())?;
+    let mut known = steps_told(alloc, graph, ends)?;
     let near = near_walk(
         alloc,
         graph,
         ends,
-        known,
+        &mut known,
         &mut limit,
         marks,
         touched,
@@ -70,15 +70,33 @@ pub fn shortest<G: Graph, A: Allocator + Copy>(
     Ok(walk)
 }
 
-/// Looks for a shortest walk by dives, and leaves all nodes unseen. For each end `known` has a number of steps, of which no fewer are
-/// left to it from the starts by what the graph tells (`back_bound`): an end that is further by that than the nearest is not asked
-/// about. How many steps are left from a node to the ends is not asked either. Where no walk is found, `left_out` is whether there may
-/// be one, and `limit` is how many steps it then has at least: `far_walk` goes on from there. The walk is the one that `shortest` finds.
+/// For each end how many steps are left to it at least from the starts, by what the graph tells.
+fn steps_told<G: Graph, A: Allocator>(
+    alloc: A,
+    graph: &G,
+    ends: &[u32],
+) -> Result<Vec<u32, A>, AllocError>
+    requires ends { All (λ a. a < G.size_of graph.now) ends.now }
+    ensures { IfOk result (λ known. AreFar (G.OpenNode graph.now) (IsStep (G.IsBeside graph.now) (G.OpenStep graph.now))
+        (IsOrigin (G.size_of graph.now) (G.back_bound_of graph.now)) ends.now known.items) }
+{
+    let mut known = Vec::with_capacity(alloc, ends.len())?;
+    for end in ends {
+        known.push(graph.back_bound(*end, u32::MAX))?;
+    }
+    Ok(known)
+}
+
+/// Looks for a shortest walk by dives, and leaves all nodes unseen. For each end `known` has a number of steps, of which an open walk
+/// from a start to it has no fewer: an end that is further by that than the nearest is not asked about, and of the others `known` has
+/// what the dives find out. How many steps are left from a node to the ends is not asked. Where no walk is found, `left_out` is whether
+/// there may be one, and `limit` is how many steps it then has at least: `far_walk` goes on from there. The walk is the one that
+/// `shortest` finds.
 pub fn near_walk<G: Graph, A: Allocator + Copy>(
     alloc: A,
     graph: &G,
     ends: &[u32],
-    known: Vec<u32, A>,
+    known: &mut [u32],
     limit: &mut u64,
     marks: &mut [Mark],
     touched: &mut Vec<u32, A>,
@@ -88,9 +106,12 @@ pub fn near_walk<G: Graph, A: Allocator + Copy>(
     requires unseen { AreUnseen marks.old }
     requires untouched { touched.old.items ≡ [] }
     requires ends { All (λ a. a < G.size_of graph.now) ends.now }
-    requires known { AreLeast (G.back_bound_of graph.now) ends.now 0 known.items }
+    requires known { AreFar (G.OpenNode graph.now) (IsStep (G.IsBeside graph.now) (G.OpenStep graph.now))
+        (IsOrigin (G.size_of graph.now) (G.back_bound_of graph.now)) ends.now known.old }
     ensures found { IfOk result (λ walk. IsRound (G.OpenNode graph.now) (IsStep (G.IsBeside graph.now) (G.OpenStep graph.now))
         (IsOrigin (G.size_of graph.now) (G.back_bound_of graph.now)) (Contains ends.now) left_out.new (option_map (λ nodes. nodes.items) walk)) }
+    ensures known { AreFar (G.OpenNode graph.now) (IsStep (G.IsBeside graph.now) (G.OpenStep graph.now))
+        (IsOrigin (G.size_of graph.now) (G.back_bound_of graph.now)) ends.now known.new }
     ensures unseen { AreUnseen marks.new }
     ensures untouched { touched.new.items ≡ [] }
     ensures count { length marks.new ≡ length marks.old }

@@ -7,7 +7,19 @@ use Rattle.test_route_search.specs.declared.maze.Place.{Place}
 
 -- a place without neighbours, for a number that none has
 abbrev pub nowhere : Place
-nowhere = record { west = None; east = None; south = None; north = None; below = None; above = None; is_open = true; opens_west = true; opens_east = true; gone = 0; left = 0 }
+nowhere = record {
+  west = None;
+  east = None;
+  south = None;
+  north = None;
+  below = None;
+  above = None;
+  is_open = true;
+  opens_west = true;
+  opens_east = true;
+  gone = 0;
+  left = 0;
+}
 
 abbrev pub place_at : List Place → ℕ → Place
 place_at places a = slice_index_or places a nowhere

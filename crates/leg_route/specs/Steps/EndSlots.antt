@@ -1,12 +1,15 @@
 -- The slots at which walks of a net end, each with how many steps are left to it at least.
-use Rattle.std.specs.Prelude.{◌≡◌, ◌↔◌, ◌<◌, ◌≤◌, ℕ, Bool, false, List, ◌++◌, map, min, All, Contains, Some, slice_get}
+use Rattle.std.specs.Prelude.{◌≡◌, ◌↔◌, ◌<◌, ◌≤◌, ℕ, Bool, false, List, ◌++◌, length, get_or, map, min, All, Contains, Some, slice_get}
 use Rattle.leg_geom.specs.Plane.{RectModel}
 use Rattle.leg_rules.specs.declared.shape.Shape.{Shape}
 use Rattle.leg_rules.specs.declared.node.Node.{Node}
+use Rattle.leg_rules.specs.Metal.Flat.{FlatModel}
+use Rattle.leg_rules.specs.Route.OpenMetal.{IsOpenNode, IsOpenStep}
+use Rattle.leg_route_search.specs.Steps.Dive.{IsOrigin, IsFarNode}
 use Rattle.leg_route_grid.specs.declared.slot_box.SlotBox.{SlotBox}
 use Rattle.leg_route_grid.specs.Steps.WalkBounds.{bound_at}
 use Rattle.leg_route_grid.specs.Steps.Grid.{GridModel, IsNumberOf, slot_total}
-use Rattle.leg_route_grid.specs.Steps.NodeNumbers.{IsOneOf}
+use Rattle.leg_route_grid.specs.Steps.NodeNumbers.{IsOneOf, IsStepOf}
 use Rattle.leg_route_grid.specs.Steps.NodesInRect.{LiesInRect}
 use Rattle.leg_route.specs.declared.end_slots.EndSlot.{EndSlot}
 
@@ -23,17 +26,33 @@ pub record MeetsPiece (shapes : List Shape) (numbers : List ℕ) (piece : ℕ) (
   pub of_piece : shape.piece ≡ Some piece
   pub lies : LiesInRect shape.layer shape.rect node
 
--- the slot is that of a node that meets such a piece, and no fewer steps are left to it from the boxes
-pub record IsEndSlot (grid : GridModel) (Apart : ℕ → Type 0) (Meets : ℕ → Node → Type 0) (boxes : List SlotBox) (end : EndSlot) : Type 0 where
+-- no fewer steps are left to the slot from these boxes
+abbrev pub IsBoundFrom : GridModel → List SlotBox → ℕ → ℕ → Type 0
+IsBoundFrom grid boxes steps n = steps ≤ bound_at grid boxes n
+
+-- each open walk of the net from a slot in these boxes to the slot has at least this many steps
+abbrev pub IsFarSlot : GridModel → FlatModel → ℕ → List SlotBox → ℕ → ℕ → Type 0
+IsFarSlot grid flat net boxes steps n =
+    IsFarNode (IsOneOf (IsNumberOf grid) (IsOpenNode grid.design flat net)) (IsStepOf (IsNumberOf grid) (IsOpenStep grid.design flat net))
+    (IsOrigin (slot_total grid) (λ n. bound_at grid boxes n)) steps n
+
+-- the slot is that of a node that meets such a piece, and is so many steps away
+pub record IsEndSlot (grid : GridModel) (Apart : ℕ → Type 0) (Meets : ℕ → Node → Type 0) (Far : ℕ → ℕ → Type 0) (end : EndSlot) : Type 0 where
   pub apart : Apart end.piece
   pub meets : IsOneOf (IsNumberOf grid) (Meets end.piece) end.slot
   pub within : end.slot < slot_total grid
-  pub least : end.least ≤ bound_at grid boxes end.slot
+  pub least : Far end.least end.slot
 
 -- such ends, and each slot of such a node is one
-pub record AreEndSlots (grid : GridModel) (Apart : ℕ → Type 0) (Meets : ℕ → Node → Type 0) (boxes : List SlotBox) (ends : List EndSlot) : Type 0 where
-  pub each : (end : EndSlot) → Contains ends end → IsEndSlot grid Apart Meets boxes end
+pub record AreEndSlots (grid : GridModel) (Apart : ℕ → Type 0) (Meets : ℕ → Node → Type 0) (Far : ℕ → ℕ → Type 0) (ends : List EndSlot) : Type 0 where
+  pub each : (end : EndSlot) → Contains ends end → IsEndSlot grid Apart Meets Far end
   pub all : (piece n : ℕ) → Apart piece → IsOneOf (IsNumberOf grid) (Meets piece) n → (end : EndSlot) × Contains ends end × (end.piece ≡ piece) × (end.slot ≡ n)
+
+-- the same ends, of which other numbers of steps may be known
+pub record AreSameEnds (before after : List EndSlot) : Type 0 where
+  pub one_each : length after ≡ length before
+  pub piece : (k : ℕ) (d : EndSlot) → k < length before → (get_or after k d).piece ≡ (get_or before k d).piece
+  pub slot : (k : ℕ) (d : EndSlot) → k < length before → (get_or after k d).slot ≡ (get_or before k d).slot
 
 -- the slot of this number as an end in the piece
 abbrev pub end_at : GridModel → List SlotBox → ℕ → ℕ → EndSlot

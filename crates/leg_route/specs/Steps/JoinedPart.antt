@@ -10,7 +10,7 @@ use Rattle.leg_route_grid.specs.Steps.WalkBounds.{AreBoxed}
 use Rattle.leg_route_grid.specs.Steps.Grid.{GridModel, IsNumberOf, slot_total}
 use Rattle.leg_route_grid.specs.Steps.NodeNumbers.{IsOneOf}
 use Rattle.leg_route.specs.declared.end_slots.EndSlot.{EndSlot}
-use Rattle.leg_route.specs.Steps.EndSlots.{IsApart, AreEndSlots}
+use Rattle.leg_route.specs.Steps.EndSlots.{IsApart, IsFarSlot, AreEndSlots}
 
 -- marks for the first pieces of a net, slots with the boxes in which they lie and the hulls of these, and ends
 pub record PartModel : Type 0 where
@@ -32,8 +32,7 @@ abbrev pub LiesInPiece : FlatModel → ℕ → ℕ → Node → Type 0
 LiesInPiece flat net piece node = LiesIn flat net piece node.layer node.at
 
 -- The marked pieces are joined to the net's first one, which is one of them, and no other of these pieces touches them. The slots are
--- exactly those of nodes that meet them, and the ends those of nodes that
--- meet the other pieces.
+-- exactly those of nodes that meet them, and the ends those of nodes that meet the other pieces.
 pub record IsJoinedPart (grid : GridModel) (flat : FlatModel) (part : PartModel) : Type 0 where
   pub few : length part.joined ≤ piece_count flat part.net
   pub still : (k : ℕ) → slice_get part.joined k ≡ Some true → AreJoined flat part.net 0 k
@@ -43,4 +42,4 @@ pub record IsJoinedPart (grid : GridModel) (flat : FlatModel) (part : PartModel)
   pub within : All (λ n. n < slot_total grid) part.slots
   pub boxed : AreBoxed grid part.boxes part.slots
   pub hulled : AreHulls part.boxes part.hulls
-  pub ends_are : AreEndSlots grid (IsApart part.joined) (LiesInPiece flat part.net) part.boxes part.ends
+  pub ends_are : AreEndSlots grid (IsApart part.joined) (LiesInPiece flat part.net) (IsFarSlot grid flat part.net part.boxes) part.ends

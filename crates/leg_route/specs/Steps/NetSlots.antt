@@ -11,7 +11,7 @@ use Rattle.leg_route_grid.specs.Steps.Grid.{GridModel, IsNumberOf, slot_total}
 use Rattle.leg_route_grid.specs.Steps.NodeNumbers.{IsOneOf, IsNextWalkAt, HasNoWalkAt}
 use Rattle.leg_route_grid.specs.Steps.NodesInRect.{LiesInRect}
 use Rattle.leg_route.specs.declared.end_slots.EndSlot.{EndSlot}
-use Rattle.leg_route.specs.Steps.EndSlots.{IsApart, MeetsPiece, AreEndSlots}
+use Rattle.leg_route.specs.Steps.EndSlots.{IsApart, MeetsPiece, IsFarSlot, AreEndSlots}
 
 -- the piece is one of those that have marks, and its mark is this one
 pub record HasMark (marks : List Bool) (mark : Bool) (piece : Option ℕ) : Type 0 where
@@ -29,16 +29,18 @@ pub record MeetsMarked (shapes : List Shape) (marks : List Bool) (mark : Bool) (
   pub lies : LiesInRect shape.layer shape.rect node
 
 -- exactly the slots of such nodes, which lie in these boxes
-pub record AreMarkedSlots (grid : GridModel) (shapes : List Shape) (marks : List Bool) (mark : Bool) (numbers : List ℕ) (boxes : List SlotBox) (slots : List ℕ) : Type 0 where
+pub record AreMarkedSlots (grid : GridModel) (shapes : List Shape) (marks : List Bool) (mark : Bool) (numbers : List ℕ)
+    (boxes : List SlotBox) (slots : List ℕ) : Type 0 where
   pub are : (n : ℕ) → Contains slots n ↔ IsOneOf (IsNumberOf grid) (MeetsMarked shapes marks mark numbers) n
   pub within : All (λ n. n < slot_total grid) slots
   pub boxed : AreBoxed grid boxes slots
 
--- the slots of the joined part, with the hulls of their boxes, and the slots of the rest
-pub record IsPartOf (grid : GridModel) (shapes : List Shape) (joined : List Bool) (numbers : List ℕ) (boxes : List SlotBox) (slots : List ℕ) (hulls : List Hull) (ends : List EndSlot) : Type 0 where
-  pub starts : AreMarkedSlots grid shapes joined true numbers boxes slots
+-- the slots of the joined part of a net, with the hulls of their boxes, and the slots of the rest
+pub record IsPartOf (grid : GridModel) (flat : FlatModel) (net : ℕ) (joined : List Bool) (numbers : List ℕ)
+    (boxes : List SlotBox) (slots : List ℕ) (hulls : List Hull) (ends : List EndSlot) : Type 0 where
+  pub starts : AreMarkedSlots grid flat.shapes joined true numbers boxes slots
   pub hulled : AreHulls boxes hulls
-  pub ends_are : AreEndSlots grid (IsApart joined) (MeetsPiece shapes numbers) boxes ends
+  pub ends_are : AreEndSlots grid (IsApart joined) (MeetsPiece flat.shapes numbers) (IsFarSlot grid flat net boxes) ends
 
 -- the numbers of the slots of a shortest open walk from the net's joined part to the rest, or none where there is no such walk
 abbrev pub IsNextAnswerAt : GridModel → FlatModel → ℕ → Option (List ℕ) → Type 0

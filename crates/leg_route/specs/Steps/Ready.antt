@@ -23,8 +23,8 @@ HasSlotsOf grid shapes slots = (flat : FlatModel) → flat.shapes ≡ shapes →
 
 -- the grid is that of the design, each slot has what is open in the flat, each net of NETS has the numbers of its shapes,
 -- no slot is marked, and what is kept of the joined part of a net, and of which of its pieces are joined, is right
-pub record IsReadyGround (design : DesignModel) (grid : GridModel) (flat : FlatModel) (slots : List SlotAccess) (lists : List (List ℕ)) (marks : List Mark) (touched : List ℕ) (part : PartModel)
-    (joins : Option JoinsModel) : Type 0 where
+pub record IsReadyGround (design : DesignModel) (grid : GridModel) (flat : FlatModel) (slots : List SlotAccess) (lists : List (List ℕ))
+    (marks : List Mark) (touched : List ℕ) (part : PartModel) (joins : Option JoinsModel) : Type 0 where
   pub of_design : grid.design ≡ design
   pub told : HasSlotsOf grid flat.shapes slots
   pub within : length design.nets ≤ length flat.pieces

@@ -1,5 +1,5 @@
 -- What a dive knows: a search depth first, from a node back to a start.
-use Rattle.std.specs.Prelude.{◌≡◌, ℕ, ◌+◌, ◌<◌, ◌≤◌, List, length, get_or}
+use Rattle.std.specs.Prelude.{◌≡◌, ◌⊎◌, ℕ, ◌+◌, ◌<◌, ◌≤◌, List, length, get_or}
 use Rattle.leg_route_search.specs.declared.mark.Mark.{Mark}
 use Rattle.leg_route_search.specs.declared.mark.Mark.TheVariants.{Shut, Far}
 use Rattle.leg_rules.specs.declared.side.Side.{Side}
@@ -32,6 +32,15 @@ pub record AreLowerBounds (Open : ℕ → Type 0) (Step : ℕ → ℕ → Type 0
   pub shut : (a : ℕ) → IsMark marks a Shut → Open a → ⊥
   pub is_open : (a steps : ℕ) → IsMark marks a (Far steps) → Open a
   pub far : (a steps : ℕ) → IsMark marks a (Far steps) → IsFarNode Open Step Start steps a
+
+-- of the node is known what was known of it before, or what its mark states
+abbrev pub IsKnownNow : List Mark → ℕ → ℕ → ℕ → Type 0
+IsKnownNow marks a before after = (after ≡ before) ⊎ (IsMark marks a Shut ⊎ IsMark marks a (Far after))
+
+-- and so of each end
+pub record AreKnownNow (marks : List Mark) (ends before after : List ℕ) : Type 0 where
+  pub one_each : length after ≡ length ends
+  pub each : (k : ℕ) → k < length ends → IsKnownNow marks (get_or ends k 0) (get_or before k 0) (get_or after k 0)
 
 -- the nodes of a walk from a start to the node, of at most this many steps
 pub record IsWalkBack (Open : ℕ → Type 0) (Step : ℕ → ℕ → Type 0) (Start : ℕ → Type 0) (left node : ℕ) (nodes : List ℕ) : Type 0 where

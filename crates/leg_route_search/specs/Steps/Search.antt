@@ -18,7 +18,8 @@ AreLinked Open Step Start marks =
     (a level from : ℕ) → IsMark marks a (Reached level from) → Open a × (((level ≡ 0) × Start a) ⊎ IsLink Step marks level from a)
 
 -- All nodes up to level d are marked, but for those that are too far from the ends for the limit, and those at d are in front.
-pub record IsSearchSoFar (Open : ℕ → Type 0) (Step : ℕ → ℕ → Type 0) (Start End : ℕ → Type 0) (bound : ℕ → ℕ) (limit d : ℕ) (marks : List Mark) (front : List ℕ) (left : Bool) : Type 0 where
+pub record IsSearchSoFar (Open : ℕ → Type 0) (Step : ℕ → ℕ → Type 0) (Start End : ℕ → Type 0) (bound : ℕ → ℕ)
+    (limit d : ℕ) (marks : List Mark) (front : List ℕ) (left : Bool) : Type 0 where
   pub linked : AreLinked Open Step Start marks
   pub shut : (a : ℕ) → IsMark marks a Shut → Open a → ⊥
   pub none_far : (a steps : ℕ) → IsMark marks a (Far steps) → ⊥

@@ -13,7 +13,8 @@ IsNew Open Tried limit level next a (Far steps) = ⊥
 
 -- Some steps to nodes of a level were tried: what is new in the marks and in the list of the level's nodes. `left` is
 -- whether a node was left out, being too far from the ends for the limit.
-pub record IsSpread (Open : ℕ → Type 0) (Tried : ℕ → ℕ → Type 0) (bound : ℕ → ℕ) (limit level : ℕ) (marks : List Mark) (next : List ℕ) (left : Bool) (marks2 : List Mark) (next2 : List ℕ) (left2 : Bool) : Type 0 where
+pub record IsSpread (Open : ℕ → Type 0) (Tried : ℕ → ℕ → Type 0) (bound : ℕ → ℕ) (limit level : ℕ) (marks : List Mark) (next : List ℕ)
+    (left : Bool) (marks2 : List Mark) (next2 : List ℕ) (left2 : Bool) : Type 0 where
   pub count : length marks2 ≡ length marks
   pub kept : (a : ℕ) (m : Mark) → IsMark marks a m → IsMark marks2 a m
   pub new : (a : ℕ) (m : Mark) → IsMark marks2 a m → IsMark marks a m ⊎ IsNew Open Tried limit level next2 a m

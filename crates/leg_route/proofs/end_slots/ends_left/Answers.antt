@@ -21,7 +21,8 @@ loop-end-preserved g c =
     elim c.if-has_mark.branch [
       | then-has_mark+in_ok-push w ↦
           let has = c.has_mark.ensures.0 w.if-has_mark.true in
-          rw (w.left-is, more) (left_more grid joined boxes (take i ends) left c.loop-end.invariant end w.push.new.self.items (rw w.bound-least.ensures at w.in_ok-push.ensures.items) (rw (same_Some end.piece has.number has.is) has.marked))
+          rw (w.left-is, more) (left_more grid joined boxes (take i ends) left c.loop-end.invariant end w.push.new.self.items
+          (rw w.bound-least.ensures at w.in_ok-push.ensures.items) (rw (same_Some end.piece has.number has.is) has.marked))
       | else-has_mark w ↦
           rw (w.left-is, more) (left_skip grid joined boxes (take i ends) left c.loop-end.invariant end
           (λ apart. true≢false (sym (c.has_mark.ensures.1 (record { number = end.piece; is = refl; marked = apart })) ∙ w.if-has_mark.false)))

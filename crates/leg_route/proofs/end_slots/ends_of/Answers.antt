@@ -27,7 +27,8 @@ loop-number-preserved g c =
           let has = c.has_mark.ensures.0 w.if-has_mark.true in
           let same : w.unwrap_or-piece.result ≡ has.number = rw has.is at w.unwrap_or-piece.ensures in
           rw (w.ends-is, more)
-          (ends_more grid joined shapes (take i numbers) boxes ends done k shape there w.unwrap_or-piece.result (has.is ∙ ap Some (sym same)) (rw same has.marked) w.add_ends.new.ends.items
+          (ends_more grid joined shapes (take i numbers) boxes ends done k shape there w.unwrap_or-piece.result (has.is ∙ ap Some (sym same))
+          (rw same has.marked) w.add_ends.new.ends.items
           w.in_ok-add_ends.ensures)
       | else-has_mark w ↦
           rw (w.ends-is, more)

@@ -1,7 +1,8 @@
 -- The ends in the shapes so far.
 use Rattle.std.proofs.Common.{take}
-use Rattle.leg_route.specs.Steps.EndSlots.{IsApart, MeetsPiece, AreEndSlots}
+use Rattle.leg_route.specs.Steps.EndSlots.{IsApart, MeetsPiece, IsBoundFrom, AreEndSlots}
 use Rattle.leg_route.proofs.end_slots.ends_of.Given as goal
 
 abbrev pub invariant-loop-number : goal.invariant-loop-number
-invariant-loop-number g l = AreEndSlots l.grid (IsApart l.joined) (MeetsPiece l.shapes (take l.number-index l.numbers)) l.boxes l.ends.items
+invariant-loop-number g l =
+    AreEndSlots l.grid (IsApart l.joined) (MeetsPiece l.shapes (take l.number-index l.numbers)) (IsBoundFrom l.grid l.boxes) l.ends.items

@@ -10,7 +10,8 @@ use Rattle.leg_route.proofs.joined_part.add_joined.Goals.{then-has_come+in_ok-ad
 
 pub loop-number-init : goal.loop-number-init
 loop-number-init g c = record {
-  are = joined_none c.args.grid.now c.args.shapes.now c.args.before.now c.args.joined.now c.args.numbers.now c.args.found.now.boxes.items c.args.found.now.slots.items c.requires.had;
+  are = joined_none c.args.grid.now c.args.shapes.now c.args.before.now c.args.joined.now c.args.numbers.now c.args.found.now.boxes.items
+      c.args.found.now.slots.items c.requires.had;
   after = ([], sym (append-nil c.args.found.now.boxes.items));
 }
 
@@ -35,8 +36,10 @@ loop-number-preserved g c =
       | then-has_come+in_ok-add_slots_in w ↦
           rw (w.found-is, more)
           (record {
-            are = joined_more grid shapes before joined numbers (take i numbers) k shape there boxes slots w.add_slots_in.new.found.boxes.items w.add_slots_in.new.found.slots.items done (c.has_come.ensures.come w.if-has_come.true)
-                w.in_ok-add_slots_in.ensures.added (rw w.in_ok-add_slots_in.was at (w.add_slots_in.ensures.within done.within)) (rw w.in_ok-add_slots_in.was at (w.add_slots_in.ensures.boxed done.boxed));
+            are = joined_more grid shapes before joined numbers (take i numbers) k shape there boxes slots w.add_slots_in.new.found.boxes.items
+                w.add_slots_in.new.found.slots.items done (c.has_come.ensures.come w.if-has_come.true)
+                w.in_ok-add_slots_in.ensures.added (rw w.in_ok-add_slots_in.was at (w.add_slots_in.ensures.within done.within))
+                (rw w.in_ok-add_slots_in.was at (w.add_slots_in.ensures.boxed done.boxed));
             after = let come = w.in_ok-add_slots_in.ensures.after in
                 (after.0 ++ come.0, come.1 ∙ ap (λ b. b ++ come.0) after.1 ∙ append_assoc c.args.found.now.boxes.items after.0 come.0);
           })

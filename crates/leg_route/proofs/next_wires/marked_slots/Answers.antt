@@ -27,11 +27,14 @@ loop-number-preserved g c =
     elim c.if-has_mark.branch [
       | then-has_mark+in_ok-add_slots_in w ↦
           rw (w.found-is, more)
-          (slots_more grid shapes marks mark (take i numbers) boxes slots done k shape there w.add_slots_in.new.found.boxes.items w.add_slots_in.new.found.slots.items (c.has_mark.ensures.0 w.if-has_mark.true)
-          w.in_ok-add_slots_in.ensures.added (rw w.in_ok-add_slots_in.was at (w.add_slots_in.ensures.within done.within)) (rw w.in_ok-add_slots_in.was at (w.add_slots_in.ensures.boxed done.boxed)))
+          (slots_more grid shapes marks mark (take i numbers) boxes slots done k shape there w.add_slots_in.new.found.boxes.items
+          w.add_slots_in.new.found.slots.items (c.has_mark.ensures.0 w.if-has_mark.true)
+          w.in_ok-add_slots_in.ensures.added (rw w.in_ok-add_slots_in.was at (w.add_slots_in.ensures.within done.within))
+          (rw w.in_ok-add_slots_in.was at (w.add_slots_in.ensures.boxed done.boxed)))
       | else-has_mark w ↦
           rw (w.found-is, more)
-          (slots_skip grid shapes marks mark (take i numbers) boxes slots done k shape there (λ has. true≢false (sym (c.has_mark.ensures.1 has) ∙ w.if-has_mark.false)))
+          (slots_skip grid shapes marks mark (take i numbers) boxes slots done k shape there
+          (λ has. true≢false (sym (c.has_mark.ensures.1 has) ∙ w.if-has_mark.false)))
     ]
 
 pub returns : goal.returns

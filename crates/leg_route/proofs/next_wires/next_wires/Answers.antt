@@ -16,7 +16,8 @@ wires_of-requires-clause-walk g c =
     let proper = c.grid_is_sound.ensures.proper in
     let walk : IsNextWalkAt grid flat net numbers = rw c.in-Some.is at c.in_ok-found.ensures.answer in
     let each : AllZip (IsNumberOf grid) numbers nodes = rw c.deref.ensures.value at c.in_ok-nodes.ensures in
-    let next : IsNextWalk design flat net nodes = walk_of grid design flat net numbers nodes c.requires.of_design (λ n a b. c.nodes_have_numbers.ensures.apart grid n a b proper)
+    let next : IsNextWalk design flat net nodes =
+    walk_of grid design flat net numbers nodes c.requires.of_design (λ n a b. c.nodes_have_numbers.ensures.apart grid n a b proper)
     (c.numbers_walk_as_nodes.ensures.shortest grid flat net numbers proper walk) each in
     rw c.deref-2.ensures.value (c.open_walks_are_grid_walks.ensures design flat net nodes next)
 

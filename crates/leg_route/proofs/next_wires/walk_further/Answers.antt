@@ -21,7 +21,8 @@ returns-clause-answer g c =
     let proper = c.grid_is_sound.ensures.proper in
     let sound = c.grid_is_sound.ensures.library in
     let told = c.requires.told in
-    answer_at grid flat slots net origin around starts ends (λ numbers is. law.shortest grid origin around flat slots net starts ends numbers proper sound told first last is)
+    answer_at grid flat slots net origin around starts ends
+    (λ numbers is. law.shortest grid origin around flat slots net starts ends numbers proper sound told first last is)
     (λ none. law.none grid origin around flat slots net starts ends proper sound told first last none) _ c.in_ok-walk.ensures.found
 
 pub returns-clause-within : goal.returns-clause-within

@@ -21,7 +21,8 @@ steps-preserved g c =
     let so_far = c.steps.invariant in
     let from : ℕ = c.entered_from-first.result in
     let pushed : c.push-in-steps.new.self.items ≡ c.steps.nodes.items ++ from ∷ [] = c.in_ok-push-2.ensures.items in
-    let more = back_more c.args.marks.now c.requires.entered c.args.node c.steps.first from (c.level_of-level.result - c.steps.counter) c.entered_from-first.ensures.0 c.steps.nodes.items
+    let more = back_more c.args.marks.now c.requires.entered c.args.node c.steps.first from (c.level_of-level.result - c.steps.counter)
+    c.entered_from-first.ensures.0 c.steps.nodes.items
     so_far.first_at (omega arith) c.entered_from-first.ensures.1 so_far.way in
     let next : c.level_of-level.result - (c.steps.counter + 1) ≡ c.level_of-level.result - c.steps.counter - 1 = omega arith in record {
       first_at = rw next more.0;

@@ -9,8 +9,10 @@ abbrev pub invariant-loop-side : goal.invariant-loop-side
 invariant-loop-side g l =
     let graph = g.G.Graph in record {
       noted : IsNoted l.marks l.touched.items;
-      known : AreLowerBounds (graph.OpenNode l.graph) (IsStep (graph.IsBeside l.graph) (graph.OpenStep l.graph)) (IsOrigin (graph.size_of l.graph) (graph.back_bound_of l.graph)) l.marks;
-      far : All (IsFarFrom (graph.IsBeside l.graph) (graph.OpenStep l.graph) (graph.OpenNode l.graph) (IsOrigin (graph.size_of l.graph) (graph.back_bound_of l.graph)) l.steps l.node) (take l.side-index l.side-items);
+      known : AreLowerBounds (graph.OpenNode l.graph) (IsStep (graph.IsBeside l.graph) (graph.OpenStep l.graph))
+          (IsOrigin (graph.size_of l.graph) (graph.back_bound_of l.graph)) l.marks;
+      far : All (IsFarFrom (graph.IsBeside l.graph) (graph.OpenStep l.graph) (graph.OpenNode l.graph)
+          (IsOrigin (graph.size_of l.graph) (graph.back_bound_of l.graph)) l.steps l.node) (take l.side-index l.side-items);
     }
 
 abbrev pub decreases-dive : goal.decreases-dive

@@ -13,8 +13,11 @@ is_open_step-requires-clause-beside g c =
     let graph = g.G.Graph in
     let here = c.args.graph.now in
     let node : ℕ = c.args.node in
-    let from : ℕ = c.in-Some.from in
-    (node, subst (λ (s : Side). graph.IsBeside here s from node) (sym c.opposite.ensures) (g.met.G.Graph.both_ways here c.args.side node from ((c.in-Some.ensures.is from).0 refl)))
+    let from : ℕ = c.in-Some.from in (
+      node,
+      subst (λ (s : Side). graph.IsBeside here s from node) (sym c.opposite.ensures)
+          (g.met.G.Graph.both_ways here c.args.side node from ((c.in-Some.ensures.is from).0 refl)),
+    )
 
 pub returns-then-not-branch-clause-past : goal.returns-then-not-branch-clause-past
 returns-then-not-branch-clause-past g c last first nodes step start walk =

@@ -14,7 +14,8 @@ returns-in-Far-clause-is g c = (
 pub returns-in-Shut-clause-is : goal.returns-in-Shut-clause-is
 returns-in-Shut-clause-is g c = (
   λ no_way. absurd (false≢true no_way),
-  λ is_open. absurd (c.requires.known.shut c.args.node (mark_read c.args.marks.now c.args.node _ (omega (arith, c.requires.count, c.requires.within)) c.in-Shut.is refl) is_open),
+  λ is_open. absurd (c.requires.known.shut c.args.node
+      (mark_read c.args.marks.now c.args.node _ (omega (arith, c.requires.count, c.requires.within)) c.in-Shut.is refl) is_open),
 )
 
 pub returns-then-not-is_open-clause-is : goal.returns-then-not-is_open-clause-is
@@ -25,7 +26,8 @@ returns-then-not-is_open-clause-is g c = (
 
 pub returns-then-not-is_open-clause-known : goal.returns-then-not-is_open-clause-known
 returns-then-not-is_open-clause-known g c =
-    known_shut c.args.marks.now c.args.node (omega (arith, c.requires.count, c.requires.within)) (λ is_open. false≢true (c.if-not-is_open.ensures.1 is_open)) c.requires.known
+    known_shut c.args.marks.now c.args.node (omega (arith, c.requires.count, c.requires.within)) (λ is_open. false≢true (c.if-not-is_open.ensures.1 is_open))
+    c.requires.known
 
 pub returns-then-not-is_open-clause-noted : goal.returns-then-not-is_open-clause-noted
 returns-then-not-is_open-clause-noted g c =
@@ -34,9 +36,11 @@ returns-then-not-is_open-clause-noted g c =
 
 pub returns-clause-known : goal.returns-clause-known
 returns-clause-known g c =
-    known_far c.args.marks.now c.args.node c.args.steps (omega (arith, c.requires.count, c.requires.within)) (c.is_open_node-is_open.ensures.0 c.if-not-is_open.false) c.requires.far c.requires.known
+    known_far c.args.marks.now c.args.node c.args.steps (omega (arith, c.requires.count, c.requires.within))
+    (c.is_open_node-is_open.ensures.0 c.if-not-is_open.false) c.requires.far c.requires.known
 
 pub returns-clause-noted : goal.returns-clause-noted
 returns-clause-noted g c =
     let pushed : c.push.new.self.items ≡ c.args.touched.now.items ++ c.args.node ∷ [] = search rules in
-    rw pushed (noted_push_mark c.args.marks.now c.args.touched.now.items c.args.node (Far c.args.steps) (omega (arith, c.requires.count, c.requires.within)) c.requires.noted)
+    rw pushed (noted_push_mark c.args.marks.now c.args.touched.now.items c.args.node (Far c.args.steps) (omega (arith, c.requires.count, c.requires.within))
+    c.requires.noted)

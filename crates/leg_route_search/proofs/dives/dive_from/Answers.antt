@@ -3,12 +3,6 @@ use Rattle.leg_route_search.proofs.dives.dive_from.Goals as goal
 pub dive-requires-clause-known : goal.dive-requires-clause-known
 dive-requires-clause-known g c = c.in_ok-is_open.ensures.known
 
-pub returns-then-not-branch-clause-known : goal.returns-then-not-branch-clause-known
-returns-then-not-branch-clause-known g c = c.in_ok-is_open.ensures.known
-
-pub returns-then-not-branch-clause-noted : goal.returns-then-not-branch-clause-noted
-returns-then-not-branch-clause-noted g c = c.in_ok-is_open.ensures.noted
-
 pub returns-clause-found : goal.returns-clause-found
 returns-clause-found g c = c.in_ok-walk.ensures.found
 

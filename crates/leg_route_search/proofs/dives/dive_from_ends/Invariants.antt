@@ -8,5 +8,6 @@ abbrev pub invariant-loop-end : goal.invariant-loop-end
 invariant-loop-end g l =
     let graph = g.G.Graph in record {
       noted : IsNoted l.marks l.touched.items;
-      known : AreLowerBounds (graph.OpenNode l.graph) (IsStep (graph.IsBeside l.graph) (graph.OpenStep l.graph)) (IsOrigin (graph.size_of l.graph) (graph.back_bound_of l.graph)) l.marks;
+      known : AreLowerBounds (graph.OpenNode l.graph) (IsStep (graph.IsBeside l.graph) (graph.OpenStep l.graph))
+          (IsOrigin (graph.size_of l.graph) (graph.back_bound_of l.graph)) l.marks;
     }

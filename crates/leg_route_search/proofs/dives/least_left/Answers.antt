@@ -1,26 +1,27 @@
-use Rattle.std.proofs.Common.{arith}
-use Rattle.std.proofs.lemmas.List.Elements.{All-from_get_or}
-use Rattle.leg_route_search.specs.Steps.Walks.{IsStep}
-use Rattle.leg_route_search.specs.Steps.Dive.{IsOrigin, IsFarNode}
-use Rattle.leg_route_search.proofs.LeastBounds.{far_set, low_set}
-use Rattle.leg_route_search.proofs.WalksBack.{far_fewer}
+use Rattle.std.proofs.Common.{◌∙◌, arith}
+use Rattle.std.proofs.Math.ListN.{length-set}
+use Rattle.leg_route_search.proofs.LeastBounds.{now_set, rest_set, low_set}
 use Rattle.leg_route_search.proofs.dives.least_left.Goals as goal
 
 pub loop-k-preserved : goal.loop-k-preserved
-loop-k-preserved g c =
-    let graph = g.G.Graph in
-    let here = c.args.graph.now in
-    let so_far = c.loop-k.invariant in record {
-      far = far_set (graph.OpenNode here) (IsStep (graph.IsBeside here) (graph.OpenStep here)) (IsOrigin (graph.size_of here) (graph.back_bound_of here)) c.args.ends.now c.loop-k.known c.loop-k.k c.look_again-steps.result
-          (omega arith) c.look_again-steps.ensures so_far.far;
-      low = low_set c.loop-k.known c.loop-k.k c.look_again-steps.result c.loop-k.least c.min-least.result (omega (arith, so_far.far.one_each)) (omega (arith, c.min-least.ensures)) (omega (arith, c.min-least.ensures)) so_far.low;
+loop-k-preserved c =
+    let so_far = c.loop-k.invariant in
+    let known = c.loop-k.known in
+    let k = c.loop-k.k in
+    let steps = c.known_now-steps.result in
+    let least = c.loop-k.least in
+    let long = so_far.one_each in
+    record {
+      one_each = length-set known k steps ∙ long;
+      done = now_set c.args.marks.now c.args.ends.now c.args.known.now known k steps (omega (arith, long))
+          (rw (so_far.rest k (omega arith)) at c.known_now-steps.ensures) so_far.done;
+      rest = rest_set c.args.known.now known k steps so_far.rest;
+      low = low_set known k steps least c.min-least.result (omega (arith, long)) (omega (arith, c.min-least.ensures)) (omega (arith, c.min-least.ensures))
+          so_far.low;
     }
 
+pub returns-clause-now : goal.returns-clause-now
+returns-clause-now c = record { one_each = c.loop-k.invariant.one_each; each = λ k within. c.loop-k.invariant.done k (omega (arith, within)) }
+
 pub returns-clause-least : goal.returns-clause-least
-returns-clause-least g c =
-    let graph = g.G.Graph in
-    let here = c.args.graph.now in
-    let ends = c.args.ends.now in
-    let so_far = c.loop-k.invariant in
-    All-from_get_or (IsFarNode (graph.OpenNode here) (IsStep (graph.IsBeside here) (graph.OpenStep here)) (IsOrigin (graph.size_of here) (graph.back_bound_of here)) c.loop-k.least) ends 0
-    (λ k within. far_fewer _ c.loop-k.least _ (so_far.low k (omega (arith, within))) (so_far.far.each k within))
+returns-clause-least c k within = c.loop-k.invariant.low k (omega (arith, within))

@@ -5,7 +5,8 @@ use Rattle.leg_route_search.proofs.dives.near_ends.Goals as goal
 use Rattle.leg_route_search.proofs.dives.near_ends.Goals.{then-known-k+in_ok-push, else-known-k}
 
 -- what was taken, and one end more
-end_more : (near ends : List ℕ) (end : ℕ) → ((a : ℕ) → Contains near a → Contains ends a) → Contains ends end → (a : ℕ) → Contains (near ++ end ∷ []) a → Contains ends a
+end_more : (near ends : List ℕ) (end : ℕ) → ((a : ℕ) → Contains near a → Contains ends a) → Contains ends end → (a : ℕ) → Contains (near ++ end ∷ []) a
+    → Contains ends a
 end_more near ends end so_far is_end a there = elim (Contains-push_cases near end a there) [ inl before ↦ so_far a before | inr same ↦ rw (← same) is_end ]
 
 pub loop-k-preserved : goal.loop-k-preserved

@@ -9,7 +9,10 @@ abbrev pub invariant-rounds : goal.invariant-rounds
 invariant-rounds g l =
     let graph = g.G.Graph in record {
       noted : IsNoted l.marks l.touched.items;
-      known : AreLowerBounds (graph.OpenNode l.graph) (IsStep (graph.IsBeside l.graph) (graph.OpenStep l.graph)) (IsOrigin (graph.size_of l.graph) (graph.back_bound_of l.graph)) l.marks;
-      far : All (IsFarNode (graph.OpenNode l.graph) (IsStep (graph.IsBeside l.graph) (graph.OpenStep l.graph)) (IsOrigin (graph.size_of l.graph) (graph.back_bound_of l.graph)) l.left) l.ends;
-      of_ends : AreFar (graph.OpenNode l.graph) (IsStep (graph.IsBeside l.graph) (graph.OpenStep l.graph)) (IsOrigin (graph.size_of l.graph) (graph.back_bound_of l.graph)) l.ends l.known.items;
+      known : AreLowerBounds (graph.OpenNode l.graph) (IsStep (graph.IsBeside l.graph) (graph.OpenStep l.graph))
+          (IsOrigin (graph.size_of l.graph) (graph.back_bound_of l.graph)) l.marks;
+      far : All (IsFarNode (graph.OpenNode l.graph) (IsStep (graph.IsBeside l.graph) (graph.OpenStep l.graph))
+          (IsOrigin (graph.size_of l.graph) (graph.back_bound_of l.graph)) l.left) l.ends;
+      of_ends : AreFar (graph.OpenNode l.graph) (IsStep (graph.IsBeside l.graph) (graph.OpenStep l.graph))
+          (IsOrigin (graph.size_of l.graph) (graph.back_bound_of l.graph)) l.ends l.known;
     }

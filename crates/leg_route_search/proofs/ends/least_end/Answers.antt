@@ -10,7 +10,8 @@ use Rattle.leg_route_search.proofs.ends.least_end.Goals as goal
 use Rattle.leg_route_search.proofs.ends.least_end.Goals.{then-is_reached, else-is_reached}
 
 abbrev IsLeast : List ℕ → List Mark → ℕ → ℕ → Option ℕ → Type 0
-IsLeast ends marks level i least = MatchOption least ((a : ℕ) → Contains (take i ends) a → IsAt marks a level → ⊥) (λ end. Contains ends end × IsAt marks end level)
+IsLeast ends marks level i least =
+    MatchOption least ((a : ℕ) → Contains (take i ends) a → IsAt marks a level → ⊥) (λ end. Contains ends end × IsAt marks end level)
 
 -- one more end that is not reached
 least_more : (ends : List ℕ) (marks : List Mark) (level i : ℕ) (least : Option ℕ) → i < length ends → (IsAt marks (get_or ends i 0) level → ⊥)
@@ -35,9 +36,12 @@ loop-end-preserved c =
       | then-is_reached w ↦ rw w.least-is (elim w.lesser.ensures [
         | inl same ↦ rw same (Contains-get_or ends i 0 within, c.is_reached.ensures.0 w.if-is_reached.true)
         | inr was ↦
-            MatchOption-at_some ((a : ℕ) → Contains (take i ends) a → IsAt marks a c.args.level → ⊥) (λ end. Contains ends end × IsAt marks end c.args.level) w.lesser.result was c.loop-end.invariant
+            MatchOption-at_some ((a : ℕ) → Contains (take i ends) a → IsAt marks a c.args.level → ⊥) (λ end. Contains ends end × IsAt marks end c.args.level)
+            w.lesser.result was c.loop-end.invariant
       ])
-      | else-is_reached w ↦ rw w.least-is (least_more ends marks c.args.level i c.loop-end.least within (λ is. absurd (false≢true (sym w.if-is_reached.false ∙ c.is_reached.ensures.1 is))) c.loop-end.invariant)
+      | else-is_reached w ↦
+          rw w.least-is (least_more ends marks c.args.level i c.loop-end.least within
+          (λ is. absurd (false≢true (sym w.if-is_reached.false ∙ c.is_reached.ensures.1 is))) c.loop-end.invariant)
     ]
 
 pub returns : goal.returns

@@ -9,6 +9,7 @@ abbrev pub invariant-loop-node : goal.invariant-loop-node
 invariant-loop-node g l =
     let graph = g.G.Graph in record {
       noted : IsNoted l.marks l.touched.items;
-      spread : IsSpread (graph.OpenNode l.graph) (λ a b. Contains (take l.node-index l.front) a × IsStepTo (graph.IsBeside l.graph) (graph.OpenStep l.graph) l.side a b)
+      spread : IsSpread (graph.OpenNode l.graph)
+          (λ a b. Contains (take l.node-index l.front) a × IsStepTo (graph.IsBeside l.graph) (graph.OpenStep l.graph) l.side a b)
           (graph.bound_of l.graph) l.level.limit l.level.number l.fn.marks l.fn.next.items l.fn.left_out l.marks l.next.items l.left_out;
     }

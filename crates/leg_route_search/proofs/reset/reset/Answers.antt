@@ -17,5 +17,6 @@ loop-node-preserved g c =
 
 pub returns-clause-unseen : goal.returns-clause-unseen
 returns-clause-unseen g c =
-    let empty : c.loop-node.touched.items ≡ [] = nil_from_length c.loop-node.touched.items (omega (arith, c.loop-node.touched.ok.0, c.in_default.ensures.cases.0)) in
+    let empty : c.loop-node.touched.items ≡ [] =
+    nil_from_length c.loop-node.touched.items (omega (arith, c.loop-node.touched.ok.0, c.in_default.ensures.cases.0)) in
     unseen_from_noted c.loop-node.marks (rw empty at c.loop-node.invariant)

@@ -16,7 +16,8 @@ levels-init g c =
     let spread = rw (c.new-front.ensures.items, c.requires.not_left) at c.in_ok-seed.ensures.spread in record {
       noted = c.in_ok-seed.ensures.noted;
       least = c.in_ok-seed.ensures.least;
-      underway = underway_begun (graph.OpenNode here) (IsStep (graph.IsBeside here) (graph.OpenStep here)) (Contains c.args.starts.now) (Contains c.args.ends.now) (graph.bound_of here) c.args.limit
+      underway = underway_begun (graph.OpenNode here) (IsStep (graph.IsBeside here) (graph.OpenStep here)) (Contains c.args.starts.now)
+          (Contains c.args.ends.now) (graph.bound_of here) c.args.limit
           _ _ _ _ c.requires.unseen spread;
       low = λ was. elim (spread.left_low was) [ inl earlier ↦ absurd (false≢true earlier) | inr low ↦ low ];
       same_limit = refl;
@@ -27,7 +28,8 @@ returns-in-Some-clause-found g c =
     let graph = g.G.Graph in
     let here = c.args.graph.now in
     let ends = c.args.ends.now in
-    nearest_found (graph.OpenNode here) (IsStep (graph.IsBeside here) (graph.OpenStep here)) (Contains c.args.starts.now) (Contains ends) (graph.bound_of here) c.args.limit
+    nearest_found (graph.OpenNode here) (IsStep (graph.IsBeside here) (graph.OpenStep here)) (Contains c.args.starts.now) (Contains ends) (graph.bound_of here)
+    c.args.limit
     (λ a b step. g.met.G.Graph.one_nearer here step.0 a b step.1.0) (λ b there. All-contains (λ a. graph.bound_of here a ≡ 0) ends b c.requires.at_end there)
     c.levels.level.number _ _ _ c.in-Some.end c.levels.invariant.underway c.in-Some.ensures.0 c.in-Some.ensures.1
 
@@ -49,7 +51,8 @@ levels-preserved g c =
     let some : 0 < length c.levels.front.items = grind (arith, nat_tests, c.is_empty.ensures, c.levels-test.true, c.levels.front.ok.0) in record {
       noted = c.in_ok-one_level.ensures.noted;
       least = so_far.least;
-      underway = underway_more (graph.OpenNode here) (IsStep (graph.IsBeside here) (graph.OpenStep here)) (Contains c.args.starts.now) (Contains ends) (graph.bound_of here) c.args.limit
+      underway = underway_more (graph.OpenNode here) (IsStep (graph.IsBeside here) (graph.OpenStep here)) (Contains c.args.starts.now) (Contains ends)
+          (graph.bound_of here) c.args.limit
           c.levels.level.number _ _ _ _ _ _ some (λ a is_end is. c.in_default.ensures a is_end is) so_far.underway spread;
       low = λ was. elim (spread.left_low was) [ inl earlier ↦ so_far.low earlier | inr low ↦ low ];
       same_limit = so_far.same_limit;
@@ -60,7 +63,8 @@ returns-clause-found g c =
     let graph = g.G.Graph in
     let here = c.args.graph.now in
     let empty : length c.levels.front.items ≡ 0 = grind (arith, nat_tests, c.is_empty.ensures, c.levels-test.false, c.levels.front.ok.0) in
-    none_found (graph.OpenNode here) (IsStep (graph.IsBeside here) (graph.OpenStep here)) (Contains c.args.starts.now) (Contains c.args.ends.now) (graph.bound_of here) c.args.limit
+    none_found (graph.OpenNode here) (IsStep (graph.IsBeside here) (graph.OpenStep here)) (Contains c.args.starts.now) (Contains c.args.ends.now)
+    (graph.bound_of here) c.args.limit
     c.levels.level.number _ _ _ c.levels.invariant.underway empty
 
 pub seed-requires-clause-noted : goal.seed-requires-clause-noted

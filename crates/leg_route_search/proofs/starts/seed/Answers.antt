@@ -12,7 +12,8 @@ loop-k-init g c =
     let starts = c.args.starts.now in record {
       noted = c.requires.noted;
       looked = looked_none (graph.bound_of here) starts c.args.told c.args.limit c.args.least.now c.requires.least;
-      spread = spread_none (graph.OpenNode here) (graph.bound_of here) c.args.limit 0 (λ (_ b : ℕ). Contains (take 0 starts) b) c.args.marks.now c.args.next.now.items c.args.left_out.now
+      spread = spread_none (graph.OpenNode here) (graph.bound_of here) c.args.limit 0 (λ (_ b : ℕ). Contains (take 0 starts) b) c.args.marks.now
+          c.args.next.now.items c.args.left_out.now
           (λ a b there. absurd (omega (arith, there.1)));
     }
 
@@ -24,7 +25,8 @@ loop-k-preserved g c =
     let k = c.loop-k.k in
     let so_far = c.loop-k.invariant in record {
       noted = c.in_ok-least.ensures.noted;
-      looked = looked_more (graph.bound_of here) starts c.args.told c.args.limit k _ _ (omega arith) c.in_ok-least.ensures.least c.in_ok-least.ensures.told so_far.looked;
+      looked = looked_more (graph.bound_of here) starts c.args.told c.args.limit k _ _ (omega arith) c.in_ok-least.ensures.least c.in_ok-least.ensures.told
+          so_far.looked;
       spread = spread_more_starts (graph.OpenNode here) (graph.bound_of here) c.args.limit 0 starts k _ _ _ _ _ _ _ _ _
           (omega arith) so_far.spread c.in_ok-least.ensures.spread;
     }

@@ -12,7 +12,8 @@ loop-node-preserved c =
     let i : ℕ = c.loop-node.node-index in
     let there : i < length nodes = omega arith in
     let within : get_or nodes i 0 < length places = c.requires i 0 there in
-    let read : c.index.result.now ≡ place_at places (get_or nodes i 0) = c.index.ensures ∙ get_or_default places (get_or nodes i 0) c.index.result.now nowhere within in
+    let read : c.index.result.now ≡ place_at places (get_or nodes i 0) =
+    c.index.ensures ∙ get_or_default places (get_or nodes i 0) c.index.result.now nowhere within in
     All-more (λ a. (place_at places a).gone ≡ 0) nodes i 0 there c.loop-node.invariant (sym (ap (λ (p : Place). p.gone) read) ∙ c.if-index-ne0.false)
 
 pub returns : goal.returns

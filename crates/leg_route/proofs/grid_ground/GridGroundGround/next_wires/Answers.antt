@@ -18,7 +18,7 @@ part_now-requires-clause-numbers g c =
     let net = c.args.net in
     let list : c.as_slice-own.result.now ≡ get_or lists net [] =
     c.as_slice-own.ensures ∙ get_or_read lists net c.index.result.now (omega (arith, c.requires.in_range, numbers.one_each)) c.index.ensures [] in
-    rw (list, c.shapes-shapes.ensures.is) (numbers_within flat.shapes net (get_or lists net []) (numbers.each net c.requires.in_range))
+    rw list (numbers_within flat.shapes net (get_or lists net []) (numbers.each net c.requires.in_range))
 
 pub part_now-requires-clause-still : goal.part_now-requires-clause-still
 part_now-requires-clause-still g c =
@@ -35,7 +35,7 @@ part_now-requires-clause-had g c =
     let net = c.args.net in
     let list : c.as_slice-own.result.now ≡ get_or lists net [] =
     c.as_slice-own.ensures ∙ get_or_read lists net c.index.result.now (omega (arith, c.requires.in_range, numbers.one_each)) c.index.ensures [] in
-    rw (list, c.shapes-shapes.ensures.is, c.replace-part.ensures.value)
+    rw (list, c.replace-part.ensures.value)
     (λ same. part_had ground.grid ground.flat part net (get_or lists net []) same (numbers.each net c.requires.in_range) c.requires.ready.part_is)
 
 pub next_wires-requires-clause-numbers : goal.next_wires-requires-clause-numbers
@@ -57,7 +57,7 @@ returns-clause-ready g c =
     let flat = ground.flat in
     let net = c.args.net in
     let lists = ground.numbers.items in
-    let part = c.in_ok-part.part in
+    let part = c.next_wires.new.part in
     let joined = part.joined.items in
     let boxes = part.slots.boxes.items in
     let slots = part.slots.slots.items in
@@ -66,10 +66,10 @@ returns-clause-ready g c =
     let list : c.as_slice-own.result.now ≡ get_or lists net [] =
     c.as_slice-own.ensures ∙ get_or_read lists net c.index.result.now (omega (arith, c.requires.in_range, ready.numbers.one_each)) c.index.ensures [] in
     let numbers : AreNumbersOf flat.shapes net (get_or lists net []) = ready.numbers.each net c.requires.in_range in
-    let same : joined ≡ c.args.joined.now = c.in_ok-part.ensures.joined in
+    let same : joined ≡ c.args.joined.now = c.next_wires.ensures.same_joined ∙ c.in_ok-part.ensures.joined in
     let marks : AreMarks (AreJoined flat net 0) (piece_count flat net) joined = rw same c.requires.joined in
     let count = marks.count in
-    let had : IsPartOf ground.grid flat.shapes joined (get_or lists net []) boxes slots hulls ends = rw same (rw (list, c.shapes-shapes.ensures.is) at c.in_ok-part.ensures.is) in
+    let had : IsPartOf ground.grid flat net joined (get_or lists net []) boxes slots hulls ends = rw same (rw list at c.in_ok-wires.ensures.part) in
     let new = c.next_wires.new.marks in
     let rest = drop (length new) ground.marks.items in
     let long : length new ≡ ground.marks.len = c.next_wires.ensures.count ∙ c.deref_mut.ensures.len in
@@ -83,6 +83,6 @@ returns-clause-ready g c =
       count = c.next_wires.ensures.count ∙ ap length c.deref_mut.ensures.value ∙ ready.count;
       unseen = c.next_wires.ensures.unseen;
       untouched = c.next_wires.ensures.untouched;
-      part_is = rw c.in_ok-part.ensures.net (part_of flat net (get_or lists net []) numbers joined (omega (arith, count)) ground.grid boxes slots hulls ends marks had);
+      part_is = rw (c.next_wires.ensures.same_net ∙ c.in_ok-part.ensures.net) (part_of flat net (get_or lists net []) numbers joined (omega (arith, count)) ground.grid boxes slots hulls ends marks had);
       joins_are = ready.joins_are;
     })
