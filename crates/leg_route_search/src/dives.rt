@@ -25,6 +25,10 @@ const DEEPEST: u32 = 2_000;
 /// more nodes.
 const NOTED_FOR_EACH_STEP: usize = 64;
 
+/// How many more they note for each end: so many steps to ends behind walls can be found out, and kept for the next walk, before
+/// a search by levels looks at all starts.
+const NOTED_FOR_EACH_END: usize = 16;
+
 /// A shortest walk, where a few rounds of dives find one. Each round looks for a walk of as many steps as each has at least, as
 /// far as the rounds before it have found. Where none is found, `limit` is that number, and `left_out` whether there may be a walk:
 /// there is none where no end is open. For each end `known` has how many steps a walk to it has at least, as far as is known.
@@ -51,7 +55,8 @@ pub(crate) fn walk_by_dives<G: Graph, A: Allocator + Copy>(
     ensures noted { IsNoted marks.new touched.new.items }
 {
     let mut left = least_left(ends, known, marks);
-    let most = left as usize * NOTED_FOR_EACH_STEP;
+    let for_ends = ends.len().saturating_mul(NOTED_FOR_EACH_END);
+    let most = for_ends.saturating_add(left as usize * NOTED_FOR_EACH_STEP);
     'rounds: for _ in 0..ROUNDS {
         if left > DEEPEST || touched.len() >= most {
             break;
