@@ -1,5 +1,5 @@
 -- Words of terminals: each list is sorted, and the words of the other are looked up in it.
-use Rattle.std.proofs.Common.{◌≡◌, ◌↔◌, Bool, true, false, IsTrue, ℕ, ◌+◌, ◌<◌, ◌≤◌, ◌⊎◌, inl, inr, List, length, get_or, map, Result, Ok, Err, IsPermutation, IsSorted, refl, sym, ap, ◌∙◌, subst, arith}
+use Rattle.std.proofs.Common.{◌≡◌, ◌↔◌, Bool, IsTrue, ℕ, ◌+◌, ◌<◌, ◌≤◌, ◌⊎◌, inl, inr, List, length, get_or, map, Result, Ok, Err, IsPermutation, IsSorted, refl, sym, ap, ◌∙◌, subst, arith}
 use Rattle.std.specs.Borrow.{Bor}
 use Rattle.std.specs.List.{All, AllWithin, Contains}
 use Rattle.std.specs.List.Sorted.{IsBinarySearchResult, IsSearchInRange}
@@ -16,7 +16,7 @@ use Rattle.std.proofs.lemmas.List.Elements.{All-contains, All-map, Contains-get_
 use Rattle.std.proofs.lemmas.List.Sorted.{searchable_from_sorted, Contains-permutation, IsPermutation-sym}
 use Rattle.std.proofs.lemmas.Map.Lookups.{exact_bytes}
 use Rattle.leg_rules.specs.Compare.Spelling.{AreSameTerminals}
-use Rattle.leg_compare.specs.Steps.Words.{words_cmp, words_now}
+use Rattle.leg_compare.specs.Steps.Words.{words_cmp, words_now, AreAmong}
 
 -- the two words of a terminal
 abbrev pub Words : Type 0
@@ -120,13 +120,10 @@ module _ (before after sorted_before sorted_after : List (List ℕ × List ℕ))
       Contains-permutation before sorted_before t moved_before
       ((same t).1 (Contains-permutation sorted_after after t (IsPermutation-sym after sorted_after moved_after) (Contains-get_or sorted_after k d within)))
 
-  -- so two such tests decide it
-  pub both_tell : (first second both : Bool) → (IsTrue first ↔ All (Contains sorted_after) sorted_before)
-      → (IsTrue second ↔ All (Contains sorted_before) sorted_after)
-      → first ≡ true → both ≡ second → IsTrue both ↔ AreSameTerminals before after
-  both_tell first second both there here is same = (λ e. same_both_ways (there.0 is) (here.0 (sym same ∙ e)), λ h. same ∙ here.1 (same_back h))
-
-  pub one_tells : (first both : Bool) → (IsTrue first ↔ All (Contains sorted_after) sorted_before) → first ≡ false → both ≡ first
+  -- so they are the same sets just where both hold
+  pub both_tell : (both : Bool) → (IsTrue both ↔ (AreAmong sorted_before sorted_after × AreAmong sorted_after sorted_before))
       → IsTrue both ↔ AreSameTerminals before after
-  one_tells first both there is same =
-      (λ e. absurd (let no : ⊥ = cc (e, is, same) in no), λ h. absurd (let yes : first ≡ true = there.1 (same_forth h) in let no : ⊥ = cc (yes, is) in no))
+  both_tell both tells = (
+    λ e. let h = tells.0 e in same_both_ways h.0.each h.1.each,
+    λ same. tells.1 (record { each = same_forth same }, record { each = same_back same }),
+  )

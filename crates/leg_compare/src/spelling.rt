@@ -2,8 +2,8 @@
 //! The order of terminals means nothing: where they don't stand in one order, both lists are sorted by their words, and each is looked
 //! up in the other.
 
-ghost use Rattle.std.specs.Prelude.{◌≡◌, ◌↔◌, IsTrue, IfOk, map, slice_get, All, Contains, IsPermutation, IsSorted};
-ghost use Rattle.leg_compare.specs.Steps.Words.{words_cmp, words_now};
+ghost use Rattle.std.specs.Prelude.{◌≡◌, ◌↔◌, IsTrue, IfOk, map, slice_get, Contains, IsPermutation, IsSorted};
+ghost use Rattle.leg_compare.specs.Steps.Words.{words_cmp, words_now, AreAmong};
 ghost use Rattle.leg_rules.specs.Compare.Differences.{GoesOn, NetGrows};
 ghost use Rattle.leg_rules.specs.Compare.Spelling.SpelledWire.{via};
 ghost use Rattle.leg_rules.specs.Compare.Spelling.{AreSameTerminals, pin_name_in, spelled_terminal, spelled_terminals, spelled_wire, spelled_wires};
@@ -115,7 +115,7 @@ fn is_among<'d>(words: &(&'d [u8], &'d [u8]), others: &[(&'d [u8], &'d [u8])]) -
 /// Whether each of these words is among the others, which are in increasing order.
 fn are_among<'d>(list: &[(&'d [u8], &'d [u8])], others: &[(&'d [u8], &'d [u8])]) -> bool
     requires { IsSorted words_cmp others.now }
-    ensures { IsTrue result ↔ All (Contains (map words_now others.now)) (map words_now list.now) }
+    ensures { IsTrue result ↔ AreAmong (map words_now list.now) (map words_now others.now) }
 {
     for number in 0..list.len() {
         if !is_among(&list[number], others) {
@@ -123,6 +123,15 @@ fn are_among<'d>(list: &[(&'d [u8], &'d [u8])], others: &[(&'d [u8], &'d [u8])])
         }
     }
     true
+}
+
+/// Whether both have the same words, in whatever number. Both are in increasing order.
+fn have_same_words<'d>(a: &[(&'d [u8], &'d [u8])], b: &[(&'d [u8], &'d [u8])]) -> bool
+    requires first { IsSorted words_cmp a.now }
+    requires second { IsSorted words_cmp b.now }
+    ensures { IsTrue result ↔ (AreAmong (map words_now a.now) (map words_now b.now) × AreAmong (map words_now b.now) (map words_now a.now)) }
+{
+    are_among(a, b) && are_among(b, a)
 }
 
 /// Whether both terminals are spelled alike, each in its own design.
@@ -174,7 +183,7 @@ pub(crate) fn are_same_terminals<A: Allocator + Copy>(
     }
     let before = sorted_words(alloc, &*first, a)?;
     let after = sorted_words(alloc, &*second, b)?;
-    Ok(are_among(&before, &after) && are_among(&after, &before))
+    Ok(have_same_words(&before, &after))
 }
 
 /// Whether the wire of the second design is spelled as a via of the first one at a point.
