@@ -13,5 +13,6 @@ mod NetSlots
 mod JoinedSlots
 mod EndSlots
 mod JoinedParts
+mod PartMarks
 mod KeptJoins
 mod NextWalk
