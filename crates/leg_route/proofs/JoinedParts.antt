@@ -296,15 +296,6 @@ module _ (flat : FlatModel) (net : ℕ) (numbers : List ℕ) (are : AreNumbersOf
           (λ piece apart. apart) (λ piece apart. apart) numbered_lies lies_numbered (λ steps n far. far) had.ends_are;
     }
 
--- what was joined when the part was kept has its mark still
-pub part_still : (grid : GridModel) (flat : FlatModel) (part : PartModel) (net : ℕ) (joined : List Bool) → part.net ≡ net → IsJoinedPart grid flat part
-    → AreMarks (AreJoined flat net 0) (piece_count flat net) joined → (k : ℕ) → slice_get part.joined k ≡ Some true → slice_get joined k ≡ Some true
-part_still grid flat part net joined same had marks k there =
-    let within = slice_get_within part.joined k true there in
-    let few : length part.joined ≤ piece_count flat net = rw same at had.few in
-    let count = marks.count in
-    marked_joined joined (AreJoined flat net 0) (piece_count flat net) marks k (omega (arith, within, few, count)) (rw same at (had.still k there))
-
 -- what is kept of this net, by the numbers of its shapes
 pub part_had : (grid : GridModel) (flat : FlatModel) (part : PartModel) (net : ℕ) (numbers : List ℕ) → part.net ≡ net → AreNumbersOf flat.shapes net numbers
     → IsJoinedPart grid flat part

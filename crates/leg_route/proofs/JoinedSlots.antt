@@ -1,141 +1,86 @@
--- The slots in the joined part of a net, to which those of pieces that have come to it are added, shape by shape.
-use Rattle.std.proofs.Common.{◌≡◌, ◌↔◌, ℕ, ◌<◌, Bool, true, List, [], ◌∷◌, ◌++◌, All, Contains, Some, slice_get, ◌⊎◌, inl, inr, sym, subst, ◌∙◌}
+-- Slots that come to those of the joined part of a net, shape by shape and piece by piece.
+use Rattle.std.proofs.Common.{◌≡◌, ◌↔◌, ◌⊎◌, ℕ, List, [], ◌∷◌, ◌++◌, Contains, inl, inr, sym, ap, ◌∙◌, append_assoc}
+use Rattle.std.proofs.lemmas.List.{append-nil}
 use Rattle.std.proofs.lemmas.List.Elements.{Contains-append_left, Contains-push, Contains-push_cases}
-use Rattle.std.proofs.lemmas.Option.{same_Some}
 use Rattle.leg_sweep.proofs.Lists.{Contains-nil}
-use Rattle.leg_rules.specs.declared.shape.Shape.{Shape}
 use Rattle.leg_rules.specs.declared.node.Node.{Node}
+use Rattle.leg_wire.specs.declared.piece_shape.PieceShape.{PieceShape}
 use Rattle.leg_route_grid.specs.declared.slot_box.SlotBox.{SlotBox}
-use Rattle.leg_route_grid.specs.Steps.WalkBounds.{AreBoxed}
-use Rattle.leg_route_grid.specs.Steps.Grid.{GridModel, IsNumberOf, slot_total}
-use Rattle.leg_route_grid.specs.Steps.NodesInRect.{LiesInRect}
+use Rattle.leg_route_grid.specs.Steps.Grid.{GridModel, IsNumberOf}
 use Rattle.leg_route_grid.specs.Steps.NodeNumbers.{IsOneOf}
-use Rattle.leg_route.specs.Steps.NetSlots.{HasMark, MeetsMarked, AreMarkedSlots}
-
--- exactly the slots of nodes of which this holds, which lie in these boxes
-pub record AreSlotsOf (grid : GridModel) (Holds : Node → Type 0) (boxes : List SlotBox) (slots : List ℕ) : Type 0 where
-  pub are : (n : ℕ) → Contains slots n ↔ IsOneOf (IsNumberOf grid) Holds n
-  pub within : All (λ n. n < slot_total grid) slots
-  pub boxed : AreBoxed grid boxes slots
+use Rattle.leg_route_grid.specs.Steps.NodesInRect.{LiesInRect}
+use Rattle.leg_route.specs.Steps.JoinedPart.{HaveGotSlots, MeetsMetal, MeetsPieces}
 
 -- of a node for another reason
 pub one_as : (grid : GridModel) (Holds Then : Node → Type 0) → ((node : Node) → Holds node → Then node) → (n : ℕ) → IsOneOf (IsNumberOf grid) Holds n → IsOneOf (IsNumberOf grid) Then n
 one_as grid Holds Then then n one = record { node = one.node; is = one.is; holds = then one.node one.holds }
 
-pub slots_as : (grid : GridModel) (Holds Then : Node → Type 0) (boxes : List SlotBox) (slots : List ℕ) → ((node : Node) → Holds node → Then node) → ((node : Node) → Then node → Holds node)
-    → AreSlotsOf grid Holds boxes slots → AreSlotsOf grid Then boxes slots
-slots_as grid Holds Then boxes slots then back are = record {
-  are = λ n. (λ has. one_as grid Holds Then then n ((are.are n).0 has), λ one. (are.are n).1 (one_as grid Then Holds back n one));
-  within = are.within;
-  boxed = are.boxed;
-}
-
-module _ (grid : GridModel) (shapes : List Shape) (before joined : List Bool) (numbers : List ℕ) where
-  -- the node lies in a shape that had its mark before, or in one of those that were looked at and have it now
-  abbrev pub MeetsSoFar : List ℕ → Node → Type 0
-  MeetsSoFar some node = MeetsMarked shapes before true numbers node ⊎ MeetsMarked shapes joined true some node
-
-  -- none was looked at
-  pub joined_none : (boxes : List SlotBox) (slots : List ℕ) → AreMarkedSlots grid shapes before true numbers boxes slots → AreSlotsOf grid (MeetsSoFar []) boxes slots
-  joined_none boxes slots had = record {
-    are = λ n. (
-      λ has. one_as grid (MeetsMarked shapes before true numbers) (MeetsSoFar []) (λ node meets. inl meets) n ((had.are n).0 has),
-      λ one.
-          (had.are n).1
-          (one_as grid (MeetsSoFar []) (MeetsMarked shapes before true numbers) (λ node meets. elim meets [ inl old ↦ old | inr new ↦ absurd (Contains-nil new.number new.listed) ]) n one),
-    );
-    within = had.within;
-    boxed = had.boxed;
+module _ (grid : GridModel) where
+  -- no slot comes
+  got_none : (Holds : Node → Type 0) (boxes : List SlotBox) (slots : List ℕ) → ((node : Node) → Holds node → ⊥) → HaveGotSlots grid Holds boxes slots boxes slots
+  got_none Holds boxes slots none = record {
+    are = λ n. (λ has. inl has, λ is. elim is [ inl had ↦ had | inr one ↦ absurd (none one.node one.holds) ]);
+    within = λ all. all;
+    boxed = λ all. all;
+    more = [];
+    behind = sym (append-nil boxes);
   }
 
-  -- all were
-  pub joined_all : (boxes : List SlotBox) (slots : List ℕ) → ((k : ℕ) → slice_get before k ≡ Some true → slice_get joined k ≡ Some true)
-      → AreSlotsOf grid (MeetsSoFar numbers) boxes slots → AreMarkedSlots grid shapes joined true numbers boxes slots
-  joined_all boxes slots still are =
-      let all = slots_as grid (MeetsSoFar numbers) (MeetsMarked shapes joined true numbers) boxes slots
-      (λ node meets. elim meets [
-        | inl old ↦
-            record {
-              number = old.number;
-              listed = old.listed;
-              shape = old.shape;
-              there = old.there;
-              marked = record { number = old.marked.number; is = old.marked.is; marked = still old.marked.number old.marked.marked };
-              lies = old.lies;
-            }
-        | inr new ↦ new
+  -- those of one kind come, and then those of another
+  got_both : (P Q Then : Node → Type 0) (boxes boxes_between boxes_after : List SlotBox) (slots between after : List ℕ) → ((node : Node) → P node → Then node) → ((node : Node) → Q node → Then node)
+      → ((node : Node) → Then node → P node ⊎ Q node) → HaveGotSlots grid P boxes slots boxes_between between → HaveGotSlots grid Q boxes_between between boxes_after after
+      → HaveGotSlots grid Then boxes slots boxes_after after
+  got_both P Q Then boxes boxes_between boxes_after slots between after from_p from_q into first next = record {
+    are = λ n. (
+      λ has. elim ((next.are n).0 has) [
+        | inl was ↦ elim ((first.are n).0 was) [ inl had ↦ inl had | inr one ↦ inr (one_as grid P Then from_p n one) ]
+        | inr one ↦ inr (one_as grid Q Then from_q n one)
+      ],
+      λ is. elim is [
+        | inl had ↦ (next.are n).1 (inl ((first.are n).1 (inl had)))
+        | inr one ↦ elim (into one.node one.holds) [
+          | inl p ↦ (next.are n).1 (inl ((first.are n).1 (inr (record { node = one.node; is = one.is; holds = p }))))
+          | inr q ↦ (next.are n).1 (inr (record { node = one.node; is = one.is; holds = q }))
+        ]
+      ],
+    );
+    within = λ all. next.within (first.within all);
+    boxed = λ all. next.boxed (first.boxed all);
+    more = first.more ++ next.more;
+    behind = next.behind ∙ ap (λ b. b ++ next.more) first.behind ∙ append_assoc boxes first.more next.more;
+  }
+
+  -- shapes, and one more
+  pub metal_none : (boxes : List SlotBox) (slots : List ℕ) → HaveGotSlots grid (MeetsMetal []) boxes slots boxes slots
+  metal_none boxes slots = got_none (MeetsMetal []) boxes slots (λ node meets. Contains-nil meets.shape meets.has)
+
+  pub metal_more : (metal : List PieceShape) (shape : PieceShape) (boxes boxes_between boxes_after : List SlotBox) (slots between after : List ℕ)
+      → HaveGotSlots grid (MeetsMetal metal) boxes slots boxes_between between → HaveGotSlots grid (LiesInRect shape.layer shape.rect) boxes_between between boxes_after after
+      → HaveGotSlots grid (MeetsMetal (metal ++ shape ∷ [])) boxes slots boxes_after after
+  metal_more metal shape boxes boxes_between boxes_after slots between after =
+      got_both (MeetsMetal metal) (LiesInRect shape.layer shape.rect) (MeetsMetal (metal ++ shape ∷ [])) boxes boxes_between boxes_after slots between after
+      (λ node meets. record { shape = meets.shape; has = Contains-append_left metal (shape ∷ []) meets.shape meets.has; lies = meets.lies })
+      (λ node lies. record { shape = shape; has = Contains-push metal shape; lies = lies })
+      (λ node meets. elim (Contains-push_cases metal shape meets.shape meets.has) [
+        | inl earlier ↦ inl (record { shape = meets.shape; has = earlier; lies = meets.lies })
+        | inr here ↦ inr (rw here meets.lies)
       ])
-      (λ node meets. inr meets) are in
-      record { are = all.are; within = all.within; boxed = all.boxed }
 
-  -- one more is looked at
-  module _ (some : List ℕ) (k : ℕ) (shape : Shape) (read : slice_get shapes k ≡ Some shape) where
-    record IsHere (node : Node) : Type 0 where
-      pub marked : HasMark joined true shape.piece
-      pub lies : LiesInRect shape.layer shape.rect node
+  -- pieces, and one more, of which this is the metal
+  module _ (metal : List PieceShape) where
+    pub pieces_none : (boxes : List SlotBox) (slots : List ℕ) → HaveGotSlots grid (MeetsPieces metal []) boxes slots boxes slots
+    pieces_none boxes slots = got_none (MeetsPieces metal []) boxes slots (λ node meets. Contains-nil meets.shape.piece meets.of_piece)
 
-    here_of : (node : Node) (m : MeetsMarked shapes joined true (some ++ k ∷ []) node) → k ≡ m.number → IsHere node
-    here_of node m same =
-        let there : slice_get shapes k ≡ Some m.shape = rw same m.there in
-        let is : m.shape ≡ shape = same_Some m.shape shape (sym there ∙ read) in
-        record {
-          marked = subst (λ (s : Shape). HasMark joined true s.piece) is m.marked;
-          lies = subst (λ (s : Shape). LiesInRect s.layer s.rect node) is m.lies;
-        }
-
-    parts : (node : Node) → MeetsMarked shapes joined true (some ++ k ∷ []) node → MeetsMarked shapes joined true some node ⊎ IsHere node
-    parts node m = elim (Contains-push_cases some k m.number m.listed) [
-      | inl earlier ↦ inl (record { number = m.number; listed = earlier; shape = m.shape; there = m.there; marked = m.marked; lies = m.lies })
-      | inr same ↦ inr (here_of node m same)
-    ]
-
-    earlier_too : (node : Node) → MeetsMarked shapes joined true some node → MeetsMarked shapes joined true (some ++ k ∷ []) node
-    earlier_too node m = record {
-      number = m.number;
-      listed = Contains-append_left some (k ∷ []) m.number m.listed;
-      shape = m.shape;
-      there = m.there;
-      marked = m.marked;
-      lies = m.lies;
-    }
-
-    so_far_too : (node : Node) → MeetsSoFar some node → MeetsSoFar (some ++ k ∷ []) node
-    so_far_too node meets = elim meets [ inl old ↦ inl old | inr new ↦ inr (earlier_too node new) ]
-
-    here_too : HasMark joined true shape.piece → (node : Node) → LiesInRect shape.layer shape.rect node → MeetsSoFar (some ++ k ∷ []) node
-    here_too marked node lies = inr (record { number = k; listed = Contains-push some k; shape = shape; there = read; marked = marked; lies = lies })
-
-    -- its piece has come to the joined ones
-    pub joined_more : (boxes : List SlotBox) (slots : List ℕ) (boxes_more : List SlotBox) (more : List ℕ) → AreSlotsOf grid (MeetsSoFar some) boxes slots → HasMark joined true shape.piece
-        → ((n : ℕ) → Contains more n ↔ (Contains slots n ⊎ IsOneOf (IsNumberOf grid) (LiesInRect shape.layer shape.rect) n))
-        → All (λ n. n < slot_total grid) more → AreBoxed grid boxes_more more → AreSlotsOf grid (MeetsSoFar (some ++ k ∷ [])) boxes_more more
-    joined_more boxes slots boxes_more more done marked added within boxed = record {
-      are = λ n. (
-        λ has. elim ((added n).0 has) [
-          | inl old ↦ one_as grid (MeetsSoFar some) (MeetsSoFar (some ++ k ∷ [])) so_far_too n ((done.are n).0 old)
-          | inr now ↦ one_as grid (LiesInRect shape.layer shape.rect) (MeetsSoFar (some ++ k ∷ [])) (here_too marked) n now
-        ],
-        λ one. (added n).1 (elim one.holds [
-          | inl old ↦ inl ((done.are n).1 (record { node = one.node; is = one.is; holds = inl old }))
-          | inr new ↦ elim (parts one.node new) [
-            | inl earlier ↦ inl ((done.are n).1 (record { node = one.node; is = one.is; holds = inr earlier }))
-            | inr here ↦ inr (record { node = one.node; is = one.is; holds = here.lies })
-          ]
-        ]),
-      );
-      within = within;
-      boxed = boxed;
-    }
-
-    -- it hasn't: it isn't joined, or was before
-    pub joined_skip : (boxes : List SlotBox) (slots : List ℕ) → AreSlotsOf grid (MeetsSoFar some) boxes slots → Contains numbers k → (HasMark joined true shape.piece → HasMark before true shape.piece)
-        → AreSlotsOf grid (MeetsSoFar (some ++ k ∷ [])) boxes slots
-    joined_skip boxes slots done listed old =
-        slots_as grid (MeetsSoFar some) (MeetsSoFar (some ++ k ∷ [])) boxes slots so_far_too
-        (λ node meets. elim meets [
-          | inl before ↦ inl before
-          | inr new ↦ elim (parts node new) [
-            | inl earlier ↦ inr earlier
-            | inr here ↦ inl (record { number = k; listed = listed; shape = shape; there = read; marked = old here.marked; lies = here.lies })
-          ]
-        ]) done
+    pub pieces_more : (pieces : List ℕ) (piece : ℕ) (own : List PieceShape) → ((shape : PieceShape) → Contains own shape ↔ (Contains metal shape × (shape.piece ≡ piece)))
+        → (boxes boxes_between boxes_after : List SlotBox) (slots between after : List ℕ) → HaveGotSlots grid (MeetsPieces metal pieces) boxes slots boxes_between between
+        → HaveGotSlots grid (MeetsMetal own) boxes_between between boxes_after after → HaveGotSlots grid (MeetsPieces metal (pieces ++ piece ∷ [])) boxes slots boxes_after after
+    pieces_more pieces piece own are boxes boxes_between boxes_after slots between after =
+        got_both (MeetsPieces metal pieces) (MeetsMetal own) (MeetsPieces metal (pieces ++ piece ∷ [])) boxes boxes_between boxes_after slots between after
+        (λ node meets. record { shape = meets.shape; has = meets.has; of_piece = Contains-append_left pieces (piece ∷ []) meets.shape.piece meets.of_piece; lies = meets.lies })
+        (λ node meets.
+        let is = (are meets.shape).0 meets.has in
+        record { shape = meets.shape; has = is.0; of_piece = rw is.1 (Contains-push pieces piece); lies = meets.lies })
+        (λ node meets. elim (Contains-push_cases pieces piece meets.shape.piece meets.of_piece) [
+          | inl earlier ↦ inl (record { shape = meets.shape; has = meets.has; of_piece = earlier; lies = meets.lies })
+          | inr here ↦ inr (record { shape = meets.shape; has = (are meets.shape).1 (meets.has, sym here); lies = meets.lies })
+        ])

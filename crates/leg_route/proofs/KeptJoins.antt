@@ -1,8 +1,8 @@
 -- What is kept of a net that is joined, when the net gets a wire.
-use Rattle.std.proofs.Common.{◌≡◌, ◌+◌, ◌<◌, ℕ, true, List, ◌++◌, length, Contains, Option, None, Some, IfSome, ◌⊎◌, inl, inr, refl, sym, ap, ◌∙◌, subst, arith}
+use Rattle.std.proofs.Common.{◌≡◌, ◌+◌, ◌<◌, ℕ, true, List, [], ◌++◌, length, Contains, Option, None, Some, IfSome, ◌⊎◌, inl, inr, refl, sym, ap, ◌∙◌, subst, arith}
 use Rattle.std.proofs.lemmas.List.Elements.{Contains-append_left, Contains-append_right, Contains-append_cases}
 use Rattle.std.proofs.lemmas.Option.{same_Some}
-use Rattle.leg_sweep.proofs.Lists.{Contains-map}
+use Rattle.leg_sweep.proofs.Lists.{Contains-map, Contains-nil}
 use Rattle.leg_design_records.specs.declared.records.Wire as records
 use Rattle.leg_design_records.specs.Records.{DesignModel}
 use Rattle.leg_rules.specs.declared.shape.Shape.{Shape}
@@ -12,6 +12,7 @@ use Rattle.leg_wire.specs.declared.piece_shape.PieceShape.{PieceShape}
 use Rattle.leg_rules.specs.Joins.Touch.{piece_count}
 use Rattle.leg_wire.specs.Joins.{JoinsModel, IsWholeNet, AreJoinsOf, metal_of_piece, HasOnePieceMore, IsPieceShape}
 use Rattle.leg_route_laws.proofs.Places.{comes_from}
+use Rattle.leg_route.specs.Steps.JoinedPart.{PartModel, AreGivenTo}
 use Rattle.leg_route.specs.Steps.Ready.{IsWithWire}
 use Rattle.leg_route.proofs.JoinedParts.{own, own_is, IsNew, new_shape}
 use Rattle.leg_route.proofs.MoreWires.{one_piece}
@@ -111,3 +112,20 @@ module _ (design : DesignModel) (net : ℕ) (wire : records.Wire) (before after 
   kept_with joins None had_are with_wire = with_wire
   kept_with joins (Some new) had_are with_wire =
       joins_with with_wire.before new with_wire.of_net with_wire.is_whole (rw with_wire.is at had_are) with_wire.more
+
+-- no piece is given with a wire
+pub given_with : (part : PartModel) (joins after : Option JoinsModel) (net : ℕ) (shapes : List Shape) → IfSome joins (λ kept. AreGivenTo part kept) → IfSome after (IsWithWire joins net shapes)
+    → IfSome after (λ kept. AreGivenTo part kept)
+given_with part joins None net shapes given with_wire = tt
+given_with part joins (Some new) net shapes given with_wire =
+    let was : AreGivenTo part with_wire.before = rw with_wire.is at given in
+    λ k has.
+    let is = was k (rw with_wire.more.given at has) in
+    (with_wire.more.net ∙ is.0, is.1)
+
+-- of what is kept or is made anew, what was given is in the part
+pub given_kept : (part : PartModel) (kept : Option JoinsModel) (joins : JoinsModel) → IfSome kept (λ had. AreGivenTo part had) → joins.given ≡ [] ⊎ kept ≡ Some joins → AreGivenTo part joins
+given_kept part kept joins given from = elim from [
+  | inl none ↦ λ k has. absurd (Contains-nil k (rw none at has))
+  | inr is ↦ rw is at given
+]

@@ -14,5 +14,6 @@ mod JoinedSlots
 mod FarSlots
 mod EndSlots
 mod JoinedParts
+mod PartMarks
 mod KeptJoins
 mod NextWalk

@@ -1,14 +1,9 @@
 -- What is kept beside a flat, at first and when a net has got a wire.
-use Rattle.std.proofs.Common.{◌≡◌, ◌≢◌, ◌==◌, ◌+◌, ◌-◌, ◌<◌, ℕ, Bool, true, false, List, [], ◌∷◌, ◌++◌, length, take, drop, get_or, Contains, Option, Some, IfSome, slice_get, slice_set, IsTrue, ◌↔◌, refl, sym, ap, ◌∙◌, arith}
-use Rattle.std.specs.List.{range_with_len, IsAnyAnswer}
-use Rattle.std.specs.Cmp.{booleans_Decides}
-use Rattle.std.specs.Bool.{beq}
-use Rattle.std.proofs.lemmas.List.Elements.{Decides-contains, contains_decides}
+use Rattle.std.proofs.Common.{◌≡◌, ◌≢◌, ◌==◌, ◌+◌, ◌-◌, ◌<◌, ℕ, Bool, true, false, List, [], ◌∷◌, ◌++◌, length, take, drop, get_or, Option, IfSome, slice_set, refl, ap, ◌∙◌, arith}
+use Rattle.std.specs.List.{range_with_len}
 use Rattle.std.proofs.Math.Seq.{drop-append_seam}
-use Rattle.std.proofs.lemmas.Bool.{false≢true}
 use Rattle.std.proofs.lemmas.Bool.Decides.{nat_tests}
 use Rattle.std.proofs.lemmas.List.{length-drop, take_all, length-set, get_or-set_same, get_or-set_other}
-use Rattle.std.proofs.lemmas.Option.{slice_get_read, slice_get-get_or, get_or_from_slice_get}
 use Rattle.leg_design_records.specs.declared.records.Wire.{Wire}
 use Rattle.leg_design_records.specs.Records.{DesignModel}
 use Rattle.leg_rules.specs.declared.shape.Shape.{Shape}
@@ -16,42 +11,14 @@ use Rattle.leg_rules.specs.Metal.Flat.{FlatModel, pieces_with}
 use Rattle.leg_rules.specs.Metal.MoreWires.{HasOneMoreWire}
 use Rattle.leg_wire.specs.NetShapes.{AreNumbersOf}
 use Rattle.leg_wire.specs.Joins.{JoinsModel}
-use Rattle.leg_wire.specs.PieceMarks.{AreMarks}
-use Rattle.leg_rules.specs.Joins.Touch.{piece_count, AreJoined}
 use Rattle.leg_route_search.specs.declared.mark.Mark.{Mark}
 use Rattle.leg_route_grid.specs.declared.slot_access.SlotAccess.{SlotAccess}
 use Rattle.leg_route_grid.specs.Steps.Grid.{GridModel}
-use Rattle.leg_rules.specs.Joins.Violations.{IsOpenNet}
 use Rattle.leg_route_laws.specs.Growth.{Grows, of_net}
 use Rattle.leg_route.specs.Steps.JoinedPart.{PartModel}
 use Rattle.leg_route.proofs.JoinedParts.{part_grows}
-use Rattle.leg_route.proofs.KeptJoins.{kept_with}
+use Rattle.leg_route.proofs.KeptJoins.{kept_with, given_with}
 use Rattle.leg_route.specs.Steps.Ready.{AreNumbersByNet, HasSlotsOf, IsReadyGround, IsWithWire}
-
--- a piece without a mark is one that isn't joined
-pub unmarked_is_open : (design : DesignModel) (flat : FlatModel) (net : ℕ) (marks : List Bool) → net < length design.nets
-    → AreMarks (AreJoined flat net 0) (piece_count flat net) marks → Contains marks false → IsOpenNet design flat net
-unmarked_is_open design flat net marks entry are has =
-    let there : slice_get marks has.0 ≡ Some false = slice_get_read marks (length marks) has.0 false refl has.1 (sym has.2) in
-    let low : has.0 < piece_count flat net = rw (← are.count) has.1 in
-    (has.0, record { net = entry; piece = low; open_piece = λ joined. false≢true ((are.each has.0 false there).1 joined) })
-
-pub open_has_unmarked : (design : DesignModel) (flat : FlatModel) (net : ℕ) (marks : List Bool)
-    → AreMarks (AreJoined flat net 0) (piece_count flat net) marks → IsOpenNet design flat net → Contains marks false
-open_has_unmarked design flat net marks are is_open =
-    let k = is_open.0 in
-    let low : k < length marks = rw are.count is_open.1.piece in
-    by k low (get_or marks k false) (slice_get-get_or marks k false low) is_open.1.open_piece where
-      by : (k : ℕ) → k < length marks → (mark : Bool) → slice_get marks k ≡ Some mark → ¬ AreJoined flat net 0 k → Contains marks false
-      by k low true there not_joined = absurd (not_joined ((are.each k true there).0 refl))
-      by k low false there not_joined = (k, low, get_or_from_slice_get marks k false false there)
-
--- whether a mark is missing tells whether the net is open
-pub told_open : (design : DesignModel) (flat : FlatModel) (net : ℕ) (marks : List Bool) (told : Bool) → net < length design.nets
-    → AreMarks (AreJoined flat net 0) (piece_count flat net) marks → IsAnyAnswer (λ y b. beq y false ≡ b) marks told → IsTrue told ↔ IsOpenNet design flat net
-told_open design flat net marks told entry are answer =
-    let decides = Decides-contains marks false told (contains_decides beq booleans_Decides marks false told answer) in
-    (λ t. unmarked_is_open design flat net marks entry are (decides.0 t), λ is_open. decides.1 (open_has_unmarked design flat net marks are is_open))
 
 abbrev pub OwnNumbersGrow : Type 0
 OwnNumbersGrow =
@@ -116,4 +83,5 @@ module _ (design : DesignModel) (net : ℕ) (wire : Wire) (before after : FlatMo
         untouched = ready.untouched;
         part_is = part_grows design net wire before after more grid part ready.part_is;
         joins_are = kept_with design net wire before after more joins joins_then ready.joins_are (rw rest at kept);
+        given_are = given_with part joins joins_then net (take (length all - length first) (drop (length first) all)) ready.given_are kept;
       }

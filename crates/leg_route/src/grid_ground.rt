@@ -1,8 +1,12 @@
 //! The grid of a design as the router's ground.
 
-ghost use Rattle.std.specs.Prelude.{◌≡◌, ◌↔◌, ◌-◌, ◌++◌, List, IsTrue, false, length, Contains, IfOk, IfErr, OnOk};
+ghost use Rattle.std.specs.Prelude.{◌≡◌, ◌↔◌, ◌-◌, ◌++◌, ℕ, option_map, List, IsTrue, false, length, Contains, IfOk, IfErr, OnOk};
 ghost use Rattle.std.specs.List.{range_with_len};
+ghost use Rattle.leg_design_records.specs.Records.{DesignModel};
 ghost use Rattle.leg_rules.specs.declared.shape.Shape.{Shape};
+ghost use Rattle.leg_rules.specs.Metal.Flat.{FlatModel};
+ghost use Rattle.leg_rules.specs.Joins.Violations.{IsOpenNet};
+ghost use Rattle.leg_route.specs.Steps.NextWires.{IsNextAnswer, IsNextStep};
 ghost use Rattle.leg_flat.specs.Limits.{IsWithinLimits};
 ghost use Rattle.leg_route_grid.specs.Steps.Grid.{slot_total};
 ghost use Rattle.leg_rules.specs.Legal.{IsCleanIn};
@@ -11,7 +15,7 @@ ghost use Rattle.leg_rules.specs.Route.Refusal.{ComesToRun};
 ghost use Rattle.leg_route.specs.Steps.Ready.{IsReadyGround};
 
 use crate::fault::RouteFault;
-use crate::ground::Ground;
+use crate::ground::{Ground, NextStep};
 use crate::joined_part::{JoinedPart, part_now};
 use crate::kept_joins::{joins_of, with_wire};
 use crate::next_wires::next_wires;
@@ -86,24 +90,19 @@ impl<'g, 'a, A: Allocator + Copy> Ground<A> for GridGround<'g, 'a, A> {
     ghost IsReady = { λ g. IsReadyGround g.design.now g.grid g.flat g.slots.items g.numbers.items g.marks.items g.touched.items
         (record { net = g.part.net; joined = g.part.joined.items; boxes = g.part.slots.boxes.items; slots = g.part.slots.slots.items; hulls = g.part.hulls.items; ends = g.part.ends.items }) g.joins };
 
-    fn joined(&mut self, alloc: A, net: u32) -> Result<Vec<bool, A>, AllocError> {
-        let kept = self.joins.take();
-        let numbers = self.numbers[net as usize].as_slice();
-        let joins = joins_of(alloc, kept, &self.flat, net, numbers)?;
-        let marks = joins.marks(alloc)?;
-        self.joins = Some(joins);
-        Ok(marks)
-    }
-
-    fn next_wires(
-        &mut self,
-        alloc: A,
-        net: u32,
-        joined: &[bool],
-    ) -> Result<Option<Vec<Wire, A>>, AllocError> {
-        let part = mem::replace(&mut self.part, JoinedPart::new(alloc, net));
+    fn next(&mut self, alloc: A, net: u32) -> Result<NextStep<A>, AllocError> {
         let own = self.numbers[net as usize].as_slice();
-        let mut part = part_now(alloc, &self.grid, &self.flat, net, own, joined, part)?;
+        let kept = self.joins.take();
+        let mut joins = joins_of(alloc, kept, &self.flat, net, own)?;
+        if !joins.is_one_apart() {
+            self.joins = Some(joins);
+            return Ok(NextStep::Joined);
+        }
+        let part = mem::replace(&mut self.part, JoinedPart::new(alloc, net));
+        let part = part.of_net(alloc, net);
+        let come = joins.take_joined(alloc)?;
+        let mut part = part_now(alloc, &self.grid, &self.flat, net, own, &joins, &come, part)?;
+        self.joins = Some(joins);
         let wires = next_wires(
             alloc,
             &self.grid,
@@ -112,13 +111,12 @@ impl<'g, 'a, A: Allocator + Copy> Ground<A> for GridGround<'g, 'a, A> {
             &self.slots,
             net,
             own,
-            joined,
             &mut part,
             &mut self.marks,
             &mut self.touched,
         )?;
         self.part = part;
-        Ok(wires)
+        Ok(step_by(wires))
     }
 
     fn add(&mut self, net: u32, wire: Wire) -> Result<(), FlatFault> {
@@ -137,6 +135,17 @@ impl<'g, 'a, A: Allocator + Copy> Ground<A> for GridGround<'g, 'a, A> {
         let kept = self.joins.take();
         self.joins = with_wire(kept, net, &shapes[before..])?;
         Ok(())
+    }
+}
+
+/// The step of an open net that gets these wires, or for which there is no walk.
+fn step_by<A: Allocator>(wires: Option<Vec<Wire, A>>) -> NextStep<A>
+    ensures { (design : DesignModel) (flat : FlatModel) (net : ℕ) → IsOpenNet design flat net
+        → IsNextAnswer design flat net (option_map (λ wires. wires.items) wires) → IsNextStep design flat net result }
+{
+    match wires {
+        Some(wires) => NextStep::Wires(wires),
+        None => NextStep::NoWalk,
     }
 }
 

@@ -1,19 +1,28 @@
 //! What the router works on.
 
-ghost use Rattle.std.specs.Prelude.{◌≡◌, ◌<◌, ◌≤◌, ◌+◌, false, length, IfOk, IfErr, OnOk, OnErr, option_map};
+ghost use Rattle.std.specs.Prelude.{◌≡◌, ◌<◌, ◌≤◌, ◌+◌, false, length, IfOk, IfErr, OnOk};
 ghost use Rattle.leg_design_records.specs.declared.limits.TheConstants.{PART_LIMIT};
 ghost use Rattle.leg_design_records.specs.WellFormedNets.{IsWire};
 ghost use Rattle.leg_flat.specs.declared.fault.FlatFault.TheVariants.{TooMany};
 ghost use Rattle.leg_rules.specs.Metal.Metal.{wire_outlines};
 ghost use Rattle.leg_rules.specs.Metal.MoreWires.{HasOneMoreWire};
 ghost use Rattle.leg_flat.specs.Limits.{IsWithinLimits};
-ghost use Rattle.leg_wire.specs.PieceMarks.{AreMarks};
-ghost use Rattle.leg_rules.specs.Joins.Touch.{piece_count, AreJoined};
-ghost use Rattle.leg_route.specs.Steps.NextWires.{IsNextAnswer};
+ghost use Rattle.leg_route.specs.Steps.NextWires.{IsNextStep};
 
 use leg_design_records::Wire;
 use leg_flat::FlatFault;
 use std::alloc::{AllocError, Allocator};
+
+/// What a net asks for at a point of its turn.
+#[derive(Drop)]
+pub(crate) enum NextStep<A: Allocator> {
+    /// Nothing: all its pieces are joined.
+    Joined,
+    /// The wires of a shortest open walk from the joined part of the net to the rest.
+    Wires(Vec<Wire, A>),
+    /// Such a walk, but there is none.
+    NoWalk,
+}
 
 /// A design, and the flat of it that grows as nets get wires. What else a search needs is kept with them: it is ready
 /// where all of this fits the flat.
@@ -27,27 +36,11 @@ pub(crate) trait Ground<A: Allocator + Copy> {
 
     ghost IsReady: { Self → Type 0 };
 
-    /// For each piece of the net whether it is joined to its first one. It fails only when out of memory.
-    fn joined(&mut self, alloc: A, net: u32) -> Result<Vec<bool, A>, AllocError>
+    /// What the net asks for. It fails only when out of memory.
+    fn next(&mut self, alloc: A, net: u32) -> Result<NextStep<A>, AllocError>
         requires ready { IsReady self.old }
         requires in_range { net < length (design self.old).nets }
-        ensures marks { IfOk result (λ marks. AreMarks (AreJoined (flat self.old) net 0) (piece_count (flat self.old) net) marks.items) }
-        ensures ready { OnOk result (IsReady self.new) }
-        ensures same_design { design self.new ≡ design self.old }
-        ensures same_flat { flat self.new ≡ flat self.old };
-
-    /// The wires of a shortest open walk from the joined part of the net to the rest, or `None` where there is no such walk.
-    /// `joined` has for each piece of the net whether it is joined to its first one. It fails only when out of memory.
-    fn next_wires(
-        &mut self,
-        alloc: A,
-        net: u32,
-        joined: &[bool],
-    ) -> Result<Option<Vec<Wire, A>>, AllocError>
-        requires ready { IsReady self.old }
-        requires in_range { net < length (design self.old).nets }
-        requires joined { AreMarks (AreJoined (flat self.old) net 0) (piece_count (flat self.old) net) joined.now }
-        ensures answer { IfOk result (λ answer. IsNextAnswer (design self.old) (flat self.old) net (option_map (λ wires. wires.items) answer)) }
+        ensures step { IfOk result (λ step. IsNextStep (design self.old) (flat self.old) net step) }
         ensures ready { OnOk result (IsReady self.new) }
         ensures same_design { design self.new ≡ design self.old }
         ensures same_flat { flat self.new ≡ flat self.old };

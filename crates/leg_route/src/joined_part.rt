@@ -1,15 +1,20 @@
 //! The joined part of a net, which is kept from walk to walk while the net has its turn.
 
-ghost use Rattle.std.specs.Prelude.{◌≡◌, ◌⊎◌, ◌<◌, ◌≤◌, ◌++◌, ℕ, List, [], true, false, Some, slice_get, get_or, All, length, IfOk, OnOk};
-ghost use Rattle.leg_route_grid.specs.declared.slot_box.SlotBox.{SlotBox};
-ghost use Rattle.leg_route_grid.specs.Steps.Hulls.{AreHulls};
-ghost use Rattle.leg_route.specs.Steps.EndSlots.{IsApart, MeetsPiece, AreEndSlots};
-ghost use Rattle.leg_route.specs.Steps.NetSlots.{HasMark, AreMarkedSlots, IsPartOf};
+ghost use Rattle.std.specs.Prelude.{◌≡◌, ◌<◌, ◌≤◌, [], All, length, IfOk, OnOk};
+ghost use Rattle.leg_rules.specs.Metal.Flat.{FlatModel};
+ghost use Rattle.leg_rules.specs.Joins.Touch.{piece_count, AreJoined};
+ghost use Rattle.leg_wire.specs.Joins.{AreJoinsOf};
+ghost use Rattle.leg_wire.specs.NetShapes.{AreNumbersOf};
+ghost use Rattle.leg_wire.specs.PieceMarks.{AreMarks};
+ghost use Rattle.leg_route_grid.specs.Steps.Grid.{GridModel};
+ghost use Rattle.leg_route.specs.Steps.JoinedPart.{IsJoinedPart, HaveCome, HaveMarked, HaveGotSlots, IsGrowing, MeetsMetal, MeetsPieces};
+ghost use Rattle.leg_route.specs.Steps.NetSlots.{IsPartOf};
 
 use crate::end_slots::{EndSlot, are_joined_from, ends_left, ends_of};
-use crate::next_wires::{has_mark, marked_slots};
-use leg_flat::{Flat, Shape};
+use crate::next_wires::marked_slots;
+use leg_flat::Flat;
 use leg_route_grid::{BoxedSlots, Grid, Hull, add_hulls, add_slots_in, grid_is_sound, hulls_of};
+use leg_wire::{NetJoins, PieceShape};
 use std::alloc::{AllocError, Allocator};
 
 /// For pieces of a net whether they are joined to its first one, the slots in the shapes of those that are, with the hulls of their
@@ -44,32 +49,69 @@ impl<A: Allocator + Copy> JoinedPart<A> {
             ends: Vec::new(alloc),
         }
     }
+
+    /// The same where it is of this net, and else that of no pieces.
+    pub(crate) fn of_net(self, alloc: A, net: u32) -> JoinedPart<A>
+        ensures net { result.net ≡ net }
+        ensures same { self.net ≡ net → result ≡ self }
+        ensures is { (grid : GridModel) (flat : FlatModel)
+            → IsJoinedPart grid flat (record { net = self.net; joined = self.joined.items; boxes = self.slots.boxes.items; slots = self.slots.slots.items; hulls = self.hulls.items; ends = self.ends.items })
+            → IsJoinedPart grid flat (record { net = result.net; joined = result.joined.items; boxes = result.slots.boxes.items; slots = result.slots.slots.items; hulls = result.hulls.items; ends = result.ends.items }) }
+    {
+        if self.net == net {
+            return self;
+        }
+        JoinedPart::new(alloc, net)
+    }
 }
 
-/// The part of a net whose pieces are joined as these marks tell, of the flat's shapes of these numbers, which are the net's. What is
-/// in the part from before is not looked for again, where that is of this net and the pieces that came later are joined.
+/// The part of the net, to whose joined pieces these have come. What is in the part from before is not looked for again, where the
+/// pieces that came later are joined. `numbers` are those of the net's shapes.
 pub(crate) fn part_now<A: Allocator + Copy>(
     alloc: A,
     grid: &Grid<'_, '_, A>,
     flat: &Flat<A>,
     net: u32,
     numbers: &[u32],
-    joined: &[bool],
-    part: JoinedPart<A>,
+    joins: &NetJoins<A>,
+    come: &[u32],
+    mut part: JoinedPart<A>,
 ) -> Result<JoinedPart<A>, AllocError>
-    requires numbers { All (λ k. k < length flat.now.shapes) numbers.now }
-    requires still { part.net ≡ net → (k : ℕ) → slice_get part.joined.items k ≡ Some true → slice_get joined.now k ≡ Some true }
-    requires had { part.net ≡ net → IsPartOf grid.now flat.now net part.joined.items numbers.now
-        part.slots.boxes.items part.slots.slots.items part.hulls.items part.ends.items }
+    requires in_range { net < length flat.now.pieces }
+    requires numbers { AreNumbersOf flat.now.shapes net numbers.now }
+    requires joins { AreJoinsOf flat.now joins.now }
+    requires of_net { joins.now.net ≡ net }
+    requires net { part.net ≡ net }
+    requires part { IsJoinedPart grid.now flat.now
+        (record { net = part.net; joined = part.joined.items; boxes = part.slots.boxes.items; slots = part.slots.slots.items; hulls = part.hulls.items; ends = part.ends.items }) }
+    requires come { HaveCome flat.now net part.joined.items come.now }
     ensures net { IfOk result (λ now. now.net ≡ net) }
-    ensures joined { IfOk result (λ now. now.joined.items ≡ joined.now) }
-    ensures is { IfOk result (λ now. IsPartOf grid.now flat.now net joined.now numbers.now
-        now.slots.boxes.items now.slots.slots.items now.hulls.items now.ends.items) }
+    ensures joined { IfOk result (λ now. AreMarks (AreJoined flat.now net 0) (piece_count flat.now net) now.joined.items) }
+    ensures is { IfOk result (λ now. IsPartOf grid.now flat.now net now.joined.items numbers.now now.slots.boxes.items now.slots.slots.items now.hulls.items now.ends.items) }
 {
-    if part.net == net && !part.joined.is_empty() && are_joined_from(joined, part.joined.len()) {
-        return grown_part(alloc, grid, flat, numbers, joined, part);
+    let had = part.joined.len();
+    mark_joined(&mut part.joined, flat.pieces_of_net(net), come)?;
+    if had > 0 && are_joined_from(&part.joined, had) {
+        return grown_part(alloc, grid, flat, numbers, joins, come, part);
     }
-    new_part(alloc, grid, flat, net, numbers, joined)
+    new_part(alloc, grid, flat, net, numbers, part.joined)
+}
+
+/// Marks the pieces that have come, of this many.
+fn mark_joined<A: Allocator>(
+    joined: &mut Vec<bool, A>,
+    count: u32,
+    come: &[u32],
+) -> Result<(), AllocError>
+    requires few { length joined.old.items ≤ count }
+    requires within { All (λ piece. piece < count) come.now }
+    ensures { OnOk result (HaveMarked joined.old.items count come.now joined.new.items) }
+{
+    joined.resize(count as usize, false)?;
+    for piece in come {
+        joined[*piece as usize] = true;
+    }
+    Ok(())
 }
 
 /// The part of a net of which nothing is kept.
@@ -79,20 +121,18 @@ fn new_part<A: Allocator + Copy>(
     flat: &Flat<A>,
     net: u32,
     numbers: &[u32],
-    joined: &[bool],
+    joined: Vec<bool, A>,
 ) -> Result<JoinedPart<A>, AllocError>
     requires numbers { All (λ k. k < length flat.now.shapes) numbers.now }
     ensures net { IfOk result (λ now. now.net ≡ net) }
-    ensures joined { IfOk result (λ now. now.joined.items ≡ joined.now) }
-    ensures is { IfOk result (λ now. IsPartOf grid.now flat.now net joined.now numbers.now
-        now.slots.boxes.items now.slots.slots.items now.hulls.items now.ends.items) }
+    ensures joined { IfOk result (λ now. now.joined.items ≡ joined.items) }
+    ensures is { IfOk result (λ now. IsPartOf grid.now flat.now net now.joined.items numbers.now now.slots.boxes.items now.slots.slots.items now.hulls.items now.ends.items) }
 {
     grid_is_sound(grid);
     let shapes = flat.shapes();
-    let slots = marked_slots(alloc, grid, shapes, numbers, joined, true)?;
+    let slots = marked_slots(alloc, grid, shapes, numbers, &joined, true)?;
     let hulls = hulls_of(alloc, &slots.boxes)?;
-    let ends = ends_of(alloc, grid, shapes, numbers, joined, &slots.boxes, &hulls)?;
-    let joined = Vec::from_slice(alloc, joined)?;
+    let ends = ends_of(alloc, grid, shapes, numbers, &joined, &slots.boxes, &hulls)?;
     Ok(JoinedPart {
         net,
         joined,
@@ -102,41 +142,36 @@ fn new_part<A: Allocator + Copy>(
     })
 }
 
-/// The part with the pieces that have come to the joined ones.
+/// The part with the metal of the pieces that have come to the joined ones, and are marked so.
 fn grown_part<A: Allocator + Copy>(
     alloc: A,
     grid: &Grid<'_, '_, A>,
     flat: &Flat<A>,
     numbers: &[u32],
-    joined: &[bool],
+    joins: &NetJoins<A>,
+    come: &[u32],
     part: JoinedPart<A>,
 ) -> Result<JoinedPart<A>, AllocError>
-    requires numbers { All (λ k. k < length flat.now.shapes) numbers.now }
-    requires still { (k : ℕ) → slice_get part.joined.items k ≡ Some true → slice_get joined.now k ≡ Some true }
-    requires later { (k : ℕ) → length part.joined.items ≤ k → k < length joined.now → get_or joined.now k true ≡ true }
-    requires had { IsPartOf grid.now flat.now part.net part.joined.items numbers.now
-        part.slots.boxes.items part.slots.slots.items part.hulls.items part.ends.items }
+    requires growing { IsGrowing grid.now flat.now numbers.now joins.now.metal come.now
+        (record { net = part.net; joined = part.joined.items; boxes = part.slots.boxes.items; slots = part.slots.slots.items; hulls = part.hulls.items; ends = part.ends.items }) }
     ensures net { IfOk result (λ now. now.net ≡ part.net) }
-    ensures joined { IfOk result (λ now. now.joined.items ≡ joined.now) }
-    ensures is { IfOk result (λ now. IsPartOf grid.now flat.now part.net joined.now numbers.now
-        now.slots.boxes.items now.slots.slots.items now.hulls.items now.ends.items) }
+    ensures joined { IfOk result (λ now. now.joined.items ≡ part.joined.items) }
+    ensures is { IfOk result (λ now. IsPartOf grid.now flat.now part.net now.joined.items numbers.now now.slots.boxes.items now.slots.slots.items now.hulls.items now.ends.items) }
 {
     grid_is_sound(grid);
-    let shapes = flat.shapes();
     let JoinedPart {
         net,
-        joined: before,
+        joined,
         mut slots,
         mut hulls,
         ends,
     } = part;
     let first = slots.boxes.len();
-    add_joined(grid, shapes, numbers, &before, joined, &mut slots)?;
+    add_pieces(grid, joins, come, &mut slots)?;
     add_hulls(&slots.boxes, &mut hulls)?;
     let come = &slots.boxes[first..];
     let come_hulls = hulls_of(alloc, come)?;
-    let ends = ends_left(alloc, grid, &ends, joined, come, &come_hulls)?;
-    let joined = Vec::from_slice(alloc, joined)?;
+    let ends = ends_left(alloc, grid, &ends, &joined, come, &come_hulls)?;
     Ok(JoinedPart {
         net,
         joined,
@@ -146,34 +181,31 @@ fn grown_part<A: Allocator + Copy>(
     })
 }
 
-/// Adds the slots in the shapes of pieces that are joined and weren't before, of the shapes of these numbers.
-fn add_joined<A: Allocator + Copy>(
+/// Adds the slots in the metal of these pieces.
+fn add_pieces<A: Allocator + Copy>(
     grid: &Grid<'_, '_, A>,
-    shapes: &[Shape],
-    numbers: &[u32],
-    before: &[bool],
-    joined: &[bool],
+    joins: &NetJoins<A>,
+    pieces: &[u32],
     found: &mut BoxedSlots<A>,
 ) -> Result<(), AllocError>
-    requires numbers { All (λ k. k < length shapes.now) numbers.now }
-    requires still { (k : ℕ) → slice_get before.now k ≡ Some true → slice_get joined.now k ≡ Some true }
-    requires had { AreMarkedSlots grid.now shapes.now before.now true numbers.now found.old.boxes.items found.old.slots.items }
-    ensures now { OnOk result (AreMarkedSlots grid.now shapes.now joined.now true numbers.now found.new.boxes.items found.new.slots.items) }
-    ensures after { OnOk result ((more : List SlotBox) × (found.new.boxes.items ≡ found.old.boxes.items ++ more)) }
+    ensures { OnOk result (HaveGotSlots grid.now (MeetsPieces joins.now.metal pieces.now) found.old.boxes.items found.old.slots.items found.new.boxes.items found.new.slots.items) }
 {
-    for number in numbers {
-        let shape = &shapes[*number as usize];
-        if has_come(shape.piece, before, joined) {
-            add_slots_in(grid, shape.layer, &shape.rect, found)?;
-        }
+    for piece in pieces {
+        add_metal(grid, joins.metal_of(*piece), found)?;
     }
     Ok(())
 }
 
-/// Whether the piece is joined and wasn't before.
-fn has_come(piece: Option<u32>, before: &[bool], joined: &[bool]) -> bool
-    ensures come { result ≡ true → HasMark joined.now true piece }
-    ensures other { HasMark joined.now true piece → result ≡ true ⊎ HasMark before.now true piece }
+/// Adds the slots in these shapes.
+fn add_metal<A: Allocator + Copy>(
+    grid: &Grid<'_, '_, A>,
+    metal: &[PieceShape],
+    found: &mut BoxedSlots<A>,
+) -> Result<(), AllocError>
+    ensures { OnOk result (HaveGotSlots grid.now (MeetsMetal metal.now) found.old.boxes.items found.old.slots.items found.new.boxes.items found.new.slots.items) }
 {
-    has_mark(piece, joined, true) && !has_mark(piece, before, true)
+    for shape in metal {
+        add_slots_in(grid, shape.layer, &shape.rect, found)?;
+    }
+    Ok(())
 }

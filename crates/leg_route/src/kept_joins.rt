@@ -1,6 +1,6 @@
 //! Which pieces of a net are joined, which is kept from walk to walk.
 
-ghost use Rattle.std.specs.Prelude.{◌≡◌, ◌<◌, length, IfOk, IfSome};
+ghost use Rattle.std.specs.Prelude.{◌≡◌, ◌<◌, ◌⊎◌, [], length, Some, IfOk, IfSome};
 ghost use Rattle.leg_wire.specs.NetShapes.{AreNumbersOf};
 ghost use Rattle.leg_wire.specs.Joins.{AreJoinsOf};
 ghost use Rattle.leg_route.specs.Steps.Ready.{IsWithWire};
@@ -22,6 +22,7 @@ pub(crate) fn joins_of<A: Allocator + Copy>(
     requires kept { IfSome kept (AreJoinsOf flat.now) }
     ensures of { IfOk result (λ joins. AreJoinsOf flat.now joins) }
     ensures net { IfOk result (λ joins. joins.net ≡ net) }
+    ensures given { IfOk result (λ joins. joins.given ≡ [] ⊎ kept ≡ Some joins) }
 {
     if let Some(joins) = kept {
         if joins.net() == net {

@@ -7,9 +7,9 @@
 //! its own shapes, and kept while it gets wires (`NetJoins` of `leg_wire`); what is open is read from a table (`SlotAccess`
 //! of `leg_route_grid`). Neither is made anew for a walk, nor are the slots of the joined part, to which those of newly
 //! joined pieces are added, and their hulls. The slots of the other pieces are kept too, each with how many steps are left to
-//! it at least from the joined part; they are looked for again only where a search nearby finds no walk. What is made for each
-//! walk is the marks of the pieces that are joined and the list of the ends that are left; so a net takes time by the square of
-//! its pins, with a small share of it.
+//! it at least from the joined part; they are looked for again only where a search nearby finds no walk. Which pieces have come to
+//! the joined part is told without a look at the others. What is made for each walk is the list of the ends that are left; so a net
+//! takes time by the square of its pins, with a small share of it.
 //!
 //! When no net is open, the design gets all wires at once (`Design::with_all_wires`), which is the last allocation; so each
 //! refusal returns the design as it was. That the result is legal is a theorem about the run: clean wires leave a clean

@@ -1,20 +1,16 @@
 //! The turn of a net: it gets wires until it isn't open any more.
 
-ghost use Rattle.std.specs.Prelude.{◌≡◌, ◌<◌, ◌≤◌, ◌↔◌, ℕ, IsTrue, false, All, length, IfOk, IfErr, OnOk};
-ghost use Rattle.leg_design_records.specs.Records.{DesignModel};
+ghost use Rattle.std.specs.Prelude.{◌≡◌, ◌<◌, false, All, length, IfOk, IfErr, OnOk};
 ghost use Rattle.leg_design_records.specs.WellFormedNets.{IsWire};
 ghost use Rattle.leg_flat.specs.declared.fault.FlatFault.TheVariants.{TooMany};
 ghost use Rattle.leg_flat.specs.Limits.{IsWithinLimits};
-ghost use Rattle.leg_rules.specs.Metal.Flat.{FlatModel};
 ghost use Rattle.leg_rules.specs.Route.MoreWires.{HasMoreWires};
 ghost use Rattle.leg_rules.specs.Joins.Violations.{IsOpenNet};
-ghost use Rattle.leg_wire.specs.PieceMarks.{AreMarks};
-ghost use Rattle.leg_rules.specs.Joins.Touch.{piece_count, AreJoined};
 ghost use Rattle.leg_route.specs.Steps.NetRun.{NetRun};
 ghost use Rattle.leg_route.specs.Steps.Stops.{PassesLimit, IsNetStop};
 
 use crate::fault::RouteFault;
-use crate::ground::Ground;
+use crate::ground::{Ground, NextStep};
 use leg_design_records::Wire;
 use leg_flat::FlatFault;
 use std::alloc::Allocator;
@@ -41,14 +37,6 @@ fn add_wires<A: Allocator + Copy, G: Ground<A>>(
     Ok(())
 }
 
-/// Whether one of the pieces of a net isn't joined to its first one: whether the net is open.
-fn is_one_apart(joined: &[bool]) -> bool
-    ensures { (design : DesignModel) (flat : FlatModel) (net : ℕ) → net < length design.nets
-        → AreMarks (AreJoined flat net 0) (piece_count flat net) joined.now → IsTrue result ↔ IsOpenNet design flat net }
-{
-    joined.contains(&false)
-}
-
 /// Routes the net: it gets the wires of one walk after another until it isn't open. They are handed out, in their order.
 pub(crate) fn route_net<A: Allocator + Copy, G: Ground<A>>(
     alloc: A,
@@ -67,14 +55,14 @@ pub(crate) fn route_net<A: Allocator + Copy, G: Ground<A>>(
     ensures same_design { G.design ground.new ≡ G.design ground.old }
 {
     let mut wires = Vec::new(alloc);
-    let mut joined = ground.joined(alloc, net)?;
-    'walks: while is_one_apart(&joined) {
-        let Some(more) = ground.next_wires(alloc, net, &joined)? else {
-            return Err(RouteFault::Unroutable(net));
-        };
-        add_wires(ground, net, &more)?;
-        wires.extend_from_slice(&more)?;
-        joined = ground.joined(alloc, net)?;
+    'walks: loop {
+        match ground.next(alloc, net)? {
+            NextStep::Joined => return Ok(wires),
+            NextStep::NoWalk => return Err(RouteFault::Unroutable(net)),
+            NextStep::Wires(more) => {
+                add_wires(ground, net, &more)?;
+                wires.extend_from_slice(&more)?;
+            }
+        }
     }
-    Ok(wires)
 }

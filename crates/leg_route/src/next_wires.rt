@@ -195,22 +195,21 @@ fn next_walk<A: Allocator + Copy>(
     slots: &[SlotAccess],
     net: u32,
     numbers: &[u32],
-    joined: &[bool],
     part: &mut JoinedPart<A>,
     marks: &mut [Mark],
     touched: &mut Vec<u32, A>,
 ) -> Result<Option<Vec<u32, A>>, AllocError>
     requires told { IsAccessTable grid.now flat.now slots.now }
     requires numbers { AreNumbersOf flat.now.shapes net numbers.now }
-    requires joined { AreMarks (AreJoined flat.now net 0) (piece_count flat.now net) joined.now }
-    requires part { IsPartOf grid.now flat.now net joined.now numbers.now
+    requires joined { AreMarks (AreJoined flat.now net 0) (piece_count flat.now net) part.old.joined.items }
+    requires part { IsPartOf grid.now flat.now net part.old.joined.items numbers.now
         part.old.slots.boxes.items part.old.slots.slots.items part.old.hulls.items part.old.ends.items }
     requires count { length marks.old ≡ slot_total grid.now }
     requires unseen { AreUnseen marks.old }
     requires untouched { touched.old.items ≡ [] }
     ensures answer { IfOk result (λ walk. IsNextAnswerAt grid.now flat.now net (option_map (λ numbers. numbers.items) walk)) }
     ensures within { IfOk result (λ walk. IfSome walk (λ numbers. All (λ n. n < slot_total grid.now) numbers.items)) }
-    ensures part { OnOk result (IsPartOf grid.now flat.now net joined.now numbers.now
+    ensures part { OnOk result (IsPartOf grid.now flat.now net part.new.joined.items numbers.now
         part.new.slots.boxes.items part.new.slots.slots.items part.new.hulls.items part.new.ends.items) }
     ensures same_net { part.new.net ≡ part.old.net }
     ensures same_joined { part.new.joined.items ≡ part.old.joined.items }
@@ -240,7 +239,7 @@ fn next_walk<A: Allocator + Copy>(
         return Ok(None);
     }
     let shapes = flat.shapes();
-    let ends = marked_slots(alloc, grid, shapes, numbers, joined, false)?;
+    let ends = marked_slots(alloc, grid, shapes, numbers, &part.joined, false)?;
     let walk = walk_further(
         alloc,
         grid,
@@ -258,9 +257,8 @@ fn next_walk<A: Allocator + Copy>(
 }
 
 /// The wires of a shortest open walk from the joined part of the net to the rest, or `None` where there is no such walk. `slots`
-/// has for each slot of the grid what is open in the flat, `numbers` are those of the net's shapes, and `joined` has for each of its
-/// pieces whether it is joined to the first one, and `part` is what is kept of those that are and of the others, for which is noted
-/// what is found out of them. `marks` has one for each slot. `touched` is room to work in. Of several such walks one is taken as
+/// has for each slot of the grid what is open in the flat, `numbers` are those of the net's shapes, and `part` is what is kept of its
+/// joined pieces and of the others, for which is noted what is found out of them. `marks` has one for each slot. `touched` is room to work in. Of several such walks one is taken as
 /// `shortest` of `leg_route_search` states.
 ///
 /// It fails only when out of memory.
@@ -272,7 +270,6 @@ pub(crate) fn next_wires<A: Allocator + Copy>(
     slots: &[SlotAccess],
     net: u32,
     numbers: &[u32],
-    joined: &[bool],
     part: &mut JoinedPart<A>,
     marks: &mut [Mark],
     touched: &mut Vec<u32, A>,
@@ -281,14 +278,14 @@ pub(crate) fn next_wires<A: Allocator + Copy>(
     requires told { IsAccessTable grid.now flat.now slots.now }
     requires in_range { net < length flat.now.pieces }
     requires numbers { AreNumbersOf flat.now.shapes net numbers.now }
-    requires joined { AreMarks (AreJoined flat.now net 0) (piece_count flat.now net) joined.now }
-    requires part { IsPartOf grid.now flat.now net joined.now numbers.now
+    requires joined { AreMarks (AreJoined flat.now net 0) (piece_count flat.now net) part.old.joined.items }
+    requires part { IsPartOf grid.now flat.now net part.old.joined.items numbers.now
         part.old.slots.boxes.items part.old.slots.slots.items part.old.hulls.items part.old.ends.items }
     requires count { length marks.old ≡ slot_total grid.now }
     requires unseen { AreUnseen marks.old }
     requires untouched { touched.old.items ≡ [] }
     ensures answer { IfOk result (λ answer. IsNextAnswer design.now flat.now net (option_map (λ wires. wires.items) answer)) }
-    ensures part { OnOk result (IsPartOf grid.now flat.now net joined.now numbers.now
+    ensures part { OnOk result (IsPartOf grid.now flat.now net part.new.joined.items numbers.now
         part.new.slots.boxes.items part.new.slots.slots.items part.new.hulls.items part.new.ends.items) }
     ensures same_net { part.new.net ≡ part.old.net }
     ensures same_joined { part.new.joined.items ≡ part.old.joined.items }
@@ -296,9 +293,7 @@ pub(crate) fn next_wires<A: Allocator + Copy>(
     ensures unseen { AreUnseen marks.new }
     ensures untouched { touched.new.items ≡ [] }
 {
-    let found = next_walk(
-        alloc, grid, flat, slots, net, numbers, joined, part, marks, touched,
-    )?;
+    let found = next_walk(alloc, grid, flat, slots, net, numbers, part, marks, touched)?;
     grid_is_sound(grid);
     nodes_have_numbers();
     numbers_walk_as_nodes();

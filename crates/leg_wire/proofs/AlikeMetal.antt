@@ -1,11 +1,12 @@
 -- Kinds of metal, and the shapes of each.
-use Rattle.std.proofs.Common.{◌≡◌, ℕ, ◌+◌, ◌-◌, ◌<◌, ◌≤◌, ◌↔◌, ◌&&◌, ℤ, List, [], ◌∷◌, ◌++◌, length, get_or, set, All, Contains, Some, slice_get, inl, inr, refl, sym, ap, ◌∙◌, arith, length-append}
+use Rattle.std.proofs.Common.{◌≡◌, ◌≢◌, ℕ, ◌+◌, ◌-◌, ◌<◌, ◌≤◌, ◌↔◌, ◌&&◌, ℤ, List, [], ◌∷◌, ◌++◌, length, get_or, set, All, AllPairs, Contains, Some, slice_get, inl, inr, refl, sym, ap, ◌∙◌, arith, length-append}
 use Rattle.std.specs.Bool.{Decides}
 use Rattle.std.specs.Ordering.{int_eq}
 use Rattle.std.proofs.lemmas.Bool.{cases_eq, cases_lt}
 use Rattle.std.proofs.lemmas.Bool.Decides.{Decides-and, Decides-int_eq}
 use Rattle.std.proofs.lemmas.List.{length-set, get_or-set_same, get_or-set_other, get_or_append_left, get_or-append_right}
-use Rattle.std.proofs.lemmas.List.Elements.{All-append, All-push, All-weaker, Contains-append_left, Contains-push, Contains-push_cases}
+use Rattle.std.proofs.lemmas.List.Elements.{All-append, All-push, All-weaker, Contains-append_left, Contains-get_or, Contains-push, Contains-push_cases}
+use Rattle.std.proofs.lemmas.List.Quantifiers.{all_pairs_push}
 use Rattle.std.proofs.lemmas.Option.{same_Some, slice_get_within, slice_get_read, get_or_from_slice_get}
 use Rattle.leg_geom.specs.Plane.{RectModel}
 use Rattle.leg_wire.specs.Steps.Kinds.{IsOfKind, AreKinds, AreMembers}
@@ -98,6 +99,7 @@ module _ {Metal : Type 0} (Alike : Metal → Metal → Type 0) where
 pub record AreMembersOfFirst (numbers : List ℕ) (end count : ℕ) (members : List (List ℕ)) : Type 0 where
   pub many : length members ≡ count
   pub each : (kind k : ℕ) → kind < count → Contains (get_or members kind []) k ↔ ((k < end) × (slice_get numbers k ≡ Some kind))
+  pub once : (kind : ℕ) → AllPairs (λ j k. j ≢ k) (get_or members kind [])
 
 -- one more
 pub members_more : (numbers : List ℕ) (i count : ℕ) (members : List (List ℕ)) → AreMembersOfFirst numbers i count members
@@ -112,6 +114,18 @@ members_more numbers i count members done own at low = record {
     | inr other ↦
         let there : get_or (set members own longer) kind [] ≡ get_or members kind [] = get_or-set_other members own kind longer [] other in
         rw there (other_member kind k below other)
+  ];
+  once = λ kind. elim (cases_eq kind own) [
+    | inl same ↦
+        let here : get_or (set members own longer) own [] ≡ longer = get_or-set_same members own longer [] (omega (arith, done.many, low)) in
+        rw (same, here)
+        (all_pairs_push (λ j k. j ≢ k) (get_or members own []) i (done.once own)
+        (λ k d within. λ same_number.
+        let old : get_or (get_or members own []) k d < i = ((done.each own _ low).0 (Contains-get_or (get_or members own []) k d within)).0 in
+        omega (arith, old, same_number)))
+    | inr other ↦
+        let there : get_or (set members own longer) kind [] ≡ get_or members kind [] = get_or-set_other members own kind longer [] other in
+        rw there (done.once kind)
   ];
 }
   where
@@ -151,4 +165,5 @@ members_all numbers end count members all done = record {
     λ has. ((done.each kind k below).0 has).1,
     λ is. (done.each kind k below).1 (omega (arith, slice_get_within numbers k kind is, all), is),
   );
+  once = done.once;
 }

@@ -9,6 +9,7 @@ mod PairsInOrder
 mod SetRoots
 mod WayUp
 mod SetsUnited
+mod MergedLists
 -- Metal that may lie somewhere
 mod CleanMetal
 mod AccessBeside
@@ -25,5 +26,7 @@ mod SetsTaken
 mod SomeJoined
 mod StandIns
 mod NewPairs
+mod PieceOrder
+mod JoinedList
 mod OnePieceMore
 mod OpenPieces

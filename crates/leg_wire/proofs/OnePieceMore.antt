@@ -1,5 +1,5 @@
 -- One piece more of a net: its metal is taken with that of the others, and then all that are joined are together.
-use Rattle.std.proofs.Common.{◌≡◌, ◌≢◌, ℕ, ◌+◌, ◌<◌, ℤ, List, [], ◌∷◌, ◌++◌, length, All, Some, None, slice_get, Contains, inl, inr, refl, sym, ap, ◌∙◌, arith}
+use Rattle.std.proofs.Common.{◌≡◌, ◌≢◌, ℕ, ◌+◌, ◌<◌, ℤ, List, [], ◌∷◌, ◌++◌, length, get_or, All, Some, None, slice_get, Contains, inl, inr, refl, sym, ap, ◌∙◌, arith}
 use Rattle.std.proofs.lemmas.Bool.{cases_eq}
 use Rattle.std.proofs.lemmas.List.{length-append, get_or_append_left, get_or-append-add}
 use Rattle.std.proofs.lemmas.List.Elements.{All-nil, All-cons, All-contains, All-append, All-weaker, Contains-append_left, Contains-append_cases}
@@ -13,7 +13,7 @@ use Rattle.leg_wire.specs.declared.piece_shape.PieceShape.{PieceShape}
 use Rattle.leg_rules.specs.Joins.Touch.{Joined}
 use Rattle.leg_rules.specs.Joins.Touch.Joined.{itself, through}
 use Rattle.leg_wire.specs.Steps.MeetingRule.{DoMeet, DoMeet-symmetric}
-use Rattle.leg_wire.specs.Steps.NumberSets.{AreTogether}
+use Rattle.leg_wire.specs.Steps.NumberSets.{AreTogether, AreGroups, HasGrown}
 use Rattle.leg_wire.specs.Steps.PieceMetal.{LiesAmong, TouchAmong}
 use Rattle.leg_wire.specs.Steps.SharedPoints.{first_seen}
 use Rattle.leg_wire.specs.Steps.JoinSteps.{AreSetsOf, HavePlaces, AreKept}
@@ -24,6 +24,7 @@ use Rattle.leg_wire.proofs.PiecesTouch.{IsDone, IsDone-back, AreSoFar, AreDone, 
 use Rattle.leg_wire.proofs.SetsTaken.{taken_so_far, taken_keeps}
 use Rattle.leg_wire.proofs.SomeJoined.{joined_more}
 use Rattle.leg_wire.proofs.NewPairs.{all_rects, rects_stay}
+use Rattle.leg_wire.proofs.PieceOrder.{in_order_more}
 
 -- shapes as metal of a piece are of that piece
 pub of_piece : (piece : ℕ) (shapes : List Shape) → All (λ (shape : PieceShape). shape.piece ≡ piece) (metal_of_piece piece shapes)
@@ -150,17 +151,24 @@ module _ (metal new : List PieceShape) (sets grown : List ℕ) (are : AreSetsOf 
     }
 
 -- what is kept is right with the new piece, whose shapes these are
-pub kept_more : (metal : List PieceShape) (shapes : List Shape) (index : List RectModel) (sets grown sets_after : List ℕ) → AreSetsOf metal (length sets) sets → HavePlaces sets metal
-    → index ≡ first_rects (length metal) metal → HasOneNumberMore sets grown → JoinsNew (metal ++ metal_of_piece (length sets) shapes) (length index) grown sets_after → length sets_after ≡ length grown
-    → IsKeptSet (metal ++ metal_of_piece (length sets) shapes) index sets_after
-kept_more metal shapes index sets grown sets_after are places index_is more joins same =
+pub kept_more : (metal : List PieceShape) (shapes : List Shape) (index before : List RectModel) (sets grown sets_after : List ℕ) (lists lists_after : List (List ℕ)) (given : ℕ)
+    → IsKeptSet metal before sets lists given → index ≡ first_rects (length metal) metal → HasOneNumberMore sets grown
+    → JoinsNew (metal ++ metal_of_piece (length sets) shapes) (length index) grown sets_after → length sets_after ≡ length grown
+    → AreGroups sets_after lists_after → HasGrown (get_or lists 0 []) (get_or lists_after 0 [])
+    → IsKeptSet (metal ++ metal_of_piece (length sets) shapes) index sets_after lists_after given
+kept_more metal shapes index before sets grown sets_after lists lists_after given kept index_is more joins same groups longer =
     let new = metal_of_piece (length sets) shapes in
+    let new_is = of_piece (length sets) shapes in
     let count : length index ≡ length metal = ap length index_is ∙ all_rects metal in
-    let places_then : HavePlaces grown (metal ++ new) = places_more metal new sets grown places (of_piece (length sets) shapes) more in
+    let places_then : HavePlaces grown (metal ++ new) = places_more metal new sets grown kept.places new_is more in
     let all = length-append metal new in
+    let size : length (get_or lists_after 0 []) ≡ length (get_or lists 0 []) + length longer.more = ap length longer.is ∙ length-append (get_or lists 0 []) longer.more in
     record {
-      sets_are = sets_with_new metal new sets grown are places (of_piece (length sets) shapes) more sets_after (rw count at joins) same;
+      sets_are = sets_with_new metal new sets grown kept.sets_are kept.places new_is more sets_after (rw count at joins) same;
       places = rw same places_then;
       within = omega (arith, count, all);
       first = rw count (index_is ∙ sym (rects_stay metal new (length metal) (omega arith)));
+      in_order = in_order_more metal new (length sets) kept.in_order kept.places new_is;
+      listed = groups;
+      few = omega (arith, kept.few, size);
     }

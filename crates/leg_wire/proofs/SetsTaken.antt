@@ -1,5 +1,5 @@
 -- What a sink of pairs is after it took them all.
-use Rattle.std.proofs.Common.{◌≡◌, ℕ, ◌<◌, ℤ, List, [], ◌∷◌, ◌++◌, length, get_or, None, All, Contains, refl, sym, ◌∙◌, arith}
+use Rattle.std.proofs.Common.{◌≡◌, ℕ, ◌<◌, ℤ, Bool, true, List, [], ◌∷◌, ◌++◌, length, get_or, None, All, Contains, refl, sym, ◌∙◌, arith}
 use Rattle.std.specs.List.{range_with_len}
 use Rattle.std.proofs.lemmas.List.Elements.{All-contains, Contains-append_left, Contains-push}
 use Rattle.std.proofs.lemmas.Option.{same_Some, slice_get_read}
@@ -10,7 +10,10 @@ use Rattle.leg_wire.specs.declared.corner.Beside.{Beside}
 use Rattle.leg_wire.specs.declared.piece_shape.PieceShape.{PieceShape}
 use Rattle.leg_wire.specs.Steps.MeetingRule.{DoMeet}
 use Rattle.leg_wire.specs.Steps.SharedPoints.{first_seen}
-use Rattle.leg_wire.specs.Steps.JoinSteps.{JoinState, IsJoinStep, TakesPair, AreSetsOf, AreKept}
+use Rattle.leg_wire.specs.Steps.JoinSteps.{JoinState, AnswersJoin, IsJoinStep, TakesPair, AreSetsOf, AreKept}
+use Rattle.leg_wire.specs.Steps.NumberSets.{AreUnited}
+use Rattle.leg_wire.specs.Steps.JoinSteps.AnswersJoin.{were_together as joined_before, were_apart}
+use Rattle.std.proofs.lemmas.Bool.{true≢false}
 use Rattle.leg_wire.specs.Steps.JoinSteps.IsJoinStep.{were_together, are_united, stay_apart}
 use Rattle.leg_wire.proofs.PiecesTouch.{AreSoFar, so_far_more, joined_together}
 use Rattle.leg_wire.proofs.Touches.{so_far_none}
@@ -27,6 +30,12 @@ take_step shapes sets sets_after seen seen_after pair a b a_is b_is a_in b_in st
       let t_is : t ≡ b = same_Some t b (sym t_at ∙ slice_get_read shapes _ pair.1 b refl b_in b_is) in
       rw (s_is, t_is) step;
 }
+
+-- two rectangles join their pieces, which are united
+pub join_step : (a b : PieceShape) (sets sets_after : List ℕ) (seen seen_after : List (Beside × (ℤ × ℤ))) (join : Bool) → join ≡ true → AnswersJoin a b sets seen seen_after join
+    → AreUnited a.piece b.piece sets sets_after → IsJoinStep a b sets sets_after seen seen_after
+join_step a b sets sets_after seen seen_after join told (joined_before apart together same) united = absurd (true≢false (sym told ∙ apart))
+join_step a b sets sets_after seen seen_after join told (were_apart apart touch) united = are_united (rw told at touch) united
 
 -- what holds at first, and of one more pair where it held before, holds in the end
 module _ {Sink : Type 0} (Takes : Sink → ℕ × ℕ → Sink → Type 0) (before : Sink) (P : List (ℕ × ℕ) → Sink → Type 0)

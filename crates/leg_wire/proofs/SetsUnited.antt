@@ -1,10 +1,10 @@
 -- Two sets are made one, and which numbers are with the first.
-use Rattle.std.proofs.Common.{◌≡◌, ℕ, ◌+◌, ◌<◌, ◌≤◌, min, max, Bool, true, false, List, [], ◌∷◌, ◌++◌, length, map, get_or, set, nat_eq, Option, None, Some, option_map, slice_get, ◌⊎◌, inl, inr, refl, sym, ap, ◌∙◌, arith}
+use Rattle.std.proofs.Common.{◌≡◌, ℕ, ◌+◌, ◌<◌, ◌≤◌, min, max, Bool, true, false, All, List, [], ◌∷◌, ◌++◌, length, map, get_or, set, nat_eq, Option, None, Some, option_map, slice_get, ◌⊎◌, inl, inr, refl, sym, ap, ◌∙◌, arith}
 use Rattle.std.proofs.lemmas.Bool.{cases_eq, cases_lt}
 use Rattle.std.proofs.lemmas.Bool.Decides.{nat_tests}
-use Rattle.std.proofs.lemmas.List.{length-map, length_push, get_or_append_left, get_or_at}
+use Rattle.std.proofs.lemmas.List.{length-map, length_push, get_or_append_left, get_or_at, get_or_default}
 use Rattle.std.proofs.lemmas.Option.{none-some, same_Some, slice_get-map, slice_get-get_or, slice_get_within, slice_get_read, get_or_from_slice_get}
-use Rattle.leg_wire.specs.Steps.NumberSets.{AreTogether, AreUnited, AreParents, roots_of}
+use Rattle.leg_wire.specs.Steps.NumberSets.{AreTogether, AreUnited, IsMerged, AreParents, roots_of}
 use Rattle.leg_wire.specs.Steps.Joins.{HasOneNumberMore}
 use Rattle.leg_wire.specs.PieceMarks.{AreMarks, AreFirsts}
 use Rattle.leg_wire.proofs.SetRoots.{length-roots_of, rooted, root_within, root_own, merged, merged-high, merged-other, forest_linked, roots_linked}
@@ -81,6 +81,14 @@ module _ (sets : List ℕ) (low high a b : ℕ) (of_a : slice_get sets a ≡ Som
         joined_cases x y of_x.0 of_y.0 of_x.1 of_y.1 (of_x.2 ∙ sym of_y.2);
   }
 
+-- the sets with these least numbers are made one
+IsMerged-map : (sets : List ℕ) (low high : ℕ) → IsMerged low high sets (map (merged low high) sets)
+IsMerged-map sets low high = record {
+  count = length-map sets (merged low high);
+  moved = λ k at. at_map (merged low high) sets k high at ∙ ap Some (merged-high low high high refl);
+  stay = λ k least other at. at_map (merged low high) sets k least at ∙ ap Some (merged-other low high least other);
+}
+
 -- the order of the two doesn't matter
 AreUnited-back : (a b : ℕ) (before after : List ℕ) → AreUnited a b before after → AreUnited b a before after
 AreUnited-back a b before after h = record {
@@ -134,6 +142,34 @@ module _ (parents : List ℕ) (forest : AreParents parents) where
             rw (high, low) (other.0, AreUnited-back b a (roots_of parents) (roots_of (set parents first second)) other.1)
       ]
 
+  -- and the lower one is the least of all then
+  linked_is_merged : (a b low high : ℕ) → slice_get (roots_of parents) a ≡ Some low → slice_get (roots_of parents) b ≡ Some high → low ≤ high
+      → IsMerged low high (roots_of parents) (roots_of (set parents high low))
+  linked_is_merged a b low high of_a of_b order =
+      let low_root = root_known a low of_a in
+      let high_root = root_known b high of_b in
+      rw (roots_linked parents forest low high order high_root.0 low_root.1 high_root.1) (IsMerged-map (roots_of parents) low high)
+
+  merged_in_order : (a b first second : ℕ) → slice_get (roots_of parents) a ≡ Some first → slice_get (roots_of parents) b ≡ Some second
+      → IsMerged (min first second) (max first second) (roots_of parents) (roots_of (set parents (max first second) (min first second)))
+  merged_in_order a b first second of_a of_b =
+      elim (cases_lt first second) [
+        | inl less ↦
+            let high : max first second ≡ second = omega (arith, less) in
+            let low : min first second ≡ first = omega (arith, less) in
+            rw (high, low) (linked_is_merged a b first second of_a of_b (omega (arith, less)))
+        | inr more ↦
+            let high : max first second ≡ first = omega (arith, more) in
+            let low : min first second ≡ second = omega (arith, more) in
+            rw (high, low) (linked_is_merged b a second first of_b of_a more)
+      ]
+
+  pub united_merged : (a b first second one other : ℕ) → slice_get (roots_of parents) a ≡ Some first → slice_get (roots_of parents) b ≡ Some second
+      → slice_get (roots_of parents) a ≡ Some one → slice_get (roots_of parents) b ≡ Some other
+      → IsMerged (min one other) (max one other) (roots_of parents) (roots_of (set parents (max first second) (min first second)))
+  united_merged a b first second one other of_a of_b is_one is_other =
+      rw (same_Some one first (sym is_one ∙ of_a), same_Some other second (sym is_other ∙ of_b)) (merged_in_order a b first second of_a of_b)
+
   pub root_bound : (a b first second : ℕ) → slice_get (roots_of parents) a ≡ Some first → slice_get (roots_of parents) b ≡ Some second → max first second < length parents
   root_bound a b first second of_a of_b = omega (arith, (root_known a first of_a).0, (root_known b second of_b).0)
 
@@ -178,6 +214,14 @@ module _ (parents : List ℕ) (forest : AreParents parents) where
               omega (arith, same, root, low);
         };
   }
+
+  -- no least number lies behind the numbers
+  pub roots_low : All (λ least. least < length (roots_of parents)) (roots_of parents)
+  roots_low k least within =
+      let many : length (roots_of parents) ≡ length parents = length-roots_of parents in
+      let low : get_or (roots_of parents) k least ≤ k =
+      rw (get_or_default (roots_of parents) k least 0 within) (root_within parents forest k (omega (arith, within, many))) in
+      omega (arith, low, within)
 
   -- all numbers
   pub marks_done : (count : ℕ) (marks : List Bool) → count ≡ length parents → AreMarksSoFar parents count marks → AreMarks (AreTogether (roots_of parents) 0) (length (roots_of parents)) marks

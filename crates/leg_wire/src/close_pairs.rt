@@ -3,11 +3,11 @@
 ghost use Rattle.std.specs.Prelude.{◌≡◌, ◌<◌, ◌^◌, ◌++◌, ◌↔◌, ℕ, [], length, map, All, AllPairs, Contains, IfOk, OnOk};
 ghost use Rattle.leg_sweep.specs.Pairs.{Before, ArePairs};
 ghost use Rattle.leg_sweep.specs.Steps.Sweep.{ordered};
-ghost use Rattle.leg_wire.specs.Steps.Kinds.{AreMembers, pairs_between, pairs_among};
+ghost use Rattle.leg_wire.specs.Steps.Kinds.{pairs_between, pairs_among};
 ghost use Rattle.leg_wire.specs.Steps.TooCloseRule.{AreClose};
 
 use crate::kinds::{are_many_alike, kinds_of};
-use crate::net_shapes::{add_number, empty_lists};
+use crate::members::members_of;
 use crate::too_close::TooClose;
 use leg_flat::Shape;
 use leg_lib_records::Items;
@@ -36,23 +36,6 @@ pub(crate) fn close_pairs<A: Allocator + Copy>(
     push_among(&members, &close, &mut found)?;
     put_in_order(&mut found);
     Ok(found)
-}
-
-/// For each of this many kinds the numbers of its shapes, whose kinds these are.
-fn members_of<A: Allocator + Copy>(
-    alloc: A,
-    numbers: &[u32],
-    count: u32,
-) -> Result<Vec<Items<u32, A>, A>, AllocError>
-    requires few { length numbers.now < 2 ^ 32 }
-    requires within { All (λ number. number < count) numbers.now }
-    ensures { IfOk result (λ members. AreMembers numbers.now count members.items) }
-{
-    let mut members = empty_lists(alloc, count)?;
-    for (shape, kind) in numbers.iter().enumerate() {
-        add_number(&mut members, *kind, shape as u32)?;
-    }
-    Ok(members)
 }
 
 /// Adds the pairs of shapes of pairs of kinds, which have these members.

@@ -2,7 +2,7 @@
 
 ghost use Rattle.std.specs.Prelude.{◌≡◌, ◌<◌, ◌^◌, IsTrue, length, All, Contains, IfOk, OnOk};
 ghost use Rattle.leg_wire.specs.Joins.{ArePieceShapes};
-ghost use Rattle.leg_wire.specs.Steps.JoinSteps.{HavePlaces, AnswersTouch, IsJoinStep, TakesPair, IsTouchStep, AreSomeJoined, AreSetsOf, AreJoinedSets, AreKept, AreTogetherAlike};
+ghost use Rattle.leg_wire.specs.Steps.JoinSteps.{HavePlaces, AnswersTouch, AnswersJoin, IsJoinStep, TakesPair, IsTouchStep, AreSomeJoined, AreSetsOf, AreJoinedSets, AreKept, AreTogetherAlike};
 
 use crate::corner::Corners;
 use crate::kinds::{are_many_alike, kinds_of};
@@ -45,9 +45,8 @@ impl<A: Allocator + Copy> PairSink for Joining<'_, A> {
     }
 }
 
-/// Makes one set of the pieces of two rectangles, where these make them touch. Nothing is asked where the pieces are
-/// together already.
-pub(crate) fn join<A: Allocator + Copy>(
+/// Makes one set of the pieces of two rectangles, where these make them touch.
+fn join<A: Allocator + Copy>(
     sets: &mut Sets<A>,
     corners: &mut Corners<A>,
     a: &PieceShape,
@@ -58,13 +57,28 @@ pub(crate) fn join<A: Allocator + Copy>(
     ensures step { OnOk result (IsJoinStep a.now b.now sets.old sets.new corners.old corners.new) }
     ensures count { length sets.new ≡ length sets.old }
 {
-    if sets.are_together(a.piece, b.piece) {
-        return Ok(());
-    }
-    if do_touch(corners, a, b)? {
+    if are_newly_joined(sets, corners, a, b)? {
         sets.unite(a.piece, b.piece);
     }
     Ok(())
+}
+
+/// Whether the rectangles make their pieces touch, and these weren't together. Nothing is asked where they were.
+pub(crate) fn are_newly_joined<A: Allocator + Copy>(
+    sets: &mut Sets<A>,
+    corners: &mut Corners<A>,
+    a: &PieceShape,
+    b: &PieceShape,
+) -> Result<bool, AllocError>
+    requires a { a.now.piece < length sets.old }
+    requires b { b.now.piece < length sets.old }
+    ensures answer { IfOk result (λ join. AnswersJoin a.now b.now sets.old corners.old corners.new join) }
+    ensures same { sets.new ≡ sets.old }
+{
+    if sets.are_together(a.piece, b.piece) {
+        return Ok(false);
+    }
+    do_touch(corners, a, b)
 }
 
 /// Whether the rectangles make their pieces touch: they share two points, or a single one in addition to which another

@@ -23,7 +23,8 @@
 //! are equal; a table of digests only says which are compared, so that equal shapes may be missed, which costs time alone.
 //!
 //! What is joined is kept while a net gets wires (`NetJoins`): a wire is joined to the pieces that its shapes touch, which
-//! an index finds.
+//! an index finds. The members of each set are kept in a list, and where two sets come together the fewer members are put to the
+//! more (`Groups`); so the pieces that have come to the first one are known without a look at the others.
 #![tactic(auto)]
 
 mod access;
@@ -31,11 +32,13 @@ mod clean_metal;
 mod close_pairs;
 mod comparable;
 mod corner;
+mod groups;
 mod join;
 mod joining;
 mod kinds;
 pub mod laws;
 mod meeting;
+mod members;
 mod net_joins;
 mod net_shapes;
 mod open_fault;
@@ -52,4 +55,5 @@ pub use join::{groups_among, joined, joined_among};
 pub use net_joins::NetJoins;
 pub use net_shapes::numbers_by_net;
 pub use open_fault::open_faults;
+pub use piece_shape::PieceShape;
 pub use spacing::spacing_faults;

@@ -1,6 +1,7 @@
 //! The metal of the pieces of a net.
 
-ghost use Rattle.std.specs.Prelude.{◌≡◌, ◌↔◌, ◌<◌, ◌^◌, Some, length, IfOk};
+ghost use Rattle.std.specs.Prelude.{◌≡◌, ◌↔◌, ◌<◌, ◌^◌, Some, length, Contains, IfOk};
+ghost use Rattle.std.specs.List.Sorted.{IsNonDecreasingBy, IsPermutation};
 ghost use Rattle.leg_wire.specs.NetShapes.{AreNumbersOf};
 ghost use Rattle.leg_wire.specs.Joins.{IsWholeNet, ArePieceShapes};
 ghost use Rattle.leg_wire.specs.Steps.PieceMetal.{SaysShape};
@@ -11,11 +12,11 @@ use std::alloc::{AllocError, Allocator};
 
 /// A rectangle of metal of a piece of a net.
 #[derive(Clone, Copy)]
-pub(crate) struct PieceShape {
+pub struct PieceShape {
     /// Which piece of the net it is.
-    pub(crate) piece: u32,
-    pub(crate) layer: usize,
-    pub(crate) rect: Rect,
+    pub piece: u32,
+    pub layer: usize,
+    pub rect: Rect,
 }
 
 /// The metal of the pieces of the net, whose shapes have these numbers.
@@ -56,4 +57,23 @@ fn piece_shape(count: u32, shape: &Shape) -> Option<PieceShape>
         layer: shape.layer,
         rect: shape.rect,
     })
+}
+
+/// Puts the metal in the order of its pieces.
+pub(crate) fn sort_by_piece<A: Allocator>(metal: &mut Vec<PieceShape, A>)
+    ensures same { IsPermutation metal.old.items metal.new.items }
+    ensures in_order { IsNonDecreasingBy (λ (shape : PieceShape). shape.piece) metal.new.items }
+{
+    metal.sort_unstable_by_key(|shape| shape.piece);
+}
+
+/// The metal of the piece, of metal that is in the order of its pieces.
+pub(crate) fn metal_of(metal: &[PieceShape], piece: u32) -> &[PieceShape]
+    requires { IsNonDecreasingBy (λ (shape : PieceShape). shape.piece) metal.now }
+    ensures { (shape : PieceShape) → Contains result.now shape ↔ (Contains metal.now shape × (shape.piece ≡ piece)) }
+{
+    let first = metal.partition_point(|shape| shape.piece < piece);
+    let end = metal.partition_point(|shape| shape.piece <= piece);
+    prove!(first <= end);
+    &metal[first..end]
 }

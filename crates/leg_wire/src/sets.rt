@@ -1,10 +1,10 @@
 //! Disjoint sets of numbers, of which two at a time are made one.
 
-ghost use Rattle.std.specs.Prelude.{◌≡◌, ◌↔◌, ◌<◌, ◌^◌, IsTrue, length, Some, IfOk, OnOk, slice_get};
+ghost use Rattle.std.specs.Prelude.{◌≡◌, ◌↔◌, ◌<◌, ◌^◌, ◌++◌, ◌∷◌, [], ℕ, All, min, max, IsTrue, length, Some, IfOk, OnOk, slice_get};
 ghost use Rattle.std.specs.List.{range_with_len};
 ghost use Rattle.leg_wire.specs.PieceMarks.{AreMarks, AreFirsts};
 ghost use Rattle.leg_wire.specs.Steps.Joins.{HasOneNumberMore};
-ghost use Rattle.leg_wire.specs.Steps.NumberSets.{AreTogether, AreUnited, AreParents, roots_of};
+ghost use Rattle.leg_wire.specs.Steps.NumberSets.{AreTogether, AreUnited, IsMerged, AreParents, roots_of};
 
 use std::alloc::{AllocError, Allocator};
 use std::marker::Model;
@@ -50,6 +50,8 @@ impl<A: Allocator> Sets<A> {
     pub(crate) fn add(&mut self) -> Result<u32, AllocError>
         requires { length self.old < 2 ^ 32 }
         ensures number { IfOk result (λ number. number ≡ length self.old) }
+        ensures is { OnOk result (self.new ≡ self.old ++ length self.old ∷ []) }
+        ensures low { All (λ least. least < length self.old) self.old }
         ensures added { OnOk result (HasOneNumberMore self.old self.new) }
     {
         let number = self.parents.len() as u32;
@@ -71,7 +73,8 @@ impl<A: Allocator> Sets<A> {
     pub(crate) fn unite(&mut self, a: u32, b: u32)
         requires a { a < length self.old }
         requires b { b < length self.old }
-        ensures { AreUnited a b self.old self.new }
+        ensures united { AreUnited a b self.old self.new }
+        ensures merged { (one other : ℕ) → slice_get self.old a ≡ Some one → slice_get self.old b ≡ Some other → IsMerged (min one other) (max one other) self.old self.new }
     {
         let first = self.least(a);
         let second = self.least(b);
@@ -79,9 +82,10 @@ impl<A: Allocator> Sets<A> {
     }
 
     /// The least number of the number's set.
-    fn least(&mut self, number: u32) -> u32
+    pub(crate) fn least(&mut self, number: u32) -> u32
         requires { number < length self.old }
         ensures is { slice_get self.old number ≡ Some result }
+        ensures within { result < length self.old }
         ensures same { self.new ≡ self.old }
     {
         root(&mut self.parents, number)
@@ -107,7 +111,8 @@ impl<A: Allocator> Sets<A> {
 
     /// For each number the least number of its set.
     pub(crate) fn roots<B: Allocator>(&self, alloc: B) -> Result<Vec<u32, B>, AllocError>
-        ensures { IfOk result (λ roots. AreFirsts (AreTogether self.now) (length self.now) roots.items) }
+        ensures are { IfOk result (λ roots. roots.items ≡ self.now) }
+        ensures firsts { IfOk result (λ roots. AreFirsts (AreTogether self.now) (length self.now) roots.items) }
     {
         let parents = self.parents.as_slice();
         let mut roots = Vec::with_capacity(alloc, parents.len())?;

@@ -10,7 +10,7 @@ use Rattle.leg_route_search.specs.Steps.FreshMarks.{AreUnseen}
 use Rattle.leg_route_grid.specs.declared.slot_access.SlotAccess.{SlotAccess}
 use Rattle.leg_route_grid.specs.Steps.Grid.{GridModel, slot_total}
 use Rattle.leg_route_grid.specs.Steps.AccessTable.{IsAccessTable}
-use Rattle.leg_route.specs.Steps.JoinedPart.{PartModel, IsJoinedPart}
+use Rattle.leg_route.specs.Steps.JoinedPart.{PartModel, IsJoinedPart, AreGivenTo}
 
 -- for each of the first `nets` nets the numbers of its shapes
 pub record AreNumbersByNet (nets : ℕ) (flat : FlatModel) (lists : List (List ℕ)) : Type 0 where
@@ -22,7 +22,8 @@ abbrev pub HasSlotsOf : GridModel → List Shape → List SlotAccess → Type 0
 HasSlotsOf grid shapes slots = (flat : FlatModel) → flat.shapes ≡ shapes → IsAccessTable grid flat slots
 
 -- the grid is that of the design, each slot has what is open in the flat, each net of NETS has the numbers of its shapes,
--- no slot is marked, and what is kept of the joined part of a net, and of which of its pieces are joined, is right
+-- no slot is marked, and what is kept of the joined part of a net, and of which of its pieces are joined, is right; the pieces that
+-- were given are in that part
 pub record IsReadyGround (design : DesignModel) (grid : GridModel) (flat : FlatModel) (slots : List SlotAccess) (lists : List (List ℕ))
     (marks : List Mark) (touched : List ℕ) (part : PartModel) (joins : Option JoinsModel) : Type 0 where
   pub of_design : grid.design ≡ design
@@ -34,6 +35,7 @@ pub record IsReadyGround (design : DesignModel) (grid : GridModel) (flat : FlatM
   pub untouched : touched ≡ []
   pub part_is : IsJoinedPart grid flat part
   pub joins_are : IfSome joins (AreJoinsOf flat)
+  pub given_are : IfSome joins (λ kept. AreGivenTo part kept)
 
 -- what was kept is of this net, and has the piece of these shapes more
 pub record IsWithWire (joins : Option JoinsModel) (net : ℕ) (shapes : List Shape) (after : JoinsModel) : Type 0 where

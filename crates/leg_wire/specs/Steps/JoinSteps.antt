@@ -21,6 +21,11 @@ pub data AnswersTouch (a b : PieceShape) (before after : List (Beside × (ℤ ×
   share_none : touch ≡ false → (SharePoint a.rect b.rect → ⊥) → after ≡ before → AnswersTouch a b before after touch
   share_one : IsPointSeen before after a b touch → AnswersTouch a b before after touch
 
+-- Whether two rectangles join pieces that were not together, with the points that were seen before and after.
+pub data AnswersJoin (a b : PieceShape) (sets : List ℕ) (seen seen_after : List (Beside × (ℤ × ℤ))) (join : Bool) : Type 0 where
+  were_together : join ≡ false → AreTogether sets a.piece b.piece → seen_after ≡ seen → AnswersJoin a b sets seen seen_after join
+  were_apart : (AreTogether sets a.piece b.piece → ⊥) → AnswersTouch a b seen seen_after join → AnswersJoin a b sets seen seen_after join
+
 -- The sets of a net's pieces and the points seen, before and after two rectangles of its pieces were taken: the pieces were
 -- together, or they touch and are united, or they don't touch by these.
 pub data IsJoinStep (a b : PieceShape) (sets sets_after : List ℕ) (seen seen_after : List (Beside × (ℤ × ℤ))) : Type 0 where

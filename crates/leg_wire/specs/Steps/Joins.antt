@@ -1,12 +1,13 @@
 -- How one piece more is joined to those of a net: the sets with a number more, and the pairs of metal that are taken for it.
-use Rattle.std.specs.Prelude.{◌≡◌, ◌⊎◌, ℕ, ◌+◌, ◌≤◌, ◌<◌, ℤ, List, All, Contains, length, map, take, None}
+use Rattle.std.specs.Prelude.{◌≡◌, ◌⊎◌, ℕ, ◌+◌, ◌≤◌, ◌<◌, ℤ, List, [], All, Contains, length, get_or, map, take, None}
+use Rattle.std.specs.List.Sorted.{IsNonDecreasingBy}
 use Rattle.leg_geom.specs.Plane.{RectModel}
 use Rattle.leg_sweep.specs.Pairs.{TakesAll}
 use Rattle.leg_geom.specs.Pairs.{IsPair}
 use Rattle.leg_wire.specs.declared.corner.Beside.{Beside}
 use Rattle.leg_wire.specs.declared.piece_shape.PieceShape.{PieceShape}
 use Rattle.leg_wire.specs.Steps.MeetingRule.{DoMeet}
-use Rattle.leg_wire.specs.Steps.NumberSets.{AreTogether}
+use Rattle.leg_wire.specs.Steps.NumberSets.{AreTogether, AreGroups}
 use Rattle.leg_wire.specs.Steps.SharedPoints.{first_seen}
 use Rattle.leg_wire.specs.Steps.JoinSteps.{TakesPair, HavePlaces, AreSetsOf}
 
@@ -34,9 +35,13 @@ pub record JoinsNew (shapes : List PieceShape) (few : ℕ) (sets sets_after : Li
   pub unseen : (pieces : Beside) → first_seen seen pieces ≡ None
   pub takes : TakesNew shapes few few (length shapes) sets sets_after seen seen_after
 
--- the sets are those of this metal, each of its pieces is in one, and the index has the rectangles of the first shapes
-pub record IsKeptSet (metal : List PieceShape) (index : List RectModel) (sets : List ℕ) : Type 0 where
+-- The sets are those of this metal, which is in the order of its pieces, each of these is in one set and in the list of its members, and the
+-- index has the rectangles of the first shapes. So many members of the first set were given.
+pub record IsKeptSet (metal : List PieceShape) (index : List RectModel) (sets : List ℕ) (lists : List (List ℕ)) (given : ℕ) : Type 0 where
   pub sets_are : AreSetsOf metal (length sets) sets
   pub places : HavePlaces sets metal
   pub within : length index ≤ length metal
   pub first : index ≡ first_rects (length index) metal
+  pub in_order : IsNonDecreasingBy (λ shape. shape.piece) metal
+  pub listed : AreGroups sets lists
+  pub few : given ≤ length (get_or lists 0 [])

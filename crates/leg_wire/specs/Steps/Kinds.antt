@@ -1,5 +1,5 @@
 -- Kinds of metal: one of each kind, and for each shape the number of its kind.
-use Rattle.std.specs.Prelude.{◌≡◌, ◌↔◌, ◌≤◌, ◌<◌, ℕ, List, length, map, Some, slice_get, get_or, All, Contains, []}
+use Rattle.std.specs.Prelude.{◌≡◌, ◌≢◌, ◌↔◌, ◌≤◌, ◌<◌, ℕ, List, length, map, Some, slice_get, get_or, All, AllPairs, Contains, []}
 use Rattle.std.specs.List.{flat_map}
 use Rattle.leg_sweep.specs.Steps.Sweep.{ordered}
 use Rattle.leg_rules.specs.declared.shape.Shape.{Shape}
@@ -32,10 +32,11 @@ module _ {Metal : Type 0} (Alike : Metal → Metal → Type 0) where
     pub among : All (Contains metal) kinds
     pub each : (k : ℕ) (one : Metal) → slice_get metal k ≡ Some one → IsOfKind kinds (get_or numbers k 0) one
 
--- for each kind the numbers of its shapes
+-- for each kind the numbers of its shapes, each once
 pub record AreMembers (numbers : List ℕ) (count : ℕ) (members : List (List ℕ)) : Type 0 where
   pub many : length members ≡ count
   pub each : (kind k : ℕ) → kind < count → Contains (get_or members kind []) k ↔ slice_get numbers k ≡ Some kind
+  pub once : (kind : ℕ) → AllPairs (λ j k. j ≢ k) (get_or members kind [])
 
 -- each of these numbers with each of those, the lower one first
 abbrev pub pairs_between : List ℕ → List ℕ → List (ℕ × ℕ)

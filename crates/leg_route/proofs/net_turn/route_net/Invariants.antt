@@ -3,8 +3,7 @@ use Rattle.std.proofs.Common.{◌≡◌, false, All, ◌-◌, ◌*◌}
 use Rattle.leg_design_records.specs.declared.limits.TheConstants.{PART_LIMIT}
 use Rattle.leg_design_records.specs.WellFormedNets.{IsWire}
 use Rattle.leg_flat.specs.Limits.{IsWithinLimits}
-use Rattle.leg_wire.specs.PieceMarks.{AreMarks}
-use Rattle.leg_rules.specs.Joins.Touch.{piece_count, AreJoined}
+use Rattle.leg_rules.specs.Joins.Touch.{piece_count}
 use Rattle.leg_route.specs.Steps.NetRun.{NetRun}
 use Rattle.leg_route.proofs.net_turn.route_net.Given as goal
 
@@ -14,7 +13,6 @@ invariant-walks g l =
       same : ground.design l.ground ≡ ground.design l.fn.ground;
       within : IsWithinLimits (ground.flat l.ground);
       ready : ground.IsReady l.ground;
-      joined : AreMarks (AreJoined (ground.flat l.ground) l.net 0) (piece_count (ground.flat l.ground) l.net) l.joined.items;
       spelled : All (IsWire (ground.design l.fn.ground).library (ground.design l.fn.ground).vias false) l.wires.items;
       run : NetRun (ground.design l.fn.ground) l.net (ground.flat l.fn.ground) l.wires.items (ground.flat l.ground);
     }

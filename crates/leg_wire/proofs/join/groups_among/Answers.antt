@@ -15,4 +15,4 @@ returns g c =
     IfOk-weaker c.roots.result (λ roots. AreFirsts (AreTogether sets) (length sets) roots.items)
     (λ firsts. AreFirsts (AreJoined flat net) (piece_count flat net) firsts.items)
     (λ firsts done. firsts_of_joined flat net sets firsts.items c.in_ok-sets.ensures done)
-    c.roots.ensures
+    c.roots.ensures.firsts

@@ -1,5 +1,6 @@
 -- One new shape more.
-use Rattle.std.proofs.Common.{◌≡◌, ◌∙◌, length, refl, arith}
+use Rattle.std.proofs.Common.{◌≡◌, ◌∙◌, [], get_or, length, refl, arith}
+use Rattle.leg_wire.proofs.MergedLists.{HasGrown-same, HasGrown-onward}
 use Rattle.leg_wire.proofs.NewPairs.{new_none, new_more}
 use Rattle.leg_wire.proofs.net_joins.join_new.Goals as goal
 
@@ -10,8 +11,10 @@ loop-number-init g c =
     record {
       begun = omega (arith, is);
       within = omega (arith, is, few);
-      taken = rw is (new_none c.args.metal.now (length c.args.index.now) (length c.args.index.now) c.args.sets.now c.new-corners.result);
+      taken = rw is (new_none c.args.metal.now (length c.args.index.now) (length c.args.index.now) c.args.groups.now.sets c.new-corners.result);
       count = refl;
+      listed = c.requires.listed;
+      grown = HasGrown-same (get_or c.args.groups.now.members.items 0 []);
     }
 
 pub join_near-requires-clause-places : goal.join_near-requires-clause-places
@@ -28,9 +31,13 @@ loop-number-preserved g c =
       begun = omega (arith, begun);
       within = omega (arith, below);
       taken =
-          new_more c.args.metal.now (length c.args.index.now) (length c.args.index.now) c.loop-number.number c.args.sets.now c.loop-number.sets c.join_near.new.sets c.new-corners.result c.loop-number.corners
+          new_more c.args.metal.now (length c.args.index.now) (length c.args.index.now) c.loop-number.number c.args.groups.now.sets c.loop-number.groups.sets c.join_near.new.groups.sets c.new-corners.result c.loop-number.corners
           c.join_near.new.corners c.loop-number.invariant.taken c.in_ok-join_near.ensures.takes;
       count = c.in_ok-join_near.ensures.count ∙ c.loop-number.invariant.count;
+      listed = c.in_ok-join_near.ensures.listed;
+      grown =
+          HasGrown-onward (get_or c.args.groups.now.members.items 0 []) (get_or c.loop-number.groups.members.items 0 []) (get_or c.join_near.new.groups.members.items 0 []) c.loop-number.invariant.grown
+          c.in_ok-join_near.ensures.grown;
     }
 
 pub returns-clause-joins : goal.returns-clause-joins
@@ -47,3 +54,12 @@ returns-clause-joins g c =
 
 pub returns-clause-count : goal.returns-clause-count
 returns-clause-count g c = c.loop-number.invariant.count
+
+pub join_near-requires-clause-listed : goal.join_near-requires-clause-listed
+join_near-requires-clause-listed g c = c.loop-number.invariant.listed
+
+pub returns-clause-listed : goal.returns-clause-listed
+returns-clause-listed g c = c.loop-number.invariant.listed
+
+pub returns-clause-grown : goal.returns-clause-grown
+returns-clause-grown g c = c.loop-number.invariant.grown

@@ -19,6 +19,7 @@ returns-clause-ready g c =
       untouched = c.new-2.ensures.items;
       part_is = part_none c.in_ok-grid.grid c.args.flat _ _ _ _ _ _ c.new-3.ensures.joined c.new-3.ensures.boxes c.new-3.ensures.slots c.new-3.ensures.hulls c.new-3.ensures.ends;
       joins_are = tt;
+      given_are = tt;
     }
 
 pub returns-clause-comes : goal.returns-clause-comes

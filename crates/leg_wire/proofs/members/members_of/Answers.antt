@@ -4,7 +4,7 @@ use Rattle.std.proofs.lemmas.Grind.{common_steps}
 use Rattle.std.proofs.lemmas.Option.{slice_get-get_or}
 use Rattle.leg_wire.proofs.NetNumbers.{lists_written}
 use Rattle.leg_wire.proofs.AlikeMetal.{members_more, members_all}
-use Rattle.leg_wire.proofs.close_pairs.members_of.Goals as goal
+use Rattle.leg_wire.proofs.members.members_of.Goals as goal
 
 pub loop-shape-preserved : goal.loop-shape-preserved
 loop-shape-preserved g c =

@@ -1,0 +1,70 @@
+-- What is kept grows with the pieces that have come, or is made anew.
+use Rattle.std.proofs.Common.{◌≡◌, ◌≤◌, length, refl, arith}
+use Rattle.std.proofs.lemmas.Result.{IfOk-weaker}
+use Rattle.leg_rules.specs.Joins.Touch.{piece_count, AreJoined}
+use Rattle.leg_wire.specs.PieceMarks.{AreMarks}
+use Rattle.leg_route_laws.proofs.Within.{numbers_within}
+use Rattle.leg_route.specs.Steps.JoinedPart.{PartModel}
+use Rattle.leg_route.proofs.PartMarks.{told_count, come_within, marks_are, growing}
+use Rattle.leg_route.proofs.joined_part.part_now.Goals as goal
+
+pub mark_joined-requires-clause-few : goal.mark_joined-requires-clause-few
+mark_joined-requires-clause-few g c =
+    let flat = c.args.flat.now in
+    let net = c.args.net in
+    let count = told_count flat net c.pieces_of_net.result c.pieces_of_net.ensures.is in
+    let few : length c.args.part.joined.items ≤ piece_count flat net = rw c.requires.net at c.requires.part.few in
+    omega (arith, few, count)
+
+pub mark_joined-requires-clause-within : goal.mark_joined-requires-clause-within
+mark_joined-requires-clause-within g c =
+    let flat = c.args.flat.now in
+    let net = c.args.net in
+    let part = c.args.part in
+    let model : PartModel = record { net = part.net; joined = part.joined.items; boxes = part.slots.boxes.items; slots = part.slots.slots.items; hulls = part.hulls.items; ends = part.ends.items } in
+    come_within c.args.grid.now flat net model c.args.come.now c.requires.net c.requires.part c.requires.come c.pieces_of_net.result (told_count flat net c.pieces_of_net.result c.pieces_of_net.ensures.is)
+
+pub grown_part-requires : goal.grown_part-requires
+grown_part-requires g c =
+    let flat = c.args.flat.now in
+    let net = c.args.net in
+    let part = c.args.part in
+    let model : PartModel = record { net = part.net; joined = part.joined.items; boxes = part.slots.boxes.items; slots = part.slots.slots.items; hulls = part.hulls.items; ends = part.ends.items } in
+    let after = c.mark_joined.new.joined.items in
+    let counted = told_count flat net c.pieces_of_net.result c.pieces_of_net.ensures.is in
+    let had_is : c.len-had.result ≡ length part.joined.items = omega (arith, c.len-had.ensures, part.joined.ok.0) in
+    record {
+      growing =
+          growing c.args.grid.now flat net model c.args.come.now c.requires.net c.requires.part c.requires.come c.pieces_of_net.result after counted c.in_ok-mark_joined.ensures c.args.numbers.now
+          c.requires.numbers c.args.joins.now c.requires.of_net c.requires.joins
+          (λ k from below. rw c.deref.ensures.value at (c.if-are_joined_from.ensures refl k (omega (arith, from, had_is)) (rw c.deref.ensures.value below)));
+    }
+
+pub new_part-requires : goal.new_part-requires
+new_part-requires g c = record { numbers = numbers_within c.args.flat.now.shapes c.args.net c.args.numbers.now c.requires.numbers }
+
+pub returns-then-are_joined_from-clause-joined : goal.returns-then-are_joined_from-clause-joined
+returns-then-are_joined_from-clause-joined g c =
+    let flat = c.args.flat.now in
+    let net = c.args.net in
+    let part = c.args.part in
+    let model : PartModel = record { net = part.net; joined = part.joined.items; boxes = part.slots.boxes.items; slots = part.slots.slots.items; hulls = part.hulls.items; ends = part.ends.items } in
+    let after = c.mark_joined.new.joined.items in
+    let counted = told_count flat net c.pieces_of_net.result c.pieces_of_net.ensures.is in
+    IfOk-weaker c.grown_part.result (λ now. now.joined.items ≡ after) (λ now. AreMarks (AreJoined flat net 0) (piece_count flat net) now.joined.items)
+    (λ now is.
+    rw is (marks_are c.args.grid.now flat net model c.args.come.now c.requires.net c.requires.part c.requires.come c.pieces_of_net.result after counted c.in_ok-mark_joined.ensures))
+    c.grown_part.ensures.joined
+
+pub returns-clause-joined : goal.returns-clause-joined
+returns-clause-joined g c =
+    let flat = c.args.flat.now in
+    let net = c.args.net in
+    let part = c.args.part in
+    let model : PartModel = record { net = part.net; joined = part.joined.items; boxes = part.slots.boxes.items; slots = part.slots.slots.items; hulls = part.hulls.items; ends = part.ends.items } in
+    let after = c.mark_joined.new.joined.items in
+    let counted = told_count flat net c.pieces_of_net.result c.pieces_of_net.ensures.is in
+    IfOk-weaker c.new_part.result (λ now. now.joined.items ≡ after) (λ now. AreMarks (AreJoined flat net 0) (piece_count flat net) now.joined.items)
+    (λ now is.
+    rw is (marks_are c.args.grid.now flat net model c.args.come.now c.requires.net c.requires.part c.requires.come c.pieces_of_net.result after counted c.in_ok-mark_joined.ensures))
+    c.new_part.ensures.joined
